@@ -1,0 +1,5 @@
+use Rattle.definitions.proofs.InLine.{offset-of_position}
+use Rattle.definitions.proofs.laws.offset_of_position.Goals as goal
+
+pub returns : goal.returns
+returns c = offset-of_position

@@ -1,0 +1,17 @@
+pub mod Answers
+pub mod Derivations
+pub mod DocumentNodes
+pub mod Items
+pub mod Laws
+pub mod Nodes
+pub mod PatternFaults
+pub mod PatternText
+pub mod Patterns
+pub mod Sentences
+pub mod Settled
+pub mod Spelling
+pub mod Text
+pub mod TokenEdits
+pub mod Tokens
+pub mod TreeEdits
+pub mod Trees

@@ -1,0 +1,73 @@
+//! What is proved of the definitions, as contracts of functions that do nothing.
+
+ghost use Rattle.std.specs.Prelude.{◌≡◌, ◌↔◌, ◌≤◌, ◌+◌, ◌-◌, ℕ, Bool, List, length, take, drop, IsTrue};
+ghost use Rattle.std.specs.Char.{IsScalar};
+ghost use Rattle.std.specs.List.{AllByRecursion};
+ghost use Rattle.definitions.specs.declared.Edit.{Edit};
+ghost use Rattle.definitions.specs.declared.Kind.{Kind};
+ghost use Rattle.definitions.specs.declared.Position.{Position};
+ghost use Rattle.definitions.specs.declared.Unit.{Unit as Encoding};
+ghost use Rattle.definitions.specs.declared.expression.Expression.{Expression};
+ghost use Rattle.definitions.specs.declared.expression.Interval.{Interval};
+ghost use Rattle.definitions.specs.Text.{IsCharacter, edit, offset, position};
+ghost use Rattle.definitions.specs.Patterns.{is_in_class};
+ghost use Rattle.definitions.specs.PatternFaults.{is_nothing};
+ghost use Rattle.definitions.specs.Tokens.{Token, Placed, IsToken, AreTokens};
+ghost use Rattle.definitions.specs.TokenEdits.{front, rejoin};
+ghost use Rattle.definitions.specs.Trees.{Grammar, Tree};
+ghost use Rattle.definitions.specs.Sentences.{IsExpected};
+ghost use Rattle.definitions.specs.Answers.{AreFolds, IsSelection};
+ghost use Rattle.definitions.specs.DocumentNodes.{IsNodeOf};
+ghost use Rattle.definitions.specs.Laws.{IsInLine, IsOffsetOf, AreWell, IsTokenEdit};
+
+/// A character is what a `char` holds.
+pub fn characters_are_scalars()
+    ensures { (c : ℕ) → IsCharacter c ↔ IsScalar c }
+{}
+
+/// The offset of a position lies in its line, and is the greatest one before which the line has no more units than it counts.
+pub fn offset_is_greatest()
+    ensures { (encoding : Encoding) (t : List ℕ) (p : Position) → IsOffsetOf encoding t p (offset encoding t p) }
+{}
+
+/// The position of an offset leads back to it, but between a `\r` and its `\n`, which have no position.
+pub fn offset_of_position()
+    ensures { (encoding : Encoding) (t : List ℕ) (o : ℕ) → IsInLine t o → offset encoding t (position encoding t o) ≡ o }
+{}
+
+/// The test for a class with no member is right.
+pub fn empty_class_is_told()
+    ensures { (negated : Bool) (intervals : List Interval) → AreWell intervals → IsTrue (is_nothing negated intervals) ↔ ((c : ℕ) → IsCharacter c → ¬ IsTrue (is_in_class negated intervals c)) }
+{}
+
+/// A text has one list of tokens.
+pub fn tokens_unique()
+    ensures { (rules : List Expression) (t : List ℕ) (xs : List Token) (ys : List Token) → AreTokens rules t xs → AreTokens rules t ys → xs ≡ ys }
+{}
+
+/// A token depends on no more of the text than its reach.
+pub fn token_is_local()
+    ensures { (rules : List Expression) (t : List ℕ) (u : List ℕ) (x : Token) → IsToken rules t x → take x.reach t ≡ take x.reach u → IsToken rules u x }
+{}
+
+/// What an edit keeps are tokens of both texts: the same ones in front of it, and the same ones from the place of rejoining on.
+pub fn kept_tokens_stay()
+    ensures front { (rules : List Expression) (t : List ℕ) (s : List ℕ) (e : Edit) (old : List Token) (new : List Token) → IsTokenEdit rules t s e old new → take (front e old) old ≡ take (front e old) new }
+    ensures rest { (rules : List Expression) (t : List ℕ) (s : List ℕ) (e : Edit) (old : List Token) (new : List Token) → IsTokenEdit rules t s e old new → drop (length old - (length new - rejoin e old new)) old ≡ drop (rejoin e old new) new }
+{}
+
+/// A list of kinds has one list of expected rules, and either ends or does not.
+pub fn expected_unique()
+    ensures rules { (g : Grammar) (x : List Kind) (r : List ℕ) (s : List ℕ) (a : Bool) (b : Bool) → IsExpected g x r a → IsExpected g x s b → r ≡ s }
+    ensures ends { (g : Grammar) (x : List Kind) (r : List ℕ) (s : List ℕ) (a : Bool) (b : Bool) → IsExpected g x r a → IsExpected g x s b → a ≡ b }
+{}
+
+/// Trees have one list of folds.
+pub fn folds_unique()
+    ensures { (g : Grammar) (trees : List Tree) (t : List ℕ) (tokens : List Placed) (folds : List Bool) (one : List (ℕ × ℕ)) (two : List (ℕ × ℕ)) → AreFolds t tokens folds (IsNodeOf g trees) one → AreFolds t tokens folds (IsNodeOf g trees) two → one ≡ two }
+{}
+
+/// And an offset has one selection in them.
+pub fn selection_unique()
+    ensures { (g : Grammar) (trees : List Tree) (t : List ℕ) (tokens : List Placed) (o : ℕ) (one : List (ℕ × ℕ)) (two : List (ℕ × ℕ)) → IsSelection t tokens (IsNodeOf g trees) o one → IsSelection t tokens (IsNodeOf g trees) o two → one ≡ two }
+{}

@@ -1,0 +1,60 @@
+//! The plain data that code and definitions share. `specs/` says what it means.
+#![tactic(auto)]
+
+pub mod expression;
+pub mod laws;
+
+pub use expression::{Expression, Interval, PatternCause, PatternFault};
+
+/// A place in a text: a line and a count of units in it (LSP 3.17, "Position").
+#[derive(Clone, Copy, Debug, PartialEq, Eq)]
+pub struct Position {
+    pub line: u32,
+    pub character: u32,
+}
+
+/// The part of a text from one place to another (LSP 3.17, "Range").
+#[derive(Clone, Copy, Debug, PartialEq, Eq)]
+pub struct Range {
+    pub start: Position,
+    pub end: Position,
+}
+
+/// What a position counts (LSP 3.17, "PositionEncodingKind").
+#[derive(Clone, Copy, Debug, PartialEq, Eq)]
+pub enum Unit {
+    Utf8,
+    Utf16,
+    Utf32,
+}
+
+/// The kind of a token: the rule that it matches, by its number, or none.
+#[derive(Clone, Copy, Debug, PartialEq, Eq)]
+pub enum Kind {
+    Rule(usize),
+    Invalid,
+}
+
+/// The edit of this number: `inserted` characters in place of the `removed` ones from offset `at` on.
+#[derive(Clone, Copy, Debug, PartialEq, Eq)]
+pub struct Edit {
+    pub at: usize,
+    pub removed: usize,
+    pub inserted: usize,
+    pub number: u64,
+}
+
+/// The places `from..to` of a list of kinds give way to `kinds`.
+#[derive(Debug, PartialEq, Eq, Drop)]
+pub struct KindSplice {
+    pub from: usize,
+    pub to: usize,
+    pub kinds: Vec<Kind>,
+}
+
+/// A symbol of a right side: a token rule, or a nonterminal.
+#[derive(Clone, Copy, Debug, PartialEq, Eq)]
+pub enum Symbol {
+    Rule(usize),
+    Nonterminal(usize),
+}

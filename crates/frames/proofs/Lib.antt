@@ -1,0 +1,10 @@
+mod Digits
+mod Through
+mod Rest
+mod Splits
+mod Writing
+mod Stable
+mod Trimmed
+mod Pieces
+mod HeaderPart
+mod Searched

@@ -1,0 +1,13 @@
+use Rattle.std.proofs.Common.{subst, sym, ap, ◌∙◌, ◌≡◌}
+use Rattle.frames.specs.Frames.{Faulty, IsCut, tail_of}
+use Rattle.frames.proofs.Stable.{fault_is}
+use Rattle.frames.proofs.decoder.Decoder.finish.Goals as goal
+
+pub returns-in-Some-clause-truncated : goal.returns-in-Some-clause-truncated
+returns-in-Some-clause-truncated c =
+    let kind = fault_is c.self.inside.rest.items c.self.inside.met c.in-Some.fault c.self.invariant.tail c.in-Some.is in
+    let faulty : Faulty c.in-Some.fault ≡ c.args.self.now = ap (tail_of c.self.inside.rest.items) (sym c.in-Some.is) ∙ c.self.view_is in
+    ((λ e. absurd (kind.0 (cc))), (λ h. absurd (subst IsCut (sym faulty) h)))
+
+pub returns-in-Some-clause-kind : goal.returns-in-Some-clause-kind
+returns-in-Some-clause-kind c = (fault_is c.self.inside.rest.items c.self.inside.met c.in-Some.fault c.self.invariant.tail c.in-Some.is).1

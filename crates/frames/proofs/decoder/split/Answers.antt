@@ -1,0 +1,42 @@
+use Rattle.std.proofs.Common.{◌≡◌, ◌+◌, ◌<◌, ◌≤◌, ℕ, List, [], ◌∷◌, ◌++◌, length, drop, sym, subst, ap, ◌∙◌, arith, length-drop}
+use Rattle.std.proofs.lemmas.List.{map-append}
+use Rattle.frames.specs.declared.decoder.Frame.{Frame}
+use Rattle.frames.specs.declared.header.Start.TheVariants.{NeedsMore, Announces}
+use Rattle.frames.specs.Contents.{contents}
+use Rattle.frames.proofs.Splits.{one_more, IsSplitTo, ends, begun, faulty, begins}
+use Rattle.frames.specs.Kept.{Awaits}
+use Rattle.frames.proofs.Stable.{awaits_frame}
+use Rattle.frames.proofs.decoder.split.Goals as goal
+
+pub loop-size-preserved : goal.loop-size-preserved
+loop-size-preserved c =
+    let at = c.loop-size in
+    let bytes = c.args.bytes.now in
+    let here = c.in-Some.ensures.some in
+    let content = c.in_ok-content-in-Some.content.items in
+    let same : content ≡ c.in-Some.content.now = c.in_ok-content-in-Some.ensures.items in
+    let len : length content ≡ c.in-Announces.len = ap length same ∙ here.1 in
+    let frame = begins (drop at.used bytes) c.bytes_from-rest.result.now content c.in-Announces.size c.in-Announces.len c.bytes_from-rest.ensures c.in-Announces.ensures.value len (same ∙ here.2) in
+    let room : c.in-Announces.size + c.in-Announces.len ≤ length (drop at.used bytes) = subst (λ (l : List ℕ). c.in-Announces.size + c.in-Announces.len ≤ length l) c.bytes_from-rest.ensures here.0 in
+    let more = one_more bytes (contents at.frames.items) at.used c.in-Announces.size content at.invariant (omega (arith, len, room, length-drop at.used bytes)) frame in
+    let found : contents at.frames.items ++ content ∷ [] ≡ contents c.push.new.self.items = sym (ap contents c.in_ok-push-in-Some.ensures.items ∙ map-append (λ (f : Frame). f.content.items) at.frames.items _) in
+    let P : List (List ℕ) → ℕ → Type 0 = IsSplitTo bytes in
+    subst (λ k. P (contents c.push.new.self.items) (at.used + (c.in-Announces.size + k))) len (subst (λ cs. P cs (at.used + (c.in-Announces.size + length content))) found more)
+
+pub returns-in-None-clause-split : goal.returns-in-None-clause-split
+returns-in-None-clause-split c =
+    let bytes = drop c.loop-size.used c.args.bytes.now in
+    let few = subst (λ (l : List ℕ). length l < c.in-Announces.size + c.in-Announces.len) c.bytes_from-rest.ensures c.in-None.ensures.none in
+    ends _ _ c.loop-size.used _ c.loop-size.invariant (begun bytes _ (Announces c.in-Announces.size c.in-Announces.len) c.bytes_from-rest.ensures c.in-Announces.ensures.value few)
+
+pub returns-in-Fails-clause-split : goal.returns-in-Fails-clause-split
+returns-in-Fails-clause-split c = ends _ _ c.loop-size.used _ c.loop-size.invariant (faulty _ _ _ c.bytes_from-rest.ensures c.in-Fails.ensures.value)
+
+pub returns-in-NeedsMore-clause-split : goal.returns-in-NeedsMore-clause-split
+returns-in-NeedsMore-clause-split c = ends _ _ c.loop-size.used _ c.loop-size.invariant (begun _ _ NeedsMore c.bytes_from-rest.ensures c.in-NeedsMore.ensures.value tt)
+
+pub returns-in-None-clause-awaited : goal.returns-in-None-clause-awaited
+returns-in-None-clause-awaited c =
+    let size = c.in-Announces.size in
+    let len = c.in-Announces.len in
+    subst (λ (l : List ℕ). Awaits l (size + len)) c.bytes_from-rest.ensures (awaits_frame c.bytes_from-rest.result.now size len (sym c.in-Announces.ensures.value))

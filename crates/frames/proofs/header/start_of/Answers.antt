@@ -1,0 +1,10 @@
+use Rattle.std.proofs.Common.{◌≡◌, length, arith, ap, ◌∙◌}
+use Rattle.std.specs.Prelude.{min}
+use Rattle.std.proofs.lemmas.List.{length-take}
+use Rattle.frames.proofs.header.start_of.Goals as goal
+
+pub returns-in-Ok-clause-within : goal.returns-in-Ok-clause-within
+returns-in-Ok-clause-within c =
+    let bytes = c.args.bytes.now in
+    let len : length c.front_of-front.result.now ≡ min 4096 (length bytes) = ap length c.front_of-front.ensures ∙ length-take 4096 bytes in
+    (c.in-Some.ensures.low, omega (arith, len, c.in-Some.ensures.high), omega (arith, len, c.in-Some.ensures.high), c.in-Ok.ensures.bound)

@@ -1,0 +1,214 @@
+//! Frames out of a stream that comes in pieces (LSP 3.17, "Base Protocol").
+
+ghost use Rattle.std.specs.Prelude.{◌≡◌, ◌≢◌, ◌↔◌, [], ◌+◌, ◌<◌, ◌≤◌, length, take, drop, IfSome, IfNone, IfOk, IfErr, IsErrOf, Some, ℕ, List};
+ghost use Rattle.frames.specs.Frames.{Tail, Open, Faulty, tail_of, Splits, IsTail, IsReached, GoesOn, Continues, IsOpen, IsCut, IsStreamFault, fault_of, finish_of};
+ghost use Rattle.frames.specs.Contents.{contents};
+ghost use Rattle.frames.specs.Kept.{Awaits};
+
+use crate::fault::FrameFault;
+use crate::header::{Start, bytes_from, needs_more, start_of};
+use std::alloc::{AllocError, Global};
+use std::marker::Model;
+
+/// A whole frame, without its header part.
+#[derive(Debug, Drop)]
+pub struct Frame {
+    pub content: Vec<u8>,
+}
+
+/// What stands at the front of some bytes.
+struct Found {
+    frames: Vec<Frame>,
+    /// How many bytes the frames take.
+    used: usize,
+    /// How many bytes the rest has to have before a frame of it can be whole.
+    awaited: usize,
+    fault: Option<FrameFault>,
+}
+
+/// The content that a header part of this size announces, if it is whole.
+fn content_at(bytes: &[u8], size: usize, len: usize) -> Option<&[u8]>
+    requires { size ≤ length bytes.now }
+    ensures some { IfSome result (λ content. (size + len ≤ length bytes.now) × (length content.now ≡ len) × (content.now ≡ take len (drop size bytes.now))) }
+    ensures none { IfNone result (length bytes.now < size + len) }
+{
+    let rest = bytes_from(bytes, size);
+    if len <= rest.len() {
+        Some(&rest[..len])
+    } else {
+        None
+    }
+}
+
+/// The whole frames at the front, how many bytes they take, and the fault behind them.
+fn split(alloc: Global, bytes: &[u8]) -> Result<Found, AllocError>
+    ensures used { IfOk result (λ found. found.used ≤ length bytes.now) }
+    ensures fault { IfOk result (λ found. IfSome found.fault IsStreamFault) }
+    ensures split { IfOk result (λ found.
+        Splits bytes.now (contents found.frames.items) (tail_of (drop found.used bytes.now) found.fault)) }
+    ensures tail { IfOk result (λ found.
+        let rest = drop found.used bytes.now in IsTail rest (tail_of rest found.fault)) }
+    ensures awaited { IfOk result (λ found. Awaits (drop found.used bytes.now) found.awaited) }
+{
+    let mut frames = Vec::new(alloc);
+    let mut used = 0;
+    loop {
+        let rest = bytes_from(bytes, used);
+        match start_of(rest) {
+            Start::Announces(size, len) => match content_at(rest, size, len) {
+                Some(content) => {
+                    let content = Vec::from_slice(alloc, content)?;
+                    frames.push(Frame { content })?;
+                    used += size + len;
+                }
+                None => return Ok(Found {
+                    frames,
+                    used,
+                    awaited: size + len,
+                    fault: None,
+                }),
+            },
+            Start::Fails(fault) => return Ok(Found {
+                frames,
+                used,
+                awaited: 0,
+                fault: Some(fault),
+            }),
+            Start::NeedsMore => return Ok(Found {
+                frames,
+                used,
+                awaited: 0,
+                fault: None,
+            }),
+        }
+    }
+}
+
+/// Splits a stream into frames, and is seen as what is left of the stream behind the whole ones.
+#[derive(Drop)]
+pub struct Decoder {
+    /// The bytes behind the whole frames.
+    rest: Vec<u8>,
+    /// How many bytes `rest` has to have before a frame of it can be whole, so that a content isn't looked at before.
+    awaited: usize,
+    /// How many bytes of `rest` hold no blank line, so that they aren't searched again.
+    searched: usize,
+    /// The fault that ended the stream.
+    met: Option<FrameFault>,
+}
+
+impl Model for Decoder {
+    ghost use Rattle.frames.specs.Frames.{Tail, tail_of};
+    ghost use Rattle.frames.specs.Kept.{IsDecoder};
+
+    ghost Value = { Tail };
+
+    ghost view = { λ d. tail_of d.rest.items d.met };
+
+    ghost invariant = { λ d. IsDecoder d.rest.items d.awaited d.searched d.met };
+}
+
+impl Decoder {
+    /// The decoder of a stream of which nothing has come.
+    pub fn new(alloc: Global) -> Decoder
+        ensures { result ≡ Open [] }
+    {
+        Decoder {
+            rest: Vec::new(alloc),
+            awaited: 0,
+            searched: 0,
+            met: None,
+        }
+    }
+
+    /// Takes the next piece of the stream, and answers the frames that are whole now, in order.
+    ///
+    /// A fault behind them is answered by the next call, and where there are none by this one; then by every call, and no piece is taken any more. `Memory` says that memory was refused: the piece isn't taken, and may be fed again.
+    pub fn feed(&mut self, alloc: Global, piece: &[u8]) -> Result<Vec<Frame>, FrameFault>
+        ensures ok { IfOk result (λ frames. GoesOn self.old piece.now (contents frames.items) self.new) }
+        ensures none { IfOk result (λ frames. frames.items ≡ [] → IsOpen self.new) }
+        ensures fault { IfErr result (λ fault. fault ≢ FrameFault.Memory →
+            GoesOn self.old piece.now [] self.new × (self.new ≡ Faulty fault)) }
+        ensures memory { IsErrOf result FrameFault.Memory → self.new ≡ self.old }
+        ensures kind { IfErr result (λ fault. fault ≢ FrameFault.Truncated) }
+        ensures ended { IfSome (fault_of self.old) (λ fault. IsErrOf result fault × (self.new ≡ self.old)) }
+
+        // Each piece makes something of the stream, also one that isn't taken for want of memory.
+        ensures goes_on { (contents : List (List ℕ)) × (new : Tail) × GoesOn self.old piece.now contents new }
+
+        // There are streams with these tails, so the promises above are never empty.
+        ensures reached { IsReached self.old × IsReached self.new }
+        ensures stream_fault { IfSome (fault_of self.new) IsStreamFault }
+    {
+        self.take_piece(alloc, piece)
+    }
+
+    /// `feed`, by what is left of the stream.
+    fn take_piece(&mut self, alloc: Global, piece: &[u8]) -> Result<Vec<Frame>, FrameFault>
+        ensures ok { IfOk result (λ frames. Continues self.old piece.now (contents frames.items) self.new) }
+        ensures none { IfOk result (λ frames. frames.items ≡ [] → IsOpen self.new) }
+        ensures fault { IfErr result (λ fault. fault ≢ FrameFault.Memory →
+            Continues self.old piece.now [] self.new × (self.new ≡ Faulty fault)) }
+        ensures memory { IsErrOf result FrameFault.Memory → self.new ≡ self.old }
+        ensures kind { IfErr result (λ fault. fault ≢ FrameFault.Truncated) }
+        ensures ended { IfSome (fault_of self.old) (λ fault. IsErrOf result fault × (self.new ≡ self.old)) }
+        ensures reached { IsReached self.old × IsReached self.new }
+    {
+        if let Some(fault) = self.met {
+            return Err(fault);
+        }
+        let before = self.rest.len();
+        if self.rest.extend_from_slice(piece).is_err() {
+            return Err(FrameFault::Memory);
+        }
+        if self.rest.len() < self.awaited {
+            return Ok(Vec::new(alloc));
+        }
+        if needs_more(&self.rest, self.searched) {
+            self.searched = self.rest.len();
+            return Ok(Vec::new(alloc));
+        }
+        match split(alloc, &self.rest) {
+            Ok(found) => {
+                let Found {
+                    frames,
+                    used,
+                    awaited,
+                    fault,
+                } = found;
+                self.rest.drain(..used);
+                self.awaited = awaited;
+                self.searched = 0;
+                self.met = fault;
+                match fault {
+                    Some(fault) if frames.is_empty() => Err(fault),
+                    _ => Ok(frames),
+                }
+            }
+            Err(_) => {
+                self.rest.truncate(before);
+                Err(FrameFault::Memory)
+            }
+        }
+    }
+
+    /// The fault that ended the stream, if one was met.
+    pub fn fault(&self) -> Option<FrameFault>
+        ensures { result ≡ fault_of self.now }
+    {
+        self.met
+    }
+
+    /// What it means that the stream ends here: `Truncated` where a frame is begun and no fault was met, and the fault where one was.
+    pub fn finish(&self) -> Result<(), FrameFault>
+        ensures value { result ≡ finish_of self.now }
+        ensures truncated { (result ≡ Err FrameFault.Truncated) ↔ IsCut self.now }
+        ensures kind { IfErr result (λ fault. fault ≢ FrameFault.Memory) }
+    {
+        match self.met {
+            Some(fault) => Err(fault),
+            None if self.rest.is_empty() => Ok(()),
+            None => Err(FrameFault::Truncated),
+        }
+    }
+}

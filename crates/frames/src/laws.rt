@@ -1,0 +1,18 @@
+//! Laws of the definitions.
+
+ghost use Rattle.std.specs.Prelude.{◌≡◌, ◌↔◌, ℕ, List, Some, None, take};
+ghost use Rattle.frames.specs.Frames.{Tail, Splits, HasSplit};
+ghost use Rattle.frames.specs.Header.{header_size, IsWhole, IsHeaderPart};
+
+/// Each stream is whole frames and a tail in exactly one way.
+pub fn one_split()
+    ensures some { (bytes : List ℕ) → HasSplit bytes }
+    ensures at_most_one { (bytes : List ℕ) (cs ds : List (List ℕ)) (t u : Tail) →
+        Splits bytes cs t → Splits bytes ds u → (cs ≡ ds) × (t ≡ u) }
+{}
+
+/// The header part is the shortest front that is CR LF, or that ends with CR LF CR LF.
+pub fn shortest_header_part()
+    ensures found { (bytes : List ℕ) (size : ℕ) → (header_size bytes ≡ Some size) ↔ IsHeaderPart bytes size }
+    ensures none { (bytes : List ℕ) (n : ℕ) → header_size bytes ≡ None → ¬ IsWhole (take n bytes) }
+{}

@@ -1,0 +1,22 @@
+-- The faults of the program.
+--     status_of fault      its exit status
+--     fault_of e      the fault that ends the program where a session ends with e
+use Rattle.std.specs.Prelude.{ℕ}
+use Rattle.server.specs.declared.serve.RunFault.{RunFault}
+use Rattle.server.specs.declared.serve.RunFault.TheVariants as session
+use Rattle.lrls.specs.declared.fault.Fault.{Fault}
+use Rattle.lrls.specs.declared.fault.Fault.TheVariants.{CommandLine, NoMemory, Frame, Read, Write}
+
+-- 2 for a refused command line, 1 for what goes wrong outside of it
+abbrev pub status_of : Fault → ℕ
+status_of CommandLine = 2
+status_of NoMemory = 1
+status_of (Frame fault) = 1
+status_of Read = 1
+status_of Write = 1
+
+abbrev pub fault_of : RunFault → Fault
+fault_of (session.Frame fault) = Frame fault
+fault_of session.Read = Read
+fault_of session.Write = Write
+fault_of session.Memory = NoMemory

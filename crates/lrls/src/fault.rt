@@ -1,0 +1,68 @@
+//! Why the program ends with a fault.
+
+ghost use Rattle.std.specs.Prelude.{◌≡◌};
+ghost use Rattle.lrls.specs.Status.{status_of, fault_of};
+ghost use Rattle.lrls.specs.declared.fault.Fault.TheVariants.{NoMemory};
+
+use frames::FrameFault;
+use server::{LoadFault, RunFault};
+use std::alloc::AllocError;
+use thiserror::Error;
+
+/// A fault that the program prints on standard error.
+#[derive(Clone, Copy, Debug, PartialEq, Eq, Error)]
+pub enum Fault {
+    #[error("usage: lrls check GRAMMAR | parse GRAMMAR TEXT | serve GRAMMAR")]
+    CommandLine,
+    #[error("lrls: no memory")]
+    NoMemory,
+    #[error("lrls: frame fault {0}")]
+    Frame(FrameFault),
+    #[error("lrls: read fault")]
+    Read,
+    #[error("lrls: write fault")]
+    Write,
+}
+
+impl Fault {
+    /// The exit status: 2 where the command line or the grammar was refused, else 1.
+    pub fn status(self) -> u8
+        ensures { result ≡ status_of self }
+    {
+        match self {
+            Fault::CommandLine => 2,
+            Fault::NoMemory | Fault::Frame(_) | Fault::Read | Fault::Write => 1,
+        }
+    }
+}
+
+impl From<AllocError> for Fault {
+    ghost from_gives = { λ _ e. e ≡ NoMemory };
+
+    fn from(_: AllocError) -> Fault {
+        Fault::NoMemory
+    }
+}
+
+impl From<LoadFault> for Fault {
+    ghost from_gives = { λ _ e. e ≡ NoMemory };
+
+    fn from(fault: LoadFault) -> Fault {
+        match fault {
+            LoadFault::NoMemory => Fault::NoMemory,
+        }
+    }
+}
+
+impl From<RunFault> for Fault {
+    ghost from_gives = { λ fault e. e ≡ fault_of fault };
+
+    fn from(fault: RunFault) -> Fault {
+        match fault {
+            RunFault::Frame(fault) => Fault::Frame(fault),
+            RunFault::Read => Fault::Read,
+            RunFault::Write => Fault::Write,
+            RunFault::Memory => Fault::NoMemory,
+        }
+    }
+}

@@ -1,0 +1,3 @@
+mod command_line;
+mod devices;
+mod sessions;

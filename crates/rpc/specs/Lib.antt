@@ -1,0 +1,4 @@
+pub mod Fields
+pub mod Messages
+pub mod Reading
+pub mod Replies

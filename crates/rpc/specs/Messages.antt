@@ -1,0 +1,106 @@
+-- Messages as plain data, without where their texts lie in memory (JSON-RPC 2.0; LSP 3.17). A text is its UTF-8 bytes.
+--     Said      a message; Ident, Asked, Told, ChangeSaid and Unfit are its parts
+--     Refused      why a JSON value is no message
+--     Heard      what a content is heard as: nothing that can be read, a refused value, or a message
+--     id_view, call_view, change_view, malformed_view, note_view, message_view      a message and its parts as such data
+--     fault_view fault, heard_of result      what was heard, where memory was not refused
+use Rattle.std.specs.Prelude.{ℤ, ℕ, Bool, List, map, Option, Some, None, Result, Ok, Err, option_map, string_bytes}
+use Rattle.definitions.specs.declared.Range.{Range}
+use Rattle.rpc.specs.declared.message.Id.{Id}
+use Rattle.rpc.specs.declared.message.Id.TheVariants.{Text, Number}
+use Rattle.rpc.specs.declared.message.Change.{Change}
+use Rattle.rpc.specs.declared.message.Call.{Call}
+use Rattle.rpc.specs.declared.message.Call.TheVariants as call
+use Rattle.rpc.specs.declared.message.Malformed.{Malformed}
+use Rattle.rpc.specs.declared.message.Malformed.TheVariants as form
+use Rattle.rpc.specs.declared.message.Note.{Note}
+use Rattle.rpc.specs.declared.message.Note.TheVariants as note
+use Rattle.rpc.specs.declared.message.Message.{Message}
+use Rattle.rpc.specs.declared.message.Message.TheVariants as message
+use Rattle.rpc.specs.declared.message.RpcFault.{RpcFault}
+use Rattle.rpc.specs.declared.message.RpcFault.TheVariants as fault
+
+-- what a request is named by: a text or a number
+pub data Ident : Type 0 where
+  named : List ℕ → Ident
+  numbered : ℤ → Ident
+
+-- what a request asks; text_of has the document's URI
+pub data Asked : Type 0 where
+  initialize : Asked
+  shutdown : Asked
+  text_of : List ℕ → Asked
+
+-- a text for a range, or for the whole
+pub record ChangeSaid : Type 0 where
+  pub range : Option Range
+  pub text : List ℕ
+
+-- a notification whose parameters don't fit; of a change the URI, where it is a text
+pub data Unfit : Type 0 where
+  unfit_open : Unfit
+  unfit_change : Option (List ℕ) → Unfit
+
+-- what a notification tells; a document's URI comes first, then its version
+pub data Told : Type 0 where
+  initialized : Told
+  exit : Told
+  open_text : List ℕ → ℤ → List ℕ → Told
+  change_text : List ℕ → ℤ → List ChangeSaid → Told
+  malformed : Unfit → Told
+
+pub data Said : Type 0 where
+  request : Ident → Asked → Said
+  notice : Told → Said
+  ignored : Said
+
+-- an invalid request, with its id where that can be read; an unknown method; parameters that don't fit, and whether they are those
+-- of `initialize`
+pub data Refused : Type 0 where
+  invalid : Option Ident → Refused
+  unknown : Ident → Refused
+  params : Ident → Bool → Refused
+
+pub data Heard : Type 0 where
+  unread : Heard
+  refused : Refused → Heard
+  said : Said → Heard
+
+abbrev pub id_view : Id → Ident
+id_view (Text s) = named (string_bytes s)
+id_view (Number z) = numbered z
+
+abbrev pub call_view : Call → Asked
+call_view call.Initialize = initialize
+call_view call.Shutdown = shutdown
+call_view (call.Text uri) = text_of (string_bytes uri)
+
+abbrev pub change_view : Change → ChangeSaid
+change_view c = record { range = c.range; text = string_bytes c.text }
+
+abbrev pub malformed_view : Malformed → Unfit
+malformed_view form.DidOpen = unfit_open
+malformed_view (form.DidChange uri) = unfit_change (option_map string_bytes uri)
+
+abbrev pub note_view : Note → Told
+note_view note.Initialized = initialized
+note_view note.Exit = exit
+note_view (note.DidOpen uri version text) = open_text (string_bytes uri) version (string_bytes text)
+note_view (note.DidChange uri version changes) = change_text (string_bytes uri) version (map change_view changes.items)
+note_view (note.Malformed m) = malformed (malformed_view m)
+
+abbrev pub message_view : Message → Said
+message_view (message.Request id c) = request (id_view id) (call_view c)
+message_view (message.Notice n) = notice (note_view n)
+message_view message.Ignored = ignored
+
+abbrev pub fault_view : RpcFault → Option Heard
+fault_view fault.Parse = Some unread
+fault_view (fault.Invalid id) = Some (refused (invalid (option_map id_view id)))
+fault_view (fault.Unknown id) = Some (refused (unknown (id_view id)))
+fault_view (fault.Params id first) = Some (refused (params (id_view id) first))
+fault_view fault.Memory = None
+
+abbrev pub heard_of : Result Message RpcFault → Option Heard
+heard_of (Ok m) = Some (said (message_view m))
+heard_of (Err e) = fault_view e

@@ -1,0 +1,180 @@
+-- What a content is heard as (JSON-RPC 2.0, "Request object"; LSP 3.17, "Base Protocol").
+--     hearing content, Hears content heard      what it is heard as; it is heard as that
+--     value_of content      the JSON value that it is, where it is one
+--     message_of d      what a JSON value is heard as: the tests, in their order
+--     request_of method id params, notice_of method params      what a request and a notification of a method are heard as
+--     id_at, uri_at, version_at, document_text, position_of, range_of, change_of, changes_at      parts of a value, where they fit
+--     Gives result heard      what a function returned is that, where memory was not refused
+use Rattle.std.specs.Prelude.{◌≡◌, ℕ, ℤ, ◌&&◌, ◌||◌, Bool, true, false, not, if◌then◌else◌, List, [], ◌∷◌, codes, Option, Some, None, Result, IfSome, option_map, option_and_then, unwrap_or, is_some, is_none}
+use Rattle.std.specs.Str.{is_utf8, bytes_eq}
+use Rattle.serde_json.specs.Data.{Data, null, string, Items, no_items, item}
+use Rattle.serde_json.specs.Find.{get, as_object, as_array}
+use Rattle.serde_json.specs.Read.{read}
+use Rattle.definitions.specs.declared.Position.{Position}
+use Rattle.definitions.specs.declared.Range.{Range}
+use Rattle.rpc.specs.declared.message.Message.{Message}
+use Rattle.rpc.specs.declared.message.RpcFault.{RpcFault}
+use Rattle.rpc.specs.Fields.{integer_of, text_at, integer_at, natural_at, has_key}
+use Rattle.rpc.specs.Messages.{Ident, named, numbered, initialize, shutdown, text_of, ChangeSaid, unfit_open, unfit_change, Told, initialized, exit, open_text, change_text, malformed, request, notice, ignored, invalid, unknown, params, Heard, unread, refused, said, heard_of}
+
+-- ---- parts of a value
+
+-- a text, or a whole number that fits
+abbrev pub ident_of : Data → Option Ident
+ident_of (string s) = Some (named s)
+ident_of d = option_map numbered (integer_of d)
+
+-- the id, where it can be read
+abbrev pub id_at : Data → Option Ident
+id_at d = option_and_then ident_of (get (codes "id") d)
+
+abbrev pub is_text : List ℕ → Option (List ℕ) → Bool
+is_text text None = false
+is_text text (Some s) = bytes_eq s text
+
+-- `textDocument.uri`, `textDocument.version` and `textDocument.text`
+abbrev pub uri_at : Data → Option (List ℕ)
+uri_at d = option_and_then (text_at (codes "uri")) (get (codes "textDocument") d)
+
+abbrev pub version_at : Data → Option ℤ
+version_at d = option_and_then (integer_at (codes "version")) (get (codes "textDocument") d)
+
+abbrev pub document_text : Data → Option (List ℕ)
+document_text d = option_and_then (text_at (codes "text")) (get (codes "textDocument") d)
+
+abbrev pub place : Option ℕ → Option ℕ → Option Position
+place (Some line) (Some character) = Some (record { line = line; character = character })
+place _ _ = None
+
+abbrev pub position_of : Data → Option Position
+position_of d = place (natural_at (codes "line") d) (natural_at (codes "character") d)
+
+abbrev pub position_at : List ℕ → Data → Option Position
+position_at key d = option_and_then position_of (get key d)
+
+abbrev pub span : Option Position → Option Position → Option Range
+span (Some start) (Some end) = Some (record { start = start; end = end })
+span _ _ = None
+
+abbrev pub range_of : Data → Option Range
+range_of d = span (position_at (codes "start") d) (position_at (codes "end") d)
+
+-- no `range` member, or one that is a range
+abbrev pub maybe_range : Option Data → Option (Option Range)
+maybe_range None = Some None
+maybe_range (Some d) = option_map (λ (r : Range). Some r) (range_of d)
+
+abbrev pub change_with : Option (List ℕ) → Option (Option Range) → Option ChangeSaid
+change_with (Some text) (Some range) = Some (record { range = range; text = text })
+change_with _ _ = None
+
+abbrev pub change_of : Data → Option ChangeSaid
+change_of d = change_with (text_at (codes "text") d) (maybe_range (get (codes "range") d))
+
+abbrev pub change_and : Option ChangeSaid → Option (List ChangeSaid) → Option (List ChangeSaid)
+change_and (Some c) (Some cs) = Some (c ∷ cs)
+change_and _ _ = None
+
+-- the changes, where each item is one
+abbrev pub changes_of : Items → Option (List ChangeSaid)
+changes_of no_items = Some []
+changes_of (item d ds) = change_and (change_of d) (changes_of ds)
+
+abbrev pub changes_at : Data → Option (List ChangeSaid)
+changes_at d = option_and_then changes_of (option_and_then as_array (get (codes "contentChanges") d))
+
+-- ---- requests (the last argument is the parameters)
+
+-- the parameters are an object
+abbrev pub asked_initialize : Ident → Data → Heard
+asked_initialize id d = if is_some (as_object d) then said (request id initialize) else refused (params id true)
+
+-- the parameters have the document's URI
+abbrev pub asked_text : Ident → Option (List ℕ) → Heard
+asked_text id (Some uri) = said (request id (text_of uri))
+asked_text id None = refused (params id false)
+
+abbrev pub request_of : List ℕ → Ident → Data → Heard
+request_of method id d =
+    if bytes_eq method (codes "initialize") then asked_initialize id d else (
+    if bytes_eq method (codes "shutdown") then said (request id shutdown) else (
+    if bytes_eq method (codes "lr/text") then asked_text id (uri_at d) else
+    refused (unknown id)))
+
+-- ---- notifications (the last argument is the parameters)
+
+abbrev pub told_open : Option (List ℕ) → Option ℤ → Option (List ℕ) → Told
+told_open (Some uri) (Some version) (Some text) = open_text uri version text
+told_open _ _ _ = malformed unfit_open
+
+-- the parameters have the document's URI, version and text
+abbrev pub opening : Data → Told
+opening d = told_open (uri_at d) (version_at d) (document_text d)
+
+abbrev pub told_change : Option (List ℕ) → Option ℤ → Option (List ChangeSaid) → Told
+told_change (Some uri) (Some version) (Some changes) = change_text uri version changes
+told_change uri _ _ = malformed (unfit_change uri)
+
+-- the parameters have the document's URI and version, and changes
+abbrev pub changing : Data → Told
+changing d = told_change (uri_at d) (version_at d) (changes_at d)
+
+abbrev pub notice_of : List ℕ → Data → Heard
+notice_of method d =
+    if bytes_eq method (codes "initialized") then said (notice initialized) else (
+    if bytes_eq method (codes "exit") then said (notice exit) else (
+    if bytes_eq method (codes "textDocument/didOpen") then said (notice (opening d)) else (
+    if bytes_eq method (codes "textDocument/didChange") then said (notice (changing d)) else
+    said ignored)))
+
+-- ---- messages
+
+-- it has no method, but what a reply has (JSON-RPC 2.0, "Response object")
+abbrev pub is_reply : Data → Bool
+is_reply d = not (has_key (codes "method") d) && (has_key (codes "result") d || has_key (codes "error") d)
+
+-- its `jsonrpc` isn't the text `2.0`, or it has no `method` that is a text, or it has an `id` that can't be read
+abbrev pub is_invalid : Data → Bool
+is_invalid d =
+    not (is_text (codes "2.0") (text_at (codes "jsonrpc") d))
+    || is_none (text_at (codes "method") d)
+    || (has_key (codes "id") d && is_none (id_at d))
+
+-- the parameters; `null` where there are none
+abbrev pub params_at : Data → Data
+params_at d = unwrap_or (get (codes "params") d) null
+
+-- A request of an unknown method is refused, and a notification of one is ignored. Where there is no method it is invalid already.
+abbrev pub of_method : Option (List ℕ) → Option Ident → Data → Heard
+of_method (Some method) (Some id) d = request_of method id d
+of_method (Some method) None d = notice_of method d
+of_method None id d = refused (invalid id)
+
+abbrev pub message_of : Data → Heard
+message_of d =
+    -- the value isn't an object
+    if is_none (as_object d) then refused (invalid None) else (
+    -- it is a reply: there is no `method`, and there is `result` or `error`
+    if is_reply d then said ignored else (
+    -- the version isn't 2.0, there is no method, or the id can't be read
+    if is_invalid d then refused (invalid (id_at d)) else
+    -- with an id it is a request, without one a notification
+    of_method (text_at (codes "method") d) (id_at d) (params_at d)))
+
+-- none where the content isn't UTF-8, is no JSON, or is nested too deep
+abbrev pub value_of : List ℕ → Option Data
+value_of content = if is_utf8 content then read content else None
+
+abbrev pub heard_as : Option Data → Heard
+heard_as None = unread
+heard_as (Some d) = message_of d
+
+abbrev pub hearing : List ℕ → Heard
+hearing content = heard_as (value_of content)
+
+abbrev pub Hears : List ℕ → Heard → Type 0
+Hears content heard = heard ≡ hearing content
+
+-- what a function returned is that, where memory was not refused
+abbrev pub Gives : Result Message RpcFault → Heard → Type 0
+Gives result heard = IfSome (heard_of result) (λ h. h ≡ heard)

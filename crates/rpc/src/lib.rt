@@ -1,0 +1,18 @@
+//! Messages and replies (JSON-RPC 2.0): `read` tells which message a content is, `to_bytes` writes a reply.
+#![tactic(auto)]
+
+mod fields;
+mod laws;
+mod message;
+mod parts;
+mod reading;
+mod reply;
+
+pub use definitions::{Position, Range};
+pub use laws::{one_hearing, some_hearing};
+pub use message::{Call, Change, Id, Malformed, Message, Note, RpcFault};
+pub use reading::read;
+pub use reply::{Refusal, Reply, to_bytes};
+
+#[cfg(test)]
+mod tests;

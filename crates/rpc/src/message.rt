@@ -1,0 +1,104 @@
+//! What a message says.
+
+ghost use Rattle.std.specs.Prelude.{◌≡◌};
+ghost use Rattle.rpc.specs.declared.message.RpcFault.TheVariants.{Memory};
+
+use definitions::Range;
+use std::alloc::{AllocError, AllocFailed};
+
+/// What a request is named by, and its reply with it (JSON-RPC 2.0, "Request object").
+#[derive(Debug, Drop)]
+pub enum Id {
+    Text(String),
+    Number(i32),
+}
+
+/// A text for a range, or for the whole document where there is none
+/// (LSP 3.17, "TextDocumentContentChangeEvent").
+#[derive(Debug, Drop)]
+pub struct Change {
+    pub range: Option<Range>,
+    pub text: String,
+}
+
+/// What a request asks.
+#[derive(Debug, Drop)]
+pub enum Call {
+    /// `initialize` (LSP 3.17, "Initialize Request").
+    Initialize,
+    /// `shutdown` (LSP 3.17, "Shutdown Request").
+    Shutdown,
+    /// `lr/text`: the text of a document.
+    Text { uri: String },
+}
+
+/// A notification whose parameters don't fit.
+#[derive(Debug, Drop)]
+pub enum Malformed {
+    DidOpen,
+    /// The URI is told where it is a text.
+    DidChange { uri: Option<String> },
+}
+
+/// What a notification tells.
+#[derive(Debug, Drop)]
+pub enum Note {
+    /// `initialized` (LSP 3.17, "Initialized Notification").
+    Initialized,
+    /// `exit` (LSP 3.17, "Exit Notification").
+    Exit,
+    /// `textDocument/didOpen` (LSP 3.17, "DidOpenTextDocument Notification").
+    DidOpen {
+        uri: String,
+        version: i32,
+        text: String,
+    },
+    /// `textDocument/didChange` (LSP 3.17, "DidChangeTextDocument Notification"). The changes apply in
+    /// their order.
+    DidChange {
+        uri: String,
+        version: i32,
+        changes: Vec<Change>,
+    },
+    Malformed(Malformed),
+}
+
+/// What a content is.
+#[derive(Debug, Drop)]
+pub enum Message {
+    Request(Id, Call),
+    Notice(Note),
+    /// A reply, or a notification of an unknown method.
+    Ignored,
+}
+
+/// Why a content is no message.
+#[derive(Debug, Drop)]
+pub enum RpcFault {
+    /// It is no JSON value.
+    Parse,
+    /// The value is no request, notification or reply. Its id is told where it can be read.
+    Invalid { id: Option<Id> },
+    /// A request of an unknown method.
+    Unknown { id: Id },
+    /// A request whose parameters don't fit. `initialize` tells whether that is its method.
+    Params { id: Id, initialize: bool },
+    /// There was no memory to read it.
+    Memory,
+}
+
+impl From<AllocError> for RpcFault {
+    ghost from_gives = { λ _ e. e ≡ Memory };
+
+    fn from(_e: AllocError) -> RpcFault {
+        RpcFault::Memory
+    }
+}
+
+impl<T: Drop> From<AllocFailed<T>> for RpcFault {
+    ghost from_gives = { λ _ e. e ≡ Memory };
+
+    fn from(_e: AllocFailed<T>) -> RpcFault {
+        RpcFault::Memory
+    }
+}

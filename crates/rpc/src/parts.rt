@@ -1,0 +1,96 @@
+//! The parts of a message.
+
+ghost use Rattle.std.specs.Prelude.{◌≡◌, codes, option_map, IfOk};
+ghost use Rattle.serde_json.specs.View.{view};
+ghost use Rattle.rpc.specs.Fields.{text_at};
+ghost use Rattle.rpc.specs.Messages.{id_view};
+ghost use Rattle.rpc.specs.Reading.{ident_of, id_at, uri_at, version_at, document_text, position_of, position_at, range_of, is_text, is_reply, is_invalid};
+
+use crate::fields::{has_key, integer_at, integer_of, natural_at, text_at};
+use crate::message::Id;
+use definitions::{Position, Range};
+use serde_json::Value;
+use std::alloc::{AllocError, Global};
+
+// A text, or a whole number that fits.
+fn ident_of(alloc: Global, value: &Value) -> Result<Option<Id>, AllocError>
+    ensures { IfOk result (λ id. option_map id_view id ≡ ident_of (view value.now)) }
+{
+    match value {
+        Value::String(text) => Ok(Some(Id::Text(String::from_str(alloc, text.as_str())?))),
+        _ => Ok(integer_of(value).map(Id::Number)),
+    }
+}
+
+// The id, where it can be read.
+pub fn id_at(alloc: Global, value: &Value) -> Result<Option<Id>, AllocError>
+    ensures { IfOk result (λ id. option_map id_view id ≡ id_at (view value.now)) }
+{
+    match value.get("id") {
+        Some(id) => ident_of(alloc, id),
+        None => Ok(None),
+    }
+}
+
+pub fn uri_at(params: &Value) -> Option<&str>
+    ensures { option_map (λ s. s.now) result ≡ uri_at (view params.now) }
+{
+    text_at(params.get("textDocument")?, "uri")
+}
+
+pub fn version_at(params: &Value) -> Option<i32>
+    ensures { result ≡ version_at (view params.now) }
+{
+    integer_at(params.get("textDocument")?, "version")
+}
+
+pub fn document_text(params: &Value) -> Option<&str>
+    ensures { option_map (λ s. s.now) result ≡ document_text (view params.now) }
+{
+    text_at(params.get("textDocument")?, "text")
+}
+
+fn position_of(value: &Value) -> Option<Position>
+    ensures { result ≡ position_of (view value.now) }
+{
+    Some(Position {
+        line: natural_at(value, "line")?,
+        character: natural_at(value, "character")?,
+    })
+}
+
+fn position_at(value: &Value, key: &str) -> Option<Position>
+    ensures { result ≡ position_at key.now (view value.now) }
+{
+    position_of(value.get(key)?)
+}
+
+pub fn range_of(value: &Value) -> Option<Range>
+    ensures { result ≡ range_of (view value.now) }
+{
+    Some(Range {
+        start: position_at(value, "start")?,
+        end: position_at(value, "end")?,
+    })
+}
+
+pub fn is_reply(value: &Value) -> bool
+    ensures { result ≡ is_reply (view value.now) }
+{
+    !has_key(value, "method") && (has_key(value, "result") || has_key(value, "error"))
+}
+
+fn has_version(value: &Value) -> bool
+    ensures { result ≡ is_text (codes "2.0") (text_at (codes "jsonrpc") (view value.now)) }
+{
+    text_at(value, "jsonrpc").is_some_and(|version| version == "2.0")
+}
+
+pub fn is_invalid(value: &Value, id: &Option<Id>) -> bool
+    requires { option_map id_view id.now ≡ id_at (view value.now) }
+    ensures { result ≡ is_invalid (view value.now) }
+{
+    !has_version(value)
+        || text_at(value, "method").is_none()
+        || (has_key(value, "id") && id.is_none())
+}

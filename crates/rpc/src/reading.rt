@@ -1,0 +1,201 @@
+//! Which content is which message.
+
+ghost use Rattle.std.specs.Prelude.{◌≡◌, Some, codes, map, option_map, option_and_then, IfOk, IfSome};
+ghost use Rattle.serde_json.specs.Find.{get};
+ghost use Rattle.serde_json.specs.View.{view, items_view};
+ghost use Rattle.rpc.specs.Fields.{text_at};
+ghost use Rattle.rpc.specs.Messages.{said, id_view, change_view, note_view, message_view, heard_of};
+ghost use Rattle.rpc.specs.Reading.{maybe_range, change_of, changes_of, changes_at, opening, changing, asked_initialize, asked_text, request_of, notice_of, of_method, message_of, uri_at, params_at, Gives, Hears};
+
+use crate::fields::text_at;
+use crate::message::{Call, Change, Id, Malformed, Message, Note, RpcFault};
+use crate::parts::{document_text, id_at, is_invalid, is_reply, range_of, uri_at, version_at};
+use definitions::Range;
+use serde_json::Value;
+use std::alloc::{AllocError, Global};
+
+// No `range` member, or one that is a range.
+fn maybe_range(value: &Value) -> Option<Option<Range>>
+    ensures { result ≡ maybe_range (get (codes "range") (view value.now)) }
+{
+    match value.get("range") {
+        None => Some(None),
+        Some(member) => Some(Some(range_of(member)?)),
+    }
+}
+
+fn change_of(alloc: Global, value: &Value) -> Result<Option<Change>, AllocError>
+    ensures { IfOk result (λ change. option_map change_view change ≡ change_of (view value.now)) }
+{
+    match (text_at(value, "text"), maybe_range(value)) {
+        (Some(text), Some(range)) => Ok(Some(Change {
+            range,
+            text: String::from_str(alloc, text)?,
+        })),
+        _ => Ok(None),
+    }
+}
+
+fn changes_of(alloc: Global, items: &[Value]) -> Result<Option<Vec<Change>>, AllocError>
+    ensures { IfOk result (λ changes.
+        option_map (λ v. map change_view v.items) changes ≡ changes_of (items_view items.now)) }
+{
+    let mut changes = Vec::new(alloc);
+    for item in items {
+        match change_of(alloc, item)? {
+            Some(change) => changes.push(change)?,
+            None => return Ok(None),
+        }
+    }
+    Ok(Some(changes))
+}
+
+fn changes_at(alloc: Global, params: &Value) -> Result<Option<Vec<Change>>, AllocError>
+    ensures { IfOk result (λ changes.
+        option_map (λ v. map change_view v.items) changes ≡ changes_at (view params.now)) }
+{
+    match params.get("contentChanges") {
+        Some(Value::Array(items)) => changes_of(alloc, items),
+        _ => Ok(None),
+    }
+}
+
+fn opening(alloc: Global, params: &Value) -> Result<Note, AllocError>
+    ensures { IfOk result (λ note. note_view note ≡ opening (view params.now)) }
+{
+    match (uri_at(params), version_at(params), document_text(params)) {
+        (Some(uri), Some(version), Some(text)) => Ok(Note::DidOpen {
+            uri: String::from_str(alloc, uri)?,
+            version,
+            text: String::from_str(alloc, text)?,
+        }),
+        _ => Ok(Note::Malformed(Malformed::DidOpen)),
+    }
+}
+
+fn changing(alloc: Global, params: &Value) -> Result<Note, AllocError>
+    ensures { IfOk result (λ note. note_view note ≡ changing (view params.now)) }
+{
+    let Some(uri) = uri_at(params) else {
+        return Ok(Note::Malformed(Malformed::DidChange { uri: None }));
+    };
+    let uri = String::from_str(alloc, uri)?;
+    match (version_at(params), changes_at(alloc, params)?) {
+        (Some(version), Some(changes)) => Ok(Note::DidChange {
+            uri,
+            version,
+            changes,
+        }),
+        _ => Ok(Note::Malformed(Malformed::DidChange { uri: Some(uri) })),
+    }
+}
+
+fn asked_initialize(id: Id, params: &Value) -> Result<Message, RpcFault>
+    ensures { Gives result (asked_initialize (id_view id) (view params.now)) }
+{
+    if params.is_object() {
+        Ok(Message::Request(id, Call::Initialize))
+    } else {
+        Err(RpcFault::Params {
+            id,
+            initialize: true,
+        })
+    }
+}
+
+fn asked_text(alloc: Global, id: Id, params: &Value) -> Result<Message, RpcFault>
+    ensures { Gives result (asked_text (id_view id) (uri_at (view params.now))) }
+{
+    let Some(uri) = uri_at(params) else {
+        return Err(RpcFault::Params {
+            id,
+            initialize: false,
+        });
+    };
+    let uri = String::from_str(alloc, uri)?;
+    Ok(Message::Request(id, Call::Text { uri }))
+}
+
+fn request_of(alloc: Global, method: &str, id: Id, params: &Value) -> Result<Message, RpcFault>
+    ensures { Gives result (request_of method.now (id_view id) (view params.now)) }
+{
+    if method == "initialize" {
+        asked_initialize(id, params)
+    } else if method == "shutdown" {
+        Ok(Message::Request(id, Call::Shutdown))
+    } else if method == "lr/text" {
+        asked_text(alloc, id, params)
+    } else {
+        Err(RpcFault::Unknown { id })
+    }
+}
+
+fn notice_of(alloc: Global, method: &str, params: &Value) -> Result<Message, AllocError>
+    ensures { IfOk result (λ message.
+        said (message_view message) ≡ notice_of method.now (view params.now)) }
+{
+    if method == "initialized" {
+        Ok(Message::Notice(Note::Initialized))
+    } else if method == "exit" {
+        Ok(Message::Notice(Note::Exit))
+    } else if method == "textDocument/didOpen" {
+        Ok(Message::Notice(opening(alloc, params)?))
+    } else if method == "textDocument/didChange" {
+        Ok(Message::Notice(changing(alloc, params)?))
+    } else {
+        Ok(Message::Ignored)
+    }
+}
+
+fn of_method(alloc: Global, value: &Value, id: Option<Id>) -> Result<Message, RpcFault>
+    ensures { Gives result (of_method
+        (text_at (codes "method") (view value.now))
+        (option_map id_view id)
+        (params_at (view value.now))) }
+{
+    let Some(method) = text_at(value, "method") else {
+        return Err(RpcFault::Invalid { id });
+    };
+    let none = Value::Null;
+    let params = value.get("params").unwrap_or(&none);
+    match id {
+        Some(id) => request_of(alloc, method, id, params),
+        None => Ok(notice_of(alloc, method, params)?),
+    }
+}
+
+fn message_of(alloc: Global, value: &Value) -> Result<Message, RpcFault>
+    ensures { Gives result (message_of (view value.now)) }
+{
+    if !value.is_object() {
+        return Err(RpcFault::Invalid { id: None });
+    }
+    if is_reply(value) {
+        return Ok(Message::Ignored);
+    }
+    let id = id_at(alloc, value)?;
+    if is_invalid(value, &id) {
+        return Err(RpcFault::Invalid { id });
+    }
+    of_method(alloc, value, id)
+}
+
+/// The message that a content is (JSON-RPC 2.0). It is refused where the content is no JSON value in
+/// UTF-8 or is nested too deep, where the value is no request, notification or reply, and where the
+/// method of a request is unknown or its parameters don't fit.
+#[tactic(auto, using(crate::proofs::Hearing::hearing_value, crate::proofs::Hearing::hearing_unread))]
+pub fn read(alloc: Global, content: &[u8]) -> Result<Message, RpcFault>
+    // Nothing is heard where memory was refused.
+    ensures { IfSome (heard_of result) (λ heard. Hears content.now heard) }
+{
+    match Value::from_slice(alloc, content) {
+        Ok(value) => message_of(alloc, &value),
+        Err(error) => {
+            if error.is_memory() {
+                Err(RpcFault::Memory)
+            } else {
+                Err(RpcFault::Parse)
+            }
+        }
+    }
+}

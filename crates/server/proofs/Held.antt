@@ -1,0 +1,51 @@
+-- What the entries of a map of documents say of the documents that are held.
+use Rattle.std.proofs.Common.{◌≡◌, ℕ, ◌+◌, false, cond, List, [], ◌∷◌, map, length, refl, sym, ap, ◌∙◌, arith}
+use Rattle.std.specs.Prelude.{String, Option, Some, None, is_some, string_bytes, string_cmp}
+use Rattle.std.specs.List.{AllByRecursion}
+use Rattle.std.specs.Map.{lookup}
+use Rattle.std.specs.Str.{bytes_eq}
+use Rattle.std.specs.Ordering.{nat_cmp, is_eq, eq_by_cmp}
+use Rattle.std.specs.Cmp.{eq_by_cmp_equiv}
+use Rattle.std.specs.Cmp.Lexicographic.{slice_cmp}
+use Rattle.std.specs.List.Sorted.{IsStrictlySortedBy}
+use Rattle.std.specs.declared.cmp.Ordering.{Ordering}
+use Rattle.std.specs.declared.cmp.Ordering.TheVariants.{Less}
+use Rattle.std.specs.BTreeMap.{is_at}
+use Rattle.std.specs.FinMap.{get, insert, len, contains_key, find, get-from_entries, get-insert, len-empty, len-insert, same_map, slice_cmp-IsAntisymmetric, nat_cmp-IsAntisymmetric}
+use Rattle.std.proofs.lemmas.Cmp.{nat_list_cmp_total}
+use Rattle.std.proofs.lemmas.Map.Text.{is_eq-slice_cmp}
+use Rattle.server.specs.declared.documents.Document.{Document}
+use Rattle.server.specs.Documents.{documents_of}
+
+-- what the first entry with these bytes as its key has
+abbrev pub entry_at : {Y : Type 0} → List (String Y × Document) → List ℕ → Option Document
+entry_at entries uri = lookup (is_at (λ k. slice_cmp nat_cmp uri (string_bytes k))) entries
+
+find_held : {Y : Type 0} (es : List (String Y × Document)) (uri : List ℕ) → find (slice_cmp nat_cmp) uri (map (λ e. (string_bytes e.0, e.1)) es) ≡ entry_at es uri
+find_held [] uri = refl
+find_held (e ∷ es) uri = ap (cond (is_eq (slice_cmp nat_cmp uri (string_bytes e.0))) (Some e.1)) (find_held es uri)
+
+pub get_held : {Y : Type 0} (es : List (String Y × Document)) (uri : List ℕ) → get (documents_of es) uri ≡ entry_at es uri
+get_held es uri = get-from_entries nat_list_cmp_total _ uri ∙ find_held es uri
+
+-- entries that differ at one URI make documents that differ there
+pub insert_held : {Y : Type 0} (es fs : List (String Y × Document)) (uri : List ℕ) (document : Document) → ((q : List ℕ) → entry_at fs q ≡ cond (bytes_eq uri q) (Some document) (entry_at es q)) → documents_of fs ≡ insert (documents_of es) uri document
+insert_held es fs uri document differs = same_map nat_list_cmp_total (slice_cmp-IsAntisymmetric nat_cmp-IsAntisymmetric) _ _ (λ q.
+    get_held fs q ∙ (differs q ∙ (ap (λ b. cond b (Some document) (entry_at es q)) (same q)
+    ∙ sym (get-insert nat_list_cmp_total (documents_of es) uri document q ∙ ap (cond (eq_by_cmp (slice_cmp nat_cmp) q uri) (Some document)) (get_held es q)))))
+  where
+    same : (q : List ℕ) → bytes_eq uri q ≡ eq_by_cmp (slice_cmp nat_cmp) q uri
+    same q = sym (is_eq-slice_cmp uri q) ∙ (eq_by_cmp_equiv nat_list_cmp_total).symm uri q
+
+-- a key below all others is none of them
+none_above : {Y : Type 0} (uri : String Y) (es : List (String Y × Document)) → AllByRecursion (λ k. string_cmp uri k ≡ Less) (map (λ e. e.0) es) → entry_at es (string_bytes uri) ≡ None
+none_above uri [] above = refl
+none_above uri (e ∷ es) above = ap (λ (o : Ordering). cond (is_eq o) (Some e.1) (entry_at es (string_bytes uri))) above.0 ∙ none_above uri es above.1
+
+pub len_held : {Y : Type 0} (es : List (String Y × Document)) → IsStrictlySortedBy string_cmp (map (λ e. e.0) es) → len (documents_of es) ≡ length es
+unfolding IsStrictlySortedBy
+len_held [] sorted = len-empty (slice_cmp nat_cmp) Document
+len_held (e ∷ es) sorted =
+    let new : contains_key (documents_of es) (string_bytes e.0) ≡ false = ap is_some (get_held es (string_bytes e.0) ∙ none_above e.0 es sorted.0) in
+    let one : len (documents_of (e ∷ es)) ≡ len (documents_of es) + 1 = len-insert nat_list_cmp_total (documents_of es) (string_bytes e.0) e.1 ∙ ap (λ b. cond b (len (documents_of es)) (len (documents_of es) + 1)) new in
+    omega (arith, one, len_held es sorted.1)

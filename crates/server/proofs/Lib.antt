@@ -1,0 +1,6 @@
+mod Held
+mod Totals
+mod Runs
+mod Parts
+mod Loop
+mod Fresh

@@ -1,0 +1,5 @@
+use Rattle.server.proofs.Fresh.{every_answer_is_fresh}
+use Rattle.server.proofs.laws.every_answer_is_fresh.Goals as goal
+
+pub returns : goal.returns
+returns c = every_answer_is_fresh

@@ -1,0 +1,60 @@
+use Rattle.std.proofs.Common.{◌≡◌, ◌+◌, ◌<◌, ℕ, ◌++◌, List, [], ◌∷◌, map, length, get_or, take, drop, subst, sym, ap, ◌∙◌, append-nil}
+use Rattle.rpc.specs.declared.reply.Reply.{Reply}
+use Rattle.std.specs.Io.KnownBytes.{Appends}
+use Rattle.std.proofs.lemmas.List.{take_more, map-append, take-append-drop}
+use Rattle.frames.specs.Write.{frame}
+use Rattle.serde_json.specs.Written.{compact_text}
+use Rattle.rpc.specs.Replies.{reply_view, reply_data}
+use Rattle.server.specs.Runs.{bytes_of}
+use Rattle.server.proofs.Runs.{appends_then, bytes_then}
+use Rattle.server.specs.Sessions.{AppendsFront}
+use Rattle.server.proofs.Parts.{on_err, front_all, front_of_more, front_behind}
+use Rattle.server.proofs.serve.write_replies.Goals as goal
+
+-- the bytes of all answers, in two parts
+in_parts : (replies : List Reply) (n : ℕ) → bytes_of (map reply_view (take n replies)) ++ bytes_of (map reply_view (drop n replies)) ≡ bytes_of (map reply_view replies)
+in_parts replies n =
+    sym (bytes_then (map reply_view (take n replies)) (map reply_view (drop n replies)))
+    ∙ (ap bytes_of (sym (map-append reply_view (take n replies) (drop n replies))) ∙ ap (λ l. bytes_of (map reply_view l)) (take-append-drop n replies))
+
+-- those through one more reply
+one_more : (replies : List Reply) (i : ℕ) (reply : Reply) → i < length replies → reply ≡ get_or replies i reply → bytes_of (map reply_view (take (i + 1) replies)) ≡ bytes_of (map reply_view (take i replies)) ++ frame (compact_text (reply_data (reply_view reply)))
+one_more replies i reply h e =
+    ap (λ l. bytes_of (map reply_view l)) (take_more replies i reply h ∙ ap (λ r. take i replies ++ r ∷ []) (sym e))
+    ∙ (ap bytes_of (map-append reply_view (take i replies) (reply ∷ [])) ∙ (bytes_then (map reply_view (take i replies)) (reply_view reply ∷ []) ∙ ap (λ l. bytes_of (map reply_view (take i replies)) ++ l) (append-nil (frame (compact_text (reply_data (reply_view reply)))))))
+
+pub returns-in_err-content-clause-front : goal.returns-in_err-content-clause-front
+returns-in_err-content-clause-front g c =
+    let old = g.W.Output.contents c.args.output.now in
+    let new = g.W.Output.contents c.loop-reply.output in
+    let replies = c.args.replies.now in
+    let i = c.loop-reply.reply-index in
+    on_err _ _ (subst (AppendsFront old new) (in_parts replies i) (front_of_more old new _ (bytes_of (map reply_view (drop i replies))) (front_all old new _ c.loop-reply.invariant.written)))
+
+pub returns-in-Err-clause-front : goal.returns-in-Err-clause-front
+returns-in-Err-clause-front g c =
+    let old = g.W.Output.contents c.args.output.now in
+    let mid = g.W.Output.contents c.loop-reply.output in
+    let new = g.W.Output.contents c.write_frame.new.output in
+    let replies = c.args.replies.now in
+    let i = c.loop-reply.reply-index in
+    let reply = c.reply-item.result in
+    let bytes : c.deref.result.now ≡ compact_text (reply_data (reply_view reply)) = c.deref.ensures.value ∙ c.in_ok-content.ensures in
+    let one : AppendsFront mid new (frame (compact_text (reply_data (reply_view reply)))) = subst (λ l. AppendsFront mid new (frame l)) bytes c.in-Err.ensures.bytes in
+    let here : AppendsFront old new (bytes_of (map reply_view (take (i + 1) replies))) =
+    subst (AppendsFront old new) (sym (one_more replies i reply c.loop-reply-test.true c.reply-item.is)) (front_behind old mid new _ _ c.loop-reply.invariant.written one) in
+    subst (AppendsFront old new) (in_parts replies (i + 1)) (front_of_more old new _ (bytes_of (map reply_view (drop (i + 1) replies))) here)
+
+pub loop-reply-preserved : goal.loop-reply-preserved
+loop-reply-preserved g c =
+    let told = g.W.Output.contents in
+    let replies = c.args.replies.now in
+    let i = c.loop-reply.reply-index in
+    let reply = c.reply-item.result in
+    let old = told c.args.output.now in
+    let mid = told c.loop-reply.output in
+    let new = told c.write_frame.new.output in
+    let bytes : c.deref.result.now ≡ compact_text (reply_data (reply_view reply)) = c.deref.ensures.value ∙ c.in_ok-content.ensures in
+    let one : Appends mid new (frame (compact_text (reply_data (reply_view reply)))) = subst (λ l. Appends mid new (frame l)) bytes c.in-Ok.ensures.bytes in
+    let all = one_more replies i reply c.loop-reply-test.true c.reply-item.is in
+    record { written = subst (Appends old new) (sym all) (appends_then old mid new _ _ c.loop-reply.invariant.written one); works = c.in-Ok.ensures.cause }

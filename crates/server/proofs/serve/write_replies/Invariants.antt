@@ -1,0 +1,13 @@
+use Rattle.std.proofs.Common.{◌≡◌, take, map}
+use Rattle.std.specs.Io.KnownBytes.{Appends}
+use Rattle.rpc.specs.Replies.{reply_view}
+use Rattle.server.specs.Runs.{bytes_of}
+use Rattle.server.proofs.serve.write_replies.Given as goal
+
+abbrev pub invariant-loop-reply : goal.invariant-loop-reply
+invariant-loop-reply g l =
+    let told = g.W.Output.contents in
+    record {
+      written : Appends (told l.fn.output) (told l.output) (bytes_of (map reply_view (take l.reply-index l.replies)));
+      works : g.W.Output.failures l.output ≡ 0;
+    }

@@ -1,0 +1,5 @@
+pub mod Documents
+pub mod Steps
+pub mod Runs
+pub mod Sessions
+pub mod Fresh

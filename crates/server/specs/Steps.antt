@@ -1,0 +1,151 @@
+-- What the server does with a message (LSP 3.17, "Server lifecycle", "Text Document Synchronization"; JSON-RPC 2.0).
+--     State      the phase, and the documents by their URIs
+--     edited text changes      the text after the changes, each applied to the text that the one before it made
+--     Step old heard answers stop new      from old, on what was heard, the server may give these answers, stop with a status
+--         or go on, and be in the state new
+--     state_view server      a server's state
+use Rattle.std.specs.Prelude.{◌≡◌, ℕ, ℤ, Bool, true, false, nat_le, if◌then◌else◌, List, [], ◌∷◌, length, Option, Some, None, encode_utf8_all}
+use Rattle.std.specs.Str.{chars}
+use Rattle.std.specs.FinMap.{empty, get, insert}
+use Rattle.definitions.specs.Text.{changed}
+use Rattle.definitions.specs.declared.Unit.TheVariants.{Utf16}
+use Rattle.rpc.specs.declared.reply.Refusal.{Refusal}
+use Rattle.rpc.specs.declared.reply.Refusal.TheVariants.{ParseError, InvalidRequest, MethodNotFound, InvalidParams, DocumentNotOpen, NotInitialized}
+use Rattle.rpc.specs.Messages.{Ident, Asked, initialize, shutdown, text_of, Told, initialized, exit, open_text, change_text, malformed, request, notice, ignored, invalid, unknown, params, ChangeSaid, Heard, unread, refused, said}
+use Rattle.rpc.specs.Replies.{Answer, told_capabilities, told_null, told_text, told_error}
+use Rattle.server.specs.Documents.{Held, has_room}
+use Rattle.server.specs.declared.documents.Document.{Document}
+use Rattle.server.specs.declared.state.Phase.{Phase}
+use Rattle.server.specs.declared.state.Phase.TheVariants.{New, Ready, Down}
+use Rattle.server.specs.declared.state.Server.{Server}
+
+pub record State : Type 0 where
+  pub phase : Phase
+  pub documents : Held
+
+abbrev pub first_state : State
+first_state = record { phase = New; documents = empty }
+
+abbrev pub state_view : Server → State
+state_view s = record { phase = s.phase; documents = s.documents }
+
+-- ---- texts
+
+-- a text has at most 1,048,576 bytes of UTF-8
+abbrev pub fits : List ℕ → Bool
+fits text = nat_le (length (encode_utf8_all text)) 1_048_576
+
+-- none where one of the texts on the way would not fit
+abbrev pub edited : List ℕ → List ChangeSaid → Option (List ℕ)
+edited text [] = Some text
+edited text (c ∷ cs) =
+    if fits (changed Utf16 text c.range (chars c.text))
+    then edited (changed Utf16 text c.range (chars c.text)) cs
+    else None
+
+-- ---- what a step leaves
+
+-- one reply, and nothing changes
+abbrev pub Replies : State → Answer → List Answer → Option ℕ → State → Type 0
+Replies old answer answers stop new = (answers ≡ answer ∷ []) × (stop ≡ None) × (new ≡ old)
+
+-- one reply, and the phase changes
+abbrev pub Enters : State → Phase → Answer → List Answer → Option ℕ → State → Type 0
+Enters old phase answer answers stop new = (answers ≡ answer ∷ []) × (stop ≡ None) × (new ≡ record { phase = phase; documents = old.documents })
+
+-- no reply, and nothing changes
+abbrev pub Ignores : State → List Answer → Option ℕ → State → Type 0
+Ignores old answers stop new = (answers ≡ []) × (stop ≡ None) × (new ≡ old)
+
+-- no reply, and the documents change
+abbrev pub Holds : State → Held → List Answer → Option ℕ → State → Type 0
+Holds old documents answers stop new = (answers ≡ []) × (stop ≡ None) × (new ≡ record { phase = old.phase; documents = documents })
+
+-- no reply, and the server stops with this status
+abbrev pub Stops : State → ℕ → List Answer → Option ℕ → State → Type 0
+Stops old status answers stop new = (answers ≡ []) × (stop ≡ Some status) × (new ≡ old)
+
+-- ---- requests
+
+abbrev pub text_answer : Ident → Option Document → Answer
+text_answer id None = told_error (Some id) DocumentNotOpen
+text_answer id (Some d) = told_text id d.version (encode_utf8_all d.text)
+
+abbrev pub Asks : Phase → State → Ident → Asked → List Answer → Option ℕ → State → Type 0
+Asks New old id initialize answers stop new = Enters old Ready (told_capabilities id) answers stop new
+Asks New old id shutdown answers stop new = Replies old (told_error (Some id) NotInitialized) answers stop new
+Asks New old id (text_of uri) answers stop new = Replies old (told_error (Some id) NotInitialized) answers stop new
+Asks Ready old id initialize answers stop new = Replies old (told_error (Some id) InvalidRequest) answers stop new
+Asks Ready old id shutdown answers stop new = Enters old Down (told_null id) answers stop new
+Asks Ready old id (text_of uri) answers stop new = Replies old (text_answer id (get old.documents uri)) answers stop new
+Asks Down old id initialize answers stop new = Replies old (told_error (Some id) InvalidRequest) answers stop new
+Asks Down old id shutdown answers stop new = Replies old (told_error (Some id) InvalidRequest) answers stop new
+Asks Down old id (text_of uri) answers stop new = Replies old (told_error (Some id) InvalidRequest) answers stop new
+
+-- ---- notifications
+
+-- a document is opened, or replaced, where there is room and its text fits
+abbrev pub opened : Held → List ℕ → ℤ → List ℕ → Held
+opened documents uri version text =
+    if has_room uri documents then (if fits text then insert documents uri (record { version = version; text = text }) else documents) else documents
+
+-- an open document gets the changes, where all of them fit
+abbrev pub edited_document : Held → List ℕ → ℤ → Option (List ℕ) → Held
+edited_document documents uri version None = documents
+edited_document documents uri version (Some text) = insert documents uri (record { version = version; text = text })
+
+abbrev pub changed_document : Held → List ℕ → ℤ → List ChangeSaid → Option Document → Held
+changed_document documents uri version changes None = documents
+changed_document documents uri version changes (Some d) = edited_document documents uri version (edited d.text changes)
+
+abbrev pub exit_status : Phase → ℕ
+exit_status New = 1
+exit_status Ready = 1
+exit_status Down = 0
+
+abbrev pub Tells : Phase → State → Told → List Answer → Option ℕ → State → Type 0
+Tells New old initialized answers stop new = Ignores old answers stop new
+Tells New old exit answers stop new = Stops old (exit_status New) answers stop new
+Tells New old (open_text uri version text) answers stop new = Ignores old answers stop new
+Tells New old (change_text uri version changes) answers stop new = Ignores old answers stop new
+Tells New old (malformed unfit) answers stop new = Ignores old answers stop new
+Tells Ready old initialized answers stop new = Ignores old answers stop new
+Tells Ready old exit answers stop new = Stops old (exit_status Ready) answers stop new
+Tells Ready old (open_text uri version text) answers stop new = Holds old (opened old.documents uri version (chars text)) answers stop new
+Tells Ready old (change_text uri version changes) answers stop new = Holds old (changed_document old.documents uri version changes (get old.documents uri)) answers stop new
+Tells Ready old (malformed unfit) answers stop new = Ignores old answers stop new
+Tells Down old initialized answers stop new = Ignores old answers stop new
+Tells Down old exit answers stop new = Stops old (exit_status Down) answers stop new
+Tells Down old (open_text uri version text) answers stop new = Ignores old answers stop new
+Tells Down old (change_text uri version changes) answers stop new = Ignores old answers stop new
+Tells Down old (malformed unfit) answers stop new = Ignores old answers stop new
+
+-- ---- steps
+
+-- the refusal of an unknown method
+abbrev pub unknown_in : Phase → Refusal
+unknown_in New = NotInitialized
+unknown_in Ready = MethodNotFound
+unknown_in Down = InvalidRequest
+
+-- the refusal of parameters that don't fit, those of `initialize` or others
+abbrev pub params_in : Phase → Bool → Refusal
+params_in New true = InvalidParams
+params_in New false = NotInitialized
+params_in Ready true = InvalidRequest
+params_in Ready false = InvalidParams
+params_in Down first = InvalidRequest
+
+abbrev pub Step : State → Heard → List Answer → Option ℕ → State → Type 0
+Step old unread answers stop new = Replies old (told_error None ParseError) answers stop new
+Step old (refused (invalid id)) answers stop new = Replies old (told_error id InvalidRequest) answers stop new
+Step old (refused (unknown id)) answers stop new = Replies old (told_error (Some id) (unknown_in old.phase)) answers stop new
+Step old (refused (params id first)) answers stop new = Replies old (told_error (Some id) (params_in old.phase first)) answers stop new
+Step old (said (request id asked)) answers stop new = Asks old.phase old id asked answers stop new
+Step old (said (notice told)) answers stop new = Tells old.phase old told answers stop new
+Step old (said ignored) answers stop new = Ignores old answers stop new
+
+-- a step on what was heard, if anything was
+abbrev pub StepOn : Option Heard → State → List Answer → Option ℕ → State → Type 0
+StepOn None old answers stop new = ⊥
+StepOn (Some heard) old answers stop new = Step old heard answers stop new

@@ -1,0 +1,6 @@
+mod Scan
+mod Lines
+mod Along
+mod Past
+mod Characters
+mod Sizes

@@ -1,0 +1,163 @@
+use crate::{LONGEST_TEXT, Position, Range, Text, TextFault};
+use std::alloc::{AllocError, Global};
+use std::process::Abort;
+use std::test::Fail;
+
+fn at(line: u32, character: u32) -> Position {
+    Position { line, character }
+}
+
+fn between(start: Position, end: Position) -> Option<Range> {
+    Some(Range { start, end })
+}
+
+/// A text of `count` times the character.
+fn filled(alloc: Global, c: char, count: usize) -> Result<String, AllocError> {
+    let mut text = String::new(alloc);
+    for _ in 0..count {
+        text.push(c)?;
+    }
+    Ok(text)
+}
+
+/// Each row is an offset, and the line and character of its position.
+fn expect_positions(rt: &impl Abort, text: &Text, rows: &[(usize, u32, u32)]) {
+    for row in rows {
+        let (offset, line, character) = *row;
+        assert_eq!(rt; text.position(offset), at(line, character), "at {offset}");
+    }
+}
+
+#[test]
+fn breaks_apart_are_two_and_together_one(rt: HostRuntime) -> Result<(), Fail> {
+    let alloc = rt.alloc();
+    let mut text = Text::open(alloc, "1\rX\n2")?;
+    expect_positions(&rt, &text, &[(2, 1, 0), (3, 1, 1), (4, 2, 0), (5, 2, 1)]);
+    text.change(alloc, between(at(1, 0), at(1, 1)), "")?;
+    assert_eq!(rt; text.to_string(alloc)?.as_str(), "1\r\n2");
+    expect_positions(&rt, &text, &[(1, 0, 1), (2, 0, 1), (3, 1, 0), (4, 1, 1)]);
+    Ok(())
+}
+
+#[test]
+fn characters_past_the_first_plane_count_two(rt: HostRuntime) -> Result<(), Fail> {
+    let alloc = rt.alloc();
+    let mut text = Text::open(alloc, "\u{1f600}1")?;
+    expect_positions(&rt, &text, &[(0, 0, 0), (1, 0, 2), (2, 0, 3)]);
+    text.change(alloc, between(at(0, 1), at(0, 1)), "5")?;
+    assert_eq!(rt; text.to_string(alloc)?.as_str(), "5\u{1f600}1");
+    expect_positions(&rt, &text, &[(1, 0, 1), (2, 0, 3)]);
+    Ok(())
+}
+
+#[test]
+fn changes_follow_one_another(rt: HostRuntime) -> Result<(), Fail> {
+    let alloc = rt.alloc();
+    let mut text = Text::open(alloc, "")?;
+    text.change(alloc, between(at(0, 0), at(0, 0)), "12")?;
+    text.change(alloc, between(at(0, 0), at(0, 1)), "")?;
+    assert_eq!(rt; text.to_string(alloc)?.as_str(), "2");
+    text.change(alloc, None, "1+2")?;
+    assert_eq!(rt; text.to_string(alloc)?.as_str(), "1+2");
+    text.change(alloc, between(at(0, 3), at(0, 1)), "")?;
+    assert_eq!(rt; text.to_string(alloc)?.as_str(), "1");
+    text.change(alloc, between(at(99, 0), at(99, 0)), "+3")?;
+    assert_eq!(rt; text.to_string(alloc)?.as_str(), "1+3");
+    Ok(())
+}
+
+#[test]
+fn a_break_behind_a_line_of_any_length(rt: HostRuntime) -> Result<(), Fail> {
+    let alloc = rt.alloc();
+    for n in [0u32, 1, 2, 1022, 1023, 1024, 1025, 2100] {
+        let count = n as usize;
+        let line = filled(alloc, 'x', count)?;
+        let whole = Text::open(alloc, format!(in alloc; "{line}\r\ny")?.as_str())?;
+        let mut joined = Text::open(alloc, format!(in alloc; "{line}\ry")?.as_str())?;
+        assert_eq!(rt; joined.len(), count + 2);
+        joined.replace(alloc, count + 1, count + 1, "\n")?;
+        for text in [&whole, &joined] {
+            expect_positions(&rt, text, &[(count + 1, 0, n), (count + 2, 1, 0)]);
+            assert_eq!(rt; text.offset(at(1, 0)), count + 2);
+        }
+    }
+    Ok(())
+}
+
+#[test]
+fn a_text_may_have_so_many_bytes(rt: HostRuntime) -> Result<(), Fail> {
+    let alloc = rt.alloc();
+    let mut text = Text::open(alloc, filled(alloc, '1', 1_048_575)?.as_str())?;
+    text.change(alloc, between(at(0, 0), at(0, 0)), "1")?;
+    assert_eq!(rt; text.bytes(), 1_048_576);
+    let more = text.change(alloc, between(at(0, 0), at(0, 0)), "1");
+    assert_eq!(rt; more, Err(TextFault::TooLarge));
+    assert_eq!(rt; text.bytes(), 1_048_576);
+    let long = filled(alloc, '1', 1_048_577)?;
+    assert_eq!(rt;
+        Text::open(alloc, long.as_str()).err(),
+        Some(TextFault::TooLarge)
+    );
+    text.change(alloc, None, "1")?;
+    assert_eq!(rt; text.bytes(), 1);
+    assert_eq!(rt;
+        text.change(alloc, None, long.as_str()),
+        Err(TextFault::TooLarge)
+    );
+    Ok(())
+}
+
+#[test]
+fn the_limit_counts_bytes_and_not_characters(rt: HostRuntime) -> Result<(), Fail> {
+    let alloc = rt.alloc();
+    let mut text = Text::open(alloc, filled(alloc, '\u{1f600}', 262_144)?.as_str())?;
+    assert_eq!(rt; text.len(), 262_144);
+    assert_eq!(rt; text.bytes(), LONGEST_TEXT);
+    let more = text.replace(alloc, 0, 1, "12345");
+    assert_eq!(rt; more, Err(TextFault::TooLarge));
+    assert_eq!(rt; text.len(), 262_144);
+    text.replace(alloc, 0, 1, "\u{e9}12")?;
+    assert_eq!(rt; text.replace(alloc, 0, 0, "1"), Err(TextFault::TooLarge));
+    assert_eq!(rt; (text.len(), text.bytes()), (262_146, LONGEST_TEXT));
+    let two = filled(alloc, '\u{e9}', 524_289)?;
+    assert_eq!(rt;
+        Text::open(alloc, two.as_str()).err(),
+        Some(TextFault::TooLarge)
+    );
+    Ok(())
+}
+
+#[test]
+fn each_call_answers(rt: HostRuntime) -> Result<(), Fail> {
+    let alloc = rt.alloc();
+    let mut text = Text::open(alloc, "a\u{e9}\r\n\u{1f600}z")?;
+    assert_eq!(rt; text.len(), 6);
+    assert_eq!(rt; text.bytes(), 10);
+    text.replace(alloc, 1, 3, "bc")?;
+    assert_eq!(rt; text.to_string(alloc)?.as_str(), "abc\n\u{1f600}z");
+    let copy = text.copy(alloc)?;
+    assert_eq!(rt; copy.to_string(alloc)?.as_str(), "abc\n\u{1f600}z");
+    assert_eq!(rt; copy.bytes(), text.bytes());
+    let mut rest = text.chars_from(4);
+    assert_eq!(rt;
+        (rest.next(), rest.next(), rest.next()),
+        (Some('\u{1f600}'), Some('z'), None)
+    );
+    assert_eq!(rt; text.chars_from(7).next(), None);
+    for (line, character, offset) in [
+        (0, 2, 2),
+        (0, 9, 3),
+        (1, 1, 4),
+        (1, 2, 5),
+        (1, 9, 6),
+        (2, 0, 6),
+    ] {
+        assert_eq!(rt;
+            text.offset(at(line, character)),
+            offset,
+            "at {line}:{character}"
+        );
+    }
+    expect_positions(&rt, &text, &[(3, 0, 3), (4, 1, 0), (6, 1, 3), (99, 1, 3)]);
+    Ok(())
+}
