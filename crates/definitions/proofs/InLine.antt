@@ -12,7 +12,7 @@ use Rattle.definitions.specs.Laws.{IsInLine}
 use Rattle.definitions.proofs.RoundTrip.{ended, ended-cons, none_ended, offset-position}
 
 -- whether a line goes on over the character
-abbrev in_line : ℕ → Bool
+abbrev pub in_line : ℕ → Bool
 in_line c = not (c == 10 || c == 13)
 
 -- between a `\r` and its `\n`

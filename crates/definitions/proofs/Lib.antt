@@ -11,6 +11,7 @@ pub mod MatchRows
 pub mod Ordered
 pub mod Past
 pub mod PatternRows
+pub mod PlaceBack
 pub mod RoundTrip
 pub mod Significant
 pub mod TextLaws
@@ -20,4 +21,5 @@ pub mod TokensKept
 pub mod TokensLead
 pub mod TokensLocal
 pub mod TokensUnique
+pub mod TreeRows
 pub mod TreeTextRows

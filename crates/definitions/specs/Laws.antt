@@ -6,12 +6,18 @@ use Rattle.definitions.specs.declared.Unit.{Unit as Encoding}
 use Rattle.definitions.specs.declared.Edit.{Edit}
 use Rattle.definitions.specs.declared.expression.Expression.{Expression}
 use Rattle.definitions.specs.declared.expression.Interval.{Interval}
-use Rattle.definitions.specs.Text.{IsCharacter, carriage_return, line_feed, line_start, line_from, units, edit}
+use Rattle.definitions.specs.Text.{IsCharacter, carriage_return, line_feed, break_ends, line_start, line_from, units, edit}
 use Rattle.definitions.specs.Tokens.{Token, AreTokens}
 
 -- the offset lies in the text, and not between a `\r` and its `\n`
 abbrev pub IsInLine : List ℕ → ℕ → Type 0
 IsInLine t o = (o ≤ length t) × ¬ ((1 ≤ o) × (slice_index t (o - 1) ≡ carriage_return) × (slice_index t o ≡ line_feed))
+
+-- the position counts whole characters of a line of the text
+abbrev pub IsPlace : Encoding → List ℕ → Position → Type 0
+IsPlace encoding t p =
+    (n : ℕ) × (p.line ≤ length (break_ends 0 t)) × (n ≤ length (line_from (line_start t p.line) t))
+    × (p.character ≡ units encoding (take n (line_from (line_start t p.line) t)))
 
 -- The offset lies in the line, which begins at start; the characters before it there have no more units than count; and it is
 -- the greatest such.

@@ -1,8 +1,7 @@
 //! What is proved of the definitions, as contracts of functions that do nothing.
 
-ghost use Rattle.std.specs.Prelude.{◌≡◌, ◌↔◌, ◌≤◌, ◌+◌, ◌-◌, ℕ, Bool, List, length, take, drop, IsTrue};
+ghost use Rattle.std.specs.Prelude.{◌≡◌, ◌↔◌, ◌-◌, ℕ, Bool, List, length, take, drop, IsTrue};
 ghost use Rattle.std.specs.Char.{IsScalar};
-ghost use Rattle.std.specs.List.{AllByRecursion};
 ghost use Rattle.definitions.specs.declared.Edit.{Edit};
 ghost use Rattle.definitions.specs.declared.Kind.{Kind};
 ghost use Rattle.definitions.specs.declared.Position.{Position};
@@ -18,7 +17,7 @@ ghost use Rattle.definitions.specs.Trees.{Grammar, Tree};
 ghost use Rattle.definitions.specs.Sentences.{IsExpected};
 ghost use Rattle.definitions.specs.Answers.{AreFolds, IsSelection};
 ghost use Rattle.definitions.specs.DocumentNodes.{IsNodeOf};
-ghost use Rattle.definitions.specs.Laws.{IsInLine, IsOffsetOf, AreWell, IsTokenEdit};
+ghost use Rattle.definitions.specs.Laws.{IsInLine, IsPlace, IsOffsetOf, AreWell, IsTokenEdit};
 
 /// A character is what a `char` holds.
 pub fn characters_are_scalars()
@@ -33,6 +32,11 @@ pub fn offset_is_greatest()
 /// The position of an offset leads back to it, but between a `\r` and its `\n`, which have no position.
 pub fn offset_of_position()
     ensures { (encoding : Encoding) (t : List ℕ) (o : ℕ) → IsInLine t o → offset encoding t (position encoding t o) ≡ o }
+{}
+
+/// And the offset of a position that counts whole characters of a line of the text leads back to it.
+pub fn position_of_offset()
+    ensures { (encoding : Encoding) (t : List ℕ) (p : Position) → IsPlace encoding t p → position encoding t (offset encoding t p) ≡ p }
 {}
 
 /// The test for a class with no member is right.

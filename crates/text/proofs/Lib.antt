@@ -1,6 +1,4 @@
 mod Scan
 mod Lines
 mod Along
-mod Past
-mod Characters
 mod Sizes

@@ -5,7 +5,7 @@ use Rattle.std.proofs.Common.{arith, sym, ap, ◌∙◌, length-append}
 use Rattle.std.proofs.lemmas.List.{take_more, take-append-drop, drop-drop}
 use Rattle.std.proofs.lemmas.Str.{encodes-append}
 use Rattle.definitions.specs.Text.{edit}
-use Rattle.text.proofs.Characters.{encodes-chars}
+use Rattle.definitions.proofs.Characters.{encodes-chars}
 
 -- how many bytes the characters have
 abbrev pub size : List ℕ → ℕ

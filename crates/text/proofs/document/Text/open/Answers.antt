@@ -2,7 +2,7 @@ use Rattle.std.proofs.Common.{arith, ap, refl, []}
 use Rattle.std.specs.Str.{chars}
 use Rattle.std.proofs.lemmas.List.Elements.{All-nil, All-same}
 use Rattle.definitions.specs.Text.{IsCharacter, IsText, edit}
-use Rattle.text.proofs.Characters.{IsText-chars, IsText-edit}
+use Rattle.definitions.proofs.Characters.{IsText-chars, IsText-edit}
 use Rattle.text.proofs.Sizes.{size, size-chars, size-edited}
 use Rattle.text.proofs.document.Text.open.Goals as goal
 

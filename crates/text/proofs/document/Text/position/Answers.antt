@@ -2,7 +2,7 @@ use Rattle.std.proofs.Common.{arith, ap, ◌∙◌, length, min}
 use Rattle.std.proofs.lemmas.Str.{length-le-encodes}
 use Rattle.definitions.specs.Text.{position}
 use Rattle.definitions.specs.declared.Unit.TheVariants.{Utf16}
-use Rattle.text.proofs.Past.{position-min}
+use Rattle.definitions.proofs.Past.{position-min}
 use Rattle.text.proofs.document.Text.position.Goals as goal
 
 pub position-requires-clause-in_range : goal.position-requires-clause-in_range

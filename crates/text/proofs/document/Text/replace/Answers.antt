@@ -2,7 +2,7 @@ use Rattle.std.proofs.Common.{arith, ap, refl, sym, ◌∙◌}
 use Rattle.std.specs.Str.{chars}
 use Rattle.definitions.specs.Text.{IsCharacter, edit}
 use Rattle.std.proofs.lemmas.List.Elements.{All-same}
-use Rattle.text.proofs.Characters.{IsText-chars, IsText-edit}
+use Rattle.definitions.proofs.Characters.{IsText-chars, IsText-edit}
 use Rattle.text.proofs.Sizes.{size, size-chars}
 use Rattle.text.proofs.document.Text.replace.Goals as goal
 

@@ -1,0 +1,167 @@
+-- Literals and classes that are read so far.
+use Rattle.std.proofs.Common.{◌≡◌, ◌≢◌, ◌⊎◌, inl, inr, ℕ, ◌==◌, Bool, true, false, List, [], ◌∷◌, ◌++◌, Some, refl, sym, ◌∙◌, ap, subst, append_assoc, arith}
+use Rattle.std.specs.List.{list_all}
+use Rattle.std.proofs.lemmas.List.{append-nil}
+use Rattle.std.proofs.lemmas.List.Folds.{list_all-append}
+use Rattle.std.proofs.lemmas.Bool.Decides.{nat_tests}
+use Rattle.definitions.specs.declared.expression.Interval.{Interval}
+use Rattle.definitions.specs.declared.expression.PatternCause.TheVariants.{Syntax}
+use Rattle.definitions.specs.PatternText.{Written, Plain, Escaped, BadEscape}
+use Rattle.definitions.specs.PatternFaults.{InLiteral, InClass, Items, First, Dash, Opened, fault_from, or_later, char_in_class}
+use Rattle.definitions.specs.Spelling.{IsLiteralChar, IsLiteralRest, IsClassChar, IsClassRest}
+use Rattle.patterns.specs.Reading.{IsLiteralFront, IsClassFront, IsItemFront, Begins, HasNoClassChar, place, place_of, HasNoLiteralChar}
+use Rattle.patterns.specs.Empty.{is_empty}
+
+-- behind ws come v's characters, and then vs
+abbrev pub IsLiteralSoFar : List ℕ → List Written → List Written → Type 0
+IsLiteralSoFar v ws vs =
+    (us : List Written) × (ws ≡ us ++ vs) × ((more : List ℕ) (then : List Written) → IsLiteralRest more then → IsLiteralRest (v ++ more) (us ++ then))
+
+abbrev pub IsClassSoFar : List Interval → List Written → List Written → Type 0
+IsClassSoFar is ws vs =
+    (us : List Written) × (ws ≡ us ++ vs) × ((more : List Interval) (then : List Written) → IsClassRest more then → IsClassRest (is ++ more) (us ++ then))
+
+pub no_literal : (ws : List Written) → IsLiteralSoFar [] ws ws
+no_literal ws = ([], refl, λ more then h. h)
+
+pub no_class : (ws : List Written) → IsClassSoFar [] ws ws
+no_class ws = ([], refl, λ more then h. h)
+
+snoc_along : {A : Type 0} (P : List A → List Written → Type 0) (v : List A) (c : A) (more : List A) (us : List Written) (w : Written) (then : List Written) → P (v ++ c ∷ more) (us ++ w ∷ then) → P ((v ++ c ∷ []) ++ more) ((us ++ w ∷ []) ++ then)
+snoc_along {A = A} P v c more us w then h =
+    let Q : List A → Type 0 = λ x. P x ((us ++ w ∷ []) ++ then) in
+    let R : List Written → Type 0 = λ x. P (v ++ c ∷ more) x in
+    subst Q (sym (append_assoc v (c ∷ []) more)) (subst R (sym (append_assoc us (w ∷ []) then)) h)
+
+pub one_more_literal : (v : List ℕ) (c : ℕ) (ws vs rest : List Written) (w : Written) → IsLiteralSoFar v ws vs → vs ≡ w ∷ rest → IsLiteralChar c w → IsLiteralSoFar (v ++ c ∷ []) ws rest
+one_more_literal v c ws vs rest w (us, e, goes) f char =
+    (us ++ w ∷ [], e ∙ ap (λ x. us ++ x) f ∙ sym (append_assoc us (w ∷ []) rest), λ more then h. snoc_along IsLiteralRest v c more us w then (goes (c ∷ more) (w ∷ then) (char, h)))
+
+pub literal_closed : (v : List ℕ) (o : ℕ) (ws vs rest : List Written) → IsLiteralSoFar v ws vs → vs ≡ Plain o 34 ∷ rest → IsLiteralFront v ws rest
+literal_closed v o ws vs rest (us, e, goes) f =
+    let Q : List ℕ → Type 0 = λ x. IsLiteralRest x (us ++ Plain o 34 ∷ []) in
+    (us ++ Plain o 34 ∷ [], e ∙ ap (λ x. us ++ x) f ∙ sym (append_assoc us (Plain o 34 ∷ []) rest), subst Q (append-nil v) (goes [] (Plain o 34 ∷ []) (refl, refl)))
+
+pub not_equal : (a b : ℕ) → a ≢ b → (a == b) ≡ false
+not_equal a b h = grind (arith, nat_tests)
+
+pub literal_step : (n d q : ℕ) (empty : Bool) (c : ℕ) (w : Written) (ws : List Written) → IsLiteralChar c w → fault_from n (InLiteral d q empty) (w ∷ ws) ≡ fault_from n (InLiteral d q false) ws
+literal_step n d q empty c (Plain o x) ws h = rw (not_equal x 34 h.1) refl
+literal_step n d q empty c (Escaped o x) ws h = refl
+literal_step n d q empty c (BadEscape o) ws h = absurd h
+
+pub eq_or_not : (a b : ℕ) → (a ≡ b) ⊎ (a ≢ b)
+eq_or_not a b = grind (arith, nat_tests)
+
+-- where no item begins
+pub no_item : (n : ℕ) (ws : List Written) → HasNoClassChar ws → (Begins 93 ws → ⊥) → (d b : ℕ) (negated : Bool) (before : List Interval) → fault_from n (InClass d b negated before Items) ws ≡ Some (record { at = place_of n ws; cause = Syntax })
+no_item n [] none h d b negated before = refl
+no_item n (Plain o c ∷ ws) none h d b negated before =
+    let not_93 : c ≢ 93 = λ e. h (sym e) in
+    let P : ℕ → Type 0 = λ x. fault_from n (InClass d b negated before Items) (Plain o x ∷ ws) ≡ Some (record { at = o; cause = Syntax }) in
+    elim (eq_or_not c 45) [
+      | inl e ↦ subst P (sym e) refl
+      | inr not_45 ↦ elim (eq_or_not c 94) [
+        | inl e ↦ subst P (sym e) refl
+        | inr not_94 ↦ absurd (none c (refl, not_93, not_45, not_94))
+      ]
+    ]
+no_item n (Escaped o c ∷ ws) none h d b negated before = absurd (none c refl)
+no_item n (BadEscape o ∷ ws) none h d b negated before = refl
+
+-- a first character and a `-`, behind which none begins
+pub no_last : (n : ℕ) (ws : List Written) → HasNoClassChar ws → (d b : ℕ) (negated : Bool) (before : List Interval) (p a : ℕ) → fault_from n (InClass d b negated before (Dash p a)) ws ≡ Some (record { at = place_of n ws; cause = Syntax })
+no_last n [] none d b negated before p a = refl
+no_last n (Plain o c ∷ ws) none d b negated before p a =
+    let P : ℕ → Type 0 = λ x. fault_from n (InClass d b negated before (Dash p a)) (Plain o x ∷ ws) ≡ Some (record { at = o; cause = Syntax }) in
+    elim (eq_or_not c 93) [
+      | inl e ↦ subst P (sym e) refl
+      | inr not_93 ↦ elim (eq_or_not c 45) [
+        | inl e ↦ subst P (sym e) refl
+        | inr not_45 ↦ elim (eq_or_not c 94) [
+          | inl e ↦ subst P (sym e) refl
+          | inr not_94 ↦ absurd (none c (refl, not_93, not_45, not_94))
+        ]
+      ]
+    ]
+no_last n (Escaped o c ∷ ws) none d b negated before p a = absurd (none c refl)
+no_last n (BadEscape o ∷ ws) none d b negated before p a = refl
+
+-- the first character of an item
+pub first_step : (n d b : ℕ) (negated : Bool) (before : List Interval) (c : ℕ) (w : Written) (ws : List Written) → IsClassChar c w → fault_from n (InClass d b negated before Items) (w ∷ ws) ≡ fault_from n (InClass d b negated before (First (place w) c)) ws
+first_step n d b negated before c (Plain o x) ws h =
+    let P : ℕ → Type 0 = λ y. fault_from n (InClass d b negated before Items) (Plain o x ∷ ws) ≡ fault_from n (InClass d b negated before (First o y)) ws in
+    subst P (sym h.0) (rw (not_equal x 93 h.1, not_equal x 45 h.2, not_equal x 94 h.3) refl)
+first_step n d b negated before c (Escaped o x) ws h =
+    let P : ℕ → Type 0 = λ y. fault_from n (InClass d b negated before Items) (Escaped o x ∷ ws) ≡ fault_from n (InClass d b negated before (First o y)) ws in
+    subst P (sym h) refl
+first_step n d b negated before c (BadEscape o) ws h = absurd h
+
+-- a last character
+pub last_step : (n d b : ℕ) (negated : Bool) (before : List Interval) (p a c : ℕ) (w : Written) (ws : List Written) → IsClassChar c w → fault_from n (InClass d b negated before (Dash p a)) (w ∷ ws) ≡ or_later (λ s. fault_from n s ws) (char_in_class d b negated before (Dash p a) (place w) c)
+last_step n d b negated before p a c (Plain o x) ws h =
+    let P : ℕ → Type 0 = λ y. fault_from n (InClass d b negated before (Dash p a)) (Plain o x ∷ ws) ≡ or_later (λ s. fault_from n s ws) (char_in_class d b negated before (Dash p a) o y) in
+    subst P (sym h.0) (rw (not_equal x 93 h.1, not_equal x 45 h.2, not_equal x 94 h.3) refl)
+last_step n d b negated before p a c (Escaped o x) ws h =
+    let P : ℕ → Type 0 = λ y. fault_from n (InClass d b negated before (Dash p a)) (Escaped o x ∷ ws) ≡ or_later (λ s. fault_from n s ws) (char_in_class d b negated before (Dash p a) o y) in
+    subst P (sym h) refl
+last_step n d b negated before p a c (BadEscape o) ws h = absurd h
+
+-- an item of one character, where no `-` follows
+pub one_ends : (n d b : ℕ) (negated : Bool) (before : List Interval) (p c : ℕ) (ws : List Written) → (Begins 45 ws → ⊥) → fault_from n (InClass d b negated before (First p c)) ws ≡ fault_from n (InClass d b negated (before ++ record { first = c; last = c } ∷ []) Items) ws
+one_ends n d b negated before p c [] h = refl
+one_ends n d b negated before p c (Plain o x ∷ ws) h =
+    let Q : ℕ → Type 0 = λ y. fault_from n (InClass d b negated before (First p c)) (Plain o y ∷ ws) ≡ fault_from n (InClass d b negated (before ++ record { first = c; last = c } ∷ []) Items) (Plain o y ∷ ws) in
+    elim (eq_or_not x 93) [
+      | inl e ↦ subst Q (sym e) refl
+      | inr not_93 ↦ elim (eq_or_not x 94) [
+        | inl e ↦ subst Q (sym e) refl
+        | inr not_94 ↦ rw (not_equal x 93 not_93, not_equal x 45 (λ e. h (sym e)), not_equal x 94 not_94) refl
+      ]
+    ]
+one_ends n d b negated before p c (Escaped o x ∷ ws) h = refl
+one_ends n d b negated before p c (BadEscape o ∷ ws) h = refl
+
+-- a class, behind its bracket, where no `^` follows
+pub no_caret : (n d b : ℕ) (ws : List Written) → (Begins 94 ws → ⊥) → fault_from n (InClass d b false [] Opened) ws ≡ fault_from n (InClass d b false [] Items) ws
+no_caret n d b [] h = refl
+no_caret n d b (Plain o x ∷ ws) h =
+    let Q : ℕ → Type 0 = λ y. fault_from n (InClass d b false [] Opened) (Plain o y ∷ ws) ≡ fault_from n (InClass d b false [] Items) (Plain o y ∷ ws) in
+    elim (eq_or_not x 93) [
+      | inl e ↦ subst Q (sym e) refl
+      | inr not_93 ↦ elim (eq_or_not x 45) [
+        | inl e ↦ subst Q (sym e) refl
+        | inr not_45 ↦ rw (not_equal x 93 not_93, not_equal x 45 not_45, not_equal x 94 (λ e. h (sym e))) refl
+      ]
+    ]
+no_caret n d b (Escaped o x ∷ ws) h = refl
+no_caret n d b (BadEscape o ∷ ws) h = refl
+
+pub one_more_item : (is : List Interval) (i : Interval) (ws vs rest : List Written) → IsClassSoFar is ws vs → IsItemFront i vs rest → IsClassSoFar (is ++ i ∷ []) ws rest
+one_more_item is i ws vs rest (us, e, goes) (item, f, h) = (
+  us ++ item,
+  e ∙ ap (λ x. us ++ x) f ∙ sym (append_assoc us item rest),
+  λ more then g.
+      let Q : List Interval → Type 0 = λ x. IsClassRest x ((us ++ item) ++ then) in
+      let R : List Written → Type 0 = λ x. IsClassRest (is ++ i ∷ more) x in
+      subst Q (sym (append_assoc is (i ∷ []) more)) (subst R (sym (append_assoc us item then)) (goes (i ∷ more) (item ++ then) (item, then, refl, h, g))),
+)
+
+pub class_closed : (is : List Interval) (o : ℕ) (ws vs rest : List Written) → IsClassSoFar is ws vs → vs ≡ Plain o 93 ∷ rest → IsClassFront is ws rest
+class_closed is o ws vs rest (us, e, goes) f =
+    let Q : List Interval → Type 0 = λ x. IsClassRest x (us ++ Plain o 93 ∷ []) in
+    (us ++ Plain o 93 ∷ [], e ∙ ap (λ x. us ++ x) f ∙ sym (append_assoc us (Plain o 93 ∷ []) rest), subst Q (append-nil is) (goes [] (Plain o 93 ∷ []) (Plain o 93, refl, refl)))
+
+pub all_and_one : (p : Interval → Bool) (is : List Interval) (i : Interval) → list_all p is ≡ true → p i ≡ true → list_all p (is ++ i ∷ []) ≡ true
+all_and_one p is i h g = rw (list_all-append p is (i ∷ []), h, g) refl
+
+-- where no character of a literal stands
+pub no_literal_char : (n : ℕ) (ws : List Written) → HasNoLiteralChar ws → (Begins 34 ws → ⊥) → (d q : ℕ) (empty : Bool) → fault_from n (InLiteral d q empty) ws ≡ Some (record { at = place_of n ws; cause = Syntax })
+no_literal_char n [] none h d q empty = refl
+no_literal_char n (Plain o c ∷ ws) none h d q empty = absurd (none c (refl, λ e. h (sym e)))
+no_literal_char n (Escaped o c ∷ ws) none h d q empty = absurd (none c refl)
+no_literal_char n (BadEscape o ∷ ws) none h d q empty = refl
+
+pub not_empty_behind : (v : List ℕ) (c : ℕ) → is_empty (v ++ c ∷ []) ≡ false
+not_empty_behind [] c = refl
+not_empty_behind (x ∷ v) c = refl

@@ -1,0 +1,13 @@
+-- The characters that are written so far.
+use Rattle.std.proofs.Common.{◌≡◌, List, [], ◌∷◌, ◌++◌, refl, sym, ◌∙◌, ap, append_assoc}
+use Rattle.definitions.specs.PatternText.{Written}
+use Rattle.patterns.specs.declared.characters.Character.{Character}
+use Rattle.patterns.specs.Reading.{written_as, writing}
+
+writing-append : (xs ys : List Character) → writing (xs ++ ys) ≡ writing xs ++ writing ys
+writing-append [] ys = refl
+writing-append (x ∷ xs) ys = ap (λ r. written_as x ∷ r) (writing-append xs ys)
+
+pub one_more_word : (words new : List Character) (w : Character) (before behind all : List Written) → new ≡ words ++ w ∷ [] → before ≡ written_as w ∷ behind → writing words ++ before ≡ all → writing new ++ behind ≡ all
+one_more_word words new w before behind all e f g =
+    ap (λ x. writing x ++ behind) e ∙ ap (λ x. x ++ behind) (writing-append words (w ∷ [])) ∙ append_assoc (writing words) (written_as w ∷ []) behind ∙ ap (λ x. writing words ++ x) (sym f) ∙ g

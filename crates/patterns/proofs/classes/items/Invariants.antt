@@ -1,0 +1,16 @@
+use Rattle.std.proofs.Common.{◌≡◌, ℕ, ◌≤◌, [], length, Bool, true}
+use Rattle.std.specs.List.{list_all}
+use Rattle.definitions.specs.PatternFaults.{InClass, Items, fault_from}
+use Rattle.patterns.specs.Sound.{is_range}
+use Rattle.patterns.specs.Reading.{writing}
+use Rattle.patterns.proofs.Literals.{IsClassSoFar}
+use Rattle.patterns.proofs.classes.items.Given as goal
+
+abbrev pub invariant-loop-rest : goal.invariant-loop-rest
+invariant-loop-rest l =
+    IsClassSoFar l.intervals.items (writing l.words) (writing l.left)
+    × ((depth bracket : ℕ) (negated : Bool) → fault_from l.end (InClass depth bracket negated [] Items) (writing l.words) ≡ fault_from l.end (InClass depth bracket negated l.intervals.items Items) (writing l.left))
+    × (list_all is_range l.intervals.items ≡ true) × (length l.left ≤ length l.words)
+
+abbrev pub decreases-loop-rest : goal.decreases-loop-rest
+decreases-loop-rest l = length l.left

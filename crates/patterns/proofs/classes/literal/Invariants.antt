@@ -1,0 +1,15 @@
+use Rattle.std.proofs.Common.{◌≡◌, ℕ, ◌≤◌, length, true}
+use Rattle.definitions.specs.PatternFaults.{InLiteral, fault_from}
+use Rattle.patterns.specs.Empty.{is_empty}
+use Rattle.patterns.specs.Reading.{writing}
+use Rattle.patterns.proofs.Literals.{IsLiteralSoFar}
+use Rattle.patterns.proofs.classes.literal.Given as goal
+
+abbrev pub invariant-loop-rest : goal.invariant-loop-rest
+invariant-loop-rest l =
+    IsLiteralSoFar l.characters.items (writing l.words) (writing l.left)
+    × ((depth : ℕ) → fault_from l.end (InLiteral depth l.quote true) (writing l.words) ≡ fault_from l.end (InLiteral depth l.quote (is_empty l.characters.items)) (writing l.left))
+    × (length l.left ≤ length l.words)
+
+abbrev pub decreases-loop-rest : goal.decreases-loop-rest
+decreases-loop-rest l = length l.left

@@ -1,0 +1,124 @@
+-- What the steps of a reader tell of the front of a text.
+use Rattle.std.specs.Prelude.{◌≡◌, ℕ, ◌==◌, ◌||◌, Bool, true, false, List, [], ◌∷◌, ◌++◌}
+use Rattle.std.specs.List.{AllByRecursion}
+use Rattle.definitions.specs.declared.expression.Interval.{Interval}
+use Rattle.definitions.specs.declared.expression.Expression.{Expression}
+use Rattle.definitions.specs.declared.expression.Expression.TheVariants.{Sequence', Choice', Star', Plus', Optional'}
+use Rattle.definitions.specs.declared.expression.PatternCause.{PatternCause}
+use Rattle.definitions.specs.declared.expression.PatternFault.{PatternFault}
+use Rattle.definitions.specs.PatternText.{Written, Plain, Escaped, BadEscape}
+use Rattle.definitions.specs.Spelling.{Level, Rep, Atom, SpellsAt, Place, IsBlank, IsSign, IsClassChar, IsLiteralChar, IsLiteralRest, IsItem, IsClassRest}
+use Rattle.patterns.specs.declared.characters.Character.{Character}
+use Rattle.patterns.specs.declared.characters.Character.TheVariants.{Sign, Escape, Broken}
+use Rattle.patterns.specs.declared.refusals.Refusal.{Refusal}
+use Rattle.patterns.specs.declared.refusals.Refusal.TheVariants.{Fault, Memory}
+
+abbrev pub written_as : Character → Written
+written_as (Sign o c) = Plain o c
+written_as (Escape o c) = Escaped o c
+written_as (Broken o) = BadEscape o
+
+abbrev pub writing : List Character → List Written
+writing [] = []
+writing (w ∷ ws) = written_as w ∷ writing ws
+
+abbrev pub fault_at : ℕ → PatternCause → Refusal
+fault_at o cause = Fault (record { at = o; cause = cause })
+
+-- a fact of the fault, where there is one
+abbrev pub Tells : Refusal → (PatternFault → Type 0) → Type 0
+Tells (Fault f) P = P f
+Tells Memory P = Unit {0}
+
+abbrev pub place : Written → ℕ
+place (Plain o c) = o
+place (Escaped o c) = o
+place (BadEscape o) = o
+
+abbrev pub place_of : ℕ → List Written → ℕ
+place_of end [] = end
+place_of end (w ∷ ws) = place w
+
+abbrev pub Begins : ℕ → List Written → Type 0
+Begins c [] = ⊥
+Begins c (w ∷ ws) = IsSign c w
+
+abbrev pub HasNoBlank : List Written → Type 0
+HasNoBlank ws = (Begins 32 ws → ⊥) × (Begins 9 ws → ⊥)
+
+abbrev pub IsBlankAt : List Written → List Written → Type 0
+IsBlankAt ws vs = (w : Written) × (ws ≡ w ∷ vs) × IsBlank w
+
+-- ws is blanks and then vs
+abbrev pub IsBlanks : List Written → List Written → Type 0
+IsBlanks ws vs = (us : List Written) × (ws ≡ us ++ vs) × AllByRecursion IsBlank us
+
+abbrev pub is_stop : Written → Bool
+is_stop (Plain o c) = c == 124 || c == 41
+is_stop (Escaped o c) = false
+is_stop (BadEscape o) = false
+
+abbrev pub stops : List Written → Bool
+stops [] = true
+stops (w ∷ ws) = is_stop w
+
+abbrev pub IsAtEnd : List Written → Type 0
+IsAtEnd [] = Unit {0}
+IsAtEnd (w ∷ ws) = IsSign 41 w
+
+abbrev pub IsClosed : List Written → List Written → Type 0
+IsClosed ws vs = (o : ℕ) × (ws ≡ Plain o 41 ∷ vs)
+
+-- ws begins with a part of this level inside so many parentheses, and vs is left
+abbrev pub IsPart : Level → ℕ → Expression → List Written → List Written → Type 0
+IsPart l d e ws vs = (us : List Written) × (ws ≡ us ++ vs) × SpellsAt l d e us
+
+-- behind an atom a, ws makes it e, and vs is left
+abbrev pub IsRepeated : Expression → Expression → List Written → List Written → Type 0
+IsRepeated a e ws vs = (d : ℕ) (front : List Written) → SpellsAt Atom d a front → IsPart Rep d e (front ++ ws) vs
+
+abbrev pub IsSequence : Expression → Expression → Expression → Type 0
+IsSequence a b e = (p q : Place) × (e ≡ Sequence' p a q b)
+
+abbrev pub IsChoice : Expression → Expression → Expression → Type 0
+IsChoice a b e = (p q : Place) × (e ≡ Choice' p a q b)
+
+abbrev pub IsStar : Expression → Expression → Type 0
+IsStar a e = (p : Place) × (e ≡ Star' p a)
+
+abbrev pub IsPlus : Expression → Expression → Type 0
+IsPlus a e = (p : Place) × (e ≡ Plus' p a)
+
+abbrev pub IsOptional : Expression → Expression → Type 0
+IsOptional a e = (p : Place) × (e ≡ Optional' p a)
+
+abbrev pub IsLiteralFront : List ℕ → List Written → List Written → Type 0
+IsLiteralFront v ws vs = (us : List Written) × (ws ≡ us ++ vs) × IsLiteralRest v us
+
+abbrev pub IsItemFront : Interval → List Written → List Written → Type 0
+IsItemFront i ws vs = (us : List Written) × (ws ≡ us ++ vs) × IsItem i us
+
+abbrev pub IsClassFront : List Interval → List Written → List Written → Type 0
+IsClassFront is ws vs = (us : List Written) × (ws ≡ us ++ vs) × IsClassRest is us
+
+-- behind the opening bracket
+abbrev pub IsClassBody : Bool → List Interval → List Written → List Written → Type 0
+IsClassBody false is ws vs = IsClassFront is ws vs
+IsClassBody true is ws vs = (w : Written) × (inside : List Written) × (ws ≡ w ∷ inside) × IsSign 94 w × IsClassFront is inside vs
+
+-- ws begins with this character of a class, at this place, and vs is left
+abbrev pub IsClassCharAt : ℕ → ℕ → List Written → List Written → Type 0
+IsClassCharAt o c ws vs = (w : Written) × (ws ≡ w ∷ vs) × (place w ≡ o) × IsClassChar c w
+
+-- ws begins with no character of a class
+abbrev pub HasNoClassChar : List Written → Type 0
+HasNoClassChar [] = Unit {0}
+HasNoClassChar (w ∷ ws) = (c : ℕ) → IsClassChar c w → ⊥
+
+-- the same for a literal
+abbrev pub IsLiteralCharAt : ℕ → List Written → List Written → Type 0
+IsLiteralCharAt c ws vs = (w : Written) × (ws ≡ w ∷ vs) × IsLiteralChar c w
+
+abbrev pub HasNoLiteralChar : List Written → Type 0
+HasNoLiteralChar [] = Unit {0}
+HasNoLiteralChar (w ∷ ws) = (c : ℕ) → IsLiteralChar c w → ⊥

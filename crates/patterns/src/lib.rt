@@ -1,0 +1,87 @@
+//! The text of a token pattern, and the expression that it spells.
+#![tactic(auto)]
+
+ghost use Rattle.std.specs.Prelude.{◌≡◌, ◌≢◌, None, true, false, [], IfOk, IfErr};
+ghost use Rattle.std.specs.Str.{chars};
+ghost use Rattle.definitions.specs.Patterns.{Matches};
+ghost use Rattle.definitions.specs.Spelling.{IsPattern, IsWellMade};
+ghost use Rattle.definitions.specs.PatternFaults.{first_fault, IsFault};
+ghost use Rattle.definitions.specs.declared.expression.PatternCause.TheVariants.{Memory};
+ghost use Rattle.patterns.specs.Empty.{matches_empty};
+ghost use Rattle.patterns.specs.Sound.{is_sound};
+ghost use Rattle.patterns.specs.Reading.{Tells};
+
+mod characters;
+mod classes;
+mod empty;
+mod parts;
+mod refusals;
+
+use characters::writing;
+pub use definitions::{Expression, Interval, PatternCause, PatternFault};
+use empty::matches_empty;
+use parts::whole;
+use refusals::{Refusal, fault};
+use std::alloc::{AllocError, Global};
+
+/// A pattern of tokens: a regular expression over characters that has a text and does not match the empty one.
+#[derive(Drop)]
+pub struct Pattern {
+    expression: Expression,
+    ghost sound: { is_sound expression ≡ true },
+    ghost not_empty: { matches_empty expression ≡ false },
+}
+
+impl Pattern {
+    /// The pattern that `text` spells.
+    ///
+    /// Otherwise the first fault of `text`, and its place in characters from the start.
+    pub fn read(alloc: Global, text: &str) -> Result<Pattern, PatternFault>
+        ensures pattern { IfOk result (λ p. IsPattern (chars text.now) p.expression) }
+        ensures no_fault { IfOk result (λ p. first_fault (chars text.now) ≡ None) }
+        ensures fault { IfErr result (λ f. f.cause ≢ Memory → IsFault (chars text.now) f) }
+    {
+        match read_expression(alloc, text) {
+            Ok(expression) => Ok(Pattern { expression }),
+            Err(Refusal::Fault(fault)) => Err(fault),
+            Err(Refusal::Memory) => Err(PatternFault {
+                at: 0,
+                cause: PatternCause::Memory,
+            }),
+        }
+    }
+
+    /// The expression of the pattern.
+    pub fn expression(&self) -> &Expression
+        ensures value { result.now ≡ self.now.expression }
+        ensures well_made { IsWellMade result.now }
+        ensures not_empty { Matches result.now [] → ⊥ }
+    {
+        &self.expression
+    }
+}
+
+fn read_expression(alloc: Global, text: &str) -> Result<Expression, Refusal>
+    ensures pattern { IfOk result (λ e. IsPattern (chars text.now) e) }
+    ensures no_fault { IfOk result (λ e. first_fault (chars text.now) ≡ None) }
+    ensures sound { IfOk result (λ e. is_sound e ≡ true) }
+    ensures not_empty { IfOk result (λ e. matches_empty e ≡ false) }
+    ensures fault { IfErr result (λ r. Tells r (λ f. IsFault (chars text.now) f)) }
+{
+    let characters = characters_of(alloc, text)?;
+    let words = writing(alloc, &characters)?;
+    let expression = whole(alloc, &words, characters.len())?;
+    if matches_empty(&expression) {
+        return Err(fault(0, PatternCause::MatchesEmpty));
+    }
+    Ok(expression)
+}
+
+fn characters_of(alloc: Global, text: &str) -> Result<Vec<char>, AllocError>
+    ensures { IfOk result (λ characters. characters.items ≡ chars text.now) }
+{
+    text.chars().collect(alloc)
+}
+
+#[cfg(test)]
+mod tests;

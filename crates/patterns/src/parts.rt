@@ -1,0 +1,260 @@
+//! The parts of a pattern outside literals and classes.
+
+ghost use Rattle.std.specs.Prelude.{◌≡◌, ◌+◌, ◌<◌, ◌≤◌, ◌++◌, ◌∷◌, [], ℕ, length, IfOk, IfErr, MatchOption, None, true};
+ghost use Rattle.definitions.specs.PatternText.{Plain};
+ghost use Rattle.definitions.specs.PatternFaults.{Outside, Nothing, AnAtom, ARepetition, fault_from};
+ghost use Rattle.definitions.specs.Spelling.{Alt, Seq, Rep, Atom, SpellsAt};
+ghost use Rattle.patterns.specs.Sound.{is_sound};
+ghost use Rattle.patterns.specs.Reading.{writing, Begins, HasNoBlank, IsPart, IsBlanks, IsChoice, IsSequence, IsRepeated, IsStar, IsPlus, IsOptional, IsBlankAt, IsAtEnd, IsClosed, stops, Tells};
+
+use crate::characters::Character;
+use crate::classes::{class, literal, place_of, strip};
+use crate::refusals::{Refusal, fault};
+use definitions::{Expression, PatternCause};
+use std::alloc::{AllocError, Global};
+
+/// The expression that these characters spell; `end` is the place behind them.
+pub fn whole(alloc: Global, words: &[Character], end: usize) -> Result<Expression, Refusal>
+    ensures spelled { IfOk result (λ e. SpellsAt Alt 0 e (writing words.now)) }
+    ensures sound { IfOk result (λ e. is_sound e ≡ true) }
+    ensures no_fault { IfOk result (λ e. fault_from end (Outside 0 Nothing) (writing words.now) ≡ None) }
+    ensures fault { IfErr result (λ r. Tells r (λ f. fault_from end (Outside 0 Nothing) (writing words.now) ≡ Some f)) }
+{
+    let (expression, rest) = alternatives(alloc, words, 0, end)?;
+    if let Some((place, _)) = strip(rest, ')') {
+        return Err(fault(place, PatternCause::Syntax));
+    }
+    Ok(expression)
+}
+
+// The alternatives at the front, and the rest, which is empty or begins with a closing parenthesis.
+#[cycle(parts)]
+fn alternatives<'a>(
+    alloc: Global,
+    words: &'a [Character],
+    depth: usize,
+    end: usize,
+) -> Result<(Expression, &'a [Character]), Refusal>
+    requires { depth ≤ 64 }
+    ensures spelled { IfOk result (λ r. IsPart Alt depth r.0 (writing words.now) (writing r.1.now)) }
+    ensures sound { IfOk result (λ r. is_sound r.0 ≡ true) }
+    ensures shorter { IfOk result (λ r. length r.1.now < length words.now) }
+    ensures stops { IfOk result (λ r. IsAtEnd (writing r.1.now)) }
+    ensures goes_on { IfOk result (λ r. fault_from end (Outside depth Nothing) (writing words.now) ≡ fault_from end (Outside depth ARepetition) (writing r.1.now)) }
+    ensures fault { IfErr result (λ r. Tells r (λ f. fault_from end (Outside depth Nothing) (writing words.now) ≡ Some f)) }
+{
+    let (mut choice, mut rest) = sequence(alloc, words, depth, end)?;
+    while let Some((_, behind)) = strip(rest, '|') {
+        let (next, after) = sequence(alloc, behind, depth, end)?;
+        choice = either(alloc, choice, next)?;
+        rest = after;
+    }
+    Ok((choice, rest))
+}
+
+// The sequence at the front, and the rest, which is empty or begins with a `|` or a closing parenthesis.
+#[cycle(parts)]
+fn sequence<'a>(
+    alloc: Global,
+    words: &'a [Character],
+    depth: usize,
+    end: usize,
+) -> Result<(Expression, &'a [Character]), Refusal>
+    requires { depth ≤ 64 }
+    ensures spelled { IfOk result (λ r. IsPart Seq depth r.0 (writing words.now) (writing r.1.now)) }
+    ensures sound { IfOk result (λ r. is_sound r.0 ≡ true) }
+    ensures shorter { IfOk result (λ r. length r.1.now < length words.now) }
+    ensures stops { IfOk result (λ r. stops (writing r.1.now) ≡ true) }
+    ensures goes_on { IfOk result (λ r. fault_from end (Outside depth Nothing) (writing words.now) ≡ fault_from end (Outside depth ARepetition) (writing r.1.now)) }
+    ensures fault { IfErr result (λ r. Tells r (λ f. fault_from end (Outside depth Nothing) (writing words.now) ≡ Some f)) }
+{
+    let (mut sequence, mut rest) = repetition(alloc, words, depth, end)?;
+    while !stops(rest) {
+        let (next, after) = repetition(alloc, rest, depth, end)?;
+        sequence = both(alloc, sequence, next)?;
+        rest = after;
+    }
+    Ok((sequence, rest))
+}
+
+// The atom at the front with its sign of repetition, if it has one, and the rest, which begins with no blank.
+#[cycle(parts)]
+fn repetition<'a>(
+    alloc: Global,
+    words: &'a [Character],
+    depth: usize,
+    end: usize,
+) -> Result<(Expression, &'a [Character]), Refusal>
+    requires { depth ≤ 64 }
+    ensures spelled { IfOk result (λ r. IsPart Rep depth r.0 (writing words.now) (writing r.1.now)) }
+    ensures sound { IfOk result (λ r. is_sound r.0 ≡ true) }
+    ensures shorter { IfOk result (λ r. length r.1.now < length words.now) }
+    ensures no_blank { IfOk result (λ r. HasNoBlank (writing r.1.now)) }
+    ensures goes_on { IfOk result (λ r. fault_from end (Outside depth Nothing) (writing words.now) ≡ fault_from end (Outside depth ARepetition) (writing r.1.now)) }
+    ensures fault { IfErr result (λ r. Tells r (λ f. fault_from end (Outside depth Nothing) (writing words.now) ≡ Some f)) }
+{
+    let (part, rest) = atom(alloc, words, depth, end)?;
+    let (expression, rest) = repeated(alloc, part, rest)?;
+    Ok((expression, rest))
+}
+
+// The atom at the front, with the blanks about it, and the rest, which begins with no blank.
+#[cycle(parts)]
+fn atom<'a>(
+    alloc: Global,
+    words: &'a [Character],
+    depth: usize,
+    end: usize,
+) -> Result<(Expression, &'a [Character]), Refusal>
+    requires { depth ≤ 64 }
+    ensures spelled { IfOk result (λ r. IsPart Atom depth r.0 (writing words.now) (writing r.1.now)) }
+    ensures sound { IfOk result (λ r. is_sound r.0 ≡ true) }
+    ensures shorter { IfOk result (λ r. length r.1.now < length words.now) }
+    ensures no_blank { IfOk result (λ r. HasNoBlank (writing r.1.now)) }
+    ensures goes_on { IfOk result (λ r. fault_from end (Outside depth Nothing) (writing words.now) ≡ fault_from end (Outside depth AnAtom) (writing r.1.now)) }
+    ensures fault { IfErr result (λ r. Tells r (λ f. fault_from end (Outside depth Nothing) (writing words.now) ≡ Some f)) }
+{
+    let (part, rest) = bare_atom(alloc, skip_blanks(words), depth, end)?;
+    Ok((part, skip_blanks(rest)))
+}
+
+// The atom at the very front, and the rest.
+#[cycle(parts)]
+fn bare_atom<'a>(
+    alloc: Global,
+    words: &'a [Character],
+    depth: usize,
+    end: usize,
+) -> Result<(Expression, &'a [Character]), Refusal>
+    requires depth { depth ≤ 64 }
+    requires no_blank { HasNoBlank (writing words.now) }
+    ensures spelled { IfOk result (λ r. IsPart Atom depth r.0 (writing words.now) (writing r.1.now)) }
+    ensures sound { IfOk result (λ r. is_sound r.0 ≡ true) }
+    ensures shorter { IfOk result (λ r. length r.1.now < length words.now) }
+    ensures goes_on { IfOk result (λ r. fault_from end (Outside depth Nothing) (writing words.now) ≡ fault_from end (Outside depth AnAtom) (writing r.1.now)) }
+    ensures fault { IfErr result (λ r. Tells r (λ f. fault_from end (Outside depth Nothing) (writing words.now) ≡ Some f)) }
+{
+    if let Some((quote, inside)) = strip(words, '"') {
+        let (characters, rest) = literal(alloc, inside, quote, end)?;
+        return Ok((Expression::Literal(characters), rest));
+    }
+    if let Some((bracket, inside)) = strip(words, '[') {
+        let (negated, intervals, rest) = class(alloc, inside, bracket, end)?;
+        return Ok((Expression::Class { negated, intervals }, rest));
+    }
+    if depth < 64
+        && let Some((_, inside)) = strip(words, '(')
+    {
+        let (part, rest) = alternatives(alloc, inside, depth + 1, end)?;
+        let behind = close(rest, end)?;
+        return Ok((part, behind));
+    }
+    Err(fault(place_of(words, end), PatternCause::Syntax))
+}
+
+// The rest behind a closing parenthesis, or the fault of its want, which is at the end.
+fn close<'a>(words: &'a [Character], end: usize) -> Result<&'a [Character], Refusal>
+    requires { IsAtEnd (writing words.now) }
+    ensures shorter { IfOk result (λ r. length r.now < length words.now) }
+    ensures closed { IfOk result (λ r. IsClosed (writing words.now) (writing r.now)) }
+    ensures fault { IfErr result (λ r. Tells r (λ f. (depth : ℕ) → fault_from end (Outside (depth + 1) ARepetition) (writing words.now) ≡ Some f)) }
+{
+    match strip(words, ')') {
+        Some((_, behind)) => Ok(behind),
+        None => Err(fault(end, PatternCause::Syntax)),
+    }
+}
+
+// The rest behind the blanks at the front.
+fn skip_blanks(words: &[Character]) -> &[Character]
+    ensures { IsBlanks (writing words.now) (writing result.now) × HasNoBlank (writing result.now) × (length result.now ≤ length words.now) }
+{
+    let mut rest = words;
+    while let Some((_, behind)) = strip_blank(rest) {
+        rest = behind;
+    }
+    rest
+}
+
+// The place of the first of these characters, and the others, if it is a blank.
+fn strip_blank(words: &[Character]) -> Option<(usize, &[Character])>
+    ensures { MatchOption result
+        (HasNoBlank (writing words.now))
+        (λ r. IsBlankAt (writing words.now) (writing r.1.now) × (length r.1.now < length words.now)) }
+{
+    match strip(words, ' ') {
+        Some(found) => Some(found),
+        None => strip(words, '\t'),
+    }
+}
+
+// Whether nothing, a `|` or a closing parenthesis stands at the front.
+fn stops(words: &[Character]) -> bool
+    ensures { result ≡ stops (writing words.now) }
+{
+    match words.first() {
+        None => true,
+        Some(
+            Character::Sign {
+                code: '|' | ')',
+                ..
+            },
+        ) => true,
+        Some(_) => false,
+    }
+}
+
+// The atom with the sign of repetition that stands at the front, if there is one, and the rest behind the blanks.
+fn repeated<'a>(
+    alloc: Global,
+    part: Expression,
+    words: &'a [Character],
+) -> Result<(Expression, &'a [Character]), AllocError>
+    requires no_blank { HasNoBlank (writing words.now) }
+    ensures spelled { IfOk result (λ r. IsRepeated part r.0 (writing words.now) (writing r.1.now)) }
+    ensures sound { IfOk result (λ r. is_sound part ≡ true → is_sound r.0 ≡ true) }
+    ensures no_longer { IfOk result (λ r. length r.1.now ≤ length words.now) }
+    ensures still_no_blank { IfOk result (λ r. HasNoBlank (writing r.1.now)) }
+    ensures goes_on { IfOk result (λ r. (depth end : ℕ) → fault_from end (Outside depth AnAtom) (writing words.now) ≡ fault_from end (Outside depth ARepetition) (writing r.1.now)) }
+{
+    if let Some((_, rest)) = strip(words, '*') {
+        return Ok((star(alloc, part)?, skip_blanks(rest)));
+    }
+    if let Some((_, rest)) = strip(words, '+') {
+        return Ok((plus(alloc, part)?, skip_blanks(rest)));
+    }
+    if let Some((_, rest)) = strip(words, '?') {
+        return Ok((optional(alloc, part)?, skip_blanks(rest)));
+    }
+    Ok((part, words))
+}
+
+fn both(alloc: Global, first: Expression, second: Expression) -> Result<Expression, AllocError>
+    ensures { IfOk result (λ e. IsSequence first second e) }
+{
+    Ok(Expression::Sequence(Box::new(alloc, first)?, Box::new(alloc, second)?))
+}
+
+fn either(alloc: Global, first: Expression, second: Expression) -> Result<Expression, AllocError>
+    ensures { IfOk result (λ e. IsChoice first second e) }
+{
+    Ok(Expression::Choice(Box::new(alloc, first)?, Box::new(alloc, second)?))
+}
+
+fn star(alloc: Global, part: Expression) -> Result<Expression, AllocError>
+    ensures { IfOk result (λ e. IsStar part e) }
+{
+    Ok(Expression::Star(Box::new(alloc, part)?))
+}
+
+fn plus(alloc: Global, part: Expression) -> Result<Expression, AllocError>
+    ensures { IfOk result (λ e. IsPlus part e) }
+{
+    Ok(Expression::Plus(Box::new(alloc, part)?))
+}
+
+fn optional(alloc: Global, part: Expression) -> Result<Expression, AllocError>
+    ensures { IfOk result (λ e. IsOptional part e) }
+{
+    Ok(Expression::Optional(Box::new(alloc, part)?))
+}

@@ -1,0 +1,5 @@
+use Rattle.seqtree.proofs.Low.{IsLow-digits}
+use Rattle.seqtree.proofs.seq.Seq.height.Goals as goal
+
+pub returns-clause-low : goal.returns-clause-low
+returns-clause-low g c = rw (c.height.ensures.is, ← c.self.view_is) (IsLow-digits _ _ c.height.ensures.low)

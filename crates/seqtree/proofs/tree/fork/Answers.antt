@@ -1,0 +1,15 @@
+use Rattle.std.proofs.Common.{arith, rules}
+use Rattle.seqtree.proofs.Low.{IsLow-fork, high-fork}
+use Rattle.seqtree.proofs.Totals.{total-around}
+use Rattle.seqtree.proofs.tree.fork.Goals as goal
+
+pub invariant_of-node : goal.invariant_of-node
+invariant_of-node g c = record {
+  len_is = search rules;
+  tall_is = search rules;
+  balanced = c.requires.balanced;
+  low = λ k h. let e = IsLow-fork _ _ _ _ c.height.ensures.low c.height-2.ensures.low c.requires.balanced k (omega arith) in omega arith;
+  high = high-fork c.height.result c.height-2.result _ _ _ _ (search rules) (search rules) c.height.ensures.high c.height-2.ensures.high;
+  fits = omega arith;
+  all_is = cc (total-around g.T.Measured.measure g.met.T.Sum.Monoid.laws _ c.node.inside.item _);
+}

@@ -1,0 +1,6 @@
+pub mod Monoid
+pub mod Tree
+pub mod Falls
+pub mod Goal
+pub mod Saturated
+pub mod Maxima

@@ -1,0 +1,165 @@
+//! A list of measured items, and the parts that go into one.
+ghost use Rattle.std.specs.Prelude.{◌≡◌, ℕ, IsTrue, false, ◌+◌, ◌-◌, ◌*◌, ◌^◌, ◌<◌, ◌≤◌, ◌++◌, [], length, take, drop, slice_get, option_copied, IfOk};
+ghost use Rattle.std.specs.Iterator.{at_most, YieldsFirstRef};
+ghost use Rattle.seqtree.specs.Monoid.{total};
+ghost use Rattle.seqtree.specs.Tree.{digits};
+
+use crate::tree::{self, Node, Tree};
+use crate::{Goal, Measured};
+use std::alloc::{AllocError, Global};
+use std::marker::Model;
+
+/// A list of items, which tells the sum of any front of it.
+#[derive(Drop)]
+pub struct Seq<T: Measured> {
+    root: Tree<T>,
+}
+
+impl<T: Measured> Model for Seq<T> {
+    ghost use Rattle.std.specs.Prelude.{List};
+    ghost use Rattle.seqtree.specs.Tree.{items_of};
+
+    ghost Value = { List T };
+
+    ghost view = { λ a. items_of a.root };
+}
+
+/// Items in the memory that a list needs for them.
+#[derive(Drop)]
+pub struct Slots<T: Measured> {
+    root: Tree<T>,
+}
+
+impl<T: Measured> Model for Slots<T> {
+    ghost use Rattle.std.specs.Prelude.{List};
+    ghost use Rattle.seqtree.specs.Tree.{items_of};
+
+    ghost Value = { List T };
+
+    ghost view = { λ a. items_of a.root };
+}
+
+impl<T: Measured> Seq<T> {
+    /// The list with no item. Takes no memory.
+    pub fn new() -> Self
+        ensures { result ≡ [] }
+    {
+        Seq { root: None }
+    }
+
+    /// How many items there are.
+    pub fn len(&self) -> usize
+        ensures { result ≡ length self.now }
+    {
+        tree::count(&self.root)
+    }
+
+    /// The sum of all items.
+    pub fn total(&self) -> T::Sum
+        ensures { result ≡ total T.Sum.empty T.Sum.op T.measure self.now }
+    {
+        tree::sum_of(&self.root)
+    }
+
+    /// How many nodes stand on the longest way from the root down: at most twice as many as the length has binary digits, and
+    /// enough to hold the items.
+    pub fn height(&self) -> u8
+        ensures low { result ≤ 2 * digits (length self.now) }
+        ensures high { length self.now < 2 ^ result }
+    {
+        tree::height(&self.root)
+    }
+
+    /// The item at the place `i`, if there is one.
+    pub fn get(&self, i: usize) -> Option<&T>
+        ensures { option_copied result ≡ slice_get self.now i }
+    {
+        tree::get(&self.root, i)
+    }
+
+    /// The items from the place `i` on.
+    pub fn iter_from(&self, i: usize) -> Iter<'_, T>
+        ensures { result ≡ drop i self.now }
+    {
+        Iter { list: self, at: i }
+    }
+
+    /// The least `i` such that the sum of the first `i + 1` items reaches the goal, and the sum of the items before
+    /// it. Where no such sum does, `i` is the length.
+    pub fn locate<G: Goal<T::Sum>>(&self, goal: &G) -> (usize, T::Sum)
+        ensures within { result.0 ≤ length self.now }
+        ensures before { result.1 ≡ total T.Sum.empty T.Sum.op T.measure (take result.0 self.now) }
+        ensures not_before { (k : ℕ) → k < result.0 → G.reaches goal.now (total T.Sum.empty T.Sum.op T.measure (take (k + 1) self.now)) ≡ false }
+        ensures reached { result.0 < length self.now → IsTrue (G.reaches goal.now (total T.Sum.empty T.Sum.op T.measure (take (result.0 + 1) self.now))) }
+    {
+        tree::locate(&self.root, goal)
+    }
+
+    /// Puts the given items in the place of `from..to`, and answers the removed ones. Takes no memory.
+    pub fn replace(&mut self, from: usize, to: usize, items: Slots<T>) -> Slots<T>
+        requires ordered { from ≤ to }
+        requires in_range { to ≤ length self.old }
+        requires fits { length self.old - (to - from) + length items < 2 ^ 64 }
+        ensures list { self.new ≡ take from self.old ++ items ++ drop to self.old }
+        ensures removed { result ≡ drop from (take to self.old) }
+    {
+        let (rest, back) = tree::split(self.root.take(), to);
+        let (front, middle) = tree::split(rest, from);
+        self.root = tree::append(tree::append(front, items.root), back);
+        Slots { root: middle }
+    }
+}
+
+impl<T: Measured> Slots<T> {
+    /// Takes the memory that the items need in a list. Refuses for memory alone.
+    pub fn make(alloc: Global, mut items: Vec<T>) -> Result<Slots<T>, AllocError>
+        ensures { IfOk result (λ s. s ≡ items.items) }
+    {
+        let mut root = None;
+        while let Some(item) = items.pop() {
+            let node = tree::single(alloc, item)?;
+            root = Some(tree::join(None, node, root));
+        }
+        Ok(Slots { root })
+    }
+
+    /// How many items there are.
+    pub fn len(&self) -> usize
+        ensures { result ≡ length self.now }
+    {
+        tree::count(&self.root)
+    }
+}
+
+/// The items of a list from one place on.
+#[derive(Drop)]
+pub struct Iter<'a, T: Measured> {
+    list: &'a Seq<T>,
+    at: usize,
+}
+
+impl<'a, T: Measured> Model for Iter<'a, T> {
+    ghost use Rattle.std.specs.Prelude.{List, drop};
+
+    ghost Value = { List T };
+
+    ghost view = { λ a. drop a.at a.list.now };
+}
+
+impl<'a, T: Measured> Iterator for Iter<'a, T> {
+    type Item = &'a T;
+
+    ghost next_gives = { YieldsFirstRef (λ s. s) };
+
+    ghost remaining = { λ s. at_most (length s) };
+
+    fn next(&mut self) -> Option<&'a T> {
+        let list = self.list;
+        if self.at >= list.len() {
+            return None;
+        }
+        let item = list.get(self.at);
+        self.at += 1;
+        item
+    }
+}

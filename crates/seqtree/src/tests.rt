@@ -1,0 +1,145 @@
+//! A list of numbers with the greatest of each part, against a plain vector.
+
+ghost use Rattle.std.specs.Prelude.{max, nat_le};
+ghost use Rattle.seqtree.specs.Maxima.{max_left_unit, max_right_unit, max_assoc, max_stays};
+
+use crate::{Goal, Measured, Monoid, Seq, Slots};
+use std::alloc::Global;
+use std::process::Abort;
+use std::test::Fail;
+
+#[derive(Clone, Copy, Debug, PartialEq, Eq)]
+struct Greatest {
+    value: u32,
+}
+
+impl Monoid for Greatest {
+    ghost empty = { record { value = 0 } };
+
+    ghost op = { λ a b. record { value = max a.value b.value } };
+
+    ghost laws = { record { left_unit = λ x i. record { value = max_left_unit x.value i }; right_unit = λ x i. record { value = max_right_unit x.value i }; assoc = λ x y z i. record { value = max_assoc x.value y.value z.value i } } };
+
+    fn zero() -> Greatest {
+        Greatest { value: 0 }
+    }
+
+    fn join(&self, other: &Greatest) -> Greatest {
+        Greatest {
+            value: self.value.max(other.value),
+        }
+    }
+}
+
+#[derive(Clone, Copy, Debug, PartialEq, Eq)]
+struct Number {
+    value: u32,
+}
+
+impl Measured for Number {
+    type Sum = Greatest;
+
+    ghost measure = { λ n. record { value = n.value } };
+
+    fn sum(&self) -> Greatest {
+        Greatest { value: self.value }
+    }
+}
+
+/// The first number that is at least this one.
+#[derive(Clone, Copy, Debug, PartialEq, Eq)]
+struct AtLeast {
+    value: u32,
+}
+
+impl Goal<Greatest> for AtLeast {
+    ghost reaches = { λ goal sum. nat_le goal.value sum.value };
+
+    ghost stays = { λ goal s r h. max_stays goal.value s.value r.value h };
+
+    fn reached(&self, sum: &Greatest) -> bool {
+        self.value <= sum.value
+    }
+}
+
+fn slots_of(alloc: Global, values: &[u32]) -> Result<Slots<Number>, Fail> {
+    let mut numbers = Vec::new(alloc);
+    for value in values {
+        numbers.push(Number { value: *value })?;
+    }
+    Ok(Slots::make(alloc, numbers)?)
+}
+
+/// Puts the items in the place of `from..to`, and answers how many were removed.
+fn put(
+    rt: &impl Abort,
+    seq: &mut Seq<Number>,
+    from: usize,
+    to: usize,
+    items: Slots<Number>,
+) -> usize {
+    let len = seq.len();
+    let more = items.len();
+    assert!(rt; from <= to);
+    assert!(rt; to <= len);
+    assert!(rt; len < 1_000_000);
+    assert!(rt; more < 1_000_000);
+    seq.replace(from, to, items).len()
+}
+
+#[test]
+fn each_call_answers(rt: HostRuntime) -> Result<(), Fail> {
+    let alloc = rt.alloc();
+    let mut seq = Seq::new();
+    assert_eq!(rt; (seq.len(), seq.height()), (0, 0));
+    let removed = put(
+        &rt,
+        &mut seq,
+        0,
+        0,
+        slots_of(alloc, &[3, 1, 4, 1, 5, 9, 2, 6])?,
+    );
+    assert_eq!(rt; removed, 0);
+    assert_eq!(rt; seq.len(), 8);
+    assert_eq!(rt; seq.height(), 4);
+    assert_eq!(rt; seq.total(), Greatest { value: 9 });
+    assert_eq!(rt; seq.get(4), Some(&Number { value: 5 }));
+    assert_eq!(rt; seq.get(8), None);
+    assert_eq!(rt;
+        seq.locate(&AtLeast { value: 5 }),
+        (4, Greatest { value: 4 })
+    );
+    assert_eq!(rt;
+        seq.locate(&AtLeast { value: 10 }),
+        (8, Greatest { value: 9 })
+    );
+    let removed = put(&rt, &mut seq, 4, 6, slots_of(alloc, &[7])?);
+    assert_eq!(rt; removed, 2);
+    let mut rest = seq.iter_from(3);
+    assert_eq!(rt; rest.next(), Some(&Number { value: 1 }));
+    assert_eq!(rt; rest.next(), Some(&Number { value: 7 }));
+    Ok(())
+}
+
+/// The next number of a simple generator.
+fn random(state: u64) -> u64 {
+    state
+        .wrapping_mul(6_364_136_223_846_793_005)
+        .wrapping_add(1_442_695_040_888_963_407)
+}
+
+#[test]
+fn a_list_of_ten_thousand_stays_low(rt: HostRuntime) -> Result<(), Fail> {
+    let alloc = rt.alloc();
+    let mut seq = Seq::new();
+    let mut state = 1;
+    for i in 0..10_000 {
+        state = random(state);
+        let at = (state >> 33) as usize % (i as usize + 1);
+        put(&rt, &mut seq, at, at, slots_of(alloc, &[i])?);
+    }
+    assert_eq!(rt; seq.len(), 10_000);
+    assert!(rt; seq.height() <= 20);
+    assert_eq!(rt; seq.total(), Greatest { value: 9_999 });
+    Ok(())
+}
