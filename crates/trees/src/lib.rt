@@ -1,0 +1,13 @@
+//! The nodes of parse trees: each is named by a number above those of its children, and means one tree for as long as
+//! it stays in its store.
+#![tactic(auto)]
+
+mod kinds;
+mod store;
+
+pub use definitions::Kind;
+pub use kinds::Kinds;
+pub use store::{Child, NodeId, Store};
+
+#[cfg(test)]
+mod tests;

@@ -1,0 +1,229 @@
+//! The store of nodes.
+
+ghost use Rattle.std.specs.Prelude.{◌≡◌, ℕ, ◌+◌, ◌<◌, [], List, length, take, min, slice_get, IfOk, IfSome, OnOk, OnErr};
+ghost use Rattle.definitions.specs.Trees.{yield};
+ghost use Rattle.definitions.specs.Nodes.{branches};
+ghost use Rattle.definitions.specs.TreeEdits.{plain, StampedBranch, StampedForest};
+ghost use Rattle.trees.specs.declared.store.Child.{Child};
+ghost use Rattle.trees.specs.Cells.{cell_of, most, tree, forest_in, trees_from, forest_of, IsBelow, AreBelow, IsStore, IsGrown, KeepsTrees, tokens_below, branches_below};
+
+use definitions::Kind;
+use smallvec::SmallVec;
+use std::alloc::{AllocError, Global};
+use std::marker::Model;
+
+/// The number of a node in its store.
+#[derive(Clone, Copy, Debug, PartialEq, Eq)]
+pub struct NodeId {
+    pub index: usize,
+}
+
+/// A child of a node.
+#[derive(Clone, Copy, Debug, PartialEq, Eq)]
+pub enum Child {
+    /// A token, of this kind.
+    Token(Kind),
+    /// An earlier node of the same store.
+    Node(NodeId),
+}
+
+/// An `invalid` token: what a `SmallVec` holds in its free places.
+impl Default for Child {
+    ghost use Rattle.std.specs.Prelude.{◌≡◌};
+    ghost use Rattle.definitions.specs.declared.Kind.TheVariants.{Invalid};
+    ghost use Rattle.trees.specs.declared.store.Child.TheVariants.{Token};
+
+    ghost is_default = { λ c. c ≡ Token Invalid };
+
+    fn default() -> Child {
+        Child::Token(Kind::Invalid)
+    }
+}
+
+// A branch of a tree. The counts are those of the whole tree below it, so that no call has to walk a tree.
+#[derive(Drop)]
+struct Node {
+    production: usize,
+    born: u64,
+    tokens: u64,
+    size: u64,
+    children: SmallVec<Child, 4>,
+}
+
+impl Model for Node {
+    ghost use Rattle.trees.specs.Cells.{Cell};
+
+    ghost Value = { Cell };
+
+    ghost view = { λ n. record { production = n.production; born = n.born; tokens = n.tokens; size = n.size; children = n.children.items } };
+}
+
+/// The nodes of trees, each behind those of its children.
+///
+/// A [`NodeId`] means one tree until the store is cut at or below it. No call but [`branch`](Store::branch) takes memory.
+#[derive(Drop)]
+pub struct Store {
+    nodes: Vec<Node>,
+}
+
+impl Model for Store {
+    ghost use Rattle.std.specs.Prelude.{List};
+    ghost use Rattle.trees.specs.Cells.{Cell, IsStore};
+
+    ghost Value = { List Cell };
+
+    ghost view = { λ s. s.nodes.items };
+
+    ghost invariant = { λ s. IsStore s.nodes.items };
+}
+
+impl Store {
+    /// A store of no nodes.
+    pub fn new(alloc: Global) -> Store
+        ensures { result ≡ [] }
+    {
+        Store {
+            nodes: Vec::new(alloc),
+        }
+    }
+
+    /// How many nodes there are. Each id below it names one.
+    pub fn len(&self) -> usize
+        ensures is { result ≡ length self.now }
+        ensures store { IsStore self.now }
+    {
+        self.nodes.len()
+    }
+
+    /// The number of the production of a node.
+    pub fn production(&self, id: NodeId) -> usize
+        requires { id.index < length self.now }
+        ensures is { result ≡ (cell_of self.now id).production }
+        ensures tree { (born : ℕ) × (below : StampedForest) × (tree self.now (Child.Node id) ≡ StampedBranch result born below) }
+    {
+        self.nodes[id.index].production
+    }
+
+    /// The number of the edit that made a node.
+    pub fn born(&self, id: NodeId) -> u64
+        requires { id.index < length self.now }
+        ensures is { result ≡ (cell_of self.now id).born }
+        ensures tree { (production : ℕ) × (below : StampedForest) × (tree self.now (Child.Node id) ≡ StampedBranch production result below) }
+    {
+        self.nodes[id.index].born
+    }
+
+    /// How many tokens the tree of a node has, or 18,446,744,073,709,551,615 where it has more.
+    pub fn tokens(&self, id: NodeId) -> u64
+        requires { id.index < length self.now }
+        ensures is { result ≡ min most (length (yield (plain (tree self.now (Child.Node id))))) }
+        ensures tree { (production born : ℕ) × (below : StampedForest) × (tree self.now (Child.Node id) ≡ StampedBranch production born below) }
+    {
+        self.nodes[id.index].tokens
+    }
+
+    /// How many branches the tree of a node has, itself among them, or 18,446,744,073,709,551,615 where it has more.
+    pub fn size(&self, id: NodeId) -> u64
+        requires { id.index < length self.now }
+        ensures { result ≡ min most (branches (plain (tree self.now (Child.Node id)))) }
+    {
+        self.nodes[id.index].size
+    }
+
+    /// Child number `k` of a node, counted from 0; none past the last one.
+    pub fn child(&self, id: NodeId, k: usize) -> Option<Child>
+        requires { id.index < length self.now }
+        ensures is { result ≡ slice_get (cell_of self.now id).children k }
+        ensures below { IfSome result (IsBelow id.index) }
+        ensures tree { (production born : ℕ) × (children : List Child) × (tree self.now (Child.Node id) ≡ StampedBranch production born (forest_in self.now children)) × (result ≡ slice_get children k) }
+    {
+        self.children(id).get(k).copied()
+    }
+
+    /// The children of a node, in order.
+    pub fn children(&self, id: NodeId) -> &[Child]
+        requires { id.index < length self.now }
+        ensures is { result.now ≡ (cell_of self.now id).children }
+        ensures below { AreBelow id.index result.now }
+        ensures tree { (production born : ℕ) × (tree self.now (Child.Node id) ≡ StampedBranch production born (forest_of (trees_from [] self.now) result.now)) }
+    {
+        let node = &self.nodes[id.index];
+        node.children.as_slice()
+    }
+
+    /// How many tokens the tree of a child has, or 18,446,744,073,709,551,615 where it has more.
+    pub fn tokens_of(&self, child: Child) -> u64
+        requires { IsBelow (length self.now) child }
+        ensures { result ≡ min most (length (yield (plain (tree self.now child)))) }
+    {
+        match child {
+            Child::Token(_) => 1,
+            Child::Node(id) => self.tokens(id),
+        }
+    }
+
+    /// How many branches the tree of a child has, or 18,446,744,073,709,551,615 where it has more.
+    pub fn size_of(&self, child: Child) -> u64
+        requires { IsBelow (length self.now) child }
+        ensures { result ≡ min most (branches (plain (tree self.now child))) }
+    {
+        match child {
+            Child::Token(_) => 0,
+            Child::Node(id) => self.size(id),
+        }
+    }
+
+    // How many tokens and branches a node over these children has.
+    fn counts(&self, children: &[Child]) -> (u64, u64)
+        requires { AreBelow (length self.now) children.now }
+        ensures tokens { result.0 ≡ min most (tokens_below self.now children.now) }
+        ensures size { result.1 ≡ min most (1 + branches_below self.now children.now) }
+    {
+        let mut tokens = 0u64;
+        let mut size = 1u64;
+        for child in children {
+            tokens = tokens.saturating_add(self.tokens_of(*child));
+            size = size.saturating_add(self.size_of(*child));
+        }
+        (tokens, size)
+    }
+
+    /// Adds the node of a production over these children, made by edit number `born`, and answers its id.
+    ///
+    /// After a refusal the store is as before.
+    pub fn branch(
+        &mut self,
+        alloc: Global,
+        production: usize,
+        children: &[Child],
+        born: u64,
+    ) -> Result<NodeId, AllocError>
+        requires { AreBelow (length self.old) children.now }
+        ensures ok { IfOk result (λ id. IsGrown self.old production children.now born self.new id) }
+        ensures tree { IfOk result (λ id. tree self.new (Child.Node id) ≡ StampedBranch production born (forest_in self.old children.now)) }
+        ensures kept { OnOk result (KeepsTrees (length self.old) self.old self.new) }
+        ensures count { OnOk result (length self.new ≡ length self.old + 1) }
+        ensures err { OnErr result (self.new ≡ self.old) }
+    {
+        let (tokens, size) = self.counts(children);
+        let children = SmallVec::from_slice(alloc, children)?;
+        let index = self.len();
+        self.nodes.push(Node {
+            production,
+            born,
+            tokens,
+            size,
+            children,
+        })?;
+        Ok(NodeId { index })
+    }
+
+    /// Keeps the first `n` nodes, or all where there are no more, and forgets the others.
+    pub fn truncate(&mut self, n: usize)
+        ensures cells { self.new ≡ take n self.old }
+        ensures kept { KeepsTrees n self.old self.new }
+        ensures count { length self.new ≡ min n (length self.old) }
+    {
+        self.nodes.truncate(n);
+    }
+}

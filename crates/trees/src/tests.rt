@@ -1,0 +1,184 @@
+use crate::{Child, Kind, Kinds, NodeId, Store};
+use std::alloc::{AllocError, Global};
+use std::process::Abort;
+use std::test::Fail;
+
+const NUMBER: Child = Child::Token(Kind::Rule(0));
+
+const PLUS: Child = Child::Token(Kind::Rule(1));
+
+const GREATEST: u64 = 18_446_744_073_709_551_615;
+
+/// The tree of `1+2` in the grammar of sums: its second number was made by edit 6, the rest by edit 5.
+fn sum(alloc: Global, store: &mut Store) -> Result<[NodeId; 4], AllocError> {
+    let first = store.branch(alloc, 2, &[NUMBER], 5)?;
+    let left = store.branch(alloc, 1, &[Child::Node(first)], 5)?;
+    let second = store.branch(alloc, 2, &[NUMBER], 6)?;
+    let whole = store.branch(alloc, 0, &[Child::Node(left), PLUS, Child::Node(second)], 6)?;
+    Ok([first, left, second, whole])
+}
+
+#[test]
+fn branches_over_tokens_and_nodes(rt: HostRuntime) -> Result<(), Fail> {
+    let alloc = rt.alloc();
+    let mut store = Store::new(alloc);
+    assert_eq!(rt; store.len(), 0);
+    let [first, left, second, whole] = sum(alloc, &mut store)?;
+    assert_eq!(rt; store.len(), 4);
+    let want = [
+        (first, 2, 5, 1, 1, Some(NUMBER), None),
+        (left, 1, 5, 1, 2, Some(Child::Node(first)), None),
+        (second, 2, 6, 1, 1, Some(NUMBER), None),
+        (whole, 0, 6, 3, 4, Some(Child::Node(left)), Some(PLUS)),
+    ];
+    for (id, production, born, tokens, size, child, next) in want {
+        assert!(rt; id.index < store.len());
+        assert_eq!(rt; store.production(id), production, "at {}", id.index);
+        assert_eq!(rt; store.born(id), born, "at {}", id.index);
+        assert_eq!(rt; store.tokens(id), tokens, "at {}", id.index);
+        assert_eq!(rt; store.size(id), size, "at {}", id.index);
+        assert!(rt; store.child(id, 0) == child, "at {}", id.index);
+        assert!(rt; store.child(id, 1) == next, "at {}", id.index);
+    }
+    assert!(rt; whole.index < store.len());
+    assert!(rt; store.child(whole, 2) == Some(Child::Node(second)));
+    assert!(rt; store.child(whole, 3) == None);
+    assert!(rt; store.child(whole, 18_446_744_073_709_551_615) == None);
+    assert!(rt; store.children(whole) == [Child::Node(left), PLUS, Child::Node(second)].as_slice());
+    assert_eq!(rt; store.tokens_of(PLUS), 1);
+    assert_eq!(rt; store.size_of(PLUS), 0);
+    assert_eq!(rt; store.tokens_of(Child::Node(whole)), 3);
+    assert_eq!(rt; store.size_of(Child::Node(whole)), 4);
+    Ok(())
+}
+
+#[test]
+fn an_empty_production_is_a_branch_of_no_token(rt: HostRuntime) -> Result<(), Fail> {
+    let alloc = rt.alloc();
+    let mut store = Store::new(alloc);
+    let id = store.branch(alloc, 0, &[], 0)?;
+    assert!(rt; id.index < store.len());
+    assert_eq!(rt; store.tokens(id), 0);
+    assert_eq!(rt; store.size(id), 1);
+    assert!(rt; store.child(id, 0) == None);
+    Ok(())
+}
+
+#[test]
+fn a_cut_keeps_the_first_nodes(rt: HostRuntime) -> Result<(), Fail> {
+    let alloc = rt.alloc();
+    let mut store = Store::new(alloc);
+    let [first, left, second, _] = sum(alloc, &mut store)?;
+    store.truncate(4);
+    assert_eq!(rt; store.len(), 4);
+    store.truncate(2);
+    assert_eq!(rt; store.len(), 2);
+    assert!(rt; left.index < store.len());
+    assert!(rt; store.child(left, 0) == Some(Child::Node(first)));
+    assert_eq!(rt; store.size(left), 2);
+    let again = store.branch(alloc, 3, &[Child::Node(left), PLUS], 7)?;
+    assert!(rt; again == second);
+    assert!(rt; again.index < store.len());
+    assert_eq!(rt; store.born(again), 7);
+    assert_eq!(rt; store.tokens(again), 2);
+    store.truncate(0);
+    assert_eq!(rt; store.len(), 0);
+    Ok(())
+}
+
+/// Each node stands twice below the next one, so the numbers double.
+#[test]
+fn counts_stop_at_the_greatest_number(rt: HostRuntime) -> Result<(), Fail> {
+    let alloc = rt.alloc();
+    let mut store = Store::new(alloc);
+    let mut last = store.branch(alloc, 0, &[NUMBER, NUMBER], 0)?;
+    for k in 1..70u64 {
+        assert!(rt; last.index < store.len());
+        last = store.branch(alloc, 0, &[Child::Node(last), Child::Node(last)], k)?;
+        assert!(rt; last.index < store.len());
+        let (tokens, size) = match k {
+            1 => (4, 3),
+            62 => (9_223_372_036_854_775_808, 9_223_372_036_854_775_807),
+            63.. => (GREATEST, GREATEST),
+            _ => (store.tokens(last), store.size(last)),
+        };
+        assert_eq!(rt; store.tokens(last), tokens, "at {k}");
+        assert_eq!(rt; store.size(last), size, "at {k}");
+    }
+    Ok(())
+}
+
+#[test]
+fn more_children_than_stand_inline(rt: HostRuntime) -> Result<(), Fail> {
+    let alloc = rt.alloc();
+    let mut store = Store::new(alloc);
+    let mut children = [NUMBER; 40];
+    children[39] = PLUS;
+    let id = store.branch(alloc, 1, &children, 0)?;
+    assert!(rt; id.index < store.len());
+    assert_eq!(rt; store.tokens(id), 40);
+    assert_eq!(rt; store.size(id), 1);
+    assert!(rt; store.child(id, 4) == Some(NUMBER));
+    assert!(rt; store.child(id, 38) == Some(NUMBER));
+    assert!(rt; store.child(id, 39) == Some(PLUS));
+    assert!(rt; store.child(id, 40) == None);
+    Ok(())
+}
+
+/// Passes whichever allocation fails.
+#[test]
+fn a_refused_branch_leaves_the_store(rt: HostRuntime) -> Result<(), Fail> {
+    let alloc = rt.alloc();
+    let mut store = Store::new(alloc);
+    let children = [NUMBER; 6];
+    for k in 0..20u64 {
+        let before = store.len();
+        match store.branch(alloc, 1, &children, k) {
+            Ok(id) => {
+                assert_eq!(rt; id.index, before);
+                assert_eq!(rt; store.len(), before + 1);
+            }
+            Err(AllocError) => assert_eq!(rt; store.len(), before),
+        }
+        for index in 0..store.len() {
+            assert_eq!(rt; store.tokens(NodeId { index }), 6, "at {index}");
+        }
+    }
+    assert!(rt; store.len() >= 19);
+    Ok(())
+}
+
+/// Kinds in a vector.
+#[derive(Drop)]
+struct Row {
+    kinds: Vec<Kind>,
+}
+
+impl Kinds for Row {
+    ghost kinds = { λ r. r.kinds.items };
+
+    fn len(&self) -> usize {
+        self.kinds.len()
+    }
+
+    fn kind(&self, k: usize) -> Option<Kind> {
+        self.kinds.get(k).copied()
+    }
+}
+
+fn count_invalid<K: Kinds>(kinds: &K) -> usize {
+    (0..kinds.len())
+        .filter(|k| kinds.kind(*k) == Some(Kind::Invalid))
+        .count()
+}
+
+#[test]
+fn kinds_of_a_row(rt: HostRuntime) -> Result<(), Fail> {
+    let kinds = vec![in rt.alloc(); Kind::Rule(2), Kind::Invalid, Kind::Rule(0)]?;
+    let row = Row { kinds };
+    assert_eq!(rt; row.len(), 3);
+    assert!(rt; row.kind(2) == Some(Kind::Rule(0)));
+    assert!(rt; row.kind(3) == None);
+    assert_eq!(rt; count_invalid(&row), 1);
+    Ok(())
+}
