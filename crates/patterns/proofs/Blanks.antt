@@ -19,7 +19,7 @@ pub one_more_blank : (ws vs rest : List Written) → IsBlanks ws vs → IsBlankA
 one_more_blank ws vs rest (us, e, all) (w, f, blank) =
     (us ++ w ∷ [], e ∙ ap (λ x. us ++ x) f ∙ sym (append_assoc us (w ∷ []) rest), all_behind IsBlank us w all blank)
 
-blank_step : (n d : ℕ) (b : Before) (w : Written) (ws : List Written) → IsBlank w → fault_from n (Outside d b) (w ∷ ws) ≡ fault_from n (Outside d b) ws
+pub blank_step : (n d : ℕ) (b : Before) (w : Written) (ws : List Written) → IsBlank w → fault_from n (Outside d b) (w ∷ ws) ≡ fault_from n (Outside d b) ws
 blank_step n d b (Plain o c) ws (inl h) = let P : ℕ → Type 0 = λ x. fault_from n (Outside d b) (Plain o x ∷ ws) ≡ fault_from n (Outside d b) ws in subst P h refl
 blank_step n d b (Plain o c) ws (inr h) = let P : ℕ → Type 0 = λ x. fault_from n (Outside d b) (Plain o x ∷ ws) ≡ fault_from n (Outside d b) ws in subst P h refl
 blank_step n d b (Escaped o c) ws (inl h) = absurd h

@@ -14,11 +14,11 @@ use Rattle.patterns.specs.Empty.{is_empty, matches_empty}
 use Rattle.patterns.specs.Sound.{is_range, is_sound}
 use Rattle.patterns.proofs.Literals.{eq_or_not, not_equal}
 
-and_both : (a b : Bool) → (a && b) ≡ true → (a ≡ true) × (b ≡ true)
+pub and_both : (a b : Bool) → (a && b) ≡ true → (a ≡ true) × (b ≡ true)
 and_both true b h = (refl, h)
 and_both false b h = cc
 
-not_true : (a : Bool) → not a ≡ true → a ≡ false
+pub not_true : (a : Bool) → not a ≡ true → a ≡ false
 not_true true h = cc
 not_true false h = refl
 
@@ -59,7 +59,7 @@ outside_at is false e h later = (0, inl (lit≤ tt), e)
 reflexive : (a : ℕ) → nat_le a a ≡ true
 reflexive a = grind (arith, nat_tests)
 
-le_tested : (a b : ℕ) → nat_le a b ≡ true → a ≤ b
+pub le_tested : (a b : ℕ) → nat_le a b ≡ true → a ≤ b
 le_tested a b h = grind (arith, nat_tests)
 
 some_outside : (is : List Interval) → list_all is_range is ≡ true → is_everything is ≡ false → (c : ℕ) × IsCharacter c × (is_member c is ≡ false)
@@ -100,7 +100,7 @@ none_in : {A : Type 0} (xs : List A) → is_empty xs ≡ true → [] ≡ xs
 none_in [] h = refl
 none_in (x ∷ xs) h = cc
 
-or_case : {P : Type 0} (a b : Bool) → (a || b) ≡ true → (a ≡ true → P) → (b ≡ true → P) → P
+pub or_case : {P : Type 0} (a b : Bool) → (a || b) ≡ true → (a ≡ true → P) → (b ≡ true → P) → P
 or_case true b h f g = f refl
 or_case false b h f g = g h
 
@@ -121,10 +121,10 @@ no_front : (u v : List ℕ) → [] ≡ u ++ v → (u ≡ []) × (v ≡ [])
 no_front [] v e = (refl, sym e)
 no_front (x ∷ u) v e = cc
 
-or_left : (a b : Bool) → a ≡ true → (a || b) ≡ true
+pub or_left : (a b : Bool) → a ≡ true → (a || b) ≡ true
 or_left a b h = rw h refl
 
-or_right : (a b : Bool) → b ≡ true → (a || b) ≡ true
+pub or_right : (a b : Bool) → b ≡ true → (a || b) ≡ true
 or_right true b h = refl
 or_right false b h = h
 

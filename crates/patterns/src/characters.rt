@@ -6,11 +6,14 @@ ghost use Rattle.patterns.specs.Reading.{written_as, writing};
 
 use std::alloc::{AllocError, Global};
 
-/// A character, written as itself or by an escape, or an escape that stands for none.
+/// A character as it is written, at its place in the text, which counts characters.
 #[derive(Clone, Copy)]
 pub enum Character {
+    /// This character, written as itself.
     Sign { place: usize, code: char },
+    /// This character, written by an escape.
     Escape { place: usize, code: char },
+    /// An escape that stands for no character.
     Broken { place: usize },
 }
 

@@ -7,6 +7,7 @@ ghost use Rattle.definitions.specs.Patterns.{Matches};
 ghost use Rattle.definitions.specs.Spelling.{IsPattern, IsWellMade};
 ghost use Rattle.definitions.specs.PatternFaults.{first_fault, IsFault};
 ghost use Rattle.definitions.specs.declared.expression.PatternCause.TheVariants.{Memory};
+ghost use Rattle.definitions.specs.declared.expression.Expression.{Expression};
 ghost use Rattle.patterns.specs.Empty.{matches_empty};
 ghost use Rattle.patterns.specs.Sound.{is_sound};
 ghost use Rattle.patterns.specs.Reading.{Tells};
@@ -24,7 +25,7 @@ use parts::whole;
 use refusals::{Refusal, fault};
 use std::alloc::{AllocError, Global};
 
-/// A pattern of tokens: a regular expression over characters that has a text and does not match the empty one.
+/// A pattern of tokens: a regular expression over characters that is well made and does not match the empty text.
 #[derive(Drop)]
 pub struct Pattern {
     expression: Expression,
@@ -35,11 +36,15 @@ pub struct Pattern {
 impl Pattern {
     /// The pattern that `text` spells.
     ///
-    /// Otherwise the first fault of `text`, and its place in characters from the start.
+    /// Refuses a text that spells none with its first fault, read from the left, at a place in characters from the start:
+    /// `Syntax` at the first character with which no pattern goes on, or at the end; `EmptyClass` at the `[` of a class with no
+    /// member; `ReversedRange` at the first character of a range; `EmptyLiteral` at its first quote; `MatchesEmpty` at 0, where
+    /// nothing else is wrong. `Memory`, at 0, says that memory was refused.
     pub fn read(alloc: Global, text: &str) -> Result<Pattern, PatternFault>
         ensures pattern { IfOk result (λ p. IsPattern (chars text.now) p.expression) }
         ensures no_fault { IfOk result (λ p. first_fault (chars text.now) ≡ None) }
         ensures fault { IfErr result (λ f. f.cause ≢ Memory → IsFault (chars text.now) f) }
+        ensures refused { IfErr result (λ f. f.cause ≢ Memory → (e : Expression) → IsPattern (chars text.now) e → ⊥) }
     {
         match read_expression(alloc, text) {
             Ok(expression) => Ok(Pattern { expression }),
@@ -51,7 +56,7 @@ impl Pattern {
         }
     }
 
-    /// The expression of the pattern.
+    /// The expression of the pattern, which is well made and does not match the empty text.
     pub fn expression(&self) -> &Expression
         ensures value { result.now ≡ self.now.expression }
         ensures well_made { IsWellMade result.now }

@@ -9,7 +9,9 @@ use std::alloc::AllocError;
 /// A fault of the text, or want of memory.
 #[derive(Clone, Copy)]
 pub enum Refusal {
+    /// The text is no pattern's.
     Fault(PatternFault),
+    /// Memory was refused.
     Memory,
 }
 
