@@ -66,11 +66,11 @@ faulty : (ri rn oo on : Option (List ℕ)) (tail : Tail) (state : State) (stop :
 faulty ri rn oo on tail state stop f fault ends = record { bytes = f.bytes; contents = f.contents; tail = tail; answers = f.served.answers; stop = stop; after = state; was_read = f.was_read; split = f.split; run = f.served.run; written = f.served.written; ends = ends }
 
 -- a session of which a front of the answers is written
-cut_short : (e : RunFault) (ri rn oo on : Option (List ℕ)) (tail : Tail) (bytes : List ℕ) (contents : List (List ℕ)) → IsCutShort e → Consumes ri rn bytes → Splits bytes contents tail → ServedInPart oo on first_state contents → Session ri rn oo on (Err e)
-cut_short (Frame fault) ri rn oo on tail bytes contents cut read split p = absurd cut
-cut_short Read ri rn oo on tail bytes contents cut read split p = absurd cut
-cut_short Write ri rn oo on tail bytes contents cut read split p = record { bytes = bytes; contents = contents; tail = tail; answers = p.answers; stop = p.stop; after = p.after; was_read = read; split = split; run = p.run; written = p.written; ends = tt }
-cut_short Memory ri rn oo on tail bytes contents cut read split p = record { bytes = bytes; contents = contents; tail = tail; answers = p.answers; stop = p.stop; after = p.after; was_read = read; split = split; run = p.run; written = p.written; ends = tt }
+cut_short : (e : RunFault) (failures : ℕ) (ri rn oo on : Option (List ℕ)) (tail : Tail) (bytes : List ℕ) (contents : List (List ℕ)) → IsCutShort e failures → Consumes ri rn bytes → Splits bytes contents tail → ServedInPart oo on first_state contents → Session ri rn oo on (Err e)
+cut_short (Frame fault) failures ri rn oo on tail bytes contents cut read split p = absurd cut
+cut_short Read failures ri rn oo on tail bytes contents cut read split p = absurd cut
+cut_short Write failures ri rn oo on tail bytes contents cut read split p = record { bytes = bytes; contents = contents; tail = tail; answers = p.answers; stop = p.stop; after = p.after; was_read = read; split = split; run = p.run; written = p.written; ends = tt }
+cut_short Memory failures ri rn oo on tail bytes contents cut read split p = record { bytes = bytes; contents = contents; tail = tail; answers = p.answers; stop = p.stop; after = p.after; was_read = read; split = split; run = p.run; written = p.written; ends = tt }
 
 -- the input fails
 pub read_fails : (ri rm rn oo om : Option (List ℕ)) (fi fo : ℕ) (tail : Tail) (a : State) → IsReady ri rm fi oo om fo tail a → Keeps rm rn → Session ri rn oo om (Err Read)
@@ -107,9 +107,9 @@ pub stream_fails : (ri rn oo on : Option (List ℕ)) (tail : Tail) (b : State) (
 stream_fails ri rn oo on tail b fault is f = let ends = finish_faulty tail fault is in faulty ri rn oo on tail b None f fault (refl, ends.0, λ o. absurd (ends.1 o))
 
 -- the output fails, or memory is refused, while a piece is answered
-pub answering_fails : (e : RunFault) (ri rm rn oo om on : Option (List ℕ)) (fi fo : ℕ) (tail new : Tail) (a : State) (piece : List ℕ) (more : List (List ℕ)) → IsCutShort e → IsReady ri rm fi oo om fo tail a → Consumes rm rn piece → GoesOn tail piece more new → ServedInPart om on a more → Session ri rn oo on (Err e)
-answering_fails e ri rm rn oo om on fi fo tail new a piece more cut ready read goes p =
-    cut_short e ri rn oo on new (ready.bytes ++ piece) (ready.contents ++ more) cut (consumes_then ri rm rn ready.bytes piece ready.was_read read) (goes ready.bytes ready.contents ready.split)
+pub answering_fails : (e : RunFault) (failures : ℕ) (ri rm rn oo om on : Option (List ℕ)) (fi fo : ℕ) (tail new : Tail) (a : State) (piece : List ℕ) (more : List (List ℕ)) → IsCutShort e failures → IsReady ri rm fi oo om fo tail a → Consumes rm rn piece → GoesOn tail piece more new → ServedInPart om on a more → Session ri rn oo on (Err e)
+answering_fails e failures ri rm rn oo om on fi fo tail new a piece more cut ready read goes p =
+    cut_short e failures ri rn oo on new (ready.bytes ++ piece) (ready.contents ++ more) cut (consumes_then ri rm rn ready.bytes piece ready.was_read read) (goes ready.bytes ready.contents ready.split)
     (part_then oo om on first_state a ready.contents more ready.served p)
 
 -- what a piece makes of the tail where it is refused for this fault
@@ -130,7 +130,7 @@ feeding_fails fault ri rm rn oo om fi fo tail new a piece ready read refuses con
     by frame.BadLength r = told frame.BadLength (r (λ e. cc))
     by frame.BadCharset r = told frame.BadCharset (r (λ e. cc))
     by frame.Truncated r = told frame.Truncated (r (λ e. cc))
-    by frame.Memory r = answering_fails Memory ri rm rn oo om om fi fo tail other a piece contents tt ready read goes (part_nothing om a contents)
+    by frame.Memory r = answering_fails Memory 0 ri rm rn oo om om fi fo tail other a piece contents refl ready read goes (part_nothing om a contents)
     by frame.LongHeader r = told frame.LongHeader (r (λ e. cc))
 
 pub is_open : (t : Tail) → None ≡ fault_of t → IsOpen t

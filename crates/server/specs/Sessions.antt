@@ -68,12 +68,12 @@ EndsAt (Err Read) tail = ⊥
 EndsAt (Err Write) tail = ⊥
 EndsAt (Err Memory) tail = ⊥
 
--- a front of the answers is known to be written, and no more
-abbrev pub IsCutShort : RunFault → Type 0
-IsCutShort (Frame fault) = ⊥
-IsCutShort Read = ⊥
-IsCutShort Write = Unit {0}
-IsCutShort Memory = Unit {0}
+-- why answering is cut short, and how often the output has failed then: once where a write failed, never where memory was refused
+abbrev pub IsCutShort : RunFault → ℕ → Type 0
+IsCutShort (Frame fault) failures = ⊥
+IsCutShort Read failures = ⊥
+IsCutShort Write failures = failures ≡ 1
+IsCutShort Memory failures = failures ≡ 0
 
 -- want of memory in the frames is want of memory
 abbrev pub run_fault : FrameFault → RunFault

@@ -49,9 +49,7 @@ fn write_replies<W: Output>(
     ensures written { OnOk result (Appends (W.contents output.old) (W.contents output.new) (bytes_of (map reply_view replies.now))) }
     ensures front { OnErr result (AppendsFront (W.contents output.old) (W.contents output.new) (bytes_of (map reply_view replies.now))) }
     ensures works { OnOk result (W.failures output.new ≡ 0) }
-    ensures cause { IsErrOf result RunFault.Write → W.failures output.new ≡ 1 }
-    ensures memory { IsErrOf result RunFault.Memory → W.failures output.new ≡ 0 }
-    ensures fault { IfErr result IsCutShort }
+    ensures fault { IfErr result (λ e. IsCutShort e (W.failures output.new)) }
 {
     for reply in replies {
         let content = to_bytes(alloc, reply)?;
@@ -74,9 +72,7 @@ fn serve<W: Output>(
     ensures served { IfOk result (λ stop. Served (W.contents output.old) (W.contents output.new) (state_view server.old) (content.now ∷ []) stop (state_view server.new)) }
     ensures part { OnErr result (ServedInPart (W.contents output.old) (W.contents output.new) (state_view server.old) (content.now ∷ [])) }
     ensures works { OnOk result (W.failures output.new ≡ 0) }
-    ensures cause { IsErrOf result RunFault.Write → W.failures output.new ≡ 1 }
-    ensures memory { IsErrOf result RunFault.Memory → W.failures output.new ≡ 0 }
-    ensures fault { IfErr result IsCutShort }
+    ensures fault { IfErr result (λ e. IsCutShort e (W.failures output.new)) }
 {
     let message = read(alloc, content);
     let out = server.handle(alloc, message)?;
@@ -95,9 +91,7 @@ fn serve_all<W: Output>(
     ensures served { IfOk result (λ stop. Served (W.contents output.old) (W.contents output.new) (state_view server.old) (contents frames.now) stop (state_view server.new)) }
     ensures part { OnErr result (ServedInPart (W.contents output.old) (W.contents output.new) (state_view server.old) (contents frames.now)) }
     ensures works { OnOk result (W.failures output.new ≡ 0) }
-    ensures cause { IsErrOf result RunFault.Write → W.failures output.new ≡ 1 }
-    ensures memory { IsErrOf result RunFault.Memory → W.failures output.new ≡ 0 }
-    ensures fault { IfErr result IsCutShort }
+    ensures fault { IfErr result (λ e. IsCutShort e (W.failures output.new)) }
 {
     for frame in frames {
         if let Some(status) = serve(alloc, server, output, &frame.content)? {
@@ -118,9 +112,7 @@ fn serve_piece<W: Output>(
     ensures served { IfOk result (λ stop. Served (W.contents output.old) (W.contents output.new) (state_view server.old) (contents frames.now) stop (state_view server.new)) }
     ensures part { OnErr result (ServedInPart (W.contents output.old) (W.contents output.new) (state_view server.old) (contents frames.now)) }
     ensures works { OnOk result (W.failures output.new ≡ 0) }
-    ensures cause { IsErrOf result RunFault.Write → W.failures output.new ≡ 1 }
-    ensures memory { IsErrOf result RunFault.Memory → W.failures output.new ≡ 0 }
-    ensures fault { IfErr result IsCutShort }
+    ensures fault { IfErr result (λ e. IsCutShort e (W.failures output.new)) }
 {
     let stop = serve_all(alloc, server, output, frames)?;
     match output.flush() {

@@ -139,7 +139,7 @@ impl Server {
     fn ask(&mut self, alloc: Global, id: Id, call: Call) -> Result<Out, AllocError>
         ensures { IfOk result (λ out. Asks self.old.phase (state_view self.old) (id_view id) (call_view call) (map reply_view out.replies.items) out.stop (state_view self.new)) }
     {
-        let refused = match (self.phase, call) {
+        let refusal = match (self.phase, call) {
             (Phase::New, Call::Initialize) => {
                 self.phase = Phase::Ready;
                 return one_reply(alloc, Reply::Capabilities { id });
@@ -159,7 +159,7 @@ impl Server {
             alloc,
             Reply::Error {
                 id: Some(id),
-                refusal: refused,
+                refusal,
             },
         )
     }

@@ -32,9 +32,10 @@ returns-in_err-status-in-Ok-feed-clause-session g c =
     let a = state_view c.loop-count.server in
     let p = err_from_is_err_and c.from_residual.result c.from_residual.ensures.1 in
     let part = subst (λ (l : List Frame). ServedInPart om on a (contents l)) c.deref.ensures.value c.in_err-status-in-Ok-feed.ensures.part in
-    let cut : IsCutShort p.0 = subst IsCutShort (sym p.2) c.in_err-status-in-Ok-feed.ensures.fault in
+    let failures = g.W.Output.failures c.serve_piece.new.output in
+    let cut : IsCutShort p.0 failures = subst (λ (e : RunFault). IsCutShort e failures) (sym p.2) c.in_err-status-in-Ok-feed.ensures.fault in
     let S : Result ℕ RunFault → Type 0 = λ r. Session ri rn oo on r in
-    subst S (sym p.1) (answering_fails p.0 _ _ rn _ om on _ _ _ _ a _ _ cut c.loop-count.invariant c.in-Ok.ensures.bytes.0 c.in-Ok-feed.ensures.ok part)
+    subst S (sym p.1) (answering_fails p.0 failures _ _ rn _ om on _ _ _ _ a _ _ cut c.loop-count.invariant c.in-Ok.ensures.bytes.0 c.in-Ok-feed.ensures.ok part)
 
 pub returns-in-Some-clause-session : goal.returns-in-Some-clause-session
 returns-in-Some-clause-session g c =
