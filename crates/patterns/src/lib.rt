@@ -24,13 +24,29 @@ use empty::matches_empty;
 use parts::whole;
 use refusals::{Refusal, fault};
 use std::alloc::{AllocError, Global};
+use std::marker::Model;
 
 /// A pattern of tokens: a regular expression over characters that is well made and does not match the empty text.
 #[derive(Drop)]
 pub struct Pattern {
     expression: Expression,
-    ghost sound: { is_sound expression ≡ true },
-    ghost not_empty: { matches_empty expression ≡ false },
+}
+
+impl Model for Pattern {
+    ghost use Rattle.std.specs.Prelude.{◌≡◌, true, false};
+    ghost use Rattle.definitions.specs.declared.expression.Expression.{Expression};
+    ghost use Rattle.patterns.specs.Empty.{matches_empty};
+    ghost use Rattle.patterns.specs.Sound.{is_sound};
+    ghost use Rattle.definitions.specs.contracts.expression.Expression as e;
+    ghost use Rattle.std.specs.Coded.{codes};
+
+    ghost Value = { Expression };
+
+    ghost coded = { Prim.hlevel (codes, e.the_row.coded) };
+
+    ghost view = { λ p. p.expression };
+
+    ghost invariant = { λ p. (is_sound p.expression ≡ true) × (matches_empty p.expression ≡ false) };
 }
 
 impl Pattern {
@@ -41,7 +57,7 @@ impl Pattern {
     /// member; `ReversedRange` at the first character of a range; `EmptyLiteral` at its first quote; `MatchesEmpty` at 0, where
     /// nothing else is wrong. `Memory`, at 0, says that memory was refused.
     pub fn read(alloc: Global, text: &str) -> Result<Pattern, PatternFault>
-        ensures pattern { IfOk result (λ p. IsPattern (chars text.now) p.expression) }
+        ensures pattern { IfOk result (λ p. IsPattern (chars text.now) p) }
         ensures no_fault { IfOk result (λ p. first_fault (chars text.now) ≡ None) }
         ensures fault { IfErr result (λ f. f.cause ≢ Memory → IsFault (chars text.now) f) }
         ensures refused { IfErr result (λ f. f.cause ≢ Memory → (e : Expression) → IsPattern (chars text.now) e → ⊥) }
@@ -58,7 +74,7 @@ impl Pattern {
 
     /// The expression of the pattern, which is well made and does not match the empty text.
     pub fn expression(&self) -> &Expression
-        ensures value { result.now ≡ self.now.expression }
+        ensures value { result.now ≡ self.now }
         ensures well_made { IsWellMade result.now }
         ensures not_empty { Matches result.now [] → ⊥ }
     {
