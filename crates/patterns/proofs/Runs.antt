@@ -13,8 +13,8 @@ use Rattle.definitions.specs.PatternFaults.{IsFault, code_after, is_everything, 
 use Rattle.definitions.specs.Spelling.{Level, Alt, Seq, Rep, Atom, SpellsAt, choice, sequence, star, plus, optional, literal, class, group, one_seq, one_rep, one_atom, blank_before, blank_behind, IsSign, IsBlank, IsLiteralRest, IsLiteral, IsItem, IsClassRest, IsClass, IsClassChar, IsWellMade, IsPattern}
 use Rattle.patterns.specs.Reading.{Begins, place}
 use Rattle.patterns.proofs.Blanks.{blank_step}
-use Rattle.patterns.proofs.WellMade.{and_both, or_case, or_left, or_right, le_tested, empty_matched, empty_tested}
-use Rattle.patterns.proofs.Unique.{same_emptiness}
+use Rattle.patterns.proofs.WellMade.{and_both, or_case, or_left, or_right, le_tested}
+use Rattle.patterns.proofs.Unique.{one_meaning}
 use Rattle.patterns.proofs.Literals.{eq_or_not, not_equal, literal_step, first_step, last_step, one_ends, no_caret}
 
 -- what stands behind a part of this level
@@ -353,4 +353,4 @@ clash o f g h = cc
 pub refused : (t : List ℕ) (f : PatternFault) → IsFault t f → (e : Expression) → IsPattern t e → ⊥
 refused t f (inl g) e h = clash (first_fault t) f g (accepted t e h)
 refused t f (inr (none, is, (g, s, m))) e h =
-    h.not_empty (empty_matched e (same_emptiness e g 0 (written 0 t) h.spelled s ∙ empty_tested g m))
+    h.not_empty ((one_meaning t e g h.spelled s []).1 m)

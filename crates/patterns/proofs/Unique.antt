@@ -1,96 +1,197 @@
--- All expressions that one text spells match the empty text, or none does: a machine that reads the text tells it.
-use Rattle.std.proofs.Common.{◌≡◌, inl, inr, ℕ, ◌==◌, Bool, true, false, ◌&&◌, ◌||◌, cond, List, [], ◌∷◌, ◌++◌, refl, sym, ◌∙◌, ap, subst, append_assoc}
+-- All expressions that one text spells mean the same texts: a machine that reads the text makes one form, which means what each of
+-- them does.
+use Rattle.std.proofs.Common.{◌≡◌, ◌⊎◌, ◌↔◌, inl, inr, ℕ, ◌==◌, Bool, true, false, cond, List, [], ◌∷◌, ◌++◌, Option, Some, None, refl, sym, ◌∙◌, ap, subst, append_assoc, IsTrue}
+use Rattle.std.specs.List.{AllByRecursion}
 use Rattle.std.proofs.lemmas.List.{append-nil}
 use Rattle.definitions.specs.declared.expression.Interval.{Interval}
 use Rattle.definitions.specs.declared.expression.Expression.{Expression}
-use Rattle.definitions.specs.PatternText.{Written, Plain, Escaped, BadEscape}
-use Rattle.definitions.specs.Spelling.{Level, Alt, Seq, Rep, Atom, SpellsAt, choice, sequence, star, plus, optional, literal, class, group, one_seq, one_rep, one_atom, blank_before, blank_behind, IsSign, IsBlank, IsLiteralRest, IsLiteral, IsItem, IsClassRest, IsClass, IsClassChar}
-use Rattle.patterns.specs.Empty.{is_empty, matches_empty}
+use Rattle.definitions.specs.Text.{IsCharacter}
+use Rattle.definitions.specs.Patterns.{IsJoin, IsNonemptyJoin, is_in_class, Matches}
+use Rattle.definitions.specs.PatternText.{Written, Plain, Escaped, BadEscape, written}
+use Rattle.definitions.specs.Spelling.{Level, Alt, Seq, Rep, Atom, SpellsAt, Spells, choice, sequence, star, plus, optional, literal, class, group, one_seq, one_rep, one_atom, blank_before, blank_behind, IsSign, IsBlank, IsLiteralRest, IsLiteral, IsClassRest, IsClass, IsClassChar}
 use Rattle.patterns.proofs.Literals.{not_equal}
 
--- what is known inside one pair of parentheses: of the alternatives behind which a `|` stands, of the atoms since then but
--- the last, and of that last atom
-record Frame : Type 0 where
-  pub before : Bool
-  pub front : Bool
-  pub last : Bool
+-- a set of texts
+abbrev Language : Type 1
+Language = List ℕ → Type 0
 
+abbrev Same : Language → Language → Type 0
+Same K L = (u : List ℕ) → K u ↔ L u
+
+abbrev Join : Language → Language → Language
+Join K L u = (v w : List ℕ) × (u ≡ v ++ w) × K v × L w
+
+abbrev Union : Language → Language → Language
+Union K L u = K u ⊎ L u
+
+abbrev Empty : Language
+Empty u = u ≡ []
+
+abbrev Maybe : Language → Language
+Maybe L u = (u ≡ []) ⊎ L u
+
+same : (L : Language) → Same L L
+same L u = ((λ x. x), (λ x. x))
+
+turned : (K L : Language) → Same K L → Same L K
+turned K L s u = ((s u).1, (s u).0)
+
+through : (K L M : Language) → Same K L → Same L M → Same K M
+through K L M s t u = ((λ x. (t u).0 ((s u).0 x)), (λ x. (s u).1 ((t u).1 x)))
+
+join_same : (A K L M : Language) → Same A K → Same L M → Same (Join A L) (Join K M)
+join_same A K L M s t u =
+    ((λ (v, w, e, a, l). (v, w, e, (s v).0 a, (t w).0 l)), (λ (v, w, e, k, m). (v, w, e, (s v).1 k, (t w).1 m)))
+
+union_same : (A K L M : Language) → Same A K → Same L M → Same (Union A L) (Union K M)
+union_same A K L M s t u =
+    ((λ x. elim x [ inl a ↦ inl ((s u).0 a) | inr b ↦ inr ((t u).0 b) ]), (λ x. elim x [ inl a ↦ inl ((s u).1 a) | inr b ↦ inr ((t u).1 b) ]))
+
+join_assoc : (K L M : Language) → Same (Join (Join K L) M) (Join K (Join L M))
+join_assoc K L M u =
+    ((λ (v, w, e, (x, y, f, k, l), m). (x, y ++ w, e ∙ ap (λ z. z ++ w) f ∙ append_assoc x y w, k, (y, w, refl, l, m))), (λ (x, v, e, k, (y, w, f, l, m)). (x ++ y, w, e ∙ ap (λ z. x ++ z) f ∙ sym (append_assoc x y w), (x, y, refl, k, l), m)))
+
+union_assoc : (K L M : Language) → Same (Union (Union K L) M) (Union K (Union L M))
+union_assoc K L M u =
+    ((λ x. elim x [ inl (inl a) ↦ inl a | inl (inr b) ↦ inr (inl b) | inr c ↦ inr (inr c) ]), (λ x. elim x [ inl a ↦ inl (inl a) | inr (inl b) ↦ inl (inr b) | inr (inr c) ↦ inr c ]))
+
+empty_joined : (L : Language) → Same (Join Empty L) L
+empty_joined L u =
+    ((λ (v, w, e, f, l). let P : List ℕ → Type 0 = λ x. L x in subst P (sym (e ∙ ap (λ x. x ++ w) f)) l), (λ l. ([], u, refl, refl, l)))
+
+maybe_same : (K L : Language) → Same K L → Same (Maybe K) (Maybe L)
+maybe_same K L s u =
+    ((λ x. elim x [ inl a ↦ inl a | inr b ↦ inr ((s u).0 b) ]), (λ x. elim x [ inl a ↦ inl a | inr b ↦ inr ((s u).1 b) ]))
+
+each_same : (K L : Language) → ((u : List ℕ) → K u → L u) → (us : List (List ℕ)) → AllByRecursion K us → AllByRecursion L us
+each_same K L s [] h = tt
+each_same K L s (u ∷ us) h = (s u h.0, each_same K L s us h.1)
+
+star_same : (K L : Language) → Same K L → Same (IsJoin K) (IsJoin L)
+star_same K L s u =
+    ((λ (us, all, e). (us, each_same K L (λ v. (s v).0) us all, e)), (λ (us, all, e). (us, each_same L K (λ v. (s v).1) us all, e)))
+
+plus_same : (K L : Language) → Same K L → Same (IsNonemptyJoin K) (IsNonemptyJoin L)
+plus_same K L s u =
+    ((λ (us, some, all, e). (us, some, each_same K L (λ v. (s v).0) us all, e)), (λ (us, some, all, e). (us, some, each_same L K (λ v. (s v).1) us all, e)))
+
+-- what the machine makes of a text
+data Form : Type 0 where
+  Nothing : Form
+  Blank : Form
+  Text : List ℕ → Form
+  Members : Bool → List Interval → Form
+  Joined : Form → Form → Form
+  Either : Form → Form → Form
+  Many : Form → Form
+  Some_of : Form → Form
+  At_most_one : Form → Form
+
+abbrev Means : Form → Language
+Means Nothing u = ⊥
+Means Blank u = u ≡ []
+Means (Text v) u = u ≡ v
+Means (Members negated is) u = (c : ℕ) × (u ≡ c ∷ []) × IsCharacter c × IsTrue (is_in_class negated is c)
+Means (Joined a b) u = Join (Means a) (Means b) u
+Means (Either a b) u = Union (Means a) (Means b) u
+Means (Many a) u = IsJoin (Means a) u
+Means (Some_of a) u = IsNonemptyJoin (Means a) u
+Means (At_most_one a) u = Maybe (Means a) u
+
+-- what stands inside one pair of parentheses: the alternatives behind which a `|` stands, the parts since then but the last, and
+-- that last part
+record Frame : Type 0 where
+  pub before : Form
+  pub front : Form
+  pub last : Form
+
+-- outside literals and classes; in a literal with these characters so far; in a class with these intervals and the first character
+-- of an item; behind that and a `-`
 data Mode : Type 0 where
   Out : Mode
-  Lit : Bool → Mode
-  Cls : Mode
+  Lit : List ℕ → Mode
+  Cls : Bool → List Interval → Option ℕ → Mode
+  Dash : Bool → List Interval → ℕ → Mode
 
-abbrev frame : Bool → Bool → Bool → Frame
+abbrev frame : Form → Form → Form → Frame
 frame a b c = record { before = a; front = b; last = c }
 
 abbrev begun : Frame
-begun = frame false true true
+begun = frame Nothing Blank Blank
 
-abbrev value : Frame → Bool
-value f = f.before || (f.front && f.last)
+abbrev branch : Frame → Form
+branch f = Joined f.front f.last
 
-abbrev push : Frame → Bool → Frame
-push f v = frame f.before (f.front && f.last) v
+abbrev value : Frame → Form
+value f = Either f.before (branch f)
 
-abbrev optional_last : Frame → Frame
-optional_last f = frame f.before f.front true
+abbrev push : Frame → Form → Frame
+push f v = frame f.before (branch f) v
+
+abbrev with_last : (Form → Form) → Frame → Frame
+with_last sign f = frame f.before f.front (sign f.last)
 
 abbrev next_branch : Frame → Frame
-next_branch f = frame (value f) true true
+next_branch f = frame (value f) Blank Blank
 
-abbrev popped : (List Frame → Frame → Mode → Frame) → List Frame → Frame → Frame
+abbrev interval : ℕ → ℕ → Interval
+interval a b = record { first = a; last = b }
+
+abbrev flushed : List Interval → Option ℕ → List Interval
+flushed is None = is
+flushed is (Some a) = is ++ interval a a ∷ []
+
+abbrev dashed : Bool → List Interval → Option ℕ → Mode
+dashed n is None = Cls n is None
+dashed n is (Some a) = Dash n is a
+
+abbrev Go : Type 0
+Go = List Frame → Frame → Mode → Frame
+
+abbrev popped : Go → List Frame → Frame → Frame
 popped go [] f = f
 popped go (g ∷ fs) f = go fs (push g (value f)) Out
 
-abbrev outside : (List Frame → Frame → Mode → Frame) → List Frame → Frame → ℕ → Frame
+abbrev outside : Go → List Frame → Frame → ℕ → Frame
 outside go fs f c =
-    cond (c == 34) (go fs f (Lit true))
-    (cond (c == 91) (go fs f Cls)
+    cond (c == 34) (go fs f (Lit []))
+    (cond (c == 91) (go fs f (Cls false [] None))
     (cond (c == 40) (go (f ∷ fs) begun Out)
     (cond (c == 41) (popped go fs f)
     (cond (c == 124) (go fs (next_branch f) Out)
-    (cond (c == 42) (go fs (optional_last f) Out)
-    (cond (c == 63) (go fs (optional_last f) Out)
-    (go fs f Out)))))))
+    (cond (c == 42) (go fs (with_last Many f) Out)
+    (cond (c == 43) (go fs (with_last Some_of f) Out)
+    (cond (c == 63) (go fs (with_last At_most_one f) Out)
+    (go fs f Out))))))))
 
-abbrev read_one : (List Frame → Frame → Mode → Frame) → Written → List Frame → Frame → Mode → Frame
+abbrev read_one : Go → Written → List Frame → Frame → Mode → Frame
 read_one go (BadEscape o) fs f m = f
 read_one go (Plain o c) fs f Out = outside go fs f c
 read_one go (Escaped o c) fs f Out = f
-read_one go (Plain o c) fs f (Lit e) = cond (c == 34) (go fs (push f e) Out) (go fs f (Lit false))
-read_one go (Escaped o c) fs f (Lit e) = go fs f (Lit false)
-read_one go (Plain o c) fs f Cls = cond (c == 93) (go fs (push f false) Out) (go fs f Cls)
-read_one go (Escaped o c) fs f Cls = go fs f Cls
+read_one go (Plain o c) fs f (Lit v) = cond (c == 34) (go fs (push f (Text v)) Out) (go fs f (Lit (v ++ c ∷ [])))
+read_one go (Escaped o c) fs f (Lit v) = go fs f (Lit (v ++ c ∷ []))
+read_one go (Plain o c) fs f (Cls n is p) =
+    cond (c == 93) (go fs (push f (Members n (flushed is p))) Out)
+    (cond (c == 45) (go fs f (dashed n is p))
+    (cond (c == 94) (go fs f (Cls true [] None))
+    (go fs f (Cls n (flushed is p) (Some c)))))
+read_one go (Escaped o c) fs f (Cls n is p) = go fs f (Cls n (flushed is p) (Some c))
+read_one go (Plain o c) fs f (Dash n is a) = go fs f (Cls n (is ++ interval a c ∷ []) None)
+read_one go (Escaped o c) fs f (Dash n is a) = go fs f (Cls n (is ++ interval a c ∷ []) None)
 
 abbrev run : List Written → List Frame → Frame → Mode → Frame
 run [] fs f m = f
 run (w ∷ ws) fs f m = read_one (λ gs g k. run ws gs g k) w fs f m
 
-or_assoc : (a b c : Bool) → ((a || b) || c) ≡ (a || (b || c))
-or_assoc true b c = refl
-or_assoc false b c = refl
+-- how a part of this level with these texts changes the frame
+abbrev Adds : Level → Language → Frame → Frame → Type 0
+Adds Atom L f g = (v : Form) × Same (Means v) L × (g ≡ push f v)
+Adds Rep L f g = (g.before ≡ f.before) × Same (Means (branch g)) (Join (Means (branch f)) L)
+Adds Seq L f g = (g.before ≡ f.before) × Same (Means (branch g)) (Join (Means (branch f)) L)
+Adds Alt L f g = Same (Means (branch f)) Empty → Same (Means (value g)) (Union (Means f.before) L)
 
-and_assoc : (a b c : Bool) → ((a && b) && c) ≡ (a && (b && c))
-and_assoc true b c = refl
-and_assoc false b c = refl
-
-and-true : (b : Bool) → (b && true) ≡ b
-and-true true = refl
-and-true false = refl
-
-and_false : (b : Bool) → (b && false) ≡ false
-and_false true = refl
-and_false false = refl
-
--- how a part of this level that matches the empty text, or does not, changes what is known
-abbrev Adds : Level → Bool → Frame → Frame → Type 0
-Adds Atom v f g = g ≡ push f v
-Adds Rep v f g = (g.before ≡ f.before) × ((g.front && g.last) ≡ ((f.front && f.last) && v))
-Adds Seq v f g = (g.before ≡ f.before) × ((g.front && g.last) ≡ ((f.front && f.last) && v))
-Adds Alt v f g = (f.front && f.last) ≡ true → value g ≡ (f.before || v)
-
-abbrev Tells : Level → Bool → List Written → Type 0
-Tells l v ws = (fs : List Frame) (f : Frame) (rest : List Written) → (g : Frame) × Adds l v f g × (run (ws ++ rest) fs f Out ≡ run rest fs g Out)
+abbrev Tells : Level → Language → List Written → Type 0
+Tells l L ws = (fs : List Frame) (f : Frame) (rest : List Written) → (g : Frame) × Adds l L f g × (run (ws ++ rest) fs f Out ≡ run rest fs g Out)
 
 blank_told : (w : Written) (ws : List Written) (fs : List Frame) (f : Frame) → IsBlank w → run (w ∷ ws) fs f Out ≡ run ws fs f Out
 blank_told (Plain o c) ws fs f (inl h) = let P : ℕ → Type 0 = λ x. run (Plain o x ∷ ws) fs f Out ≡ run ws fs f Out in subst P h refl
@@ -109,146 +210,185 @@ sign_told c (BadEscape o) ws fs f h = absurd h
 along : (us vs ws rest : List Written) (fs : List Frame) (f : Frame) → ws ≡ us ++ vs → run (ws ++ rest) fs f Out ≡ run (us ++ (vs ++ rest)) fs f Out
 along us vs ws rest fs f e = ap (λ x. run x fs f Out) (ap (λ x. x ++ rest) e ∙ append_assoc us vs rest)
 
-choice_bools : (f g h : Frame) (v u : Bool) → (f.front && f.last) ≡ true → ((f.front && f.last) ≡ true → value g ≡ (f.before || v)) → (value h ≡ (value g || u)) → value h ≡ (f.before || (v || u))
-choice_bools f g h v u e a b = b ∙ ap (λ x. x || u) (a e) ∙ or_assoc f.before v u
+blanks : Same (Means (Joined Blank Blank)) Empty
+blanks = empty_joined Empty
 
-choice_told : (us vs ws : List Written) (w : Written) (v u : Bool) → ws ≡ us ++ w ∷ vs → IsSign 124 w → Tells Alt v us → Tells Alt u vs → Tells Alt (v || u) ws
-choice_told us vs ws w v u e sign a b fs f rest =
+choice_same : (f g h : Frame) (L M : Language) → Same (Means (value g)) (Union (Means f.before) L) → Same (Means (value h)) (Union (Means (value g)) M) → Same (Means (value h)) (Union (Means f.before) (Union L M))
+choice_same f g h L M s t =
+    through (Means (value h)) (Union (Means (value g)) M) (Union (Means f.before) (Union L M)) t
+    (through (Union (Means (value g)) M) (Union (Union (Means f.before) L) M) (Union (Means f.before) (Union L M))
+    (union_same (Means (value g)) (Union (Means f.before) L) M M s (same M)) (union_assoc (Means f.before) L M))
+
+choice_told : (us vs ws : List Written) (w : Written) (L M : Language) → ws ≡ us ++ w ∷ vs → IsSign 124 w → Tells Alt L us → Tells Alt M vs → Tells Alt (Union L M) ws
+choice_told us vs ws w L M e sign a b fs f rest =
     let one = a fs f (w ∷ vs ++ rest) in
     let two = b fs (next_branch one.0) rest in (
       two.0,
-      (λ t. choice_bools f one.0 two.0 v u t one.1 (two.1 refl)),
+      (λ t. choice_same f one.0 two.0 L M (one.1 t) (two.1 blanks)),
       along us (w ∷ vs) ws rest fs f e ∙ one.2 ∙ sign_told 124 w (vs ++ rest) fs one.0 sign ∙ two.2,
     )
 
-sequence_told : (us vs ws : List Written) (v u : Bool) → ws ≡ us ++ vs → Tells Seq v us → Tells Seq u vs → Tells Seq (v && u) ws
-sequence_told us vs ws v u e a b fs f rest =
+sequence_same : (f g h : Frame) (L M : Language) → Same (Means (branch g)) (Join (Means (branch f)) L) → Same (Means (branch h)) (Join (Means (branch g)) M) → Same (Means (branch h)) (Join (Means (branch f)) (Join L M))
+sequence_same f g h L M s t =
+    through (Means (branch h)) (Join (Means (branch g)) M) (Join (Means (branch f)) (Join L M)) t
+    (through (Join (Means (branch g)) M) (Join (Join (Means (branch f)) L) M) (Join (Means (branch f)) (Join L M))
+    (join_same (Means (branch g)) (Join (Means (branch f)) L) M M s (same M)) (join_assoc (Means (branch f)) L M))
+
+sequence_told : (us vs ws : List Written) (L M : Language) → ws ≡ us ++ vs → Tells Seq L us → Tells Seq M vs → Tells Seq (Join L M) ws
+sequence_told us vs ws L M e a b fs f rest =
     let one = a fs f (vs ++ rest) in
     let two = b fs one.0 rest in (
       two.0,
-      (two.1.0 ∙ one.1.0, two.1.1 ∙ ap (λ x. x && u) one.1.1 ∙ and_assoc (f.front && f.last) v u),
+      (two.1.0 ∙ one.1.0, sequence_same f one.0 two.0 L M one.1.1 two.1.1),
       along us vs ws rest fs f e ∙ one.2 ∙ two.2,
     )
 
-optional_told : (c : ℕ) (us ws : List Written) (w : Written) (v : Bool) → ws ≡ us ++ w ∷ [] → IsSign c w → ((go : List Frame → Frame → Mode → Frame) (fs : List Frame) (f : Frame) → outside go fs f c ≡ go fs (optional_last f) Out) → Tells Atom v us → Tells Rep true ws
-optional_told c us ws w v e sign k a fs f rest =
-    let one = a fs f (w ∷ rest) in (
-      optional_last (push f v),
-      (refl, refl),
-      along us (w ∷ []) ws rest fs f e ∙ one.2 ∙ ap (λ x. run (w ∷ rest) fs x Out) one.1 ∙ sign_told c w rest fs (push f v) sign ∙ k (λ gs g m. run rest gs g m) fs (push f v),
+-- a sign of repetition behind an atom
+sign_repeats : (sign : Form → Form) (K L : Language) (c : ℕ) (us ws : List Written) (w : Written) → ((v : Form) → Same (Means v) K → Same (Means (sign v)) L) → ws ≡ us ++ w ∷ [] → IsSign c w → ((go : Go) (fs : List Frame) (f : Frame) → outside go fs f c ≡ go fs (with_last sign f) Out) → Tells Atom K us → Tells Rep L ws
+sign_repeats sign K L c us ws w means e signed k a fs f rest =
+    let one = a fs f (w ∷ rest) in
+    let v = one.1.0 in (
+      with_last sign (push f v),
+      (refl, join_same (Means (branch f)) (Means (branch f)) (Means (sign v)) L (same (Means (branch f))) (means v one.1.1)),
+      along us (w ∷ []) ws rest fs f e ∙ one.2 ∙ ap (λ x. run (w ∷ rest) fs x Out) one.1.2 ∙ sign_told c w rest fs (push f v) signed ∙ k (λ gs g m. run rest gs g m) fs (push f v),
     )
 
-plus_told : (us ws : List Written) (w : Written) (v : Bool) → ws ≡ us ++ w ∷ [] → IsSign 43 w → Tells Atom v us → Tells Rep v ws
-plus_told us ws w v e sign a fs f rest =
-    let one = a fs f (w ∷ rest) in (
-      push f v,
-      (refl, refl),
-      along us (w ∷ []) ws rest fs f e ∙ one.2 ∙ ap (λ x. run (w ∷ rest) fs x Out) one.1 ∙ sign_told 43 w rest fs (push f v) sign,
-    )
-
-atom_told : (v : Bool) (ws : List Written) → Tells Atom v ws → Tells Rep v ws
-atom_told v ws a fs f rest = let one = a fs f rest in (one.0, (ap (λ g. g.before) one.1, ap (λ g. g.front && g.last) one.1), one.2)
-
-seq_told : (v : Bool) (ws : List Written) → Tells Seq v ws → Tells Alt v ws
-seq_told v ws a fs f rest =
+atom_told : (L : Language) (ws : List Written) → Tells Atom L ws → Tells Rep L ws
+atom_told L ws a fs f rest =
     let one = a fs f rest in
-    (one.0, (λ t. ap (λ x. x || (one.0.front && one.0.last)) one.1.0 ∙ ap (λ x. f.before || x) (one.1.1 ∙ ap (λ x. x && v) t)), one.2)
+    let v = one.1.0 in
+    let P : Frame → Type 0 = λ g. Adds Rep L f g in
+    (one.0, subst P (sym one.1.2) (refl, join_same (Means (branch f)) (Means (branch f)) (Means v) L (same (Means (branch f))) one.1.1), one.2)
 
-before_told : (l : Level) (v : Bool) (us : List Written) (w : Written) → IsBlank w → Tells l v us → Tells l v (w ∷ us)
-before_told l v us w blank a fs f rest = let one = a fs f rest in (one.0, one.1, blank_told w (us ++ rest) fs f blank ∙ one.2)
+branch_same : (f g : Frame) (L : Language) → g.before ≡ f.before → Same (Means (branch g)) (Join (Means (branch f)) L) → Same (Means (branch f)) Empty → Same (Means (value g)) (Union (Means f.before) L)
+branch_same f g L e s t =
+    let P : Form → Type 0 = λ b. Same (Means (value g)) (Union (Means b) L) in
+    subst P e (union_same (Means g.before) (Means g.before) (Means (branch g)) L (same (Means g.before))
+    (through (Means (branch g)) (Join (Means (branch f)) L) L s
+    (through (Join (Means (branch f)) L) (Join Empty L) L (join_same (Means (branch f)) Empty L L t (same L)) (empty_joined L))))
 
-behind_told : (l : Level) (v : Bool) (us ws : List Written) (w : Written) → ws ≡ us ++ w ∷ [] → IsBlank w → Tells l v us → Tells l v ws
-behind_told l v us ws w e blank a fs f rest =
+seq_told : (L : Language) (ws : List Written) → Tells Seq L ws → Tells Alt L ws
+seq_told L ws a fs f rest =
+    let one = a fs f rest in
+    (one.0, (λ t. branch_same f one.0 L one.1.0 one.1.1 t), one.2)
+
+before_told : (l : Level) (L : Language) (us : List Written) (w : Written) → IsBlank w → Tells l L us → Tells l L (w ∷ us)
+before_told l L us w blank a fs f rest = let one = a fs f rest in (one.0, one.1, blank_told w (us ++ rest) fs f blank ∙ one.2)
+
+behind_told : (l : Level) (L : Language) (us ws : List Written) (w : Written) → ws ≡ us ++ w ∷ [] → IsBlank w → Tells l L us → Tells l L ws
+behind_told l L us ws w e blank a fs f rest =
     let one = a fs f (w ∷ rest) in
     (one.0, one.1, along us (w ∷ []) ws rest fs f e ∙ one.2 ∙ blank_told w rest fs one.0 blank)
 
-group_told : (us ws : List Written) (w x : Written) (v : Bool) → ws ≡ w ∷ us ++ x ∷ [] → IsSign 40 w → IsSign 41 x → Tells Alt v us → Tells Atom v ws
-group_told us ws w x v e opens closes a fs f rest =
+none_either : (L : Language) → Same (Union (Means Nothing) L) L
+none_either L u = ((λ x. elim x [ inl a ↦ absurd a | inr b ↦ b ]), (λ b. inr b))
+
+group_told : (us ws : List Written) (w x : Written) (L : Language) → ws ≡ w ∷ us ++ x ∷ [] → IsSign 40 w → IsSign 41 x → Tells Alt L us → Tells Atom L ws
+group_told us ws w x L e opens closes a fs f rest =
     let one = a (f ∷ fs) begun (x ∷ rest) in (
-      push f v,
-      refl,
+      push f (value one.0),
+      (value one.0, through (Means (value one.0)) (Union (Means Nothing) L) L (one.1 blanks) (none_either L), refl),
       ap (λ y. run y fs f Out) (ap (λ y. y ++ rest) e ∙ ap (λ y. w ∷ y) (append_assoc us (x ∷ []) rest))
-          ∙ sign_told 40 w (us ++ x ∷ rest) fs f opens ∙ one.2 ∙ sign_told 41 x rest (f ∷ fs) one.0 closes
-          ∙ ap (λ y. run rest fs (push f y) Out) (one.1 refl),
+          ∙ sign_told 40 w (us ++ x ∷ rest) fs f opens ∙ one.2 ∙ sign_told 41 x rest (f ∷ fs) one.0 closes,
     )
 
-literal_rest_told : (v : List ℕ) (ws rest : List Written) (fs : List Frame) (f : Frame) (b : Bool) → IsLiteralRest v ws → run (ws ++ rest) fs f (Lit b) ≡ run rest fs (push f (b && is_empty v)) Out
-literal_rest_told v [] rest fs f b h = absurd h
-literal_rest_told [] (Plain o c ∷ ws) rest fs f b h =
-    let P : ℕ → Type 0 = λ x. run (Plain o x ∷ ws ++ rest) fs f (Lit b) ≡ run rest fs (push f (b && true)) Out in
-    subst P h.0 (ap (λ y. run (y ++ rest) fs (push f b) Out) h.1 ∙ ap (λ y. run rest fs (push f y) Out) (sym (and-true b)))
-literal_rest_told [] (Escaped o c ∷ ws) rest fs f b h = absurd h.0
-literal_rest_told [] (BadEscape o ∷ ws) rest fs f b h = absurd h.0
-literal_rest_told (c ∷ v) (Plain o x ∷ ws) rest fs f b h =
-    rw (not_equal x 34 h.0.1) (literal_rest_told v ws rest fs f false h.1 ∙ ap (λ y. run rest fs (push f y) Out) (sym (and_false b)))
-literal_rest_told (c ∷ v) (Escaped o x ∷ ws) rest fs f b h =
-    literal_rest_told v ws rest fs f false h.1 ∙ ap (λ y. run rest fs (push f y) Out) (sym (and_false b))
-literal_rest_told (c ∷ v) (BadEscape o ∷ ws) rest fs f b h = absurd h.0
+literal_rest_told : (v : List ℕ) (ws rest : List Written) (fs : List Frame) (f : Frame) (u : List ℕ) → IsLiteralRest v ws → run (ws ++ rest) fs f (Lit u) ≡ run rest fs (push f (Text (u ++ v))) Out
+literal_rest_told v [] rest fs f u h = absurd h
+literal_rest_told [] (Plain o c ∷ ws) rest fs f u h =
+    let P : ℕ → Type 0 = λ x. run (Plain o x ∷ ws ++ rest) fs f (Lit u) ≡ run rest fs (push f (Text (u ++ []))) Out in
+    subst P h.0 (ap (λ y. run (y ++ rest) fs (push f (Text u)) Out) h.1 ∙ ap (λ y. run rest fs (push f (Text y)) Out) (sym (append-nil u)))
+literal_rest_told [] (Escaped o c ∷ ws) rest fs f u h = absurd h.0
+literal_rest_told [] (BadEscape o ∷ ws) rest fs f u h = absurd h.0
+literal_rest_told (c ∷ v) (Plain o x ∷ ws) rest fs f u h =
+    rw (not_equal x 34 h.0.1) (literal_rest_told v ws rest fs f (u ++ x ∷ []) h.1 ∙ ap (λ y. run rest fs (push f (Text y)) Out) (append_assoc u (x ∷ []) v ∙ ap (λ y. u ++ y ∷ v) (sym h.0.0)))
+literal_rest_told (c ∷ v) (Escaped o x ∷ ws) rest fs f u h =
+    literal_rest_told v ws rest fs f (u ++ x ∷ []) h.1 ∙ ap (λ y. run rest fs (push f (Text y)) Out) (append_assoc u (x ∷ []) v ∙ ap (λ y. u ++ y ∷ v) (sym h.0))
+literal_rest_told (c ∷ v) (BadEscape o ∷ ws) rest fs f u h = absurd h.0
 
-literal_told : (v : List ℕ) (ws : List Written) → IsLiteral v ws → Tells Atom (is_empty v) ws
+literal_told : (v : List ℕ) (ws : List Written) → IsLiteral v ws → Tells Atom (λ u. u ≡ v) ws
 literal_told v [] h fs f rest = absurd h
 literal_told v (w ∷ ws) h fs f rest =
-    (push f (is_empty v), refl, sign_told 34 w (ws ++ rest) fs f h.0 ∙ literal_rest_told v ws rest fs f true h.1)
+    (push f (Text v), (Text v, same (λ u. u ≡ v), refl), sign_told 34 w (ws ++ rest) fs f h.0 ∙ literal_rest_told v ws rest fs f [] h.1)
 
-class_char_told : (c : ℕ) (w : Written) (ws : List Written) (fs : List Frame) (f : Frame) → IsClassChar c w → run (w ∷ ws) fs f Cls ≡ run ws fs f Cls
-class_char_told c (Plain o x) ws fs f h = rw (not_equal x 93 h.1) refl
-class_char_told c (Escaped o x) ws fs f h = refl
-class_char_told c (BadEscape o) ws fs f h = absurd h
+class_char_told : (c : ℕ) (w : Written) (ws : List Written) (fs : List Frame) (f : Frame) (n : Bool) (is : List Interval) (p : Option ℕ) → IsClassChar c w → run (w ∷ ws) fs f (Cls n is p) ≡ run ws fs f (Cls n (flushed is p) (Some c))
+class_char_told c (Plain o x) ws fs f n is p h =
+    rw (not_equal x 93 h.1, not_equal x 45 h.2, not_equal x 94 h.3) (ap (λ y. run ws fs f (Cls n (flushed is p) (Some y))) (sym h.0))
+class_char_told c (Escaped o x) ws fs f n is p h = ap (λ y. run ws fs f (Cls n (flushed is p) (Some y))) (sym h)
+class_char_told c (BadEscape o) ws fs f n is p h = absurd h
 
-class_dash_told : (w : Written) (ws : List Written) (fs : List Frame) (f : Frame) → IsSign 45 w → run (w ∷ ws) fs f Cls ≡ run ws fs f Cls
-class_dash_told (Plain o x) ws fs f h = let P : ℕ → Type 0 = λ y. run (Plain o y ∷ ws) fs f Cls ≡ run ws fs f Cls in subst P h refl
-class_dash_told (Escaped o x) ws fs f h = absurd h
-class_dash_told (BadEscape o) ws fs f h = absurd h
+last_char_told : (c : ℕ) (w : Written) (ws : List Written) (fs : List Frame) (f : Frame) (n : Bool) (is : List Interval) (a : ℕ) → IsClassChar c w → run (w ∷ ws) fs f (Dash n is a) ≡ run ws fs f (Cls n (is ++ interval a c ∷ []) None)
+last_char_told c (Plain o x) ws fs f n is a h = ap (λ y. run ws fs f (Cls n (is ++ interval a y ∷ []) None)) (sym h.0)
+last_char_told c (Escaped o x) ws fs f n is a h = ap (λ y. run ws fs f (Cls n (is ++ interval a y ∷ []) None)) (sym h)
+last_char_told c (BadEscape o) ws fs f n is a h = absurd h
 
-class_caret_told : (w : Written) (ws : List Written) (fs : List Frame) (f : Frame) → IsSign 94 w → run (w ∷ ws) fs f Cls ≡ run ws fs f Cls
-class_caret_told (Plain o x) ws fs f h = let P : ℕ → Type 0 = λ y. run (Plain o y ∷ ws) fs f Cls ≡ run ws fs f Cls in subst P h refl
-class_caret_told (Escaped o x) ws fs f h = absurd h
-class_caret_told (BadEscape o) ws fs f h = absurd h
+-- one sign in a class
+class_sign_told : (c : ℕ) (w : Written) (ws : List Written) (fs : List Frame) (f : Frame) (m : Mode) → IsSign c w → run (w ∷ ws) fs f m ≡ run (Plain 0 c ∷ ws) fs f m
+class_sign_told c (Plain o x) ws fs f Out h = ap (λ y. run (Plain 0 y ∷ ws) fs f Out) (sym h)
+class_sign_told c (Plain o x) ws fs f (Lit v) h = ap (λ y. run (Plain 0 y ∷ ws) fs f (Lit v)) (sym h)
+class_sign_told c (Plain o x) ws fs f (Cls n is p) h = ap (λ y. run (Plain 0 y ∷ ws) fs f (Cls n is p)) (sym h)
+class_sign_told c (Plain o x) ws fs f (Dash n is a) h = ap (λ y. run (Plain 0 y ∷ ws) fs f (Dash n is a)) (sym h)
+class_sign_told c (Escaped o x) ws fs f m h = absurd h
+class_sign_told c (BadEscape o) ws fs f m h = absurd h
 
-class_end_told : (w : Written) (ws : List Written) (fs : List Frame) (f : Frame) → IsSign 93 w → run (w ∷ ws) fs f Cls ≡ run ws fs (push f false) Out
-class_end_told (Plain o x) ws fs f h = let P : ℕ → Type 0 = λ y. run (Plain o y ∷ ws) fs f Cls ≡ run ws fs (push f false) Out in subst P h refl
-class_end_told (Escaped o x) ws fs f h = absurd h
-class_end_told (BadEscape o) ws fs f h = absurd h
+single : (i : Interval) (c : ℕ) → i.first ≡ c → i.last ≡ i.first → interval c c ≡ i
+single i c e f = sym (ap (λ x. interval x i.last) e ∙ ap (λ x. interval c x) (f ∙ e))
 
-item_told : (i : Interval) (item rest : List Written) (fs : List Frame) (f : Frame) → IsItem i item → run (item ++ rest) fs f Cls ≡ run rest fs f Cls
-item_told i [] rest fs f h = absurd h
-item_told i (x ∷ []) rest fs f h = class_char_told i.first x rest fs f h.0
-item_told i (x ∷ y ∷ []) rest fs f h = absurd h
-item_told i (x ∷ y ∷ z ∷ []) rest fs f h = class_char_told i.first x (y ∷ z ∷ rest) fs f h.0 ∙ class_dash_told y (z ∷ rest) fs f h.1 ∙ class_char_told i.last z rest fs f h.2
-item_told i (x ∷ y ∷ z ∷ v ∷ ws) rest fs f h = absurd h
+items_told : (js : List Interval) (ws rest : List Written) (fs : List Frame) (f : Frame) (n : Bool) (is : List Interval) (p : Option ℕ) → IsClassRest js ws → run (ws ++ rest) fs f (Cls n is p) ≡ run rest fs (push f (Members n (flushed is p ++ js))) Out
+items_told [] ws rest fs f n is p (w, e, sign) =
+    ap (λ x. run (x ++ rest) fs f (Cls n is p)) e ∙ class_sign_told 93 w rest fs f (Cls n is p) sign
+    ∙ ap (λ x. run rest fs (push f (Members n x)) Out) (sym (append-nil (flushed is p)))
+items_told (j ∷ js) ws rest fs f n is p ([], more, e, hi, hr) = absurd hi
+items_told (j ∷ js) ws rest fs f n is p (a ∷ [], more, e, hi, hr) =
+    ap (λ x. run (x ++ rest) fs f (Cls n is p)) e ∙ class_char_told j.first a (more ++ rest) fs f n is p hi.0
+    ∙ items_told js more rest fs f n (flushed is p) (Some j.first) hr
+    ∙ ap (λ x. run rest fs (push f (Members n x)) Out) (append_assoc (flushed is p) (interval j.first j.first ∷ []) js ∙ ap (λ x. flushed is p ++ x ∷ js) (single j j.first refl hi.1))
+items_told (j ∷ js) ws rest fs f n is p (a ∷ b ∷ [], more, e, hi, hr) = absurd hi
+items_told (j ∷ js) ws rest fs f n is p (a ∷ b ∷ c ∷ [], more, e, hi, hr) =
+    ap (λ x. run (x ++ rest) fs f (Cls n is p)) e ∙ class_char_told j.first a (b ∷ c ∷ more ++ rest) fs f n is p hi.0
+    ∙ class_sign_told 45 b (c ∷ more ++ rest) fs f (Cls n (flushed is p) (Some j.first)) hi.1
+    ∙ last_char_told j.last c (more ++ rest) fs f n (flushed is p) j.first hi.2
+    ∙ items_told js more rest fs f n (flushed is p ++ interval j.first j.last ∷ []) None hr
+    ∙ ap (λ x. run rest fs (push f (Members n x)) Out) (append_assoc (flushed is p) (j ∷ []) js)
+items_told (j ∷ js) ws rest fs f n is p (a ∷ b ∷ c ∷ d ∷ vs, more, e, hi, hr) = absurd hi
 
-items_told : (is : List Interval) (ws rest : List Written) (fs : List Frame) (f : Frame) → IsClassRest is ws → run (ws ++ rest) fs f Cls ≡ run rest fs (push f false) Out
-items_told [] ws rest fs f (w, e, sign) = ap (λ x. run (x ++ rest) fs f Cls) e ∙ class_end_told w rest fs f sign
-items_told (i ∷ is) ws rest fs f (item, more, e, hi, hr) =
-    ap (λ x. run x fs f Cls) (ap (λ x. x ++ rest) e ∙ append_assoc item more rest) ∙ item_told i item (more ++ rest) fs f hi ∙ items_told is more rest fs f hr
-
-class_told : (negated : Bool) (is : List Interval) (ws : List Written) → IsClass negated is ws → Tells Atom false ws
-class_told negated is [] h fs f rest = absurd h
-class_told false is (w ∷ ws) h fs f rest = (push f false, refl, sign_told 91 w (ws ++ rest) fs f h.0 ∙ items_told is ws rest fs f h.1)
+class_told : (n : Bool) (is : List Interval) (ws : List Written) → IsClass n is ws → Tells Atom (Means (Members n is)) ws
+class_told n is [] h fs f rest = absurd h
+class_told false is (w ∷ ws) h fs f rest =
+    (push f (Members false is), (Members false is, same (Means (Members false is)), refl), sign_told 91 w (ws ++ rest) fs f h.0 ∙ items_told is ws rest fs f false [] None h.1)
 class_told true is (w ∷ []) h fs f rest = absurd h
-class_told true is (w ∷ x ∷ ws) h fs f rest =
-    (push f false, refl, sign_told 91 w (x ∷ ws ++ rest) fs f h.0 ∙ class_caret_told x (ws ++ rest) fs f h.1 ∙ items_told is ws rest fs f h.2)
+class_told true is (w ∷ x ∷ ws) h fs f rest = (
+  push f (Members true is),
+  (Members true is, same (Means (Members true is)), refl),
+  sign_told 91 w (x ∷ ws ++ rest) fs f h.0 ∙ class_sign_told 94 x (ws ++ rest) fs f (Cls false [] None) h.1 ∙ items_told is ws rest fs f true [] None h.2,
+)
 
-told : {l : Level} {d : ℕ} {e : Expression} {ws : List Written} → SpellsAt l d e ws → Tells l (matches_empty e) ws
-told (choice {a = a} {b = b} d us vs ws w f sign s t) = choice_told us vs ws w (matches_empty a) (matches_empty b) f sign (told s) (told t)
-told (sequence {a = a} {b = b} d us vs ws f s t) = sequence_told us vs ws (matches_empty a) (matches_empty b) f (told s) (told t)
-told (star {a = a} d us ws w f sign s) = optional_told 42 us ws w (matches_empty a) f sign (λ go fs g. refl) (told s)
-told (plus {a = a} d us ws w f sign s) = plus_told us ws w (matches_empty a) f sign (told s)
-told (optional {a = a} d us ws w f sign s) = optional_told 63 us ws w (matches_empty a) f sign (λ go fs g. refl) (told s)
+told : {l : Level} {d : ℕ} {e : Expression} {ws : List Written} → SpellsAt l d e ws → Tells l (Matches e) ws
+told (choice {a = a} {b = b} d us vs ws w f sign s t) = choice_told us vs ws w (Matches a) (Matches b) f sign (told s) (told t)
+told (sequence {a = a} {b = b} d us vs ws f s t) = sequence_told us vs ws (Matches a) (Matches b) f (told s) (told t)
+told (star {a = a} d us ws w f sign s) = sign_repeats Many (Matches a) (IsJoin (Matches a)) 42 us ws w (λ v. star_same (Means v) (Matches a)) f sign (λ go fs g. refl) (told s)
+told (plus {a = a} d us ws w f sign s) = sign_repeats Some_of (Matches a) (IsNonemptyJoin (Matches a)) 43 us ws w (λ v. plus_same (Means v) (Matches a)) f sign (λ go fs g. refl) (told s)
+told (optional {a = a} d us ws w f sign s) = sign_repeats At_most_one (Matches a) (Maybe (Matches a)) 63 us ws w (λ v. maybe_same (Means v) (Matches a)) f sign (λ go fs g. refl) (told s)
 told (literal d v ws h) = literal_told v.items ws h
 told (class d negated v ws h) = class_told negated v.items ws h
-told (group {e = e} d us ws w x f opens closes small s) = group_told us ws w x (matches_empty e) f opens closes (told s)
-told (one_seq {e = e} d ws s) = seq_told (matches_empty e) ws (told s)
+told (group {e = e} d us ws w x f opens closes small s) = group_told us ws w x (Matches e) f opens closes (told s)
+told (one_seq {e = e} d ws s) = seq_told (Matches e) ws (told s)
 told (one_rep d ws s) = told s
-told (one_atom {e = e} d ws s) = atom_told (matches_empty e) ws (told s)
-told (blank_before {e = e} l d us w blank s) = before_told l (matches_empty e) us w blank (told s)
-told (blank_behind {e = e} l d us ws w f blank s) = behind_told l (matches_empty e) us ws w f blank (told s)
+told (one_atom {e = e} d ws s) = atom_told (Matches e) ws (told s)
+told (blank_before {e = e} l d us w blank s) = before_told l (Matches e) us w blank (told s)
+told (blank_behind {e = e} l d us ws w f blank s) = behind_told l (Matches e) us ws w f blank (told s)
 
-valued : (e : Expression) (d : ℕ) (ws : List Written) → SpellsAt Alt d e ws → value (run ws [] begun Out) ≡ matches_empty e
-valued e d ws s =
+-- the form that the machine makes of a text
+abbrev form : List Written → Form
+form ws = value (run ws [] begun Out)
+
+formed : (e : Expression) (d : ℕ) (ws : List Written) → SpellsAt Alt d e ws → Same (Means (form ws)) (Matches e)
+formed e d ws s =
     let one = told s [] begun [] in
-    ap (λ x. value (run x [] begun Out)) (sym (append-nil ws)) ∙ ap value one.2 ∙ one.1 refl
+    let P : Frame → Type 0 = λ g. Same (Means (value g)) (Matches e) in
+    subst P (sym (ap (λ x. run x [] begun Out) (sym (append-nil ws)) ∙ one.2))
+    (through (Means (value one.0)) (Union (Means Nothing) (Matches e)) (Matches e) (one.1 blanks) (none_either (Matches e)))
 
--- what one text spells matches the empty text as all that it spells does
-pub same_emptiness : (e g : Expression) (d : ℕ) (ws : List Written) → SpellsAt Alt d e ws → SpellsAt Alt d g ws → matches_empty e ≡ matches_empty g
-same_emptiness e g d ws s t = sym (valued e d ws s) ∙ valued g d ws t
+-- what one text spells means one set of texts
+pub one_meaning : (t : List ℕ) (e g : Expression) → Spells e t → Spells g t → (u : List ℕ) → Matches e u ↔ Matches g u
+one_meaning t e g s r =
+    through (Matches e) (Means (form (written 0 t))) (Matches g) (turned (Means (form (written 0 t))) (Matches e) (formed e 0 (written 0 t) s)) (formed g 0 (written 0 t) r)

@@ -15,12 +15,14 @@ ghost use Rattle.patterns.specs.Reading.{Tells};
 mod characters;
 mod classes;
 mod empty;
+mod laws;
 mod parts;
 mod refusals;
 
 use characters::writing;
 pub use definitions::{Expression, Interval, PatternCause, PatternFault};
 use empty::matches_empty;
+pub use laws::one_text_has_one_meaning;
 use parts::whole;
 use refusals::{Refusal, fault};
 use std::alloc::{AllocError, Global};
