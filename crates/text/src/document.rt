@@ -156,6 +156,7 @@ impl Text {
     /// How many characters the text has.
     pub fn len(&self) -> usize
         ensures count { result ≡ length self.now }
+        ensures few { result ≤ LONGEST_TEXT }
         ensures characters { IsText self.now }
     {
         self.characters.len()
