@@ -1,0 +1,35 @@
+-- Lists that are made part by part.
+use Rattle.std.proofs.Common.{◌≡◌, ℕ, zero, suc, ◌+◌, ◌-◌, ◌<◌, Bool, false, List, [], ◌∷◌, ◌++◌, length, drop, sym, ap, ◌∙◌, subst, arith, zero-add, get_or}
+use Rattle.std.proofs.lemmas.List.{append_assoc}
+use Rattle.definitions.specs.declared.expression.Expression.{Expression}
+use Rattle.definitions.specs.Spelling.{IsWellMade}
+use Rattle.dfa.specs.Marks.{mark, literal_end, unmarked}
+use Rattle.dfa.specs.Sets.{AllMade}
+
+pub joined : {A : Type 0} (f : ℕ → List A) (n m : ℕ) (old xs middle new : List A) → middle ≡ old ++ xs → n ≡ m → new ≡ middle ++ f n → new ≡ old ++ (xs ++ f m)
+joined f n m old xs middle new e k h = h ∙ ap (λ y. y ++ f n) e ∙ append_assoc old xs (f n) ∙ ap (λ y. old ++ (xs ++ f y)) k
+
+pub unmarked-add : (m n : ℕ) → unmarked m ++ unmarked n ≡ unmarked (m + n)
+unmarked-add zero n = ap unmarked (sym (zero-add n))
+unmarked-add (suc m) n = let e : suc (m + n) ≡ suc m + n = omega arith in ap (λ l. false ∷ l) (unmarked-add m n) ∙ ap unmarked e
+
+pub unmarked-more : (n : ℕ) → unmarked n ++ false ∷ [] ≡ unmarked (n + 1)
+unmarked-more n = unmarked-add n 1
+
+pub literal_end-is : (marks : List Bool) (o : ℕ) (start : Bool) (xs : List ℕ) → 0 < length xs → literal_end marks o start xs ≡ mark marks (o + length xs - 1)
+literal_end-is marks o start [] h = absurd (omega (arith, h))
+literal_end-is marks o start (d ∷ []) h = let e : o ≡ o + 1 - 1 = omega arith in ap (λ n. mark marks n) e
+literal_end-is marks o start (d ∷ (x ∷ xs)) h =
+    let e : o + 1 + length (x ∷ xs) - 1 ≡ o + length (d ∷ (x ∷ xs)) - 1 = omega arith in
+    literal_end-is marks (o + 1) (mark marks o) (x ∷ xs) (omega arith) ∙ ap (λ n. mark marks n) e
+
+-- a step of a loop that adds to a list what it makes of each element
+pub one_more : {A : Type 0} (new out part rest later whole : List A) → new ≡ out ++ part → rest ≡ part ++ later → out ++ rest ≡ whole → new ++ later ≡ whole
+one_more new out part rest later whole e f i = ap (λ y. y ++ later) e ∙ append_assoc out part later ∙ ap (λ y. out ++ y) (sym f) ∙ i
+
+pub all_made : (xs : List Expression) (i : ℕ) (x : Expression) → i < length xs → get_or xs i x ≡ x → IsWellMade x → AllMade (drop (i + 1) xs) → AllMade (drop i xs)
+all_made [] i x lt e m h = absurd (omega (arith, lt))
+all_made (y ∷ xs) zero x lt e m h = (subst IsWellMade (sym e) m, h)
+all_made (y ∷ xs) (suc i) x lt e m h =
+    let f : suc i + 1 ≡ suc (i + 1) = omega arith in
+    all_made xs i x (omega (arith, lt)) e m (subst (λ (n : ℕ). AllMade (drop n (y ∷ xs))) f h)

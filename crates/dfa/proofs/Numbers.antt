@@ -1,0 +1,34 @@
+-- Tests on numbers, and numbers as lists give them.
+use Rattle.std.proofs.Common.{◌≡◌, ℕ, zero, suc, ◌+◌, ◌*◌, ◌<◌, ◌≤◌, true, nat_le, List, length, slice_index_or, Option, Some, IfSome, arith, ap, ◌∙◌, refl}
+use Rattle.std.proofs.lemmas.List.{get_or_default}
+use Rattle.std.proofs.lemmas.Bool.Decides.{nat_tests}
+use Rattle.std.proofs.lemmas.List.Sums.{prefix_len-le-length}
+use Rattle.std.proofs.lemmas.Nat.{mul-add-lt}
+use Rattle.std.proofs.Math.Nat.{mul_comm}
+use Rattle.dfa.specs.Stored.{table_of}
+use Rattle.dfa.specs.Table.{IsAscending, IsTable, numbered, part}
+
+-- what is at or below c comes before what is not
+pub le_trans_test : (xs : List ℕ) (c : ℕ) → IsAscending xs → (i j : ℕ) (d : ℕ) → i ≤ j → j < length xs → nat_le (slice_index_or xs j d) c ≡ true → nat_le (slice_index_or xs i d) c ≡ true
+le_trans_test xs c up i j d le lt h =
+    let a = up i j le lt in
+    let within : i < length xs = omega arith in
+    let e = get_or_default xs i d 0 within in
+    let f = get_or_default xs j d 0 lt in
+    grind (arith, nat_tests)
+
+pub numbered_inside : (n m : ℕ) → n < m → IfSome (numbered n) (λ t. t < m)
+numbered_inside zero m h = tt
+numbered_inside (suc n) m h = h
+
+pub numbered_some : (n : ℕ) → 0 < n → numbered n ≡ Some n
+numbered_some zero h = absurd (omega arith)
+numbered_some (suc n) h = refl
+
+-- the place of an entry lies in the table
+pub entry_within : (starts next : List ℕ) (accepts : List (Option ℕ)) → IsTable (table_of starts next accepts) → (s n p c : ℕ) → s < length accepts → n ≡ length starts → p ≡ part starts c → s * (n + 1) + p < length next
+entry_within starts next accepts t s n p c lt e f =
+    let b = prefix_len-le-length (λ x. nat_le x c) starts in
+    let w : length starts + 1 ≡ n + 1 = omega (arith, e) in
+    let many : length next ≡ length accepts * (n + 1) = t.filled ∙ ap (λ x. length accepts * x) w in
+    omega (arith, mul-add-lt s (n + 1) p (length accepts) lt (omega (arith, b, e, f)), mul_comm (n + 1) (length accepts), many)

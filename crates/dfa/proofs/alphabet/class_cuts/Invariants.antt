@@ -1,0 +1,10 @@
+use Rattle.std.proofs.Common.{◌≡◌, ◌++◌, drop, All}
+use Rattle.definitions.specs.Text.{IsCharacter}
+use Rattle.dfa.specs.Alphabet.{class_cuts}
+use Rattle.dfa.proofs.alphabet.class_cuts.Given as goal
+
+abbrev pub invariant-loop-i : goal.invariant-loop-i
+invariant-loop-i l = record {
+  cuts : l.out.items ++ class_cuts (drop l.i-index l.intervals) ≡ l.fn.out.items ++ class_cuts l.intervals;
+  characters : All IsCharacter l.fn.out.items → All IsCharacter l.out.items;
+}

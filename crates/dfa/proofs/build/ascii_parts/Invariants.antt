@@ -1,0 +1,6 @@
+use Rattle.std.proofs.Common.{◌≡◌, ℕ, ◌<◌, length, slice_index_or}
+use Rattle.dfa.specs.Table.{part}
+use Rattle.dfa.proofs.build.ascii_parts.Given as goal
+
+abbrev pub invariant-loop-code : goal.invariant-loop-code
+invariant-loop-code l = (length l.parts.items ≡ l.code) × ((c : ℕ) → c < l.code → slice_index_or l.parts.items c 0 ≡ part l.starts c)

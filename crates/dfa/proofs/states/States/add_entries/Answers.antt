@@ -1,0 +1,47 @@
+use Rattle.std.proofs.Common.{◌≡◌, ℕ, ◌<◌, List, [], length, slice_index_or, sym, ap, ◌∙◌, subst}
+use Rattle.std.proofs.lemmas.List.{get_or_default}
+use Rattle.dfa.specs.Built.{IsNumber, IsReached, kept, members}
+use Rattle.dfa.proofs.Grown.{placed_states, placed_grows, grows_more, entries_more}
+use Rattle.dfa.proofs.states.States.add_entries.Goals as goal
+
+pub kept-requires : goal.kept-requires
+kept-requires c =
+    let parts = c.args.parts.now in
+    let i = c.loop-holders.holders-index in
+    let at : c.holders-item.result ≡ slice_index_or parts i [] = c.holders-item.is ∙ get_or_default parts i c.holders-item.result [] c.loop-holders-test.true in
+    λ k lt. subst (λ (x : List ℕ). k < length x → slice_index_or x k 0 < length c.args.marks.now) (sym at) (λ l. c.requires.within i k c.loop-holders-test.true l) lt
+
+pub returns-in-Err-clause-states : goal.returns-in-Err-clause-states
+returns-in-Err-clause-states c =
+    let parts = c.args.parts.now in
+    let i = c.loop-holders.holders-index in
+    let at : c.holders-item.result ≡ slice_index_or parts i [] = c.holders-item.is ∙ get_or_default parts i c.holders-item.result [] c.loop-holders-test.true in
+    let set : c.in_ok-set.set.items ≡ kept c.args.marks.now (slice_index_or parts i []) = c.in_ok-set.ensures ∙ ap (kept c.args.marks.now) at in
+    λ rules s r. placed_states rules (members c.loop-holders.self.sets.keys) (members c.number.new.sets.keys) c.in_ok-set.set.items (c.loop-holders.invariant.states rules s r) (subst (IsReached rules) (sym set) (r i c.loop-holders-test.true)) c.in-Err.ensures.placed
+
+pub returns-in_err-push-clause-states : goal.returns-in_err-push-clause-states
+returns-in_err-push-clause-states c =
+    let parts = c.args.parts.now in
+    let i = c.loop-holders.holders-index in
+    let at : c.holders-item.result ≡ slice_index_or parts i [] = c.holders-item.is ∙ get_or_default parts i c.holders-item.result [] c.loop-holders-test.true in
+    let set : c.in_ok-set.set.items ≡ kept c.args.marks.now (slice_index_or parts i []) = c.in_ok-set.ensures ∙ ap (kept c.args.marks.now) at in
+    λ rules s r. placed_states rules (members c.loop-holders.self.sets.keys) (members c.number.new.sets.keys) c.in_ok-set.set.items (c.loop-holders.invariant.states rules s r) (subst (IsReached rules) (sym set) (r i c.loop-holders-test.true)) c.in-Ok.ensures.placed
+
+pub loop-holders-preserved : goal.loop-holders-preserved
+loop-holders-preserved c =
+    let parts = c.args.parts.now in
+    let i = c.loop-holders.holders-index in
+    let old = c.loop-holders.invariant in
+    let sets = members c.loop-holders.self.sets.keys in
+    let new = members c.number.new.sets.keys in
+    let at : c.holders-item.result ≡ slice_index_or parts i [] = c.holders-item.is ∙ get_or_default parts i c.holders-item.result [] c.loop-holders-test.true in
+    let set : c.in_ok-set.set.items ≡ kept c.args.marks.now (slice_index_or parts i []) = c.in_ok-set.ensures ∙ ap (kept c.args.marks.now) at in
+    let g = placed_grows sets new c.in_ok-set.set.items c.in-Ok.ensures.placed in
+    let n : IsNumber new c.in-Ok.to (kept c.args.marks.now (slice_index_or parts i [])) = subst (IsNumber new c.in-Ok.to) set c.in-Ok.ensures.number.0 in
+    record {
+      accepts = old.accepts;
+      states = λ rules s r. placed_states rules sets new c.in_ok-set.set.items (old.states rules s r) (subst (IsReached rules) (sym set) (r i c.loop-holders-test.true)) c.in-Ok.ensures.placed;
+      grows = grows_more (members c.args.self.now.sets.keys) sets new old.grows g;
+      bound = λ le. c.in-Ok.ensures.bound (old.bound le);
+      entries = entries_more c.args.self.now.next.items c.loop-holders.self.next.items c.push.new.self.items sets new c.args.marks.now parts i c.in-Ok.to old.entries g c.in_ok-push.ensures.items n;
+    }

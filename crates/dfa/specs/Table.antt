@@ -1,0 +1,72 @@
+-- What the table of an automaton means for a list of rules.
+--     follower table s c      the state behind the state s at the character c
+--     state_after table u      the state after the text u, from the first one on
+--     IsTable table      the numbers of the table are in range
+--     IsAutomaton rules table      the table tells which texts begin a text of a rule, and the first rule that has a text
+use Rattle.std.specs.Prelude.{◌≡◌, ℕ, zero, suc, ◌+◌, ◌*◌, ◌<◌, ◌≤◌, nat_le, List, [], ◌∷◌, length, slice_index_or, Option, Some, None, MatchOption}
+use Rattle.std.specs.List.{prefix_len}
+use Rattle.definitions.specs.declared.expression.Expression.{Expression}
+use Rattle.definitions.specs.declared.Kind.{Kind}
+use Rattle.definitions.specs.declared.Kind.TheVariants.{Rule, Invalid}
+use Rattle.definitions.specs.Text.{IsText}
+use Rattle.definitions.specs.Tokens.{RuleMatches, IsRuleFront}
+
+-- The characters lie in parts, one below the first of `starts` and one from each of them on. `next` has a row for each state
+-- with an entry for each part: the number of the state behind, or 0 where there is none. `accepts` tells each state's rule.
+pub record Table : Type 0 where
+  pub starts : List ℕ
+  pub next : List ℕ
+  pub accepts : List (Option ℕ)
+
+-- the part in which the character c lies
+abbrev pub part : List ℕ → ℕ → ℕ
+part starts c = prefix_len (λ x. nat_le x c) starts
+
+abbrev pub IsAscending : List ℕ → Type 0
+IsAscending xs = (i j : ℕ) → i ≤ j → j < length xs → slice_index_or xs i 0 ≤ slice_index_or xs j 0
+
+-- how many parts there are
+abbrev pub width : Table → ℕ
+width table = length table.starts + 1
+
+-- no state comes behind another as 0, the first
+abbrev pub numbered : ℕ → Option ℕ
+numbered zero = None
+numbered (suc s) = Some (suc s)
+
+abbrev pub follower : Table → ℕ → ℕ → Option ℕ
+follower table s c = numbered (slice_index_or table.next (s * width table + part table.starts c) 0)
+
+abbrev pub next_state : Table → Option ℕ → ℕ → Option ℕ
+next_state table None c = None
+next_state table (Some s) c = follower table s c
+
+abbrev pub state_from : Table → Option ℕ → List ℕ → Option ℕ
+state_from table o [] = o
+state_from table o (c ∷ u) = state_from table (next_state table o c) u
+
+-- the state after a text, if there is one; state 0 is the first
+unfoldable pub state_after : Table → List ℕ → Option ℕ
+state_after table u = state_from table (Some 0) u
+
+-- the first rule that has the text u, if one does
+abbrev pub IsFirst : List Expression → List ℕ → Option ℕ → Type 0
+IsFirst rules u None = (j : ℕ) → ¬ RuleMatches rules j u
+IsFirst rules u (Some k) = RuleMatches rules k u × ((j : ℕ) → j < k → ¬ RuleMatches rules j u)
+
+-- A nonempty text has a state exactly where it begins a text of a rule. The state tells the first rule that has the text.
+pub record IsAutomaton (rules : List Expression) (table : Table) : Type 0 where
+  pub tells : (u : List ℕ) → IsText u → 1 ≤ length u → MatchOption (state_after table u) (¬ IsRuleFront rules u) (λ s. IsRuleFront rules u × IsFirst rules u (slice_index_or table.accepts s None))
+
+-- a table whose numbers are in range
+pub record IsTable (table : Table) : Type 0 where
+  pub begins : 0 < length table.accepts
+  pub bound : length table.accepts ≤ 4096
+  pub filled : length table.next ≡ length table.accepts * width table
+  pub inside : (s k : ℕ) → s < length table.accepts → k < width table → slice_index_or table.next (s * width table + k) 0 < length table.accepts
+  pub ordered : IsAscending table.starts
+
+-- the kind of a token that matches this rule, or none
+abbrev pub kind_of : Option ℕ → Kind
+kind_of None = Invalid
+kind_of (Some k) = Rule k

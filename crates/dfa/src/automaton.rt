@@ -1,0 +1,154 @@
+// The table of an automaton, and its longest matches.
+ghost use Rattle.std.specs.Prelude.{◌≡◌, ℕ, ◌+◌, ◌-◌, ◌^◌, ◌<◌, ◌≤◌, drop, slice_index_or, length, List, IfSome};
+ghost use Rattle.definitions.specs.declared.expression.Expression.{Expression};
+ghost use Rattle.definitions.specs.Text.{IsText};
+ghost use Rattle.definitions.specs.Tokens.{IsPiece, IsReach};
+ghost use Rattle.dfa.specs.Table.{part, follower, kind_of, IsAutomaton};
+ghost use Rattle.dfa.specs.Stored.{table_of, IsStored};
+ghost use Rattle.dfa.specs.Windows.{IsWithinReach};
+
+use crate::Source;
+use crate::alphabet::part_of;
+use std::marker::Model;
+
+/// An automaton that finds the longest match of a list of rules.
+#[derive(Drop)]
+pub struct Automaton {
+    /// The first characters of the parts of the alphabet, but for the first part.
+    starts: Vec<char>,
+    /// The part of each of the first 128 characters.
+    ascii: Vec<usize>,
+    /// A row for each state with an entry for each part: the state behind, or 0 where there is none.
+    next: Vec<u16>,
+    /// For each state the first rule that has its texts, if one does.
+    accepts: Vec<Option<usize>>,
+}
+
+impl Model for Automaton {
+    ghost use Rattle.dfa.specs.Table.{Table};
+    ghost use Rattle.dfa.specs.Stored.{table_of, IsStored};
+
+    ghost Value = { Table };
+
+    ghost view = { λ a. table_of a.starts.items a.next.items a.accepts.items };
+
+    ghost invariant = { λ a. IsStored a.starts.items a.ascii.items a.next.items a.accepts.items };
+}
+
+/// The first token from an offset on.
+#[derive(Clone, Copy, Debug, PartialEq, Eq)]
+pub struct Match {
+    /// The number of the rule that it matches, or none.
+    pub rule: Option<usize>,
+    /// How many characters it has.
+    pub length: usize,
+    /// The fewest characters from the offset on that begin no text of any rule, or, where there are none, one more than are
+    /// left. No character behind them tells anything of the token.
+    pub reach: usize,
+}
+
+impl Automaton {
+    /// The automaton with this table.
+    pub(crate) fn new(
+        starts: Vec<char>,
+        ascii: Vec<usize>,
+        next: Vec<u16>,
+        accepts: Vec<Option<usize>>,
+    ) -> Automaton
+        requires { IsStored starts.items ascii.items next.items accepts.items }
+        ensures { result ≡ table_of starts.items next.items accepts.items }
+    {
+        Automaton {
+            starts,
+            ascii,
+            next,
+            accepts,
+        }
+    }
+
+    /// The number of the part of the alphabet in which the character lies.
+    fn part(&self, c: char) -> usize
+        ensures { result ≡ part self.now.starts c }
+    {
+        if c.is_ascii() {
+            self.ascii[c as usize]
+        } else {
+            part_of(&self.starts, c)
+        }
+    }
+
+    /// The state behind this one at the character, if there is one.
+    fn next(&self, state: usize, c: char) -> Option<usize>
+        requires { state < length self.now.accepts }
+        ensures is { result ≡ follower self.now state c }
+        ensures inside { IfSome result (λ t. t < length self.now.accepts) }
+    {
+        let next = self.next[state * (self.starts.len() + 1) + self.part(c)];
+        if next == 0 {
+            None
+        } else {
+            Some(usize::from(next))
+        }
+    }
+
+    /// The state before the first character.
+    fn start(&self) -> usize
+        ensures is { result ≡ 0 }
+        ensures inside { result < length self.now.accepts }
+    {
+        // The read opens the invariant, by which there is a state.
+        let _accepts = &self.accepts;
+        0
+    }
+
+    /// The first rule that has the texts of the state, if one does.
+    fn accepted(&self, state: usize) -> Option<usize>
+        requires { state < length self.now.accepts }
+        ensures { result ≡ slice_index_or self.now.accepts state None }
+    {
+        self.accepts[state]
+    }
+
+    /// The token that starts at the offset `from`: the longest match, of equal lengths the earlier rule. Where nothing
+    /// matches it is one character, or none at the end.
+    ///
+    /// It takes no memory, and asks the source for no character outside the token's reach.
+    pub fn longest<S: Source>(&self, source: &S, from: usize) -> Match
+        requires within { from ≤ length (S.text source.now) }
+        requires text { IsText (S.text source.now) }
+        requires small { length (S.text source.now) < 2 ^ 64 - 1 }
+        requires window { (rules : List Expression) × IsAutomaton rules self.now
+            × ((i : ℕ) → IsWithinReach rules (S.text source.now) from i → S.in_window source.now i) }
+        ensures piece { (rules : List Expression) → IsAutomaton rules self.now
+            → from < length (S.text source.now) → IsPiece rules (drop from (S.text source.now)) (kind_of result.rule) result.length }
+        ensures reach { (rules : List Expression) → IsAutomaton rules self.now
+            → IsReach rules (drop from (S.text source.now)) result.reach }
+        ensures at_end { from ≡ length (S.text source.now) → (result.rule ≡ None) × (result.length ≡ 0) }
+        ensures inside { from + result.length ≤ length (S.text source.now) }
+        ensures nonempty { from < length (S.text source.now) → 1 ≤ result.length }
+        ensures near { result.reach ≤ length (S.text source.now) + 1 }
+    {
+        let rest = source.len() - from;
+        let mut state = self.start();
+        let mut read = 0;
+        let mut best = Match {
+            rule: None,
+            length: rest.min(1),
+            reach: 0,
+        };
+        while read < rest {
+            let c = source.get(from + read);
+            let Some(next) = self.next(state, c) else {
+                break;
+            };
+            state = next;
+            read += 1;
+            if let Some(k) = self.accepted(state) {
+                best.rule = Some(k);
+                best.length = read;
+            }
+        }
+        best.reach = read + 1;
+        best
+    }
+}

@@ -1,0 +1,103 @@
+-- What a file defines, from line to line.
+use Rattle.std.proofs.Common.{◌≡◌, ℕ, ◌+◌, ◌<◌, ◌≤◌, Bool, true, false, if◌then◌else◌, List, [], ◌∷◌, ◌++◌, refl, ap, sym, ◌∙◌, length, take, drop, get_or, arith, append_assoc, append-nil, length-append, subst}
+use Rattle.std.specs.Prelude.{Some, None, map, All}
+use Rattle.std.specs.List.{cons_option, fold}
+use Rattle.std.proofs.lemmas.List.{length-map, map-append}
+use Rattle.std.proofs.lemmas.List.Elements.{All-nil, All-cons, filter_map-append}
+use Rattle.std.proofs.lemmas.List.Sums.{fold-append}
+use Rattle.std.specs.Str.{chars}
+use Rattle.definitions.specs.declared.Symbol.{Symbol}
+use Rattle.definitions.specs.declared.Symbol.TheVariants.{Rule as Terminal, Nonterminal}
+use Rattle.definitions.specs.declared.expression.Expression.{Expression}
+use Rattle.grammar.specs.declared.names.Names.{Names}
+use Rattle.grammar.specs.declared.statements.Numbered.{Numbered}
+use Rattle.grammar.specs.Words.{Word}
+use Rattle.grammar.specs.Statements.{Statement, Line, Nothing, Production, Rule, Start, Fold, Bad}
+use Rattle.grammar.specs.Contents.{as_rule, as_production, rules, productions, nonterminals, rule_names, is_among, with_name, defines, defined_behind, defined}
+use Rattle.grammar.specs.Grammars.{IsKnown}
+use Rattle.grammar.specs.Meaning.{file_grammar}
+use Rattle.grammar.specs.Said.{said, statement_of, all_said, texts, rule_line, AreNames, with_rule, with_left, with_production, with_start}
+use Rattle.grammar.proofs.Lines.{rules-step, nonterminals-step, names-step}
+use Rattle.grammar.proofs.Splits.{cons_option-append, said_more, said_split}
+
+behind_more : (before ss : List Statement) (s : Statement) → defined_behind before (ss ++ s ∷ []) ≡ defined_behind before ss ++ cons_option (defines (before ++ ss) s.says) []
+behind_more before [] s = ap (λ front. cons_option (defines front s.says) []) (sym (append-nil before))
+behind_more before (t ∷ ss) s =
+    ap (cons_option (defines before t.says)) (behind_more (before ++ t ∷ []) ss s)
+    ∙ ap (λ front. cons_option (defines before t.says) (defined_behind (before ++ t ∷ []) ss ++ cons_option (defines front s.says) [])) (append_assoc before (t ∷ []) ss)
+    ∙ cons_option-append (defines before t.says) (defined_behind (before ++ t ∷ []) ss) (cons_option (defines (before ++ t ∷ ss) s.says) [])
+
+-- what one more line defines
+pub defined_more : (ns : List Numbered) (i : ℕ) (x : Numbered) → i < length ns → x ≡ get_or ns i x → defined (all_said (take (i + 1) ns)) ≡ defined (all_said (take i ns)) ++ cons_option (defines (all_said (take i ns)) (statement_of x).says) []
+defined_more ns i x within is = ap defined (said_more ns i x within is) ∙ behind_more [] (all_said (take i ns)) (statement_of x)
+
+pub names_more : (names names' : Names) (ns : List Numbered) (i : ℕ) (x : Numbered) → i < length ns → x ≡ get_or ns i x → AreNames names (all_said (take i ns)) → map rule_line names'.rules.items ≡ with_rule (map rule_line names.rules.items) (said x.line) → texts names'.nonterminals.items ≡ with_left (texts names.nonterminals.items) (said x.line) → names'.productions ≡ with_production names.productions (said x.line) → names'.started ≡ with_start names.started (said x.line) → AreNames names' (all_said (take (i + 1) ns))
+names_more names names' ns i x within is are rs ls ps st =
+    subst (λ (ss : List Statement). AreNames names' ss) (sym (said_more ns i x within is)) (names-step names names' (all_said (take i ns)) x.number (said x.line) are rs ls ps st)
+
+-- the lines in front have no more productions than all of them
+pub fewer_productions : (ns : List Numbered) (i : ℕ) (x : Numbered) → i < length ns → x ≡ get_or ns i x → length (productions (all_said (take i ns))) ≤ length (productions (all_said ns))
+fewer_productions ns i x within is =
+    let front : List Statement = all_said (take i ns) in
+    let rest : List Statement = statement_of x ∷ all_said (drop (i + 1) ns) in
+    let all : length (productions (all_said ns)) ≡ length (productions front ++ productions rest) = ap (λ ss. length (productions ss)) (said_split ns i x within is) ∙ ap length (filter_map-append (λ s. as_production s.says) front rest) in
+    omega (arith, all, length-append (productions front) (productions rest))
+
+more_rules : (xs ys : List Statement) → length (rules xs) ≤ length (rules (xs ++ ys))
+more_rules xs ys = omega (arith, ap length (filter_map-append (λ s. as_rule s.says) xs ys), length-append (rules xs) (rules ys))
+
+longer : (names : List Word) (w : Word) → length names ≤ length (with_name names w)
+longer names w =
+    elim (is_among w names) as (λ b. length names ≤ length (if b then names else names ++ w ∷ []))
+    [ true ↦ omega arith | false ↦ omega (arith, length-append names (w ∷ [])) ]
+
+fold_longer : (names ws : List Word) → length names ≤ length (fold with_name names ws)
+fold_longer names [] = omega arith
+fold_longer names (w ∷ ws) = omega (arith, longer names w, fold_longer (with_name names w) ws)
+
+more_nonterminals : (xs ys : List Statement) → length (nonterminals xs) ≤ length (nonterminals (xs ++ ys))
+more_nonterminals xs ys =
+    let lefts : nonterminals (xs ++ ys) ≡ fold with_name (nonterminals xs) (map (λ p. p.left) (productions ys)) =
+    ap (λ ps. fold with_name [] (map (λ p. p.left) ps)) (filter_map-append (λ s. as_production s.says) xs ys)
+    ∙ ap (λ ws. fold with_name [] ws) (map-append (λ p. p.left) (productions xs) (productions ys))
+    ∙ fold-append with_name [] (map (λ p. p.left) (productions xs)) (map (λ p. p.left) (productions ys)) in
+    omega (arith, ap length lefts, fold_longer (nonterminals xs) (map (λ p. p.left) (productions ys)))
+
+module _ (es : List Expression) (all : List Statement) where
+  abbrev AreKnown : List Symbol → Type 0
+  AreKnown xs = All (IsKnown (file_grammar all es)) xs
+
+  known_rule : (k : ℕ) → k < length (rules all) → IsKnown (file_grammar all es) (Terminal k)
+  known_rule k below = omega (arith, below, length-map (rule_names all) chars, length-map (rules all) (λ r. r.name))
+
+  known_nonterminal : (n : ℕ) → n < length (nonterminals all) → IsKnown (file_grammar all es) (Nonterminal n)
+  known_nonterminal n below = omega (arith, below, length-map (nonterminals all) chars)
+
+  -- what a line defines behind some lines, where all have no fewer names than these with it
+  known_line : (before after : List Statement) (l : Line) (xs : List Symbol) → rules after ≡ with_rule (rules before) l → nonterminals after ≡ with_left (nonterminals before) l → length (rules after) ≤ length (rules all) → length (nonterminals after) ≤ length (nonterminals all) → AreKnown xs → AreKnown (cons_option (defines before l) xs)
+  known_line before after Nothing xs rs ns few fewer known = known
+  known_line before after (Production left right) xs rs ns few fewer known =
+      go (is_among left (nonterminals before)) (ap length ns)
+    where
+      go : (b : Bool) → length (nonterminals after) ≡ length (if b then nonterminals before else nonterminals before ++ left ∷ []) → AreKnown (cons_option (if b then None else Some (Nonterminal (length (nonterminals before)))) xs)
+      go true e = known
+      go false e = All-cons (IsKnown (file_grammar all es)) (Nonterminal (length (nonterminals before))) xs (known_nonterminal (length (nonterminals before)) (omega (arith, e, fewer, length-append (nonterminals before) (left ∷ [])))) known
+  known_line before after (Rule skip name pattern) xs rs ns few fewer known =
+      All-cons (IsKnown (file_grammar all es)) (Terminal (length (rules before))) xs (known_rule (length (rules before)) (omega (arith, ap length rs, few, length-append (rules before) (record { skip = skip; name = name; pattern = pattern } ∷ [])))) known
+  known_line before after (Start name) xs rs ns few fewer known = known
+  known_line before after (Fold name) xs rs ns few fewer known = known
+  known_line before after Bad xs rs ns few fewer known = known
+
+  known_behind : (before ss : List Statement) → all ≡ before ++ ss → AreKnown (defined_behind before ss)
+  known_behind before [] e = All-nil (IsKnown (file_grammar all es))
+  known_behind before (s ∷ ss) e =
+      let after : List Statement = before ++ s ∷ [] in
+      let split : all ≡ after ++ ss = e ∙ sym (append_assoc before (s ∷ []) ss) in
+      known_line before after s.says (defined_behind after ss) (rules-step before s.number s.says) (nonterminals-step before s.number s.says)
+      (omega (arith, more_rules after ss, ap (λ xs. length (rules xs)) split))
+      (omega (arith, more_nonterminals after ss, ap (λ xs. length (nonterminals xs)) split))
+      (known_behind after ss split)
+
+-- all that the statements define has a number in range
+pub known : (ss : List Statement) (es : List Expression) → All (IsKnown (file_grammar ss es)) (defined ss)
+known ss es = known_behind es ss [] ss refl

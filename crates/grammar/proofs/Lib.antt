@@ -1,0 +1,15 @@
+pub mod Mapped
+pub mod Blanks
+pub mod Pushed
+pub mod Lines
+pub mod Splits
+pub mod Marking
+pub mod Lefts
+pub mod Files
+pub mod Numbered
+pub mod Known
+pub mod Ranges
+pub mod Using
+pub mod Noting
+pub mod Meant
+pub mod Refused

@@ -1,0 +1,208 @@
+-- The numbers of a file's names are in range.
+use Rattle.std.proofs.Common.{◌≡◌, inl, inr, ℕ, zero, suc, ◌<◌, Bool, true, false, ◌&&◌, ◌||◌, List, [], ◌∷◌, ◌++◌, refl, ap, sym, ◌∙◌, length, arith, subst, if◌then◌else◌}
+use Rattle.std.specs.Prelude.{not, nat_lt, Some, None, map, slice_get, slice_index_or, All}
+use Rattle.std.specs.List.{list_any, fold}
+use Rattle.std.specs.Str.{bytes_eq}
+use Rattle.std.proofs.lemmas.List.Folds.{list_any-append}
+use Rattle.definitions.specs.declared.Symbol.{Symbol}
+use Rattle.definitions.specs.declared.Symbol.TheVariants.{Nonterminal}
+use Rattle.std.specs.Str.{chars}
+use Rattle.std.proofs.lemmas.List.{length-map}
+use Rattle.std.proofs.lemmas.List.Elements.{All-nil, All-cons}
+use Rattle.definitions.specs.declared.expression.Expression.{Expression}
+use Rattle.definitions.specs.Trees.{HasProduction}
+use Rattle.definitions.specs.Sentences.{IsProductive}
+use Rattle.grammar.specs.Grammars.{FileGrammar, IsUsable, IsGrammar}
+use Rattle.grammar.specs.Marks.{AreBelow}
+use Rattle.grammar.specs.Meaning.{file_grammar}
+use Rattle.grammar.specs.Said.{ArePatterns, AreFew}
+use Rattle.grammar.specs.Words.{Word}
+use Rattle.grammar.specs.Statements.{Statement, Line, Nothing, Production, Rule, Start, Fold, Bad}
+use Rattle.grammar.specs.Contents.{RuleLine, ProductionLine, as_production, as_start, rules, productions, starts, first_of, nonterminals, rule_names, with_name, is_among, number_of, symbol_of, production_of, is_fold, grammar_of}
+use Rattle.grammar.specs.Faults.{AreFaultless, HaveReferents, symbol_fault, right_fault, reference_fault, NotANonterminal, is_skip_rule, has_rule}
+use Rattle.grammar.proofs.Known.{known}
+use Rattle.grammar.proofs.Lefts.{bytes_eq_same}
+use Rattle.grammar.proofs.Mapped.{list_any-map}
+use Rattle.grammar.proofs.Numbered.{AllNamed, AreNamed, comes_from, says_production, neither, not_told, or_false, number_below, number_at, nonterminal_is, terminal_is, IsMadeFrom, made_from, distinct}
+
+kept : (w x : Word) (names : List Word) → is_among w names ≡ true → is_among w (with_name names x) ≡ true
+kept w x names h =
+    elim (is_among x names) as (λ t. is_among w (if t then names else names ++ x ∷ []) ≡ true)
+    [ true ↦ h | false ↦ list_any-append (λ v. bytes_eq v w) names (x ∷ []) ∙ ap (λ b. b || is_among w (x ∷ [])) h ]
+
+or_true : (a : Bool) → (a || true) ≡ true
+or_true true = refl
+or_true false = refl
+
+added : (x : Word) (names : List Word) → is_among x (with_name names x) ≡ true
+added x names = go (is_among x names) refl
+  where
+    go : (b : Bool) → is_among x names ≡ b → is_among x (with_name names x) ≡ true
+    go true e = rw e e
+    go false e = rw e (list_any-append (λ v. bytes_eq v x) names (x ∷ []) ∙ ap (λ b. is_among x names || (b || false)) (bytes_eq_same x) ∙ or_true (is_among x names))
+
+fold_keeps : (w : Word) (names ws : List Word) → is_among w names ≡ true → is_among w (fold with_name names ws) ≡ true
+fold_keeps w names [] h = h
+fold_keeps w names (x ∷ ws) h = fold_keeps w (with_name names x) ws (kept w x names h)
+
+fold_adds : (w : Word) (names ws : List Word) (k : ℕ) → slice_get ws k ≡ Some w → is_among w (fold with_name names ws) ≡ true
+fold_adds w names [] k e = cc
+fold_adds w names (x ∷ ws) zero e = let same : x ≡ w = cc in fold_keeps w (with_name names x) ws (subst (λ v. is_among v (with_name names x) ≡ true) same (added x names))
+fold_adds w names (x ∷ ws) (suc k) e = fold_adds w (with_name names x) ws k e
+
+get_map : (xs : List ProductionLine) (k : ℕ) (x : ProductionLine) → slice_get xs k ≡ Some x → slice_get (map (λ p. p.left) xs) k ≡ Some x.left
+get_map [] k x e = cc
+get_map (y ∷ ys) zero x e = let same : y ≡ x = cc in ap (λ z. Some z.left) same
+get_map (y ∷ ys) (suc k) x e = get_map ys k x e
+
+left_among : (ss : List Statement) (p : ℕ) (x : ProductionLine) → slice_get (productions ss) p ≡ Some x → is_among x.left (nonterminals ss) ≡ true
+left_among ss p x e = fold_adds x.left [] (map (λ q. q.left) (productions ss)) p (get_map (productions ss) p x e)
+
+-- the left sides are numbers of nonterminals
+pub lefts_below : (ss : List Statement) → AreBelow (grammar_of ss).productions (length (nonterminals ss))
+lefts_below ss p x there =
+    let m = made_from (production_of (nonterminals ss) (rule_names ss)) (productions ss) p x there in
+    let below : number_of m.item.left (nonterminals ss) < length (nonterminals ss) = number_below m.item.left (nonterminals ss) (left_among ss p m.item m.there) in
+    omega (arith, below, ap (λ y. y.left) m.is)
+
+-- a name without a fault is a nonterminal's, or a rule's that isn't skipped
+pub data IsFine (ss : List Statement) (w : Word) : Type 0 where
+  Of_nonterminal : is_among w (nonterminals ss) ≡ true → IsFine ss w
+  Of_rule : is_among w (nonterminals ss) ≡ false → list_any (is_skip_rule w) (rules ss) ≡ false → is_among w (rule_names ss) ≡ true → IsFine ss w
+
+is_fine : (ss : List Statement) (w : Word) → symbol_fault ss w ≡ None → IsFine ss w
+is_fine ss w h = go (is_among w (nonterminals ss)) (list_any (is_skip_rule w) (rules ss)) (has_rule ss w) refl refl refl
+  where
+    go : (a b c : Bool) → is_among w (nonterminals ss) ≡ a → list_any (is_skip_rule w) (rules ss) ≡ b → has_rule ss w ≡ c → IsFine ss w
+    go true b c e f g = Of_nonterminal e
+    go false true c e f g = let bad = (rw (e, f) at h) in cc
+    go false false true e f g = Of_rule e f (list_any-map (λ v. bytes_eq v w) (λ r. r.name) (rules ss) ∙ g)
+    go false false false e f g = let bad = (rw (e, f, g) at h) in cc
+
+pub right_fine : (ss : List Statement) (ws : List Word) → right_fault ss ws ≡ None → (P : Word → Type 0) → ((w : Word) → IsFine ss w → P w) → (k : ℕ) (w : Word) → slice_get ws k ≡ Some w → P w
+right_fine ss [] h P f k w e = cc
+right_fine ss (v ∷ vs) h P f zero w e =
+    let same : v ≡ w = cc in
+    subst P same (f v (is_fine ss v (neither (symbol_fault ss v) (right_fault ss vs) h).0))
+right_fine ss (v ∷ vs) h P f (suc k) w e = right_fine ss vs (neither (symbol_fault ss v) (right_fault ss vs) h).1 P f k w e
+
+all_named : (ss : List Statement) (ws : List Word) → right_fault ss ws ≡ None → AllNamed (nonterminals ss) (rule_names ss) ws
+all_named ss [] h = tt
+all_named ss (w ∷ ws) h =
+    let both = neither (symbol_fault ss w) (right_fault ss ws) h in
+    (elim (is_fine ss w both.0) [ Of_nonterminal a ↦ inl a | Of_rule a b c ↦ inr (a, c) ], all_named ss ws both.1)
+
+pub right_faultless : (ss : List Statement) → HaveReferents ss ss → (p : ℕ) (x : ProductionLine) → slice_get (productions ss) p ≡ Some x → right_fault ss x.right ≡ None
+right_faultless ss refers p x e =
+    let c = comes_from (λ s. as_production s.says) ss p x e in
+    subst (λ l. reference_fault ss l ≡ None) (says_production c.item x c.gives) (refers c.place c.item c.there)
+
+pub named : (ss : List Statement) → HaveReferents ss ss → AreNamed ss
+named ss refers p x e = (left_among ss p x e, all_named ss x.right (right_faultless ss refers p x e))
+
+says_start : (s : Statement) (w : Word) → as_start s.says ≡ Some w → s.says ≡ Start w
+says_start s w h = go s.says h
+  where
+    go : (l : Line) → as_start l ≡ Some w → l ≡ Start w
+    go Nothing e = cc
+    go (Production left right) e = cc
+    go (Rule skip name pattern) e = cc
+    go (Start name) e = let same : name ≡ w = cc in ap Start same
+    go (Fold name) e = cc
+    go Bad e = cc
+
+is_true : (b : Bool) → not b ≡ false → b ≡ true
+is_true true h = refl
+is_true false h = cc
+
+and_true_false : (b : Bool) → (b && true) ≡ false → b ≡ false
+and_true_false true h = cc
+and_true_false false h = refl
+
+-- the start stands among the nonterminals
+start_line : (ss : List Statement) (w : Word) (rest : List Word) → starts ss ≡ w ∷ rest → (k : ℕ) × (s : Statement) × (slice_get ss k ≡ Some s) × (s.says ≡ Start w)
+start_line ss w rest e =
+    let first : slice_get (starts ss) 0 ≡ Some w = ap (λ ws. slice_get ws 0) e in
+    let c = comes_from (λ s. as_start s.says) ss 0 w first in
+    (c.place, c.item, c.there, says_start c.item w c.gives)
+
+first_among : (ss : List Statement) → HaveReferents ss ss → (ws : List Word) → starts ss ≡ ws → nat_lt 0 (length ws) ≡ true → is_among (first_of ws) (nonterminals ss) ≡ true
+first_among ss refers [] e h = cc
+first_among ss refers (w ∷ rest) e h =
+    let (k, s, there, says) = start_line ss w rest e in
+    let fine : reference_fault ss (Start w) ≡ None = subst (λ l. reference_fault ss l ≡ None) says (refers k s there) in
+    is_true (is_among w (nonterminals ss)) (not_told (not (is_among w (nonterminals ss))) (NotANonterminal w) fine)
+
+pub start_below : (ss : List Statement) → HaveReferents ss ss → nat_lt 0 (length (starts ss)) ≡ true → number_of (first_of (starts ss)) (nonterminals ss) < length (nonterminals ss)
+start_below ss refers h = number_below (first_of (starts ss)) (nonterminals ss) (first_among ss refers (starts ss) refl h)
+
+-- a rule that isn't skipped, at its number
+not_skipped_at : (rs : List RuleLine) (w : Word) (k : ℕ) → list_any (is_skip_rule w) rs ≡ false → slice_get (map (λ r. r.name) rs) k ≡ Some w → slice_index_or (map (λ r. r.skip) rs) k false ≡ false
+not_skipped_at [] w k h e = refl
+not_skipped_at (r ∷ rs) w zero h e =
+    let same : r.name ≡ w = cc in
+    let none : is_skip_rule w r ≡ false = (or_false (is_skip_rule w r) (list_any (is_skip_rule w) rs) h).0 in
+    let skip : (r.skip && true) ≡ false = ap (λ b. r.skip && b) (sym (ap (bytes_eq r.name) (sym same) ∙ bytes_eq_same r.name)) ∙ none in
+    and_true_false r.skip skip
+not_skipped_at (r ∷ rs) w (suc k) h e = not_skipped_at rs w k (or_false (is_skip_rule w r) (list_any (is_skip_rule w) rs) h).1 e
+
+-- what the statements define
+module _ (ss : List Statement) (es : List Expression) where
+  abbrev f : FileGrammar
+  f = file_grammar ss es
+
+  patterns_long : (rs : List RuleLine) (xs : List Expression) → ArePatterns rs xs → length xs ≡ length rs
+  patterns_long [] [] h = refl
+  patterns_long [] (x ∷ xs) h = absurd h
+  patterns_long (r ∷ rs) [] h = absurd h
+  patterns_long (r ∷ rs) (x ∷ xs) h = ap suc (patterns_long rs xs h.1)
+
+  many_rules : length f.names ≡ length (rules ss)
+  many_rules = length-map (rule_names ss) chars ∙ length-map (rules ss) (λ r. r.name)
+
+  many_nonterminals : length f.nonterminals ≡ length (nonterminals ss)
+  many_nonterminals = length-map (nonterminals ss) chars
+
+  usable : (w : Word) → IsFine ss w → IsUsable f (symbol_of (nonterminals ss) (rule_names ss) w)
+  usable w (Of_nonterminal a) = subst (IsUsable f) (sym (nonterminal_is (nonterminals ss) (rule_names ss) w a)) (let below : number_of w (nonterminals ss) < length (nonterminals ss) = number_below w (nonterminals ss) a in omega (arith, below, many_nonterminals))
+  usable w (Of_rule a b c) = subst (IsUsable f) (sym (terminal_is (nonterminals ss) (rule_names ss) w a)) (
+    (let below : number_of w (rule_names ss) < length (rule_names ss) = number_below w (rule_names ss) c in omega (arith, below, length-map (rule_names ss) chars)),
+    not_skipped_at (rules ss) w (number_of w (rule_names ss)) b (number_at w (rule_names ss) c),
+  )
+
+  all_usable : (ws : List Word) → right_fault ss ws ≡ None → All (IsUsable f) (map (symbol_of (nonterminals ss) (rule_names ss)) ws)
+  all_usable [] h = All-nil (IsUsable f)
+  all_usable (w ∷ ws) h =
+      let both = neither (symbol_fault ss w) (right_fault ss ws) h in
+      All-cons (IsUsable f) (symbol_of (nonterminals ss) (rule_names ss) w) (map (symbol_of (nonterminals ss) (rule_names ss)) ws) (usable w (is_fine ss w both.0)) (all_usable ws both.1)
+
+  module _ (free : AreFaultless ss) (refers : HaveReferents ss ss) (started : nat_lt 0 (length (starts ss)) ≡ true) (few : AreFew ss) (patterned : ArePatterns (rules ss) es) (productive : (n : ℕ) → n < length (nonterminals ss) → IsProductive (grammar_of ss) (Nonterminal n)) where
+    from_line : (p n : ℕ) (right : List Symbol) → HasProduction (grammar_of ss) p n right → IsMadeFrom (production_of (nonterminals ss) (rule_names ss)) (productions ss) p (record { left = n; right = right })
+    from_line p n right h = made_from (production_of (nonterminals ss) (rule_names ss)) (productions ss) p (record { left = n; right = right }) h
+
+    pub is_grammar : IsGrammar f
+    is_grammar = record {
+      rules = sym many_rules;
+      patterns = patterns_long (rules ss) es patterned ∙ sym many_rules;
+      skips = length-map (rules ss) (λ r. r.skip) ∙ sym many_rules;
+      folds = length-map (nonterminals ss) (λ w. is_fold w ss) ∙ sym many_nonterminals;
+      few_rules = omega (arith, few.few_rules, many_rules);
+      few_nonterminals = omega (arith, few.few_nonterminals, many_nonterminals);
+      few_productions = omega (arith, few.few_productions, length-map (productions ss) (production_of (nonterminals ss) (rule_names ss)));
+      start = let below : number_of (first_of (starts ss)) (nonterminals ss) < length (nonterminals ss) = start_below ss refers started in omega (arith, below, many_nonterminals);
+      left = λ p n right h.
+          let m = from_line p n right h in
+          let below : number_of m.item.left (nonterminals ss) < length (nonterminals ss) = number_below m.item.left (nonterminals ss) (left_among ss p m.item m.there) in
+          let is : number_of m.item.left (nonterminals ss) ≡ n = ap (λ x. x.left) m.is in
+          omega (arith, below, is, many_nonterminals);
+      right = λ p n right h.
+          let m = from_line p n right h in
+          subst (λ ys. All (IsUsable f) ys) (ap (λ x. x.right) m.is) (all_usable m.item.right (right_faultless ss refers p m.item m.there));
+      short = λ p n right h.
+          let m = from_line p n right h in
+          let is : map (symbol_of (nonterminals ss) (rule_names ss)) m.item.right ≡ right = ap (λ x. x.right) m.is in
+          omega (arith, few.short p m.item m.there, ap length is, length-map m.item.right (symbol_of (nonterminals ss) (rule_names ss)));
+      distinct = distinct ss free (named ss refers);
+      productive = λ n l. productive n (omega (arith, l, many_nonterminals));
+      defined = known ss es;
+    }

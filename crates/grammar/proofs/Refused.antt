@@ -1,0 +1,75 @@
+-- A text with a fault is no grammar's file.
+use Rattle.std.proofs.Common.{◌≡◌, inl, inr, ℕ, Bool, true, false, List, [], ◌∷◌, ◌++◌, refl, ap, ◌∙◌, length, take, arith, subst}
+use Rattle.std.specs.Prelude.{Option, Some, None, slice_get}
+use Rattle.std.specs.Str.{chars}
+use Rattle.std.proofs.lemmas.Option.{slice_get_within}
+use Rattle.definitions.specs.declared.expression.PatternFault.{PatternFault}
+use Rattle.patterns.proofs.Runs.{refused}
+use Rattle.grammar.specs.declared.fault.Refusal.{Refusal}
+use Rattle.grammar.specs.declared.fault.Refusal.TheVariants.{Fault, Memory}
+use Rattle.grammar.specs.Statements.{Statement, statements, Line, Nothing, Production, Rule, Start, Fold, Bad}
+use Rattle.grammar.specs.Contents.{nonterminals}
+use Rattle.grammar.specs.Faults.{Cause, HasPattern, HasPatternFault, IsFaultless, IsLineFault, IsFault, too_large, first_line, line, no_start, reference, unproductive, reference_fault}
+use Rattle.grammar.specs.Grammars.{FileGrammar}
+use Rattle.grammar.specs.Meaning.{IsGrammarOf}
+use Rattle.grammar.specs.Told.{cause_of, Tells, TellsCause, IsFor}
+
+met : {X : Type 0} (xs : List X) (y : X) (ys : List X) → slice_get (xs ++ y ∷ ys) (length xs) ≡ Some y
+met [] y ys = refl
+met (x ∷ xs) y ys = met xs y ys
+
+front : {X : Type 0} (xs : List X) (y : X) (ys : List X) → take (length xs) (xs ++ y ∷ ys) ≡ xs
+front [] y ys = refl
+front (x ∷ xs) y ys = ap (λ zs. x ∷ zs) (front xs y ys)
+
+either : (o : Option Cause) (c : Cause) → o ≡ Some c → o ≡ None → ⊥
+either o c some none = cc
+
+no_pattern_fault : (l : Line) (f : PatternFault) → HasPatternFault l f → HasPattern l → ⊥
+no_pattern_fault Nothing f fault has = fault
+no_pattern_fault (Production left right) f fault has = fault
+no_pattern_fault (Rule skip name pattern) f fault has = refused (chars pattern) f fault has.0 has.1
+no_pattern_fault (Start name) f fault has = fault
+no_pattern_fault (Fold name) f fault has = fault
+no_pattern_fault Bad f fault has = fault
+
+no_line_fault : (ss : List Statement) (l : Line) (c : Cause) → IsFaultless ss l → IsLineFault ss l c → ⊥
+no_line_fault ss l c free (inl early) = either _ c early free.early
+no_line_fault ss l c free (inr (inl h)) = no_pattern_fault l h.1.0 h.1.1 free.pattern
+no_line_fault ss l c free (inr (inr h)) = either _ c h.2 free.late
+
+module _ (text : List ℕ) (g : FileGrammar) (of : IsGrammarOf text g) where
+  abbrev ss : List Statement
+  ss = statements text
+
+  untrue : (b : Bool) → b ≡ true → b ≡ false → ⊥
+  untrue b yes' no' = cc
+
+  faultless_at : (before after : List Statement) (s : Statement) → ss ≡ before ++ s ∷ after → IsFaultless before s.says
+  faultless_at before after s split =
+      let there : slice_get ss (length before) ≡ Some s = ap (λ xs. slice_get xs (length before)) split ∙ met before s after in
+      let is : take (length before) ss ≡ before = ap (take (length before)) split ∙ front before s after in
+      subst (λ (xs : List Statement). IsFaultless xs s.says) is (of.whole.faultless (length before) s there)
+
+  referent_at : (before after : List Statement) (s : Statement) → ss ≡ before ++ s ∷ after → reference_fault ss s.says ≡ None
+  referent_at before after s split = of.referents (length before) s (ap (λ xs. slice_get xs (length before)) split ∙ met before s after)
+
+  no_fault : (n : ℕ) (c : Cause) → IsFault text n c → ⊥
+  no_fault n c (too_large large) = omega (arith, large, of.whole.small)
+  no_fault n c (first_line small none) = untrue _ of.whole.headed none
+  no_fault n c (line m d small headed h) =
+      let (before, after, more) = h in
+      let (s, split, is, free, fault) = more in
+      no_line_fault before s.says d (faultless_at before after s split) fault
+  no_fault n c (no_start small headed free none) = untrue _ of.whole.started none
+  no_fault n c (reference m d whole h) =
+      let (before, after, more) = h in
+      let (s, split, is, fine, fault) = more in
+      either _ d fault (referent_at before after s split)
+  no_fault n c (unproductive m k w whole refers first there at) = first.unproductive (of.productive k (slice_get_within (nonterminals ss) k w there))
+
+-- the text that is refused for a cause is no grammar's file
+pub no_file : (text : List ℕ) (r : Refusal) (o : Option Cause) (n : ℕ) → Tells r (λ m c. IsFault text m c) → TellsCause o (λ c. IsFor r n c) → TellsCause o (λ c. (g : FileGrammar) → IsGrammarOf text g → ⊥)
+no_file text r None n tells h = tt
+no_file text (Fault m d) (Some c) n tells h = λ g of. no_fault text g of m (cause_of d) tells
+no_file text Memory (Some c) n tells h = absurd h

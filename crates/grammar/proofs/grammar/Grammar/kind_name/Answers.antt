@@ -1,0 +1,12 @@
+use Rattle.std.proofs.Common.{◌≡◌, refl, ◌∙◌, sym, ap, ℕ, List, [], ◌∷◌}
+use Rattle.std.specs.Str.{chars}
+use Rattle.definitions.specs.Answers.{kind_name}
+use Rattle.definitions.specs.declared.Kind.TheVariants.{Invalid}
+use Rattle.grammar.proofs.grammar.Grammar.kind_name.Goals as goal
+
+invalid : (names : List (List ℕ)) → chars (105 ∷ 110 ∷ 118 ∷ 97 ∷ 108 ∷ 105 ∷ 100 ∷ []) ≡ kind_name names Invalid
+unfolding chars
+invalid names = refl
+
+pub returns-in-Invalid : goal.returns-in-Invalid
+returns-in-Invalid c = invalid c.args.self.now.names ∙ ap (kind_name c.args.self.now.names) (sym c.in-Invalid.is)

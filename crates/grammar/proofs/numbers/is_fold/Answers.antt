@@ -1,0 +1,10 @@
+use Rattle.std.proofs.Common.{rules, tests, ◌∙◌, sym}
+use Rattle.std.proofs.lemmas.Iterator.{YieldsList-from_slice}
+use Rattle.std.proofs.lemmas.Iterator.Search.{any_from_yields_List}
+use Rattle.grammar.specs.Contents.{folds_name}
+use Rattle.grammar.specs.Said.{statement_of}
+use Rattle.grammar.proofs.Mapped.{list_any-map}
+use Rattle.grammar.proofs.numbers.is_fold.Goals as goal
+
+pub returns : goal.returns
+returns c = any_from_yields_List _ _ _ c.any.result c.any.ensures.ran (YieldsList-from_slice c.args.statements.now (cc)) (λ x q k. search (rules, tests)) ∙ sym (list_any-map (λ s. folds_name c.args.name.now s.says) statement_of c.args.statements.now)

@@ -1,0 +1,6 @@
+use Rattle.std.proofs.Common.{take}
+use Rattle.grammar.specs.Marks.{IsClosed}
+use Rattle.grammar.proofs.productive.next.Given as goal
+
+abbrev pub invariant-loop-production : goal.invariant-loop-production
+invariant-loop-production l = IsClosed (take l.production-index l.productions) l.marks

@@ -1,0 +1,10 @@
+use Rattle.std.proofs.Common.{◌≡◌, length}
+use Rattle.grammar.specs.Marks.{AreSound}
+use Rattle.grammar.proofs.Marking.{unmarked}
+use Rattle.grammar.proofs.productive.productive.Given as goal
+
+abbrev pub invariant-loop-nonterminal : goal.invariant-loop-nonterminal
+invariant-loop-nonterminal l = (length l.marks.items ≡ l.nonterminals) × AreSound l.productions l.marks.items
+
+abbrev pub decreases-loop-nonterminal : goal.decreases-loop-nonterminal
+decreases-loop-nonterminal l = unmarked l.marks.items

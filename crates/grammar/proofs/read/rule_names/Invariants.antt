@@ -1,0 +1,8 @@
+use Rattle.std.proofs.Common.{◌≡◌, take}
+use Rattle.std.specs.Prelude.{map}
+use Rattle.std.specs.Str.{chars}
+use Rattle.grammar.specs.Said.{rule_line}
+use Rattle.grammar.proofs.read.rule_names.Given as goal
+
+abbrev pub invariant-loop-rule : goal.invariant-loop-rule
+invariant-loop-rule l = l.names.items ≡ map chars (map (λ r. r.name) (map rule_line (take l.rule-index l.rules)))

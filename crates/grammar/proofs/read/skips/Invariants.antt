@@ -1,0 +1,7 @@
+use Rattle.std.proofs.Common.{◌≡◌, take}
+use Rattle.std.specs.Prelude.{map}
+use Rattle.grammar.specs.Said.{rule_line}
+use Rattle.grammar.proofs.read.skips.Given as goal
+
+abbrev pub invariant-loop-rule : goal.invariant-loop-rule
+invariant-loop-rule l = l.skips.items ≡ map (λ r. r.skip) (map rule_line (take l.rule-index l.rules))

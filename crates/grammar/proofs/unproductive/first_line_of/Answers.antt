@@ -1,0 +1,19 @@
+use Rattle.std.proofs.Common.{refl, sym, take, drop, ◌+◌}
+use Rattle.grammar.specs.Said.{all_said, statement_of}
+use Rattle.grammar.proofs.Splits.{said_split}
+use Rattle.grammar.proofs.unproductive.first_line_of.Goals as goal
+
+pub returns-then-is_production_of : goal.returns-then-is_production_of
+returns-then-is_production_of c =
+    let i = c.loop-statement.statement-index in
+    let ns = c.args.statements.now in (
+      all_said (take i ns),
+      all_said (drop (i + 1) ns),
+      (
+        statement_of c.statement-item.result,
+        said_split ns i c.statement-item.result c.loop-statement-test.true c.statement-item.is,
+        refl,
+        c.loop-statement.invariant,
+        sym c.if-is_production_of.ensures,
+      ),
+    )

@@ -1,0 +1,6 @@
+use Rattle.std.proofs.Common.{take}
+use Rattle.grammar.specs.Uses.{IsSpread}
+use Rattle.grammar.proofs.used.next.Given as goal
+
+abbrev pub invariant-loop-production : goal.invariant-loop-production
+invariant-loop-production l = IsSpread (take l.production-index l.productions) l.marks

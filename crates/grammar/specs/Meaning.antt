@@ -1,0 +1,32 @@
+-- Which text is the file of which grammar.
+use Rattle.std.specs.Prelude.{◌≡◌, ℕ, ◌<◌, List, length, map}
+use Rattle.std.specs.Str.{chars}
+use Rattle.definitions.specs.declared.Symbol.TheVariants.{Nonterminal}
+use Rattle.definitions.specs.declared.expression.Expression.{Expression}
+use Rattle.definitions.specs.Sentences.{IsProductive}
+use Rattle.grammar.specs.Statements.{Statement, statements}
+use Rattle.grammar.specs.Contents.{rules, rule_names, nonterminals, is_fold, grammar_of, defined}
+use Rattle.grammar.specs.Faults.{IsWhole, HaveReferents}
+use Rattle.grammar.specs.Grammars.{FileGrammar}
+use Rattle.grammar.specs.Said.{ArePatterns}
+
+-- what the statements define, where these are the expressions of the rules
+abbrev pub file_grammar : List Statement → List Expression → FileGrammar
+file_grammar ss expressions = record {
+  names = map chars (rule_names ss);
+  patterns = expressions;
+  skips = map (λ r. r.skip) (rules ss);
+  nonterminals = map chars (nonterminals ss);
+  folds = map (λ w. is_fold w ss) (nonterminals ss);
+  grammar = grammar_of ss;
+  defined = defined ss;
+}
+
+-- The text is a grammar file without a fault: no line has one, each name that is used is defined, each rule has a pattern, and
+-- each nonterminal is productive. It defines this grammar.
+pub record IsGrammarOf (text : List ℕ) (f : FileGrammar) : Type 0 where
+  pub whole : IsWhole text
+  pub referents : HaveReferents (statements text) (statements text)
+  pub patterns : ArePatterns (rules (statements text)) f.patterns
+  pub productive : (n : ℕ) → n < length (nonterminals (statements text)) → IsProductive (grammar_of (statements text)) (Nonterminal n)
+  pub is : f ≡ file_grammar (statements text) f.patterns

@@ -1,0 +1,32 @@
+-- What a grammar file defines and no derivation from the start uses.
+use Rattle.std.specs.Prelude.{◌≡◌, ℕ, ◌==◌, Bool, true, false, List, [], ◌∷◌, slice_index_or}
+use Rattle.std.specs.List.{list_any}
+use Rattle.definitions.specs.declared.Symbol.{Symbol}
+use Rattle.definitions.specs.declared.Symbol.TheVariants.{Rule as Terminal, Nonterminal}
+use Rattle.definitions.specs.Sentences.{IsUsed}
+use Rattle.grammar.specs.Grammars.{FileGrammar}
+
+-- the symbol is a rule that is skipped
+abbrev pub is_skip : FileGrammar → Symbol → Bool
+is_skip f (Terminal k) = slice_index_or f.skips k false
+is_skip f (Nonterminal n) = false
+
+-- the second list has those of the first, in order, that are neither skipped nor used
+pub data AreNotes (f : FileGrammar) : List Symbol → List Symbol → Type 0 where
+  none : AreNotes f [] []
+  told : {s : Symbol} {ss ns : List Symbol} → is_skip f s ≡ false → (IsUsed f.grammar s → ⊥) → AreNotes f ss ns → AreNotes f (s ∷ ss) (s ∷ ns)
+  skipped : {s : Symbol} {ss ns : List Symbol} → is_skip f s ≡ true → AreNotes f ss ns → AreNotes f (s ∷ ss) ns
+  used : {s : Symbol} {ss ns : List Symbol} → IsUsed f.grammar s → AreNotes f ss ns → AreNotes f (s ∷ ss) ns
+
+-- the name of a rule or of a nonterminal
+abbrev pub symbol_name : FileGrammar → Symbol → List ℕ
+symbol_name f (Terminal k) = slice_index_or f.names k []
+symbol_name f (Nonterminal n) = slice_index_or f.nonterminals n []
+
+-- whether rule k is one of these symbols
+abbrev pub is_rule : ℕ → Symbol → Bool
+is_rule k (Terminal j) = j == k
+is_rule k (Nonterminal n) = false
+
+abbrev pub has_rule : ℕ → List Symbol → Bool
+has_rule k symbols = list_any (is_rule k) symbols

@@ -1,0 +1,113 @@
+-- What the code keeps of the lines, in the words of the definitions.
+use Rattle.std.specs.Prelude.{◌≡◌, ℕ, ◌+◌, ◌≤◌, Bool, true, nat_lt, Option, Some, None, slice_get, IsSomeAnd, List, [], ◌∷◌, ◌++◌, length, map}
+use Rattle.std.specs.Borrow.{Bor}
+use Rattle.std.specs.Str.{chars}
+use Rattle.definitions.specs.declared.expression.Expression.{Expression}
+use Rattle.definitions.specs.Spelling.{IsPattern}
+use Rattle.grammar.specs.declared.line.Line.{Line as Kept}
+use Rattle.grammar.specs.declared.line.Line.TheVariants as k
+use Rattle.grammar.specs.declared.names.RuleName.{RuleName}
+use Rattle.grammar.specs.declared.names.Names.{Names}
+use Rattle.grammar.specs.declared.statements.Numbered.{Numbered}
+use Rattle.grammar.specs.declared.statements.File.{File}
+use Rattle.grammar.specs.Words.{Word}
+use Rattle.grammar.specs.Statements.{Line, Nothing, Production, Rule, Start, Fold, Bad, Statement}
+use Rattle.grammar.specs.Contents.{RuleLine, ProductionLine, rules, productions, starts, nonterminals, with_name}
+use Rattle.grammar.specs.Faults.{AreFaultless}
+
+-- what these point to
+abbrev pub texts : List (Bor (List ℕ)) → List Word
+texts ws = map (λ w. w.now) ws
+
+abbrev pub said : Kept → Line
+said k.Nothing = Nothing
+said (k.Production left right) = Production left.now (texts right.items)
+said (k.Rule skip name pattern) = Rule skip name.now pattern.now
+said (k.Start name) = Start name.now
+said (k.Fold name) = Fold name.now
+said k.Bad = Bad
+
+abbrev pub statement_of : Numbered → Statement
+statement_of n = record { number = n.number; says = said n.line }
+
+abbrev pub all_said : List Numbered → List Statement
+all_said ns = map statement_of ns
+
+abbrev pub rule_line : RuleName → RuleLine
+rule_line r = record { skip = r.skip; name = r.name.now; pattern = r.pattern.now }
+
+-- the names are those that the statements define
+pub record AreNames (names : Names) (ss : List Statement) : Type 0 where
+  pub rules : map rule_line names.rules.items ≡ rules ss
+  pub nonterminals : texts names.nonterminals.items ≡ nonterminals ss
+  pub productions : names.productions ≡ length (productions ss)
+  pub started : names.started ≡ nat_lt 0 (length (starts ss))
+
+-- what one line adds to them
+abbrev pub with_rule : List RuleLine → Line → List RuleLine
+with_rule rules Nothing = rules
+with_rule rules (Production left right) = rules
+with_rule rules (Rule skip name pattern) = rules ++ record { skip = skip; name = name; pattern = pattern } ∷ []
+with_rule rules (Start name) = rules
+with_rule rules (Fold name) = rules
+with_rule rules Bad = rules
+
+abbrev pub with_left : List Word → Line → List Word
+with_left names Nothing = names
+with_left names (Production left right) = with_name names left
+with_left names (Rule skip name pattern) = names
+with_left names (Start name) = names
+with_left names (Fold name) = names
+with_left names Bad = names
+
+abbrev pub with_production : ℕ → Line → ℕ
+with_production n Nothing = n
+with_production n (Production left right) = n + 1
+with_production n (Rule skip name pattern) = n
+with_production n (Start name) = n
+with_production n (Fold name) = n
+with_production n Bad = n
+
+abbrev pub with_start : Bool → Line → Bool
+with_start b Nothing = b
+with_start b (Production left right) = b
+with_start b (Rule skip name pattern) = b
+with_start b (Start name) = true
+with_start b (Fold name) = b
+with_start b Bad = b
+
+-- the expressions of the rules, in order
+abbrev pub ArePatterns : List RuleLine → List Expression → Type 0
+ArePatterns [] [] = Unit {0}
+ArePatterns [] (e ∷ es) = ⊥
+ArePatterns (r ∷ rs) [] = ⊥
+ArePatterns (r ∷ rs) (e ∷ es) = IsPattern (chars r.pattern) e × ArePatterns rs es
+
+-- the limits are kept, and no production is there twice
+pub record AreFew (ss : List Statement) : Type 0 where
+  pub few_rules : length (rules ss) ≤ 256
+  pub few_nonterminals : length (nonterminals ss) ≤ 256
+  pub few_productions : length (productions ss) ≤ 1024
+  pub short : (k : ℕ) (p : ProductionLine) → slice_get (productions ss) k ≡ Some p → length p.right ≤ 16
+
+-- the file's lines so far are these statements, which have no fault
+pub record IsRead (file : File) (ss : List Statement) : Type 0 where
+  pub statements : all_said file.statements.items ≡ ss
+  pub names : AreNames file.names ss
+  pub patterns : ArePatterns (rules ss) file.patterns.items
+  pub faultless : AreFaultless ss
+  pub few : AreFew ss
+
+-- the expression of a rule's line, and none for another line
+abbrev pub IsPatternOf : Line → Option Expression → Type 0
+IsPatternOf Nothing p = p ≡ None
+IsPatternOf (Production left right) p = p ≡ None
+IsPatternOf (Rule skip name pattern) p = IsSomeAnd p (λ e. IsPattern (chars pattern) e)
+IsPatternOf (Start name) p = p ≡ None
+IsPatternOf (Fold name) p = p ≡ None
+IsPatternOf Bad p = p ≡ None
+
+-- the expressions with that of a line, if it has one
+abbrev pub with_pattern : List Expression → Option Expression → List Expression
+with_pattern es None = es
+with_pattern es (Some e) = es ++ e ∷ []

@@ -1,0 +1,53 @@
+-- The causes that the code tells, in the words of the definitions.
+use Rattle.std.specs.Prelude.{◌≡◌, ℕ, Option, Some, None, string_bytes}
+use Rattle.grammar.specs.declared.fault.Cause.{Cause as Borrowed}
+use Rattle.grammar.specs.declared.fault.Cause.TheVariants as b
+use Rattle.grammar.specs.declared.fault.GrammarCause.{GrammarCause}
+use Rattle.grammar.specs.declared.fault.GrammarCause.TheVariants as p
+use Rattle.grammar.specs.declared.fault.Refusal.{Refusal}
+use Rattle.grammar.specs.declared.fault.Refusal.TheVariants.{Fault, Memory}
+use Rattle.grammar.specs.Faults.{Cause, FirstLine, BadLine, NoStart, SecondStart, DefinedTwice, Undefined, Reserved, NotANonterminal, Unproductive, SkipInProduction, BadPattern, Passed}
+
+abbrev pub cause_of : Borrowed → Cause
+cause_of b.FirstLine = FirstLine
+cause_of b.BadLine = BadLine
+cause_of (b.DefinedTwice w) = DefinedTwice w.now
+cause_of (b.Undefined w) = Undefined w.now
+cause_of (b.Reserved w) = Reserved w.now
+cause_of (b.BadPattern f) = BadPattern f
+cause_of b.NoStart = NoStart
+cause_of b.SecondStart = SecondStart
+cause_of (b.NotANonterminal w) = NotANonterminal w.now
+cause_of (b.Unproductive w) = Unproductive w.now
+cause_of (b.SkipInProduction w) = SkipInProduction w.now
+cause_of (b.Passed l) = Passed l
+
+-- want of memory is no fault of the file
+abbrev pub public_cause : GrammarCause → Option Cause
+public_cause p.FirstLine = Some FirstLine
+public_cause p.BadLine = Some BadLine
+public_cause (p.DefinedTwice w) = Some (DefinedTwice (string_bytes w))
+public_cause (p.Undefined w) = Some (Undefined (string_bytes w))
+public_cause (p.Reserved w) = Some (Reserved (string_bytes w))
+public_cause (p.BadPattern f) = Some (BadPattern f)
+public_cause p.NoStart = Some NoStart
+public_cause p.SecondStart = Some SecondStart
+public_cause (p.NotANonterminal w) = Some (NotANonterminal (string_bytes w))
+public_cause (p.Unproductive w) = Some (Unproductive (string_bytes w))
+public_cause (p.SkipInProduction w) = Some (SkipInProduction (string_bytes w))
+public_cause (p.Limit l) = Some (Passed l)
+public_cause p.Memory = None
+
+-- a refusal for another cause than memory tells this
+abbrev pub Tells : Refusal → (ℕ → Cause → Type 0) → Type 0
+Tells (Fault line c) P = P line (cause_of c)
+Tells Memory P = Unit {0}
+
+abbrev pub TellsCause : Option Cause → (Cause → Type 0) → Type 0
+TellsCause None P = Unit {0}
+TellsCause (Some c) P = P c
+
+-- the refusal is for this cause at this line
+abbrev pub IsFor : Refusal → ℕ → Cause → Type 0
+IsFor (Fault line c) n cause = (line ≡ n) × (cause_of c ≡ cause)
+IsFor Memory n cause = ⊥

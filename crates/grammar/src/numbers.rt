@@ -1,0 +1,164 @@
+//! The grammar of a file's lines, in numbers.
+
+ghost use Rattle.std.specs.Prelude.{◌≡◌, ◌++◌, [], IfOk, OnOk, map, option_map};
+ghost use Rattle.std.specs.Str.{bytes_eq, chars};
+ghost use Rattle.std.specs.List.{cons_option};
+ghost use Rattle.grammar.specs.Contents.{number_of, symbol_of, production_of, as_production, productions, starts, first_of, folds_name, is_fold};
+ghost use Rattle.grammar.specs.Said.{said, all_said, texts, rule_line};
+
+use crate::grammar::{Name, Production};
+use crate::line::Line;
+use crate::names::{Names, RuleName};
+use crate::statements::Numbered;
+use definitions::Symbol;
+use std::alloc::{AllocError, Global};
+
+/// The place of a name among these; their count where it is none of them.
+pub fn number_of(name: &str, names: &[&str]) -> usize
+    ensures { result ≡ number_of name.now (texts names.now) }
+{
+    names
+        .iter()
+        .position(|other| *other == name)
+        .unwrap_or(names.len())
+}
+
+fn rule_number(name: &str, rules: &[RuleName<'_>]) -> usize
+    ensures { result ≡ number_of name.now (map (λ r. r.name) (map rule_line rules.now)) }
+{
+    rules
+        .iter()
+        .position(|rule| rule.name == name)
+        .unwrap_or(rules.len())
+}
+
+/// The symbol of a name.
+fn symbol_of(name: &str, names: &Names<'_>) -> Symbol
+    ensures { result ≡ symbol_of (texts names.now.nonterminals.items) (map (λ r. r.name) (map rule_line names.now.rules.items)) name.now }
+{
+    if names.has_nonterminal(name) {
+        Symbol::Nonterminal(number_of(name, &names.nonterminals))
+    } else {
+        Symbol::Rule(rule_number(name, &names.rules))
+    }
+}
+
+fn symbols_of(alloc: Global, right: &[&str], names: &Names<'_>) -> Result<Vec<Symbol>, AllocError>
+    ensures { IfOk result (λ symbols. symbols.items ≡ map (symbol_of (texts names.now.nonterminals.items) (map (λ r. r.name) (map rule_line names.now.rules.items))) (texts right.now)) }
+{
+    let mut symbols = Vec::with_capacity(alloc, right.len())?;
+    for name in right {
+        symbols.push(symbol_of(name, names))?;
+    }
+    Ok(symbols)
+}
+
+/// The production of a line.
+fn production_of(
+    alloc: Global,
+    line: &Line<'_>,
+    names: &Names<'_>,
+) -> Result<Option<Production>, AllocError>
+    ensures { IfOk result (λ p. p ≡ option_map (production_of (texts names.now.nonterminals.items) (map (λ r. r.name) (map rule_line names.now.rules.items))) (as_production (said line.now))) }
+{
+    match line {
+        Line::Production { left, right } => Ok(Some(Production {
+            left: number_of(left, &names.nonterminals),
+            right: symbols_of(alloc, right, names)?,
+        })),
+        _ => Ok(None),
+    }
+}
+
+/// The productions, in file order.
+pub fn productions(
+    alloc: Global,
+    statements: &[Numbered<'_>],
+    names: &Names<'_>,
+) -> Result<Vec<Production>, AllocError>
+    ensures { IfOk result (λ found. found.items ≡ map (production_of (texts names.now.nonterminals.items) (map (λ r. r.name) (map rule_line names.now.rules.items))) (productions (all_said statements.now))) }
+{
+    let mut found = Vec::new(alloc);
+    for statement in statements {
+        let production = production_of(alloc, &statement.line, names)?;
+        push(&mut found, production)?;
+    }
+    Ok(found)
+}
+
+fn push(found: &mut Vec<Production>, production: Option<Production>) -> Result<(), AllocError>
+    ensures { OnOk result (found.new.items ≡ found.old.items ++ cons_option production []) }
+{
+    match production {
+        Some(production) => {
+            found.push(production)?;
+            Ok(())
+        }
+        None => Ok(()),
+    }
+}
+
+/// The name behind the first `start`; nothing where there is none.
+fn first_start<'a>(statements: &[Numbered<'a>]) -> &'a str
+    ensures { result.now ≡ first_of (starts (all_said statements.now)) }
+{
+    for statement in statements {
+        if let Line::Start(name) = &statement.line {
+            return name;
+        }
+    }
+    ""
+}
+
+/// The number of the start.
+pub fn start(statements: &[Numbered<'_>], names: &Names<'_>) -> usize
+    ensures { result ≡ number_of (first_of (starts (all_said statements.now))) (texts names.now.nonterminals.items) }
+{
+    number_of(first_start(statements), &names.nonterminals)
+}
+
+/// Whether each nonterminal folds.
+pub fn folds(
+    alloc: Global,
+    statements: &[Numbered<'_>],
+    names: &Names<'_>,
+) -> Result<Vec<bool>, AllocError>
+    ensures { IfOk result (λ folds. folds.items ≡ map (λ w. is_fold w (all_said statements.now)) (texts names.now.nonterminals.items)) }
+{
+    let mut folds = Vec::with_capacity(alloc, names.nonterminals.len())?;
+    for name in &names.nonterminals {
+        folds.push(is_fold(name, statements))?;
+    }
+    Ok(folds)
+}
+
+fn is_fold(name: &str, statements: &[Numbered<'_>]) -> bool
+    ensures { result ≡ is_fold name.now (all_said statements.now) }
+{
+    statements
+        .iter()
+        .any(|statement| folds_name(name, &statement.line))
+}
+
+/// Whether the line is `fold NAME`.
+fn folds_name(name: &str, line: &Line<'_>) -> bool
+    ensures { result ≡ folds_name name.now (said line.now) }
+{
+    match line {
+        Line::Fold(other) => *other == name,
+        _ => false,
+    }
+}
+
+/// Copies of the names.
+pub fn owned(alloc: Global, names: &[&str]) -> Result<Vec<Name>, AllocError>
+    ensures { IfOk result (λ copies. copies.items ≡ map chars (texts names.now)) }
+{
+    let mut copies = Vec::with_capacity(alloc, names.len())?;
+    for name in names {
+        copies.push(Name {
+            text: String::from_str(alloc, name)?,
+        })?;
+    }
+    Ok(copies)
+}

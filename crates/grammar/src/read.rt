@@ -1,0 +1,102 @@
+//! A grammar file, read.
+
+ghost use Rattle.std.specs.Prelude.{◌≡◌, map, IfOk, IfErr};
+ghost use Rattle.std.specs.Str.{chars};
+ghost use Rattle.grammar.specs.Contents.{grammar_of};
+ghost use Rattle.grammar.specs.Faults.{IsFault};
+ghost use Rattle.grammar.specs.Grammars.{IsGrammar};
+ghost use Rattle.grammar.specs.Meaning.{file_grammar, IsGrammarOf};
+ghost use Rattle.grammar.specs.Said.{rule_line, all_said, AreNames, AreFew};
+ghost use Rattle.grammar.specs.Told.{Tells};
+
+use crate::defined::defined;
+use crate::fault::Refusal;
+use crate::file::read_file;
+use crate::grammar::{Grammar, Name, Production};
+use crate::names::RuleName;
+use crate::notes::notes;
+use crate::numbers;
+use crate::statements::File;
+use crate::unproductive::test_productive;
+use crate::used::used;
+use std::alloc::{AllocError, Global};
+
+/// The grammar of a file, or the first fault.
+pub fn read<'a>(alloc: Global, text: &'a str) -> Result<Grammar, Refusal<'a>>
+    ensures grammar { IfOk result (λ g. IsGrammarOf text.now g) }
+    ensures fault { IfErr result (λ r. Tells r (λ n c. IsFault text.now n c)) }
+{
+    let file = match read_file(alloc, text) {
+        Ok(file) => file,
+        Err(refusal) => return Err(refusal),
+    };
+    let productions = numbers::productions(alloc, &file.statements, &file.names)?;
+    match test_productive(
+        alloc,
+        &file.names.nonterminals,
+        &file.statements,
+        &productions,
+    ) {
+        Ok(()) => {}
+        Err(refusal) => return Err(refusal),
+    }
+    let grammar = grammar_of(alloc, file, productions)?;
+    Ok(grammar)
+}
+
+/// The grammar of the lines, which have no fault, and of their productions.
+fn grammar_of(
+    alloc: Global,
+    file: File<'_>,
+    productions: Vec<Production>,
+) -> Result<Grammar, AllocError>
+    requires names { AreNames file.names (all_said file.statements.items) }
+    requires few { AreFew (all_said file.statements.items) }
+    requires productions { productions.items ≡ (grammar_of (all_said file.statements.items)).productions }
+    requires grammar { IsGrammar (file_grammar (all_said file.statements.items) file.patterns.items) }
+    ensures { IfOk result (λ g. g ≡ file_grammar (all_said file.entry.statements.items) file.entry.patterns.items) }
+{
+    let File {
+        statements,
+        names,
+        patterns,
+    } = file;
+    let skips = skips(alloc, &names.rules)?;
+    let start = numbers::start(&statements, &names);
+    let defined = defined(alloc, &statements)?;
+    let marks = used(alloc, names.nonterminals.len(), start, &productions)?;
+    let notes = notes(alloc, &defined, &skips, &productions, &marks)?;
+    Ok(Grammar {
+        names: rule_names(alloc, &names.rules)?,
+        patterns,
+        skips,
+        nonterminals: numbers::owned(alloc, &names.nonterminals)?,
+        folds: numbers::folds(alloc, &statements, &names)?,
+        start,
+        productions,
+        defined,
+        notes,
+    })
+}
+
+fn skips(alloc: Global, rules: &[RuleName<'_>]) -> Result<Vec<bool>, AllocError>
+    ensures { IfOk result (λ skips. skips.items ≡ map (λ r. r.skip) (map rule_line rules.now)) }
+{
+    let mut skips = Vec::with_capacity(alloc, rules.len())?;
+    for rule in rules {
+        skips.push(rule.skip)?;
+    }
+    Ok(skips)
+}
+
+fn rule_names(alloc: Global, rules: &[RuleName<'_>]) -> Result<Vec<Name>, AllocError>
+    ensures { IfOk result (λ names. names.items ≡ map chars (map (λ r. r.name) (map rule_line rules.now))) }
+{
+    let mut names = Vec::with_capacity(alloc, rules.len())?;
+    for rule in rules {
+        names.push(Name {
+            text: String::from_str(alloc, rule.name)?,
+        })?;
+    }
+    Ok(names)
+}

@@ -1,0 +1,76 @@
+//! The first nonterminal that no text is derived from.
+
+ghost use Rattle.std.specs.Prelude.{◌≡◌, ◌<◌, ℕ, List, Some, true, false, length, slice_get, slice_index_or, IfErr, IfSome, OnOk, MatchOption};
+ghost use Rattle.std.specs.List.{list_any};
+ghost use Rattle.definitions.specs.declared.Symbol.TheVariants.{Nonterminal};
+ghost use Rattle.definitions.specs.Trees.{Grammar};
+ghost use Rattle.definitions.specs.Sentences.{IsProductive};
+ghost use Rattle.grammar.specs.Words.{Word};
+ghost use Rattle.grammar.specs.Contents.{nonterminals};
+ghost use Rattle.grammar.specs.Faults.{Unproductive, is_production_of, IsFirstProduction};
+ghost use Rattle.grammar.specs.Marks.{AreBelow, IsFirstUnmarked, AllProductiveIn, IsUnproductiveIn};
+ghost use Rattle.grammar.specs.Said.{said, all_said, texts};
+ghost use Rattle.grammar.specs.Told.{Tells};
+
+use crate::fault::{Cause, Refusal};
+use crate::grammar::Production;
+use crate::line::Line;
+use crate::productive::productive;
+use crate::statements::Numbered;
+use std::alloc::Global;
+
+/// Tests that all nonterminals are productive.
+pub fn test_productive<'a>(
+    alloc: Global,
+    names: &[&'a str],
+    statements: &[Numbered<'a>],
+    productions: &[Production],
+) -> Result<(), Refusal<'a>>
+    requires below { AreBelow productions.now (length names.now) }
+    requires names { texts names.now ≡ nonterminals (all_said statements.now) }
+    ensures fine { OnOk result (AllProductiveIn productions.now (length names.now)) }
+    ensures fault { IfErr result (λ r. Tells r (λ line c. (n : ℕ) × ((w : Word) × (slice_get (texts names.now) n ≡ Some w) × (c ≡ Unproductive w) × IsUnproductiveIn productions.now n × IsFirstProduction (all_said statements.now) w line))) }
+{
+    let marks = productive(alloc, names.len(), productions)?;
+    match first_unmarked(&marks) {
+        None => Ok(()),
+        Some(nonterminal) => {
+            let name = names[nonterminal];
+            Err(Refusal::Fault(first_line_of(name, statements), Cause::Unproductive(name)))
+        }
+    }
+}
+
+fn first_unmarked(marks: &[bool]) -> Option<usize>
+    ensures { MatchOption result ((n : ℕ) → n < length marks.now → slice_index_or marks.now n false ≡ true) (IsFirstUnmarked marks.now) }
+{
+    for (index, mark) in marks.iter().enumerate() {
+        if !*mark {
+            return Some(index);
+        }
+    }
+    None
+}
+
+/// The number of the first production of a nonterminal, which has one.
+fn first_line_of(name: &str, statements: &[Numbered<'_>]) -> usize
+    requires { list_any (λ s. is_production_of name.now s.says) (all_said statements.now) ≡ true }
+    ensures { IsFirstProduction (all_said statements.now) name.now result }
+{
+    for statement in statements {
+        if is_production_of(name, &statement.line) {
+            return statement.number;
+        }
+    }
+    unreachable!()
+}
+
+/// Whether the line is a production of the nonterminal.
+fn is_production_of(name: &str, line: &Line<'_>) -> bool
+    ensures { result ≡ is_production_of name.now (said line.now) }
+{
+    match line {
+        Line::Production { left, .. } => *left == name,
+        _ => false,
+    }
+}

@@ -1,0 +1,11 @@
+-- What lies within the reach of a token.
+use Rattle.std.specs.Prelude.{ℕ, ◌+◌, ◌<◌, ◌≤◌, List, length, drop}
+use Rattle.std.proofs.Common.{arith, inl, inr, length-drop}
+use Rattle.definitions.specs.declared.expression.Expression.{Expression}
+use Rattle.definitions.specs.Tokens.{IsReach}
+use Rattle.dfa.specs.Windows.{IsWithinReach}
+
+-- what lies within the reach of a token lies before its start and reach
+pub within_token : (rules : List Expression) (u : List ℕ) (o i n : ℕ) → o ≤ length u → IsWithinReach rules u o i → IsReach rules (drop o u) n → i < o + n
+within_token rules u o i n l w (inl r) = w.alive n r.0
+within_token rules u o i n l w (inr r) = omega (arith, w.inside, r.0, length-drop o u)

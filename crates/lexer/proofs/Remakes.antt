@@ -1,0 +1,157 @@
+-- What a rescan has made, at a place where no rejoining has been.
+use Rattle.definitions.proofs.TokensLead.{GoOn, before_rejoin, chars, chars-cons, chars_from, front_before, front_leads, leads_inside, leads_join, leads_more, leads_split, length-placed, placed_at}
+use Rattle.definitions.specs.Tokens.{Leads}
+use Rattle.definitions.proofs.TokensKept.{length-edit}
+use Rattle.std.specs.Prelude.{◌≡◌, ℕ, zero, suc, ◌+◌, ◌-◌, ◌<◌, ◌≤◌, ◌^◌, Bool, true, false, List, [], ◌∷◌, ◌++◌, length, take, drop, slice_get, slice_index_or, IsSomeAnd}
+use Rattle.std.proofs.Common.{arith, refl, sym, ap, subst, inl, inr, ◌∙◌, length-append, length-drop}
+use Rattle.std.proofs.lemmas.Bool.{cases_lt}
+use Rattle.std.proofs.lemmas.List.{map-append, drop-drop, take-take, length-take, take_all, take-append-le}
+use Rattle.std.proofs.lemmas.List.Sums.{prefix_len-le-length, sum_by-append}
+use Rattle.std.proofs.Math.Seq.{take-append-add}
+use Rattle.definitions.specs.declared.Edit.{Edit}
+use Rattle.definitions.specs.declared.expression.Expression.{Expression}
+use Rattle.definitions.specs.Text.{edit}
+use Rattle.definitions.specs.Tokens.{Token as PlainToken, Placed, IsToken, AreTokens, placed, boundaries}
+use Rattle.definitions.specs.TokenEdits.{front, is_rejoined}
+use Rattle.definitions.proofs.TokensKept.{boundaries-end, length-boundaries}
+use Rattle.dfa.specs.Windows.{IsWithinReach}
+use Rattle.lexer.specs.declared.sums.Token.{Token}
+use Rattle.lexer.specs.Tokens.{plain, characters, Fits}
+use Rattle.lexer.specs.Rescans.{plain_all, front_end, IsEdited, IsNeeded, IsReachedByMade}
+use Rattle.lexer.proofs.Totals.{characters-cons}
+use Rattle.lexer.proofs.Boundaries.{length-plain, boundary_at, not_behind, is_rejoined_at}
+use Rattle.lexer.proofs.Fronts.{within_token}
+
+pub chars-plain : (xs : List Token) → chars (plain_all xs) ≡ characters xs
+chars-plain [] = refl
+chars-plain (x ∷ xs) = chars-cons (plain x) (plain_all xs) ∙ ap (λ n. x.length + n) (chars-plain xs) ∙ sym (characters-cons x xs)
+
+pub plain-take : (n : ℕ) (xs : List Token) → plain_all (take n xs) ≡ take n (plain_all xs)
+plain-take zero xs = refl
+plain-take (suc n) [] = refl
+plain-take (suc n) (x ∷ xs) = ap (λ r. plain x ∷ r) (plain-take n xs)
+
+-- the tokens of a text have all its characters
+pub tokens_length : (rules : List Expression) (t : List ℕ) (xs : List Token) → AreTokens rules t (plain_all xs) → characters xs ≡ length t
+tokens_length rules t xs p =
+    let whole : take (length xs) xs ≡ xs = take_all (length xs) xs (omega arith) in
+    let end : slice_index_or (boundaries 0 (plain_all xs)) (length (plain_all xs)) 0 ≡ 0 + length t = boundaries-end rules t 0 0 (plain_all xs) p in
+    sym (ap characters whole) ∙ sym (boundary_at xs (length xs) 0 (omega arith)) ∙ ap (λ n. slice_index_or (boundaries 0 (plain_all xs)) n 0) (sym (length-plain xs)) ∙ end ∙ omega arith
+
+module _ (rules : List Expression) (skips : List Bool) (e : Edit) (items : List Token) (u : List ℕ) (h : IsEdited rules skips e items u) where
+  pub removed_fits : Fits items → e.at + e.removed ≤ 2 ^ 32
+  removed_fits f = omega (arith, tokens_length rules h.text items h.tokens.tokens, f.short, h.inside)
+
+  front_all : Leads rules u (plain_all (take (front e (plain_all items)) items))
+  front_all =
+      subst (λ v. Leads rules v (plain_all (take (front e (plain_all items)) items))) (sym h.new_text)
+      (subst (λ xs. Leads rules (edit h.text e.at (e.at + e.removed) h.piece) xs) (sym (plain-take (front e (plain_all items)) items))
+      (front_leads rules h.text h.piece e (plain_all items) h.inside h.tokens.tokens))
+
+  pub front_inside : front_end e items ≤ length u
+  front_inside = subst (λ n. n ≤ length u) (chars-plain (take (front e (plain_all items)) items)) (leads_inside rules u (plain_all (take (front e (plain_all items)) items)) front_all)
+
+  pub front-le : front e (plain_all items) ≤ length items
+  front-le = omega (arith, prefix_len-le-length {X = Placed}, length-placed 0 (plain_all items), length-plain items)
+
+  pub all_lead : (made : List Token) → Leads rules (drop (front_end e items) u) (plain_all made) → Leads rules u (plain_all (take (front e (plain_all items)) items) ++ plain_all made)
+  all_lead made m = leads_join rules u (plain_all (take (front e (plain_all items)) items)) (plain_all made) front_all (subst (λ n. Leads rules (drop n u) (plain_all made)) (sym (chars-plain (take (front e (plain_all items)) items))) m)
+
+  pub end_rejoins : is_rejoined e (plain_all items) (length u) ≡ true
+  end_rejoins =
+      let long : length u + (e.at + e.removed) ≡ length h.text + e.at + length h.piece = ap (λ v. length v + (e.at + e.removed)) h.new_text ∙ length-edit h.text h.piece e.at (e.at + e.removed) (omega arith) h.inside in
+      let sum : characters (take (length items) items) ≡ length h.text = ap characters (take_all (length items) items (omega arith)) ∙ tokens_length rules h.text items h.tokens.tokens in
+      is_rejoined_at e items (length u) (length items) (omega (arith, long, h.inserted, h.inside)) (omega arith) (omega (arith, long, sum, h.inserted))
+
+  pub end_moved : characters (take (length items) items) + e.inserted ≡ length u + e.removed
+  end_moved =
+      let long : length u + (e.at + e.removed) ≡ length h.text + e.at + length h.piece = ap (λ v. length v + (e.at + e.removed)) h.new_text ∙ length-edit h.text h.piece e.at (e.at + e.removed) (omega arith) h.inside in
+      let sum : characters (take (length items) items) ≡ length h.text = ap characters (take_all (length items) items (omega arith)) ∙ tokens_length rules h.text items h.tokens.tokens in
+      omega (arith, long, sum, h.inserted)
+
+  -- The boundaries of the new tokens up to the place that has been reached are no places of rejoining.
+  module _ (made : List Token) (m : Leads rules (drop (front_end e items) u) (plain_all made))
+      (earlier : (k : ℕ) → k < length made → is_rejoined e (plain_all items) (front_end e items + characters (take k made)) ≡ false)
+      (here : is_rejoined e (plain_all items) (front_end e items + characters made) ≡ false) where
+    abbrev kept : List Token
+    kept = take (front e (plain_all items)) items
+
+    many : length kept ≡ front e (plain_all items)
+    many = length-take (front e (plain_all items)) items ∙ omega (arith, front-le)
+
+    up_to : (j : ℕ) → j ≤ length made → is_rejoined e (plain_all items) (front_end e items + characters (take j made)) ≡ false
+    up_to j l = elim (cases_lt j (length made)) [
+      | inl lt ↦ earlier j lt
+      | inr ge ↦ subst (λ ys. is_rejoined e (plain_all items) (front_end e items + characters ys) ≡ false) (sym (take_all j made ge)) here
+    ]
+
+    not_here : (i : ℕ) → i ≤ length (kept ++ made) → is_rejoined e (plain_all items) (characters (take i (kept ++ made))) ≡ false
+    not_here i l = elim (cases_lt i (length kept)) [
+      | inl lt ↦
+          let fits : i ≤ length kept = omega arith in
+          let front_only : take i (kept ++ made) ≡ take i kept = take-append-le i kept made fits in
+          let shorter : take i kept ≡ take i items = take-take i (front e (plain_all items)) items (omega (arith, many)) in
+          let at : slice_index_or (boundaries 0 (plain_all items)) i 0 ≡ characters (take i items) = boundary_at items i 0 (omega (arith, many, front-le)) in
+          let low : slice_index_or (boundaries 0 (plain_all items)) i 0 < e.at = front_before rules h.text e (plain_all items) i h.tokens.tokens (omega (arith, many)) in
+          not_behind e items (characters (take i (kept ++ made))) (omega (arith, low, at, ap characters front_only, ap characters shorter))
+      | inr ge ↦
+          let j = i - length kept in
+          let is : i ≡ length kept + j = omega arith in
+          let both : take i (kept ++ made) ≡ kept ++ take j made = ap (λ n. take n (kept ++ made)) is ∙ take-append-add kept made j in
+          let sum : characters (take i (kept ++ made)) ≡ front_end e items + characters (take j made) = ap characters both ∙ sum_by-append (λ x. x.length) kept (take j made) in
+          subst (λ n. is_rejoined e (plain_all items) n ≡ false) (sym sum) (up_to j (omega (arith, length-append kept made)))
+    ]
+
+    joined : plain_all (kept ++ made) ≡ plain_all kept ++ plain_all made
+    joined = map-append plain kept made
+
+    -- behind them stands a token whose reach holds what is within the reach there
+    reached_by : (i : ℕ) → front_end e items + characters made < length u → IsWithinReach rules u (front_end e items + characters made) i
+        → (new : List PlainToken) → AreTokens rules u new → IsReachedByMade e (plain_all items) new i
+    reached_by i lt w new p = go later.rest later.joined later.tokens
+      where
+        later : GoOn rules u (plain_all kept ++ plain_all made) new
+        later = leads_split rules u (plain_all kept ++ plain_all made) new (all_lead made m) p
+
+        sum : chars (plain_all kept ++ plain_all made) ≡ front_end e items + characters made
+        sum = ap chars (sym joined) ∙ chars-plain (kept ++ made) ∙ sum_by-append (λ x. x.length) kept made
+
+        go : (rest : List PlainToken) → new ≡ (plain_all kept ++ plain_all made) ++ rest → AreTokens rules (drop (chars (plain_all kept ++ plain_all made)) u) rest → IsReachedByMade e (plain_all items) new i
+        go [] is q = absurd (omega (arith, ap length q, length-drop (chars (plain_all kept ++ plain_all made)) u, sum, lt))
+        go (y ∷ ys) is q =
+            let at : IsToken rules (drop (front_end e items + characters made) u) y = subst (λ n. IsToken rules (drop n u) y) sum q.0 in
+            let past : i < front_end e items + characters made + y.reach = within_token rules u (front_end e items + characters made) i y.reach (omega arith) w at.reach in
+            let k = length (plain_all kept ++ plain_all made) in
+            let size : k ≡ length (kept ++ made) = ap length (sym joined) ∙ length-plain (kept ++ made) in
+            let long : length new ≡ k + length (y ∷ ys) = ap length is ∙ length-append (plain_all kept ++ plain_all made) (y ∷ ys) in (
+              k,
+              omega (arith, size, length-append kept made, many),
+              before_rejoin e (plain_all items) new k (omega (arith, length-boundaries 0 new, long)) (λ j l.
+                  let fits : j ≤ length (plain_all kept ++ plain_all made) = l in
+                  let value : slice_index_or (boundaries 0 new) j 0 ≡ characters (take j (kept ++ made)) =
+                  chars_from 0 new j 0 (omega (arith, long)) ∙ omega (arith, ap (λ v. chars (take j v)) is, ap chars (take-append-le j (plain_all kept ++ plain_all made) (y ∷ ys) fits), ap (λ v. chars (take j v)) (sym joined), ap chars (sym (plain-take j (kept ++ made))), chars-plain (take j (kept ++ made))) in
+                  subst (λ n. is_rejoined e (plain_all items) n ≡ false) (sym value) (not_here j (omega (arith, size)))),
+              subst (λ v. IsSomeAnd (slice_get (placed 0 v) k) (λ x. i < x.start + x.token.reach)) (sym is)
+                  (placed_at 0 (plain_all kept ++ plain_all made) y ys (λ x. i < x.start + x.token.reach) (omega (arith, sum, past))),
+            )
+
+    pub needed : (i : ℕ) → front_end e items + characters made < length u → IsWithinReach rules u (front_end e items + characters made) i → IsNeeded rules e items u i
+    needed i lt w = record { behind = omega (arith, w.behind); inside = w.inside; reached = reached_by i lt w }
+
+-- one more token made
+pub lead_one : (rules : List Expression) (u : List ℕ) (from at : ℕ) (made : List Token) (x : Token) → at ≡ from + characters made → Leads rules (drop from u) (plain_all made) → IsToken rules (drop at u) (plain x) → Leads rules (drop from u) (plain_all (made ++ x ∷ []))
+lead_one rules u from at made x is l p =
+    let place : drop at u ≡ drop (chars (plain_all made)) (drop from u) = ap (λ n. drop n u) (is ∙ ap (λ n. from + n) (sym (chars-plain made))) ∙ sym (drop-drop (chars (plain_all made)) from u) in
+    subst (λ xs. Leads rules (drop from u) xs) (sym (map-append plain made (x ∷ []))) (leads_more rules (drop from u) (plain_all made) (plain x) l (subst (λ v. IsToken rules v (plain x)) place p))
+
+pub earlier_one : (e : Edit) (items : List Token) (from : ℕ) (made : List Token) (x : Token)
+    → ((k : ℕ) → k < length made → is_rejoined e (plain_all items) (from + characters (take k made)) ≡ false)
+    → is_rejoined e (plain_all items) (from + characters made) ≡ false
+    → (k : ℕ) → k < length (made ++ x ∷ []) → is_rejoined e (plain_all items) (from + characters (take k (made ++ x ∷ []))) ≡ false
+earlier_one e items from made x earlier here k l =
+    let fits : k ≤ length made = omega (arith, length-append made (x ∷ [])) in
+    let short : take k (made ++ x ∷ []) ≡ take k made = take-append-le k made (x ∷ []) fits in
+    subst (λ ys. is_rejoined e (plain_all items) (from + characters ys) ≡ false) (sym short) (elim (cases_lt k (length made)) [
+      | inl lt ↦ earlier k lt
+      | inr ge ↦ subst (λ ys. is_rejoined e (plain_all items) (from + characters ys) ≡ false) (sym (take_all k made ge)) here
+    ])

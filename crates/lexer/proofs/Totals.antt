@@ -1,0 +1,185 @@
+-- The sums of tokens are exact where they fit.
+use Rattle.std.specs.Prelude.{◌≡◌, ◌≢◌, ℕ, zero, suc, ◌+◌, ◌<◌, ◌≤◌, ◌^◌, ◌⊎◌, Bool, true, false, not, List, [], ◌∷◌, length, take, count_by, All, IsTrue, nat_lt, if◌then◌else◌}
+use Rattle.std.proofs.Common.{arith, refl, sym, ap, subst, inl, inr, ◌∙◌}
+use Rattle.std.proofs.lemmas.Bool.{cases_lt, ltb-true, ltb-false}
+use Rattle.std.proofs.lemmas.List.{take_all, length-take, take-take}
+use Rattle.std.proofs.lemmas.List.Sums.{count_by-le-length, sum_by-take-le, sum_by-cons}
+use Rattle.std.proofs.lemmas.List.Elements.{All-head, All-tail}
+use Rattle.seqtree.specs.Monoid.{total}
+use Rattle.seqtree.specs.Saturated.{saturated, saturated-exact}
+use Rattle.lexer.specs.declared.sums.Sums.{Sums}
+use Rattle.lexer.specs.declared.sums.Token.{Token}
+use Rattle.lexer.specs.Sums.{most, no_tokens, joined, token_sum}
+use Rattle.lexer.specs.Tokens.{is_significant, characters, Fits}
+
+abbrev pub tot : List Token → Sums
+tot xs = total no_tokens joined token_sum xs
+
+one_more : (m n : ℕ) → m + 1 ≤ n → m ≤ n
+one_more m n h = omega arith
+
+pub total_count : (xs : List Token) → length xs ≤ most → (tot xs).count ≡ length xs
+total_count [] h = refl
+total_count (x ∷ xs) h =
+    let rest : (tot xs).count ≡ length xs = total_count xs (one_more (length xs) most (omega arith)) in
+    ap (saturated most 1) rest ∙ saturated-exact most 1 (length xs) (omega arith) ∙ omega arith
+
+at_most_one : (b : Bool) → ◌≤◌ (if b then 0 else 1) 1
+at_most_one true = omega arith
+at_most_one false = omega arith
+
+turned : (b : Bool) → ◌≡◌ {A = ℕ} (if b then 0 else 1) (if not b then 1 else 0)
+turned true = refl
+turned false = refl
+
+pub count-cons : (x : Token) (xs : List Token) → count_by is_significant (x ∷ xs) ≡ (if x.skipped then 0 else 1) + count_by is_significant xs
+count-cons x xs = sum_by-cons (λ x. if is_significant x then 1 else 0) x xs ∙ ap (λ n. n + count_by is_significant xs) (sym (turned x.skipped))
+
+pub total_significant : (xs : List Token) → length xs ≤ most → (tot xs).significant ≡ count_by is_significant xs
+total_significant [] h = refl
+total_significant (x ∷ xs) h =
+    let few : count_by is_significant xs ≤ length xs = count_by-le-length is_significant xs in
+    let rest : (tot xs).significant ≡ count_by is_significant xs = total_significant xs (one_more (length xs) most (omega arith)) in
+    ap (saturated most (if x.skipped then 0 else 1)) rest ∙ saturated-exact most (if x.skipped then 0 else 1) (count_by is_significant xs) (omega (arith, at_most_one x.skipped)) ∙ sym (count-cons x xs)
+
+pub characters-cons : (x : Token) (xs : List Token) → characters (x ∷ xs) ≡ x.length + characters xs
+characters-cons x xs = sum_by-cons (λ x. x.length) x xs
+
+pub total_characters : (xs : List Token) → characters xs ≤ most → (tot xs).characters ≡ characters xs
+total_characters [] h = refl
+total_characters (x ∷ xs) h =
+    let sum : characters (x ∷ xs) ≡ x.length + characters xs = characters-cons x xs in
+    let rest : (tot xs).characters ≡ characters xs = total_characters xs (omega arith) in
+    ap (saturated most x.length) rest ∙ saturated-exact most x.length (characters xs) (omega arith) ∙ sym sum
+
+-- there are no more tokens than characters
+pub length-le-characters : (xs : List Token) → All (λ x. 1 ≤ x.length) xs → length xs ≤ characters xs
+length-le-characters [] h = omega arith
+length-le-characters (x ∷ xs) h =
+    let first : 1 ≤ x.length = All-head (λ x. 1 ≤ x.length) x xs h in
+    let rest : length xs ≤ characters xs = length-le-characters xs (All-tail (λ x. 1 ≤ x.length) x xs h) in
+    omega (arith, characters-cons x xs)
+
+pub few : (xs : List Token) → Fits xs → length xs ≤ 2 ^ 32
+few xs f = let n : length xs ≤ characters xs = length-le-characters xs f.nonempty in omega (arith, f.short)
+
+length-take-le' : (n : ℕ) (xs : List Token) → length (take n xs) ≤ length xs
+length-take-le' zero xs = omega arith
+length-take-le' (suc n) [] = omega arith
+length-take-le' (suc n) (x ∷ xs) = let h : length (take n xs) ≤ length xs = length-take-le' n xs in omega arith
+
+-- the same of the first n
+pub take_count : (n : ℕ) (xs : List Token) → Fits xs → n ≤ length xs → (tot (take n xs)).count ≡ length (take n xs)
+take_count n xs f l =
+    let short : length (take n xs) ≤ length xs = length-take-le' n xs in
+    let all : length xs ≤ 2 ^ 32 = few xs f in
+    total_count (take n xs) (omega arith)
+
+pub take_significant : (n : ℕ) (xs : List Token) → Fits xs → (tot (take n xs)).significant ≡ count_by is_significant (take n xs)
+take_significant n xs f =
+    let short : length (take n xs) ≤ length xs = length-take-le' n xs in
+    let all : length xs ≤ 2 ^ 32 = few xs f in
+    total_significant (take n xs) (omega arith)
+
+pub take_characters : (n : ℕ) (xs : List Token) → Fits xs → (tot (take n xs)).characters ≡ characters (take n xs)
+take_characters n xs f =
+    let part : characters (take n xs) ≤ characters xs = sum_by-take-le (λ x. x.length) xs n in
+    total_characters (take n xs) (omega (arith, f.short))
+
+-- the place found for a count is that count
+pub count_place : (xs : List Token) (i p : ℕ) → Fits xs → i ≤ length xs → p ≤ length xs
+    → ((k : ℕ) → k < p → nat_lt i (tot (take (k + 1) xs)).count ≡ false) → (p < length xs → IsTrue (nat_lt i (tot (take (p + 1) xs)).count)) → p ≡ i
+count_place xs i p f l m before at = elim (cases_lt p i) [
+  | inl lt ↦
+      let here : i < (tot (take (p + 1) xs)).count = ltb-true _ _ (at (omega arith)) in
+      let is : (tot (take (p + 1) xs)).count ≡ length (take (p + 1) xs) = take_count (p + 1) xs f (omega arith) in
+      absurd (omega (arith, here, is, length-take (p + 1) xs))
+  | inr ge ↦ elim (cases_lt i p) [
+    | inl lt ↦
+        let here : (tot (take (i + 1) xs)).count ≤ i = ltb-false _ _ (before i lt) in
+        let is : (tot (take (i + 1) xs)).count ≡ length (take (i + 1) xs) = take_count (i + 1) xs f (omega arith) in
+        absurd (omega (arith, here, is, length-take (i + 1) xs))
+    | inr le ↦ omega arith
+  ]
+]
+
+counts_one : (xs : List Token) (p : ℕ) → count_by is_significant (take (suc p) xs) ≤ count_by is_significant (take p xs) + 1
+counts_one [] zero = omega arith
+counts_one [] (suc p) = omega arith
+counts_one (x ∷ xs) zero = let e : count_by is_significant (x ∷ []) ≡ (if x.skipped then 0 else 1) + 0 = count-cons x [] in omega (arith, e, at_most_one x.skipped)
+counts_one (x ∷ xs) (suc p) =
+    let rest : count_by is_significant (take (suc p) xs) ≤ count_by is_significant (take p xs) + 1 = counts_one xs p in
+    omega (arith, rest, count-cons x (take (suc p) xs), count-cons x (take p xs))
+
+pub counts_one_more : (xs : List Token) (p : ℕ) → count_by is_significant (take (p + 1) xs) ≤ count_by is_significant (take p xs) + 1
+counts_one_more xs p =
+    let e : suc p ≡ p + 1 = omega arith in
+    subst (λ n. count_by is_significant (take n xs) ≤ count_by is_significant (take p xs) + 1) e (counts_one xs p)
+
+-- the significant tokens before the place found for k
+module _ (xs : List Token) (k p : ℕ) (f : Fits xs) (l : k < count_by is_significant xs) (m : p ≤ length xs) (before : (i : ℕ) → i < p → nat_lt k (tot (take (i + 1) xs)).significant ≡ false) (at : p < length xs → IsTrue (nat_lt k (tot (take (p + 1) xs)).significant)) where
+  not_past : (n : ℕ) → n ≡ p → count_by is_significant (take n xs) ≤ k
+  not_past zero e = omega arith
+  not_past (suc n) e =
+      let same : n + 1 ≡ suc n = omega arith in
+      let here : (tot (take (n + 1) xs)).significant ≤ k = ltb-false _ _ (before n (omega arith)) in
+      subst (λ j. count_by is_significant (take j xs) ≤ k) same (subst (λ y. y ≤ k) (take_significant (n + 1) xs f) here)
+
+  pub significant_within : p < length xs
+  significant_within = elim (cases_lt p (length xs)) [
+    | inl lt ↦ lt
+    | inr ge ↦
+        let all : take p xs ≡ xs = take_all p xs ge in
+        let low : count_by is_significant xs ≤ k = subst (λ ys. count_by is_significant ys ≤ k) all (not_past p refl) in
+        absurd (omega arith)
+  ]
+
+  reached_here : k < count_by is_significant (take (p + 1) xs)
+  reached_here = subst (λ y. k < y) (take_significant (p + 1) xs f) (ltb-true _ _ (at significant_within))
+
+  pub significant_before : count_by is_significant (take p xs) ≡ k
+  significant_before = omega (arith, not_past p refl, reached_here, counts_one_more xs p)
+
+  pub significant_at : count_by is_significant (take (p + 1) xs) ≡ k + 1
+  significant_at = omega (arith, not_past p refl, reached_here, counts_one_more xs p)
+
+-- the characters of a longer front are more
+pub characters-mono : (xs : List Token) (a b : ℕ) → a ≤ b → characters (take a xs) ≤ characters (take b xs)
+characters-mono xs a b l = subst (λ ys. characters ys ≤ characters (take b xs)) (take-take a b xs l) (sum_by-take-le (λ x. x.length) (take b xs) a)
+
+step_more : (xs : List Token) (j : ℕ) → All (λ x. 1 ≤ x.length) xs → j < length xs → characters (take j xs) + 1 ≤ characters (take (suc j) xs)
+step_more [] j h l = absurd (omega arith)
+step_more (x ∷ xs) zero h l = let first : 1 ≤ x.length = All-head (λ x. 1 ≤ x.length) x xs h in omega (arith, characters-cons x [])
+step_more (x ∷ xs) (suc j) h l =
+    let rest : characters (take j xs) + 1 ≤ characters (take (suc j) xs) = step_more xs j (All-tail (λ x. 1 ≤ x.length) x xs h) (omega arith) in
+    omega (arith, characters-cons x (take (suc j) xs), characters-cons x (take j xs))
+
+pub characters-step : (xs : List Token) (j : ℕ) → All (λ x. 1 ≤ x.length) xs → j < length xs → characters (take j xs) + 1 ≤ characters (take (j + 1) xs)
+characters-step xs j h l =
+    let e : suc j ≡ j + 1 = omega arith in
+    subst (λ n. characters (take j xs) + 1 ≤ characters (take n xs)) e (step_more xs j h l)
+
+-- no token starts at an offset that the place found for it doesn't have
+pub no_start : (xs : List Token) (o p : ℕ) → Fits xs → p ≤ length xs
+    → ((k : ℕ) → k < p → nat_lt o (tot (take (k + 1) xs)).characters ≡ false) → (p < length xs → IsTrue (nat_lt o (tot (take (p + 1) xs)).characters))
+    → characters (take p xs) ≢ o → (j : ℕ) → j ≤ length xs → characters (take j xs) ≢ o
+no_start xs o p f m before at ne j l e = go (cases_lt j p) (cases_lt p j)
+  where
+    go : (j < p) ⊎ (p ≤ j) → (p < j) ⊎ (j ≤ p) → ⊥
+    go (inl lt) _ =
+        let low : (tot (take (j + 1) xs)).characters ≤ o = ltb-false _ _ (before j lt) in
+        let is : (tot (take (j + 1) xs)).characters ≡ characters (take (j + 1) xs) = take_characters (j + 1) xs f in
+        let more : characters (take j xs) + 1 ≤ characters (take (j + 1) xs) = characters-step xs j f.nonempty (omega arith) in
+        absurd (omega (arith, low, is, more, e))
+    go (inr _) (inl lt) =
+        let high : o < (tot (take (p + 1) xs)).characters = ltb-true _ _ (at (omega arith)) in
+        let is : (tot (take (p + 1) xs)).characters ≡ characters (take (p + 1) xs) = take_characters (p + 1) xs f in
+        let mono : characters (take (p + 1) xs) ≤ characters (take j xs) = characters-mono xs (p + 1) j (omega arith) in
+        absurd (omega (arith, high, is, mono, e))
+    go (inr a) (inr b) = let same : p ≡ j = omega arith in ne (subst (λ n. characters (take n xs) ≡ o) (sym same) e)
+
+pub significant-mono : (xs : List Token) (a b : ℕ) → a ≤ b → count_by is_significant (take a xs) ≤ count_by is_significant (take b xs)
+significant-mono xs a b l = subst (λ ys. count_by is_significant ys ≤ count_by is_significant (take b xs)) (take-take a b xs l) (sum_by-take-le (λ x. if is_significant x then 1 else 0) (take b xs) a)
+
+pub significant-take-le : (xs : List Token) (a : ℕ) → count_by is_significant (take a xs) ≤ count_by is_significant xs
+significant-take-le xs a = sum_by-take-le (λ x. if is_significant x then 1 else 0) xs a

@@ -1,0 +1,145 @@
+use Rattle.std.proofs.Common.{arith, sym, ap, subst, ◌≡◌, ◌∙◌, ℕ, ◌≤◌, ◌^◌, List, ◌++◌, length, take, drop, length-append, length-drop}
+use Rattle.std.proofs.lemmas.List.{length-take, append_assoc}
+use Rattle.definitions.specs.TokenEdits.{front, splice, made as made_by}
+use Rattle.lexer.specs.declared.sums.Token.{Token}
+use Rattle.lexer.specs.Tokens.{characters, Fits, AreTokensOf}
+use Rattle.lexer.specs.Rescans.{plain_all, change, significant_kinds, IsEdited, IsRemade, AreRescanned}
+use Rattle.lexer.proofs.Totals.{few}
+use Rattle.lexer.proofs.Rescanned.{front_to, remade_tokens, remade_marked, remade_kept, remade_fits, scanned_is, spliced}
+use Rattle.lexer.proofs.tokens.Tokens.rescan.Goals as goal
+
+listed : (xs slots made : List Token) (n m to : ℕ) (new : List Token) → new ≡ (take n xs ++ slots) ++ drop to xs → n ≡ m → slots ≡ made → new ≡ take m xs ++ (made ++ drop to xs)
+listed xs slots made n m to new e f s =
+    e ∙ ap (λ k. (take k xs ++ slots) ++ drop to xs) f ∙ ap (λ ys. (take m xs ++ ys) ++ drop to xs) s ∙ append_assoc (take m xs) made (drop to xs)
+
+pub remake-requires-clause-front : goal.remake-requires-clause-front
+remake-requires-clause-front g c =
+    let xs = c.self.inside.items in
+    let e = c.args.edit in
+    let rules = c.args.grammar.now.patterns in
+    let skips = c.args.grammar.now.skips in
+    let u = g.S.Source.text c.args.source.now in
+    let h : IsEdited rules skips e xs u = subst (λ d. IsEdited rules skips e d.items u) (sym c.self.view_is) c.requires.edited in
+    c.kept_front-front.ensures.end ∙ ap (λ n. characters (take n xs)) (c.kept_front-front.ensures.front rules h.text h.tokens.tokens)
+
+pub splice_of-splice-requires-clause-ordered : goal.splice_of-splice-requires-clause-ordered
+splice_of-splice-requires-clause-ordered g c =
+    let xs = c.self.inside.items in
+    let e = c.args.edit in
+    let rules = c.args.grammar.now.patterns in
+    let skips = c.args.grammar.now.skips in
+    let u = g.S.Source.text c.args.source.now in
+    let made = c.in_ok-made.made.items in
+    let to = c.in_ok-made.to in
+    let h : IsEdited rules skips e xs u = subst (λ d. IsEdited rules skips e d.items u) (sym c.self.view_is) c.requires.edited in
+    let r : IsRemade rules skips e xs u made to = c.in_ok-made.ensures in
+    let place : c.kept_front-front.result.0 ≡ front e (plain_all xs) = c.kept_front-front.ensures.front rules h.text h.tokens.tokens in
+    omega (arith, place, front_to rules skips e xs u h made to r c.self.invariant)
+
+pub replace-requires-clause-ordered : goal.replace-requires-clause-ordered
+replace-requires-clause-ordered g c =
+    let xs = c.self.inside.items in
+    let e = c.args.edit in
+    let rules = c.args.grammar.now.patterns in
+    let skips = c.args.grammar.now.skips in
+    let u = g.S.Source.text c.args.source.now in
+    let made = c.in_ok-made.made.items in
+    let to = c.in_ok-made.to in
+    let h : IsEdited rules skips e xs u = subst (λ d. IsEdited rules skips e d.items u) (sym c.self.view_is) c.requires.edited in
+    let r : IsRemade rules skips e xs u made to = c.in_ok-made.ensures in
+    let place : c.kept_front-front.result.0 ≡ front e (plain_all xs) = c.kept_front-front.ensures.front rules h.text h.tokens.tokens in
+    omega (arith, place, front_to rules skips e xs u h made to r c.self.invariant)
+
+pub replace-requires-clause-fits : goal.replace-requires-clause-fits
+replace-requires-clause-fits g c =
+    let xs = c.self.inside.items in
+    let e = c.args.edit in
+    let rules = c.args.grammar.now.patterns in
+    let skips = c.args.grammar.now.skips in
+    let u = g.S.Source.text c.args.source.now in
+    let made = c.in_ok-made.made.items in
+    let to = c.in_ok-made.to in
+    let h : IsEdited rules skips e xs u = subst (λ d. IsEdited rules skips e d.items u) (sym c.self.view_is) c.requires.edited in
+    let r : IsRemade rules skips e xs u made to = c.in_ok-made.ensures in
+    let place : c.kept_front-front.result.0 ≡ front e (plain_all xs) = c.kept_front-front.ensures.front rules h.text h.tokens.tokens in
+    let ordered : front e (plain_all xs) ≤ to = front_to rules skips e xs u h made to r c.self.invariant in
+    let slots : c.in_ok-slots.slots ≡ made = c.in_ok-slots.ensures in
+    let n : length (take (front e (plain_all xs)) xs ++ (made ++ drop to xs)) ≤ 2 ^ 32 = few (take (front e (plain_all xs)) xs ++ (made ++ drop to xs)) (remade_fits rules skips e xs u h made to r c.self.invariant c.requires.small) in
+    omega (arith, n, place, ordered, r.within, ap length slots, length-append (take (front e (plain_all xs)) xs) (made ++ drop to xs), length-append made (drop to xs), length-take (front e (plain_all xs)) xs, length-drop to xs)
+
+pub invariant_of-self : goal.invariant_of-self
+invariant_of-self g c =
+    let xs = c.self.inside.items in
+    let e = c.args.edit in
+    let rules = c.args.grammar.now.patterns in
+    let skips = c.args.grammar.now.skips in
+    let u = g.S.Source.text c.args.source.now in
+    let made = c.in_ok-made.made.items in
+    let to = c.in_ok-made.to in
+    let h : IsEdited rules skips e xs u = subst (λ d. IsEdited rules skips e d.items u) (sym c.self.view_is) c.requires.edited in
+    let r : IsRemade rules skips e xs u made to = c.in_ok-made.ensures in
+    let place : c.kept_front-front.result.0 ≡ front e (plain_all xs) = c.kept_front-front.ensures.front rules h.text h.tokens.tokens in
+    let list : c.replace.new.self ≡ take (front e (plain_all xs)) xs ++ (made ++ drop to xs) = listed xs c.in_ok-slots.slots made c.kept_front-front.result.0 (front e (plain_all xs)) to c.replace.new.self c.replace.ensures.list place c.in_ok-slots.ensures in
+    subst Fits (sym list) (remade_fits rules skips e xs u h made to r c.self.invariant c.requires.small)
+
+pub returns-clause-tokens : goal.returns-clause-tokens
+returns-clause-tokens g c =
+    let xs = c.self.inside.items in
+    let e = c.args.edit in
+    let rules = c.args.grammar.now.patterns in
+    let skips = c.args.grammar.now.skips in
+    let u = g.S.Source.text c.args.source.now in
+    let made = c.in_ok-made.made.items in
+    let to = c.in_ok-made.to in
+    let h : IsEdited rules skips e xs u = subst (λ d. IsEdited rules skips e d.items u) (sym c.self.view_is) c.requires.edited in
+    let r : IsRemade rules skips e xs u made to = c.in_ok-made.ensures in
+    let place : c.kept_front-front.result.0 ≡ front e (plain_all xs) = c.kept_front-front.ensures.front rules h.text h.tokens.tokens in
+    let list : c.replace.new.self ≡ take (front e (plain_all xs)) xs ++ (made ++ drop to xs) = listed xs c.in_ok-slots.slots made c.kept_front-front.result.0 (front e (plain_all xs)) to c.replace.new.self c.replace.ensures.list place c.in_ok-slots.ensures in
+    subst (λ ys. AreTokensOf rules skips u ys) (sym list) (record { tokens = remade_tokens rules skips e xs u h made to r; marked = remade_marked rules skips e xs u h made to r })
+
+pub returns-clause-kept : goal.returns-clause-kept
+returns-clause-kept g c =
+    let xs = c.self.inside.items in
+    let e = c.args.edit in
+    let rules = c.args.grammar.now.patterns in
+    let skips = c.args.grammar.now.skips in
+    let u = g.S.Source.text c.args.source.now in
+    let made = c.in_ok-made.made.items in
+    let to = c.in_ok-made.to in
+    let h : IsEdited rules skips e xs u = subst (λ d. IsEdited rules skips e d.items u) (sym c.self.view_is) c.requires.edited in
+    let r : IsRemade rules skips e xs u made to = c.in_ok-made.ensures in
+    let place : c.kept_front-front.result.0 ≡ front e (plain_all xs) = c.kept_front-front.ensures.front rules h.text h.tokens.tokens in
+    let list : c.replace.new.self ≡ take (front e (plain_all xs)) xs ++ (made ++ drop to xs) = listed xs c.in_ok-slots.slots made c.kept_front-front.result.0 (front e (plain_all xs)) to c.replace.new.self c.replace.ensures.list place c.in_ok-slots.ensures in
+    subst (λ ys. AreRescanned e c.args.self.now.items ys) (sym list) (subst (λ d. AreRescanned e d.items (take (front e (plain_all xs)) xs ++ (made ++ drop to xs))) c.self.view_is (remade_kept rules skips e xs u h made to r))
+
+pub returns-clause-splice : goal.returns-clause-splice
+returns-clause-splice g c =
+    let xs = c.self.inside.items in
+    let e = c.args.edit in
+    let rules = c.args.grammar.now.patterns in
+    let skips = c.args.grammar.now.skips in
+    let u = g.S.Source.text c.args.source.now in
+    let made = c.in_ok-made.made.items in
+    let to = c.in_ok-made.to in
+    let h : IsEdited rules skips e xs u = subst (λ d. IsEdited rules skips e d.items u) (sym c.self.view_is) c.requires.edited in
+    let r : IsRemade rules skips e xs u made to = c.in_ok-made.ensures in
+    let place : c.kept_front-front.result.0 ≡ front e (plain_all xs) = c.kept_front-front.ensures.front rules h.text h.tokens.tokens in
+    let list : c.replace.new.self ≡ take (front e (plain_all xs)) xs ++ (made ++ drop to xs) = listed xs c.in_ok-slots.slots made c.kept_front-front.result.0 (front e (plain_all xs)) to c.replace.new.self c.replace.ensures.list place c.in_ok-slots.ensures in
+    c.splice_of-splice.ensures ∙ ap (λ n. change xs n to c.in_ok-kinds.kinds.items) place ∙ ap (change xs (front e (plain_all xs)) to) (c.in_ok-kinds.ensures ∙ ap significant_kinds c.deref.ensures.value)
+    ∙ spliced rules skips e xs u h made to r c.self.invariant
+    ∙ ap (λ ys. splice skips e (plain_all xs) (plain_all ys)) (sym list) ∙ ap (λ d. splice skips e (plain_all d.items) (plain_all c.replace.new.self)) c.self.view_is
+
+pub returns-clause-scanned : goal.returns-clause-scanned
+returns-clause-scanned g c =
+    let xs = c.self.inside.items in
+    let e = c.args.edit in
+    let rules = c.args.grammar.now.patterns in
+    let skips = c.args.grammar.now.skips in
+    let u = g.S.Source.text c.args.source.now in
+    let made = c.in_ok-made.made.items in
+    let to = c.in_ok-made.to in
+    let h : IsEdited rules skips e xs u = subst (λ d. IsEdited rules skips e d.items u) (sym c.self.view_is) c.requires.edited in
+    let r : IsRemade rules skips e xs u made to = c.in_ok-made.ensures in
+    let place : c.kept_front-front.result.0 ≡ front e (plain_all xs) = c.kept_front-front.ensures.front rules h.text h.tokens.tokens in
+    let list : c.replace.new.self ≡ take (front e (plain_all xs)) xs ++ (made ++ drop to xs) = listed xs c.in_ok-slots.slots made c.kept_front-front.result.0 (front e (plain_all xs)) to c.replace.new.self c.replace.ensures.list place c.in_ok-slots.ensures in
+    c.len-self-inside.ensures ∙ ap length c.in_ok-slots.ensures ∙ subst (λ ys. length made ≡ length (made_by e (plain_all c.args.self.now.items) (plain_all ys))) (sym list) (subst (λ d. length made ≡ length (made_by e (plain_all d.items) (plain_all (take (front e (plain_all xs)) xs ++ (made ++ drop to xs))))) c.self.view_is (scanned_is rules skips e xs u h made to r))

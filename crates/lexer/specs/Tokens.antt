@@ -1,0 +1,32 @@
+-- What the stored tokens stand for.
+use Rattle.std.specs.Prelude.{◌≡◌, ℕ, ◌≤◌, ◌^◌, Bool, not, List, map, sum_by, All}
+use Rattle.definitions.specs.declared.expression.Expression.{Expression}
+use Rattle.definitions.specs.Tokens.{Token as PlainToken, AreTokens, is_skipped}
+use Rattle.lexer.specs.declared.sums.Token.{Token}
+
+-- a token without its stamp and mark
+abbrev pub plain : Token → PlainToken
+plain x = record { kind = x.kind; length = x.length; reach = x.reach }
+
+abbrev pub is_significant : Token → Bool
+is_significant x = not x.skipped
+
+-- the tokens, and how many of them the last change made
+pub record Stored : Type 0 where
+  pub items : List Token
+  pub scanned : ℕ
+
+-- the tokens of the text t, marked where their kind is skipped
+pub record AreTokensOf (rules : List Expression) (skips : List Bool) (t : List ℕ) (items : List Token) : Type 0 where
+  pub tokens : AreTokens rules t (map plain items)
+  pub marked : All (λ x. x.skipped ≡ is_skipped skips x.kind) items
+
+-- the characters of a list of tokens
+abbrev pub characters : List Token → ℕ
+characters items = sum_by (λ x. x.length) items
+
+-- sums of these tokens are exact
+pub record Fits (items : List Token) : Type 0 where
+  pub short : characters items ≤ 2 ^ 32
+  pub nonempty : All (λ x. 1 ≤ x.length) items
+  pub near : All (λ x. x.reach ≤ 2 ^ 32) items

@@ -1,0 +1,12 @@
+//! The tokens of a text by longest matches, and what an edit changes of them.
+#![tactic(auto)]
+
+mod sums;
+mod tokens;
+mod whole;
+
+pub use definitions::{Edit, Kind, KindSplice};
+pub use dfa::Source;
+pub use sums::{Sums, Token};
+pub use tokens::Tokens;
+pub use whole::Whole;

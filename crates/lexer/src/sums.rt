@@ -1,0 +1,150 @@
+//! Tokens, and what a list of them adds up to.
+use definitions::Kind;
+use seqtree::{Goal, Measured, Monoid};
+
+/// A token: its kind, its length and its reach in characters, whether it is skipped, and the number of the edit that
+/// made it.
+#[derive(Clone, Copy, Debug, PartialEq, Eq)]
+pub struct Token {
+    pub kind: Kind,
+    pub length: usize,
+    pub reach: usize,
+    pub skipped: bool,
+    pub born: u64,
+}
+
+/// How many tokens there are, how many of them are significant, how many characters they have, and the greatest sum of
+/// a start and a reach, which is 0 for no token.
+#[derive(Clone, Copy, Debug, PartialEq, Eq)]
+pub struct Sums {
+    pub count: usize,
+    pub significant: usize,
+    pub characters: usize,
+    pub end: usize,
+}
+
+impl Monoid for Sums {
+    ghost use Rattle.lexer.specs.Sums.{no_tokens, joined};
+    ghost use Rattle.lexer.specs.Laws.{sums_laws};
+
+    ghost empty = { no_tokens };
+
+    ghost op = { joined };
+
+    ghost laws = { sums_laws };
+
+    fn zero() -> Sums {
+        Sums {
+            count: 0,
+            significant: 0,
+            characters: 0,
+            end: 0,
+        }
+    }
+
+    fn join(&self, other: &Sums) -> Sums {
+        Sums {
+            count: self.count.saturating_add(other.count),
+            significant: self.significant.saturating_add(other.significant),
+            characters: self.characters.saturating_add(other.characters),
+            end: if other.end == 0 {
+                self.end
+            } else {
+                self.end.max(self.characters.saturating_add(other.end))
+            },
+        }
+    }
+}
+
+impl Measured for Token {
+    ghost use Rattle.lexer.specs.Sums.{token_sum};
+
+    type Sum = Sums;
+
+    ghost measure = { token_sum };
+
+    fn sum(&self) -> Sums {
+        Sums {
+            count: 1,
+            significant: if self.skipped { 0 } else { 1 },
+            characters: self.length,
+            end: self.reach,
+        }
+    }
+}
+
+/// Looks for the token behind this many.
+#[derive(Clone, Copy, Debug, PartialEq, Eq)]
+pub struct AfterCount {
+    pub count: usize,
+}
+
+impl Goal<Sums> for AfterCount {
+    ghost use Rattle.lexer.specs.Sums.{is_after_count};
+    ghost use Rattle.lexer.specs.Laws.{after_count_stays};
+
+    ghost reaches = { is_after_count };
+
+    ghost stays = { after_count_stays };
+
+    fn reached(&self, sum: &Sums) -> bool {
+        self.count < sum.count
+    }
+}
+
+/// Looks for the significant token behind this many significant ones.
+#[derive(Clone, Copy, Debug, PartialEq, Eq)]
+pub struct AfterSignificant {
+    pub count: usize,
+}
+
+impl Goal<Sums> for AfterSignificant {
+    ghost use Rattle.lexer.specs.Sums.{is_after_significant};
+    ghost use Rattle.lexer.specs.Laws.{after_significant_stays};
+
+    ghost reaches = { is_after_significant };
+
+    ghost stays = { after_significant_stays };
+
+    fn reached(&self, sum: &Sums) -> bool {
+        self.count < sum.significant
+    }
+}
+
+/// Looks for the token that holds the character at this offset.
+#[derive(Clone, Copy, Debug, PartialEq, Eq)]
+pub struct AfterCharacter {
+    pub offset: usize,
+}
+
+impl Goal<Sums> for AfterCharacter {
+    ghost use Rattle.lexer.specs.Sums.{is_after_character};
+    ghost use Rattle.lexer.specs.Laws.{after_character_stays};
+
+    ghost reaches = { is_after_character };
+
+    ghost stays = { after_character_stays };
+
+    fn reached(&self, sum: &Sums) -> bool {
+        self.offset < sum.characters
+    }
+}
+
+/// Looks for the first token whose reach goes past this offset.
+#[derive(Clone, Copy, Debug, PartialEq, Eq)]
+pub struct ReachesPast {
+    pub offset: usize,
+}
+
+impl Goal<Sums> for ReachesPast {
+    ghost use Rattle.lexer.specs.Sums.{reaches_past};
+    ghost use Rattle.lexer.specs.Laws.{reaches_past_stays};
+
+    ghost reaches = { reaches_past };
+
+    ghost stays = { reaches_past_stays };
+
+    fn reached(&self, sum: &Sums) -> bool {
+        self.offset < sum.end
+    }
+}

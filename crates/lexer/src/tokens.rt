@@ -1,0 +1,362 @@
+//! The list of the tokens of a text, and its change by an edit.
+ghost use Rattle.std.specs.Prelude.{◌≡◌, ◌≢◌, ℕ, ◌+◌, ◌-◌, ◌<◌, ◌≤◌, ◌^◌, Bool, true, false, List, [], ◌∷◌, ◌++◌, length, map, take, drop, count_by, filter, slice_get, slice_index_or, option_copied, IfOk, OnErr, MatchOption, All};
+ghost use Rattle.definitions.specs.declared.expression.Expression.{Expression};
+ghost use Rattle.definitions.specs.Text.{IsText};
+ghost use Rattle.definitions.specs.Tokens.{IsToken, AreTokens, is_skipped};
+ghost use Rattle.dfa.specs.Table.{IsAutomaton, kind_of};
+ghost use Rattle.dfa.specs.Windows.{IsWithinReach};
+ghost use Rattle.definitions.specs.TokenEdits.{front, is_rejoined, rejoin, made, splice, same_kind, same_kinds};
+ghost use Rattle.definitions.specs.declared.Kind.TheVariants.{Invalid};
+ghost use Rattle.lexer.specs.Tokens.{plain, is_significant, characters, Fits, AreTokensOf};
+ghost use Rattle.lexer.specs.Rescans.{plain_all, front_end, significant_kinds, IsEdited, IsNeeded, IsRemade, AreRescanned, plain_splice, change};
+
+use crate::sums::{AfterCharacter, AfterCount, AfterSignificant, ReachesPast, Token};
+use definitions::{Edit, Kind, KindSplice};
+use dfa::{Automaton, Source};
+use grammar::Grammar;
+use seqtree::{Seq, Slots};
+use std::alloc::{AllocError, Global};
+use std::marker::Model;
+
+/// The tokens of a text.
+#[derive(Drop)]
+pub struct Tokens {
+    items: Seq<Token>,
+    scanned: usize,
+}
+
+impl Model for Tokens {
+    ghost use Rattle.lexer.specs.Tokens.{Stored, Fits};
+
+    ghost Value = { Stored };
+
+    ghost view = { λ a. record { items = a.items; scanned = a.scanned } };
+
+    ghost invariant = { λ a. Fits a.items };
+}
+
+/// The kind of a token that matches this rule, or none.
+fn kind_of(rule: Option<usize>) -> Kind
+    ensures { result ≡ kind_of rule }
+{
+    match rule {
+        Some(k) => Kind::Rule(k),
+        None => Kind::Invalid,
+    }
+}
+
+/// The token that starts at this offset.
+fn token_at<S: Source>(
+    grammar: &Grammar,
+    automaton: &Automaton,
+    source: &S,
+    at: usize,
+    born: u64,
+) -> Token
+    requires sound { IsAutomaton grammar.now.patterns automaton.now }
+    requires text { IsText (S.text source.now) }
+    requires small { length (S.text source.now) ≤ 1048576 }
+    requires within { at < length (S.text source.now) }
+    requires window { (i : ℕ) → IsWithinReach grammar.now.patterns (S.text source.now) at i → S.in_window source.now i }
+    ensures token { IsToken grammar.now.patterns (drop at (S.text source.now)) (plain result) }
+    ensures marked { result.skipped ≡ is_skipped grammar.now.skips result.kind }
+    ensures born { result.born ≡ born }
+    ensures inside { at + result.length ≤ length (S.text source.now) }
+    ensures nonempty { 1 ≤ result.length }
+    ensures near { result.reach ≤ 1048577 }
+{
+    let found = automaton.longest(source, at);
+    let kind = kind_of(found.rule);
+    Token {
+        kind,
+        length: found.length,
+        reach: found.reach,
+        skipped: grammar.is_skipped(kind),
+        born,
+    }
+}
+
+impl Tokens {
+    /// All tokens of a text, made by edit 0.
+    pub fn scan<S: Source>(
+        alloc: Global,
+        grammar: &Grammar,
+        automaton: &Automaton,
+        source: &S,
+    ) -> Result<Tokens, AllocError>
+        requires sound { IsAutomaton grammar.now.patterns automaton.now }
+        requires text { IsText (S.text source.now) }
+        requires small { length (S.text source.now) ≤ 1048576 }
+        requires window { (i : ℕ) → i < length (S.text source.now) → S.in_window source.now i }
+        ensures tokens { IfOk result (λ r. AreTokensOf grammar.now.patterns grammar.now.skips (S.text source.now) r.items) }
+        ensures born { IfOk result (λ r. All (λ x. x.born ≡ 0) r.items) }
+        ensures scanned { IfOk result (λ r. r.scanned ≡ length r.items) }
+    {
+        let mut items = Vec::new(alloc);
+        let mut at = 0;
+        while at < source.len() {
+            let token = token_at(grammar, automaton, source, at, 0);
+            items.push(token)?;
+            at += token.length;
+        }
+        let scanned = items.len();
+        let slots = Slots::make(alloc, items)?;
+        let mut list = Seq::new();
+        list.replace(0, 0, slots);
+        Ok(Tokens {
+            items: list,
+            scanned,
+        })
+    }
+
+    /// How many tokens there are.
+    pub fn count(&self) -> usize
+        ensures { result ≡ length self.now.items }
+    {
+        self.items.len()
+    }
+
+    /// How many of them are significant.
+    pub fn significant(&self) -> usize
+        ensures { result ≡ count_by is_significant self.now.items }
+    {
+        self.items.total().significant
+    }
+
+    /// The token at this place among all.
+    pub fn token(&self, i: usize) -> Option<&Token>
+        ensures { option_copied result ≡ slice_get self.now.items i }
+    {
+        self.items.get(i)
+    }
+
+    /// The offset at which the token at this place among all starts.
+    pub fn start_of(&self, i: usize) -> usize
+        requires { i < length self.now.items }
+        ensures { result ≡ characters (take i self.now.items) }
+    {
+        let (_, before) = self.items.locate(&AfterCount { count: i });
+        before.characters
+    }
+
+    /// The place among all of the k-th significant token.
+    pub fn place(&self, k: usize) -> usize
+        requires { k < count_by is_significant self.now.items }
+        ensures before { count_by is_significant (take result self.now.items) ≡ k }
+        ensures at { count_by is_significant (take (result + 1) self.now.items) ≡ k + 1 }
+        ensures within { result < length self.now.items }
+    {
+        let (place, _) = self.items.locate(&AfterSignificant { count: k });
+        place
+    }
+
+    /// How many tokens the last scan or rescan made.
+    pub fn scanned(&self) -> usize
+        ensures { result ≡ self.now.scanned }
+    {
+        self.scanned
+    }
+
+    /// All tokens.
+    pub fn items(&self) -> &Seq<Token>
+        ensures { result.now ≡ self.now.items }
+    {
+        &self.items
+    }
+
+    /// Brings the tokens to the text after an edit: keeps those whose reach the edit leaves alone, makes the others with
+    /// the edit's number, and answers how the list of the significant kinds changes. After a refusal nothing has
+    /// changed.
+    pub fn rescan<S: Source>(
+        &mut self,
+        alloc: Global,
+        grammar: &Grammar,
+        automaton: &Automaton,
+        source: &S,
+        edit: Edit,
+    ) -> Result<KindSplice, AllocError>
+        requires sound { IsAutomaton grammar.now.patterns automaton.now }
+        requires text { IsText (S.text source.now) }
+        requires small { length (S.text source.now) ≤ 1048576 }
+        requires edited { IsEdited grammar.now.patterns grammar.now.skips edit self.old.items (S.text source.now) }
+        requires window { (i : ℕ) → IsNeeded grammar.now.patterns edit self.old.items (S.text source.now) i → S.in_window source.now i }
+        ensures tokens { IfOk result (λ _. AreTokensOf grammar.now.patterns grammar.now.skips (S.text source.now) self.new.items) }
+        ensures kept { IfOk result (λ _. AreRescanned edit self.old.items self.new.items) }
+        ensures splice { IfOk result (λ s. plain_splice s ≡ splice grammar.now.skips edit (plain_all self.old.items) (plain_all self.new.items)) }
+        ensures scanned { IfOk result (λ _. self.new.scanned ≡ length (made edit (plain_all self.old.items) (plain_all self.new.items))) }
+        ensures err { OnErr result (self.new ≡ self.old) }
+    {
+        let (front, end) = kept_front(&self.items, edit);
+        let (made, to) = remake(alloc, &self.items, grammar, automaton, source, edit, end)?;
+        let kinds = kinds_of(alloc, &made)?;
+        let slots = Slots::make(alloc, made)?;
+        let splice = splice_of(&self.items, front, to, kinds);
+        self.scanned = slots.len();
+        self.items.replace(front, to, slots);
+        Ok(splice)
+    }
+}
+
+/// How many tokens the edit keeps in front, and the offset behind them.
+fn kept_front(items: &Seq<Token>, edit: Edit) -> (usize, usize)
+    requires { Fits items.now }
+    ensures front { (rules : List Expression) (t : List ℕ) → AreTokens rules t (plain_all items.now) → result.0 ≡ front edit (plain_all items.now) }
+    ensures end { result.1 ≡ characters (take result.0 items.now) }
+    ensures within { result.0 ≤ length items.now }
+{
+    let (front, before) = items.locate(&ReachesPast { offset: edit.at });
+    (front, before.characters)
+}
+
+/// The old token that starts at this offset, or the count of tokens at the end of the text.
+fn place_at(items: &Seq<Token>, offset: usize) -> Option<usize>
+    requires { Fits items.now }
+    ensures { MatchOption result ((j : ℕ) → j ≤ length items.now → characters (take j items.now) ≢ offset) (λ j. (j ≤ length items.now) × (characters (take j items.now) ≡ offset)) }
+{
+    let (place, before) = items.locate(&AfterCharacter { offset });
+    if before.characters == offset {
+        Some(place)
+    } else {
+        None
+    }
+}
+
+/// Where offset `at` of the new text lies behind what was inserted and an old token started there: its place.
+fn rejoined(items: &Seq<Token>, edit: Edit, at: usize) -> Option<usize>
+    requires fits { Fits items.now }
+    requires inserted { edit.inserted ≤ 1048576 }
+    requires removed { edit.at + edit.removed ≤ 2 ^ 32 }
+    requires small { at ≤ 1048576 }
+    ensures { MatchOption result (is_rejoined edit (plain_all items.now) at ≡ false) (λ j. (is_rejoined edit (plain_all items.now) at ≡ true) × (j ≤ length items.now) × (characters (take j items.now) + edit.inserted ≡ at + edit.removed)) }
+{
+    if at < edit.at + edit.inserted {
+        return None;
+    }
+    place_at(items, at - edit.inserted + edit.removed)
+}
+
+/// The tokens from an offset to the place of rejoining, and the place of the first old token behind it.
+fn remake<S: Source>(
+    alloc: Global,
+    items: &Seq<Token>,
+    grammar: &Grammar,
+    automaton: &Automaton,
+    source: &S,
+    edit: Edit,
+    from: usize,
+) -> Result<(Vec<Token>, usize), AllocError>
+    requires sound { IsAutomaton grammar.now.patterns automaton.now }
+    requires text { IsText (S.text source.now) }
+    requires small { length (S.text source.now) ≤ 1048576 }
+    requires fits { Fits items.now }
+    requires edited { IsEdited grammar.now.patterns grammar.now.skips edit items.now (S.text source.now) }
+    requires window { (i : ℕ) → IsNeeded grammar.now.patterns edit items.now (S.text source.now) i → S.in_window source.now i }
+    requires front { from ≡ front_end edit items.now }
+    ensures { IfOk result (λ r. IsRemade grammar.now.patterns grammar.now.skips edit items.now (S.text source.now) r.0.items r.1) }
+{
+    let mut made = Vec::new(alloc);
+    let mut at = from;
+    while at < source.len() {
+        if let Some(to) = rejoined(items, edit, at) {
+            return Ok((made, to));
+        }
+        let token = token_at(grammar, automaton, source, at, edit.number);
+        made.push(token)?;
+        at += token.length;
+    }
+    Ok((made, items.len()))
+}
+
+/// The kinds of the significant ones of these tokens.
+fn kinds_of(alloc: Global, tokens: &[Token]) -> Result<Vec<Kind>, AllocError>
+    ensures { IfOk result (λ v. v.items ≡ significant_kinds tokens.now) }
+{
+    let mut kinds = Vec::new(alloc);
+    for token in tokens {
+        if !token.skipped {
+            kinds.push(token.kind)?;
+        }
+    }
+    Ok(kinds)
+}
+
+/// How many of the tokens before a place are significant.
+fn significant_before(items: &Seq<Token>, place: usize) -> usize
+    requires fits { Fits items.now }
+    requires within { place ≤ length items.now }
+    ensures { result ≡ count_by is_significant (take place items.now) }
+{
+    let (_, before) = items.locate(&AfterCount { count: place });
+    before.significant
+}
+
+fn is_same(a: Kind, b: Kind) -> bool
+    ensures { result ≡ same_kind a b }
+{
+    match (a, b) {
+        (Kind::Rule(j), Kind::Rule(k)) => j == k,
+        (Kind::Invalid, Kind::Invalid) => true,
+        _ => false,
+    }
+}
+
+/// Whether the significant token with this number has this kind.
+fn has_kind(items: &Seq<Token>, number: usize, kind: Kind) -> bool
+    requires fits { Fits items.now }
+    requires within { number < count_by is_significant items.now }
+    ensures { result ≡ same_kind (slice_index_or (significant_kinds items.now) number Invalid) kind }
+{
+    let (place, _) = items.locate(&AfterSignificant { count: number });
+    match items.get(place) {
+        Some(token) => is_same(token.kind, kind),
+        None => false,
+    }
+}
+
+/// Whether the significant tokens from the one with this number on have these kinds.
+fn has_kinds(items: &Seq<Token>, from: usize, kinds: &[Kind]) -> bool
+    requires fits { Fits items.now }
+    requires within { from + length kinds.now ≤ count_by is_significant items.now }
+    ensures { result ≡ same_kinds (take (length kinds.now) (drop from (significant_kinds items.now))) kinds.now }
+{
+    for (i, kind) in kinds.iter().enumerate() {
+        if !has_kind(items, from + i, *kind) {
+            return false;
+        }
+    }
+    true
+}
+
+/// Whether so many significant tokens from the one with this number on have these kinds, and there are as many.
+fn are_same(items: &Seq<Token>, from: usize, count: usize, kinds: &[Kind]) -> bool
+    requires fits { Fits items.now }
+    requires within { from + count ≤ count_by is_significant items.now }
+    ensures { result ≡ same_kinds (take count (drop from (significant_kinds items.now))) kinds.now }
+{
+    count == kinds.len() && has_kinds(items, from, kinds)
+}
+
+/// How the list of the significant kinds changes where the tokens from one place up to another give way to tokens of
+/// these kinds.
+fn splice_of(items: &Seq<Token>, front: usize, to: usize, mut kinds: Vec<Kind>) -> KindSplice
+    requires fits { Fits items.now }
+    requires ordered { front ≤ to }
+    requires within { to ≤ length items.now }
+    ensures { plain_splice result ≡ change items.now front to kinds.items }
+{
+    let from = significant_before(items, front);
+    let behind = significant_before(items, to);
+    if are_same(items, from, behind - from, &kinds) {
+        kinds.clear();
+        return KindSplice {
+            from,
+            to: from,
+            kinds,
+        };
+    }
+    KindSplice {
+        from,
+        to: behind,
+        kinds,
+    }
+}

@@ -1,0 +1,59 @@
+-- What the rows of tables say for a prefix.
+use Rattle.std.proofs.Common.{◌≡◌, ◌+◌, ◌<◌, ◌≤◌, ℕ, List, [], ◌∷◌, ◌++◌, Option, Some, None, MatchOption, slice_index_or, sym, subst, arith}
+use Rattle.definitions.specs.declared.Kind.TheVariants.{Rule as Token}
+use Rattle.definitions.specs.declared.Symbol.{Symbol}
+use Rattle.definitions.specs.declared.Symbol.TheVariants.{Rule as Terminal, Nonterminal}
+use Rattle.definitions.specs.Items.{Move as LrMove, HasMove, HasItem, kind_of}
+use Rattle.tables.specs.declared.decisions.Move.{Move}
+use Rattle.tables.specs.declared.decisions.Move.TheVariants.{Shift}
+use Rattle.tables.specs.declared.input.Item.{Item}
+use Rattle.tables.specs.Actions.{IsMoveAt}
+use Rattle.tables.specs.Collection.{kernel_at, IsStep}
+use Rattle.tables.specs.Input.{Shape}
+use Rattle.tables.specs.Rows.{look_in}
+use Rattle.tables.specs.States.{HasKernel}
+use Rattle.tables.specs.Tables.{Sets, IsStateOf, IsAction, AreTables}
+use Rattle.tables.proofs.Complete.{Stands, no_far_move, next_known}
+use Rattle.tables.proofs.Numbered.{symbol_of-number}
+
+module _ (g : Shape) (kernels : List (List Item)) (gotos : List (List (Option ℕ))) (actions : List (List (Option Move))) (t : AreTables g kernels gotos actions) where
+  abbrev pub seen : Sets
+  seen = record { grammar = g.grammar; kernels = kernels }
+
+  stands : (prefix : List Symbol) (s : ℕ) → IsStateOf seen prefix s → Stands g t.sound t.accepted.productive kernels t.known prefix
+  stands prefix s h = record { state = s; below = h.below; kernel = h.kernel }
+
+  module _ (prefix : List Symbol) (s : ℕ) (h : IsStateOf seen prefix s) where
+    -- what a place of the state's moves says
+    pub move_in_row : (k : ℕ) → k < g.grammar.rules + 1 → IsMoveAt g.grammar kernels prefix (look_in g.grammar k) (slice_index_or (slice_index_or actions s []) k None)
+    move_in_row k l = let m = t.moves s h.below in let n = m.filled in m.each k (omega (arith, l, n)) prefix h.kernel
+
+    pub is_action : (look : Option ℕ) (o : Option Move) → IsMoveAt g.grammar kernels prefix look o → IsAction g.grammar prefix (kind_of look) o
+    is_action look None x = x
+    is_action look (Some m) x = x.0.has
+
+    pub shift_state : (a to : ℕ) (o : Option Move) → IsMoveAt g.grammar kernels prefix (Some a) o → o ≡ Some (Shift to) → IsStateOf seen (prefix ++ (Terminal a ∷ [])) to
+    shift_state a to o x e =
+        let y = subst (IsMoveAt g.grammar kernels prefix (Some a)) e x in
+        let same : a ≡ y.1.0 = cc y.1.1 in
+        record { below = y.1.2; kernel = subst (λ n. HasKernel g.grammar (kernel_at kernels to) (prefix ++ (Terminal n ∷ []))) (sym same) y.1.3 }
+
+    -- a token rule that is none has no move
+    pub no_rule : (a : ℕ) → g.grammar.rules ≤ a → (m : LrMove) → HasMove g.grammar prefix (Some (Token a)) m → ⊥
+    no_rule a far = no_far_move g t.sound t.accepted.productive kernels t.known prefix (stands prefix s h) a far
+
+    goto_of : (n : ℕ) (o : Option ℕ) → IsStep g.grammar kernels s (Nonterminal n) o → MatchOption o (HasItem g.grammar (prefix ++ (Nonterminal n ∷ [])) → ⊥) (λ to. IsStateOf seen (prefix ++ (Nonterminal n ∷ [])) to)
+    goto_of n None x = x prefix h.kernel
+    goto_of n (Some to) x = record { below = x.0; kernel = x.1 prefix h.kernel }
+
+    -- where a nonterminal leads
+    pub goto_in_row : (n : ℕ) → n < g.nonterminals → MatchOption (slice_index_or (slice_index_or gotos s []) (g.grammar.rules + n) None) (HasItem g.grammar (prefix ++ (Nonterminal n ∷ [])) → ⊥) (λ to. IsStateOf seen (prefix ++ (Nonterminal n ∷ [])) to)
+    goto_in_row n l =
+        let r = t.rows s h.below in
+        let f = r.filled in
+        let o = slice_index_or (slice_index_or gotos s []) (g.grammar.rules + n) None in
+        goto_of n o (subst (λ y. IsStep g.grammar kernels s y o) (symbol_of-number g (Nonterminal n) l) (r.steps (g.grammar.rules + n) (omega (arith, f, l))))
+
+    -- and one that is none leads nowhere
+    pub no_nonterminal : (n : ℕ) → g.nonterminals ≤ n → HasItem g.grammar (prefix ++ (Nonterminal n ∷ [])) → ⊥
+    no_nonterminal n far has = let k = next_known g t.sound t.accepted.productive kernels t.known prefix (stands prefix s h) (Nonterminal n) has in absurd (omega (arith, k, far))

@@ -1,0 +1,54 @@
+-- The tables of all states.
+use Rattle.std.proofs.Common.{◌≡◌, ◌<◌, ◌≤◌, ℕ, [], None, MatchOption, length, slice_index_or, sym, ◌∙◌, subst, arith}
+use Rattle.definitions.specs.Sentences.{AllProductive}
+use Rattle.tables.specs.Actions.{AreMoves, AreAllMoves, IsClashAt, Made, AreMade}
+use Rattle.tables.specs.Collection.{IsRow, Found, AreStates}
+use Rattle.tables.specs.Input.{Shape, IsSound}
+use Rattle.tables.specs.States.{HasKernel}
+use Rattle.tables.specs.Tables.{AreTables}
+use Rattle.tables.proofs.Collected.{start_kernel}
+use Rattle.theory.proofs.Knuth.{lr1_no_conflict}
+use Rattle.tables.proofs.Complete.{no_conflict}
+use Rattle.tables.proofs.Counted.{no_more_sets}
+use Rattle.definitions.specs.Trees.{Grammar, HasDistinctProductions}
+use Rattle.definitions.specs.Items.{HasMoreSetsThan, kind_of}
+use Rattle.tables.specs.Sets.{item_of}
+use Rattle.tables.specs.declared.tables.TableFault.{TableFault}
+use Rattle.tables.specs.declared.tables.TableFault.TheVariants.{TooManySets, Conflict, Memory}
+use Rattle.tables.specs.Faults.{IsConflictOf, IsRight, RefutesLr1}
+
+pub tables_all : (g : Shape) → IsSound g → AllProductive g.grammar → (t : Found) → AreStates g t → (m : Made) → AreMade g t.kernels m → length m.rows ≡ length t.kernels → m.clash ≡ None → AreTables g t.kernels m.rows m.moves
+tables_all g sound productive t states m made all none =
+    let moves : AreAllMoves g.grammar t.kernels m = subst (λ o. MatchOption o (AreAllMoves g.grammar t.kernels m) (λ f. IsClashAt g t.kernels f)) none made.moves in
+    let filled = moves.filled in
+    let each_row : (s : ℕ) → s < length t.kernels → IsRow g t.kernels s (slice_index_or m.rows s []) = λ s l. made.rows s (omega (arith, l, all)) in
+    let each_moves : (s : ℕ) → s < length t.kernels → AreMoves g.grammar t.kernels s (slice_index_or m.moves s []) = λ s l. moves.each s (omega (arith, l, all, filled)) in
+    record {
+      sound = sound;
+      begins = states.begins;
+      start = subst (λ y. HasKernel g.grammar y []) (sym states.start) (start_kernel g.grammar);
+      known = λ s l. (states.ordered s l).known;
+      rows_filled = all;
+      rows = each_row;
+      moves_filled = filled ∙ all;
+      moves = each_moves;
+      accepted = record {
+        free = no_conflict g sound productive t.kernels (λ s l. (states.ordered s l).known) states.begins states.start (λ s. slice_index_or m.rows s []) each_row (λ s. slice_index_or m.moves s []) each_moves;
+        productive = productive;
+      };
+    }
+
+-- where all states have rows, there are no more sets than states
+pub few_sets : (g : Shape) → IsSound g → AllProductive g.grammar → (t : Found) → AreStates g t → (m : Made) → AreMade g t.kernels m → length m.rows ≡ length t.kernels → (limit : ℕ) → length m.rows ≤ limit → HasMoreSetsThan g.grammar limit → ⊥
+few_sets g sound productive t states m made all limit few =
+    no_more_sets g sound productive t.kernels (λ s l. (states.ordered s l).known) states.begins states.start (λ s. slice_index_or m.rows s []) (λ s l. made.rows s (omega (arith, l, all))) limit (omega (arith, few, all))
+
+pub conflict_right : (g : Grammar) (limit : ℕ) → (HasMoreSetsThan g limit → ⊥) → (f : TableFault) → IsConflictOf g f → IsRight g limit f
+conflict_right g limit few TooManySets h = absurd h
+conflict_right g limit few (Conflict c) h = (h, few)
+conflict_right g limit few Memory h = tt
+
+pub refutes : (g : Grammar) (limit : ℕ) → AllProductive g → HasDistinctProductions g → (f : TableFault) → IsRight g limit f → RefutesLr1 g f
+refutes g limit productive distinct TooManySets h = tt
+refutes g limit productive distinct (Conflict c) h = λ lr1. lr1_no_conflict g lr1 productive distinct c.prefix.items (kind_of c.look) (item_of g c.first) (item_of g c.second) h.0.conflict
+refutes g limit productive distinct Memory h = tt

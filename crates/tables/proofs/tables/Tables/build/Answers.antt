@@ -1,0 +1,25 @@
+use Rattle.std.proofs.lemmas.Result.{IfOk-weaker, IfErr-weaker}
+use Rattle.definitions.specs.Items.{HasNoConflict}
+use Rattle.definitions.specs.Derivations.{IsLr1}
+use Rattle.theory.specs.Laws.{HasOneTreeEach}
+use Rattle.theory.proofs.Knuth.{no_conflict_lr1}
+use Rattle.theory.proofs.OneTree.{one_tree_of_used}
+use Rattle.tables.specs.Faults.{IsRight, RefutesLr1}
+use Rattle.tables.proofs.Finishing.{refutes}
+use Rattle.tables.proofs.tables.Tables.build.Goals as goal
+
+pub returns : goal.returns
+returns c =
+    let g = c.in-Ok.input.grammar in
+    let e = c.in-Ok.ensures in
+    let t = c.tables_of.ensures in
+    let r = c.tables_of.result in
+    rw (← e.grammar) (record {
+      grammar = t.grammar;
+      free = t.free;
+      lr1 = IfOk-weaker r (λ x. HasNoConflict g) (λ x. IsLr1 g) (λ x free. no_conflict_lr1 g free) t.free;
+      one_tree = IfOk-weaker r (λ x. HasNoConflict g) (λ x. HasOneTreeEach g) (λ x free. one_tree_of_used g e.productive free) t.free;
+      few = t.few;
+      refused = t.refused;
+      refuted = IfErr-weaker r (IsRight g 8192) (RefutesLr1 g) (λ f h. refutes g 8192 e.productive e.distinct f h) t.refused;
+    })

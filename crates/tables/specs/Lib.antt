@@ -1,0 +1,13 @@
+pub mod First
+pub mod Input
+pub mod Sets
+pub mod States
+pub mod Moves
+pub mod Order
+pub mod Symbols
+pub mod Collection
+pub mod Rows
+pub mod Actions
+pub mod Reports
+pub mod Tables
+pub mod Faults

@@ -1,0 +1,28 @@
+-- What is told of a conflict.
+use Rattle.std.specs.Prelude.{◌≡◌, ◌≢◌, ◌<◌, ℕ, [], Option, Some, None}
+use Rattle.definitions.specs.Trees.{Grammar}
+use Rattle.definitions.specs.Items.{Item as LrItem, Move, CallsFor, kind_of, IsConflict}
+use Rattle.tables.specs.declared.conflict.Conflict.{Conflict}
+use Rattle.tables.specs.declared.decisions.Clash.{Clash}
+use Rattle.tables.specs.Sets.{item_of}
+
+-- one production comes before another, the added start production before all
+abbrev pub IsEarlier : Option ℕ → Option ℕ → Type 0
+IsEarlier None (Some q) = Unit {0}
+IsEarlier (Some p) (Some q) = p < q
+IsEarlier None None = ⊥
+IsEarlier (Some p) None = ⊥
+
+-- the first is at its end; where both are, its production is the earlier one
+pub record IsInOrder (one two : LrItem) : Type 0 where
+  pub at_end : one.after ≡ []
+  pub earlier : two.after ≡ [] → IsEarlier one.production two.production
+
+-- the two items call for different moves
+abbrev pub Differ : Grammar → Clash → Type 0
+Differ g c = (m : Move) × (n : Move) × CallsFor (item_of g c.one) (kind_of c.look) m × CallsFor (item_of g c.two) (kind_of c.look) n × (m ≢ n)
+
+-- what is told is a conflict, with its items in order
+pub record IsReport (g : Grammar) (c : Conflict) : Type 0 where
+  pub conflict : IsConflict g c.prefix.items (kind_of c.look) (item_of g c.first) (item_of g c.second)
+  pub order : IsInOrder (item_of g c.first) (item_of g c.second)

@@ -1,0 +1,46 @@
+-- What tables tell.
+use Rattle.std.specs.Prelude.{◌≡◌, ◌<◌, ℕ, List, [], Option, Some, None, length, slice_index_or, All}
+use Rattle.definitions.specs.declared.Kind.{Kind}
+use Rattle.definitions.specs.declared.Symbol.{Symbol}
+use Rattle.definitions.specs.Trees.{Grammar}
+use Rattle.definitions.specs.Sentences.{AllProductive}
+use Rattle.definitions.specs.Items.{Move as LrMove, HasMove, HasNoConflict}
+use Rattle.tables.specs.declared.decisions.Move.{Move}
+use Rattle.tables.specs.declared.input.Item.{Item}
+use Rattle.tables.specs.Actions.{plain, AreMoves}
+use Rattle.tables.specs.Collection.{kernel_at, IsRow}
+use Rattle.tables.specs.Input.{Shape, IsSound}
+use Rattle.tables.specs.Sets.{IsItem}
+use Rattle.tables.specs.States.{HasKernel}
+
+-- what callers see of tables: their grammar, and the kernel of the set of each state
+pub record Sets : Type 0 where
+  pub grammar : Grammar
+  pub kernels : List (List Item)
+
+-- state s stands for the prefix: its kernel is that of the prefix's set
+pub record IsStateOf (t : Sets) (prefix : List Symbol) (s : ℕ) : Type 0 where
+  pub below : s < length t.kernels
+  pub kernel : HasKernel t.grammar (kernel_at t.kernels s) prefix
+
+-- the move that the items valid for the prefix call for, or that they call for none
+abbrev pub IsAction : Grammar → List Symbol → Option Kind → Option Move → Type 0
+IsAction g prefix look None = (move : LrMove) → HasMove g prefix look move → ⊥
+IsAction g prefix look (Some move) = HasMove g prefix look (plain move)
+
+-- a grammar that has tables
+pub record IsAccepted (g : Grammar) : Type 0 where
+  pub free : HasNoConflict g
+  pub productive : AllProductive g
+
+-- the rows and moves of all states, of which the first is that of the empty prefix
+pub record AreTables (g : Shape) (kernels : List (List Item)) (gotos : List (List (Option ℕ))) (actions : List (List (Option Move))) : Type 0 where
+  pub sound : IsSound g
+  pub begins : 0 < length kernels
+  pub start : HasKernel g.grammar (kernel_at kernels 0) []
+  pub known : (s : ℕ) → s < length kernels → All (IsItem g) (kernel_at kernels s)
+  pub rows_filled : length gotos ≡ length kernels
+  pub rows : (s : ℕ) → s < length kernels → IsRow g kernels s (slice_index_or gotos s [])
+  pub moves_filled : length actions ≡ length kernels
+  pub moves : (s : ℕ) → s < length kernels → AreMoves g.grammar kernels s (slice_index_or actions s [])
+  pub accepted : IsAccepted g.grammar

@@ -1,0 +1,83 @@
+// What is told of a conflict.
+ghost use Rattle.std.specs.Prelude.{◌≡◌, ◌≢◌, true, false, IfOk};
+ghost use Rattle.tables.specs.Actions.{IsClashAt};
+ghost use Rattle.tables.specs.Collection.{AreStates};
+ghost use Rattle.tables.specs.Input.{IsSound};
+ghost use Rattle.tables.specs.Reports.{IsEarlier, IsInOrder, Differ, IsReport};
+ghost use Rattle.tables.specs.Sets.{IsItem, item_of};
+
+use crate::collection::States;
+use crate::decisions::Clash;
+use crate::input::{Input, Item};
+use crate::progress::ClashAt;
+use definitions::Symbol;
+use std::alloc::{AllocError, Global};
+
+/// Two items that are valid for a prefix and call for different moves at a lookahead. None is the end. The place of `first`
+/// is at the end of its right side; where both are, its production is the earlier one, the added start production before all.
+#[derive(Debug, Drop)]
+pub struct Conflict {
+    pub prefix: Vec<Symbol>,
+    pub look: Option<usize>,
+    pub first: Item,
+    pub second: Item,
+}
+
+/// Whether a production comes before another, the added start production before all.
+fn is_earlier(one: Option<usize>, two: Option<usize>) -> bool
+    requires { one ≢ two }
+    ensures yes { result ≡ true → IsEarlier one two }
+    ensures no { result ≡ false → IsEarlier two one }
+{
+    match one {
+        None => true,
+        Some(p) => match two {
+            None => false,
+            Some(q) => p < q,
+        },
+    }
+}
+
+/// Whether the first of two items that conflict is to be told first.
+fn is_in_order(input: &Input, clash: Clash) -> bool
+    requires one { IsItem input.now clash.one }
+    requires two { IsItem input.now clash.two }
+    requires differ { Differ input.now.grammar clash }
+    ensures yes { result ≡ true → IsInOrder (item_of input.now.grammar clash.one) (item_of input.now.grammar clash.two) }
+    ensures no { result ≡ false → IsInOrder (item_of input.now.grammar clash.two) (item_of input.now.grammar clash.one) }
+{
+    if input.next(clash.one).is_some() {
+        return false;
+    }
+    if input.next(clash.two).is_some() {
+        return true;
+    }
+    is_earlier(clash.one.production, clash.two.production)
+}
+
+/// The conflict of two items of a state.
+pub fn conflict_of(
+    alloc: Global,
+    input: &Input,
+    states: &States,
+    at: ClashAt,
+) -> Result<Conflict, AllocError>
+    requires sound { IsSound input.now }
+    requires states { AreStates input.now states.now }
+    requires clash { IsClashAt input.now states.now.kernels at }
+    ensures { IfOk result (IsReport input.now.grammar) }
+{
+    let prefix = states.prefix(alloc, input, at.state)?;
+    let clash = at.clash;
+    let (first, second) = if is_in_order(input, clash) {
+        (clash.one, clash.two)
+    } else {
+        (clash.two, clash.one)
+    };
+    Ok(Conflict {
+        prefix,
+        look: clash.look,
+        first,
+        second,
+    })
+}

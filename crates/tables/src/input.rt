@@ -1,0 +1,147 @@
+// The grammar, its items, and what stands behind an item's place.
+ghost use Rattle.std.specs.Prelude.{◌≡◌, ◌<◌, IfOk, length};
+ghost use Rattle.definitions.specs.Derivations.{first};
+ghost use Rattle.definitions.specs.Sentences.{AllProductive};
+ghost use Rattle.definitions.specs.Trees.{HasDistinctProductions};
+ghost use Rattle.tables.specs.Input.{IsSound, left_of, right_of};
+ghost use Rattle.tables.specs.Sets.{IsItem, behind};
+
+use definitions::Symbol;
+use grammar::Grammar;
+use std::alloc::{AllocError, Global};
+use std::marker::Model;
+
+/// A production: a nonterminal, and the symbols that may stand for it.
+#[derive(Drop)]
+pub struct Production {
+    left: usize,
+    right: Vec<Symbol>,
+}
+
+impl Model for Production {
+    ghost use Rattle.definitions.specs.Trees.{Production as Rule};
+
+    ghost Value = { Rule };
+
+    ghost view = { λ a. record { left = a.left; right = a.right.items } };
+}
+
+/// A grammar: its start nonterminal, the number of its rules and of its nonterminals, and its productions in file order.
+#[derive(Drop)]
+pub struct Input {
+    start: usize,
+    rules: usize,
+    nonterminals: usize,
+    productions: Vec<Production>,
+}
+
+impl Model for Input {
+    ghost use Rattle.tables.specs.Input.{Shape};
+
+    ghost Value = { Shape };
+
+    ghost view = { λ a. record { grammar = record { start = a.start; rules = a.rules; productions = a.productions.items }; nonterminals = a.nonterminals } };
+}
+
+/// An item: its production, the place in the right side, and its lookahead. None is the added start production, and the end.
+#[derive(Clone, Copy, Debug, PartialEq, Eq, Hash)]
+pub struct Item {
+    pub production: Option<usize>,
+    pub at: usize,
+    pub look: Option<usize>,
+}
+
+impl Production {
+    fn new(left: usize, right: Vec<Symbol>) -> Production
+        ensures left { result.left ≡ left }
+        ensures right { result.right ≡ right.items }
+    {
+        Production { left, right }
+    }
+}
+
+impl Input {
+    /// A copy of what a grammar file says of nonterminals and productions.
+    pub fn of(alloc: Global, grammar: &Grammar) -> Result<Input, AllocError>
+        ensures grammar { IfOk result (λ i. i.grammar ≡ grammar.now.grammar) }
+        ensures sound { IfOk result IsSound }
+        ensures productive { IfOk result (λ i. AllProductive i.grammar) }
+        ensures distinct { IfOk result (λ i. HasDistinctProductions i.grammar) }
+    {
+        let start = grammar.start();
+        let mut productions = Vec::new(alloc);
+        'productions: for p in 0..grammar.productions() {
+            let right = Vec::from_slice(alloc, grammar.right(p))?;
+            productions.push(Production::new(grammar.left(p), right))?;
+        }
+        Ok(Input {
+            start,
+            rules: grammar.rules(),
+            nonterminals: grammar.nonterminals(),
+            productions,
+        })
+    }
+
+    pub fn start(&self) -> usize
+        ensures { result ≡ self.now.grammar.start }
+    {
+        self.start
+    }
+
+    pub fn rules(&self) -> usize
+        ensures { result ≡ self.now.grammar.rules }
+    {
+        self.rules
+    }
+
+    pub fn nonterminals(&self) -> usize
+        ensures { result ≡ self.now.nonterminals }
+    {
+        self.nonterminals
+    }
+
+    /// The number of productions.
+    pub fn len(&self) -> usize
+        ensures { result ≡ length self.now.grammar.productions }
+    {
+        self.productions.len()
+    }
+
+    pub fn left(&self, p: usize) -> usize
+        requires { p < length self.now.grammar.productions }
+        ensures { result ≡ left_of self.now.grammar p }
+    {
+        self.productions[p].left
+    }
+
+    pub fn right(&self, p: usize) -> &[Symbol]
+        requires { p < length self.now.grammar.productions }
+        ensures { result.now ≡ right_of self.now.grammar p }
+    {
+        &self.productions[p].right
+    }
+
+    /// The symbol behind the item's place.
+    pub fn next(&self, item: Item) -> Option<Symbol>
+        requires { IsItem self.now item }
+        ensures { result ≡ first (behind self.now.grammar item) }
+    {
+        match item.production {
+            None => {
+                if item.at == 0 {
+                    Some(Symbol::Nonterminal(self.start()))
+                } else {
+                    None
+                }
+            }
+            Some(p) => {
+                let right = self.right(p);
+                if item.at < right.len() {
+                    Some(right[item.at])
+                } else {
+                    None
+                }
+            }
+        }
+    }
+}

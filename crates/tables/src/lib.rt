@@ -1,0 +1,24 @@
+//! Canonical LR(1) tables (Knuth 1965).
+#![tactic(auto)]
+
+mod closure;
+mod collection;
+mod conflict;
+mod decisions;
+mod first;
+mod goto;
+mod input;
+mod kernels;
+mod moves;
+mod progress;
+mod rows;
+mod symbols;
+mod tables;
+
+pub use conflict::Conflict;
+pub use decisions::Move;
+pub use input::Item;
+pub use tables::{MOST_SETS, TableFault, Tables};
+
+#[cfg(test)]
+mod tests;

@@ -1,0 +1,34 @@
+// Where the symbols lead from a state.
+ghost use Rattle.std.specs.Prelude.{◌≡◌, ◌<◌, None, length, slice_index_or};
+
+use std::marker::Model;
+
+/// The states that one state leads to, by the number of the symbol.
+#[derive(Drop)]
+pub struct Row {
+    to: Vec<Option<usize>>,
+}
+
+impl Model for Row {
+    ghost use Rattle.std.specs.Prelude.{List, Option, ℕ};
+
+    ghost Value = { List (Option ℕ) };
+
+    ghost view = { λ a. a.to.items };
+}
+
+impl Row {
+    pub fn new(to: Vec<Option<usize>>) -> Row
+        ensures { result ≡ to.items }
+    {
+        Row { to }
+    }
+
+    /// Where the symbol with this number leads.
+    pub fn to(&self, symbol: usize) -> Option<usize>
+        requires { symbol < length self.now }
+        ensures { result ≡ slice_index_or self.now symbol None }
+    {
+        self.to[symbol]
+    }
+}

@@ -1,0 +1,200 @@
+// The tables.
+ghost use Rattle.std.specs.Prelude.{◌≡◌, ◌<◌, ◌≤◌, ◌∷◌, ◌++◌, ◌↔◌, ℕ, List, [], Option, Some, None, true, MatchOption, IfOk, IfErr, length};
+ghost use Rattle.definitions.specs.declared.Kind.{Kind};
+ghost use Rattle.definitions.specs.declared.Kind.TheVariants.{Rule as Token};
+ghost use Rattle.definitions.specs.declared.Symbol.{Symbol};
+ghost use Rattle.definitions.specs.declared.Symbol.TheVariants.{Rule as Terminal, Nonterminal};
+ghost use Rattle.definitions.specs.Items.{HasItem, HasNoConflict, HasMoreSetsThan};
+ghost use Rattle.definitions.specs.Derivations.{IsLr1};
+ghost use Rattle.theory.specs.Laws.{HasOneTreeEach};
+ghost use Rattle.definitions.specs.Sentences.{AllProductive, IsSentence, IsViable};
+ghost use Rattle.definitions.specs.Trees.{HasProduction, HaveRoots, Tree};
+ghost use Rattle.theory.specs.Machine.{IsStackAfter};
+ghost use Rattle.tables.specs.Actions.{AreMade};
+ghost use Rattle.tables.specs.Collection.{AreStates};
+ghost use Rattle.tables.specs.Input.{IsSound};
+ghost use Rattle.tables.specs.Faults.{IsConflictOf, IsRight, RefutesLr1};
+ghost use Rattle.tables.specs.Tables.{IsStateOf, IsAction, IsAccepted};
+
+use crate::collection::States;
+use crate::conflict::{Conflict, conflict_of};
+use crate::decisions::{Move, Moves};
+use crate::first::First;
+use crate::input::Input;
+use crate::kernels::Kernels;
+use crate::progress::{Progress, advance};
+use crate::rows::Row;
+use definitions::Kind;
+use grammar::Grammar;
+use std::alloc::Global;
+use std::marker::Model;
+
+/// The most sets that a canonical collection may have.
+pub const MOST_SETS: usize = 8192;
+
+/// Why there are no tables.
+#[derive(Debug, Drop)]
+pub enum TableFault {
+    /// The canonical collection has more than 8,192 sets.
+    TooManySets,
+    /// Two items of a set call for different moves.
+    Conflict(Conflict),
+    Memory,
+}
+
+/// Canonical LR(1) tables of a grammar (Knuth 1965).
+#[derive(Drop)]
+pub struct Tables {
+    input: Input,
+    kernels: Kernels,
+    rows: Vec<Row>,
+    moves: Vec<Moves>,
+}
+
+impl Model for Tables {
+    ghost use Rattle.tables.specs.Tables.{Sets, AreTables};
+
+    ghost Value = { Sets };
+
+    ghost view = { λ a. record { grammar = a.input.grammar; kernels = a.kernels } };
+
+    ghost invariant = { λ a. AreTables a.input a.kernels a.rows.items a.moves.items };
+}
+
+/// The tables of all states, or the conflict that was found.
+fn finish(alloc: Global, input: Input, states: States, made: Progress) -> Result<Tables, TableFault>
+    requires sound { IsSound input }
+    requires productive { AllProductive input.grammar }
+    requires states { AreStates input states }
+    requires made { AreMade input states.kernels made }
+    requires all { length made.rows ≡ length states.kernels }
+    ensures grammar { IfOk result (λ t. t.grammar ≡ input.grammar) }
+    ensures free { IfOk result (λ _. HasNoConflict input.grammar) }
+    ensures refused { IfErr result (IsConflictOf input.grammar) }
+{
+    let Progress { rows, moves, clash } = made;
+    match clash {
+        None => Ok(Tables {
+            input,
+            kernels: states.into_kernels(),
+            rows,
+            moves,
+        }),
+        Some(at) => match conflict_of(alloc, &input, &states, at) {
+            Ok(conflict) => Err(TableFault::Conflict(conflict)),
+            Err(_) => Err(TableFault::Memory),
+        },
+    }
+}
+
+/// The tables of a grammar.
+fn tables_of(alloc: Global, input: Input) -> Result<Tables, TableFault>
+    requires sound { IsSound input }
+    requires productive { AllProductive input.grammar }
+    ensures grammar { IfOk result (λ t. t.grammar ≡ input.grammar) }
+    ensures free { IfOk result (λ _. HasNoConflict input.grammar) }
+    ensures few { IfOk result (λ _. HasMoreSetsThan input.grammar MOST_SETS → ⊥) }
+    ensures refused { IfErr result (IsRight input.grammar MOST_SETS) }
+{
+    let Ok(first) = First::new(alloc, &input) else {
+        return Err(TableFault::Memory);
+    };
+    let Ok(mut states) = States::new(alloc, &input) else {
+        return Err(TableFault::Memory);
+    };
+    let mut made = Progress::new(alloc);
+    'states: while made.len() < states.len() {
+        if states.len() > MOST_SETS {
+            return Err(TableFault::TooManySets);
+        }
+        if advance(alloc, &input, &first, &mut states, &mut made).is_err() {
+            return Err(TableFault::Memory);
+        }
+    }
+    finish(alloc, input, states, made)
+}
+
+impl Tables {
+    /// The canonical tables of a grammar. A grammar with more than 8,192 sets is refused as `TooManySets`, one with fewer
+    /// whose sets have a conflict with one of its conflicts.
+    pub fn build(alloc: Global, grammar: &Grammar) -> Result<Tables, TableFault>
+        ensures grammar { IfOk result (λ t. t.grammar ≡ grammar.now.grammar) }
+        ensures free { IfOk result (λ _. HasNoConflict grammar.now.grammar) }
+        ensures lr1 { IfOk result (λ _. IsLr1 grammar.now.grammar) }
+        ensures one_tree { IfOk result (λ _. HasOneTreeEach grammar.now.grammar) }
+        ensures few { IfOk result (λ _. HasMoreSetsThan grammar.now.grammar MOST_SETS → ⊥) }
+        ensures refused { IfErr result (IsRight grammar.now.grammar MOST_SETS) }
+        ensures refuted { IfErr result (RefutesLr1 grammar.now.grammar) }
+    {
+        let Ok(input) = Input::of(alloc, grammar) else {
+            return Err(TableFault::Memory);
+        };
+        tables_of(alloc, input)
+    }
+
+    /// The state of the empty prefix.
+    pub fn start(&self) -> usize
+        ensures start { IsStateOf self.now [] result }
+        ensures accepted { IsAccepted self.now.grammar }
+    {
+        let _kernels = &self.kernels;
+        0
+    }
+
+    /// The move of a state where this kind, or the end, is next.
+    pub fn action(&self, state: usize, look: Option<Kind>) -> Option<Move>
+        requires { state < length self.now.kernels }
+        ensures is { (prefix : List Symbol) → IsStateOf self.now prefix state → IsAction self.now.grammar prefix look result }
+        ensures shifts { (prefix : List Symbol) (a to : ℕ) → IsStateOf self.now prefix state → look ≡ Some (Token a) → result ≡ Some (Move.Shift to) → IsStateOf self.now (prefix ++ (Terminal a ∷ [])) to }
+    {
+        let moves = &self.moves[state];
+        match look {
+            None => moves.at(self.input.rules()),
+            Some(kind) => match kind {
+                Kind::Invalid => None,
+                Kind::Rule(a) => {
+                    if a < self.input.rules() {
+                        moves.at(a)
+                    } else {
+                        None
+                    }
+                }
+            },
+        }
+    }
+
+    /// The state that a nonterminal leads to.
+    pub fn goto(&self, state: usize, nonterminal: usize) -> Option<usize>
+        requires { state < length self.now.kernels }
+        ensures { (prefix : List Symbol) → IsStateOf self.now prefix state → MatchOption result (HasItem self.now.grammar (prefix ++ (Nonterminal nonterminal ∷ [])) → ⊥) (λ to. IsStateOf self.now (prefix ++ (Nonterminal nonterminal ∷ [])) to) }
+    {
+        if nonterminal < self.input.nonterminals() {
+            self.rows[state].to(self.input.rules() + nonterminal)
+        } else {
+            None
+        }
+    }
+
+    /// Whether a token rule, or where `look` is `None` the end, may follow in a state: exactly where some sentence goes on with
+    /// it, or ends, behind the kinds that were read.
+    pub fn expects(&self, state: usize, look: Option<usize>) -> bool
+        requires { state < length self.now.kernels }
+        ensures rules { (x : List Kind) (stack : List Tree) (prefix : List Symbol) (a : ℕ) → IsStateOf self.now prefix state → IsStackAfter self.now.grammar x stack → HaveRoots self.now.grammar stack prefix → look ≡ Some a → (result ≡ true) ↔ IsViable self.now.grammar (x ++ (Token a ∷ [])) }
+        ensures end { (x : List Kind) (stack : List Tree) (prefix : List Symbol) → IsStateOf self.now prefix state → IsStackAfter self.now.grammar x stack → HaveRoots self.now.grammar stack prefix → look ≡ None → (result ≡ true) ↔ IsSentence self.now.grammar x }
+    {
+        let _input = &self.input;
+        let next = match look {
+            Some(a) => Some(Kind::Rule(a)),
+            None => None,
+        };
+        self.action(state, next).is_some()
+    }
+
+    /// The left side of a production, and the length of its right side.
+    pub fn production(&self, p: usize) -> (usize, usize)
+        requires { p < length self.now.grammar.productions }
+        ensures { (right : List Symbol) × HasProduction self.now.grammar p result.0 right × (length right ≡ result.1) }
+    {
+        (self.input.left(p), self.input.right(p).len())
+    }
+}

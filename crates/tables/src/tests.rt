@@ -1,0 +1,262 @@
+//! Worked grammar files.
+
+ghost use Rattle.std.specs.Prelude.{◌<◌, List, length};
+ghost use Rattle.definitions.specs.declared.Symbol.{Symbol as GrammarSymbol};
+ghost use Rattle.tables.specs.Tables.{IsStateOf};
+
+use crate::{Conflict, Item, Move, TableFault, Tables};
+use definitions::{Kind, Symbol};
+use grammar::Grammar;
+use std::alloc::{AllocError, Global};
+use std::process::Abort;
+use std::test::Fail;
+
+const SUMS: &str = r#"lrgrammar 1
+token NUM = [0-9]+
+token PLUS = "+"
+token LP = "("
+token RP = ")"
+skip WS = [ \t\r\n]+
+start Sum
+fold Atom
+Sum = Sum PLUS Atom
+Sum = Atom
+Atom = NUM
+Atom = LP Sum RP
+"#;
+
+/// Unambiguous, but two lookaheads would be needed.
+const TWO_AHEAD: &str = r#"lrgrammar 1
+token X = "x"
+token Y = "y"
+token Z = "z"
+token C = "c"
+start S
+S = P X Y
+S = Q X Z
+P = C
+Q = C
+"#;
+
+/// LALR(1) tables of it would have a conflict.
+const NOT_LALR: &str = r#"lrgrammar 1
+token A = "a"
+token B = "b"
+token C = "c"
+token D = "d"
+token E = "e"
+start S
+S = A P D
+S = B Q D
+S = A Q E
+S = B P E
+P = C
+Q = C
+"#;
+
+const CHOICES: &str = r#"lrgrammar 1
+token IF = "if"
+token ELSE = "else"
+token X = "x"
+skip WS = [ ]+
+start S
+S = IF S
+S = IF S ELSE S
+S = X
+"#;
+
+const LOOP: &str = r#"lrgrammar 1
+token X = "x"
+start S
+S = S
+S = X
+"#;
+
+/// One nonterminal with `count` right sides of 16 symbols, whose first two tell them apart: 2 + 135 + 15 `count` sets.
+fn long_sides(alloc: Global, count: usize) -> Result<String, AllocError> {
+    let mut text = String::from_str(alloc, "lrgrammar 1\n")?;
+    for rule in 0..135 {
+        write!(text, "token T{rule} = \"x\"\n")?;
+    }
+    text.push_str("start S\n")?;
+    for side in 0..count {
+        let first = side / 4;
+        let second = side % 4;
+        write!(text, "S = T{first} T{second}")?;
+        text.push_str(" T0 T0 T0 T0 T0 T0 T0 T0 T0 T0 T0 T0 T0 T0\n")?;
+    }
+    Ok(text)
+}
+
+fn tables(alloc: Global, text: &str) -> Result<Tables, Fail> {
+    let grammar = Grammar::read(alloc, text)?;
+    Ok(Tables::build(alloc, &grammar)?)
+}
+
+/// The conflict of a grammar that has one.
+fn conflict(alloc: Global, text: &str) -> Result<Conflict, Fail> {
+    let grammar = Grammar::read(alloc, text)?;
+    match Tables::build(alloc, &grammar) {
+        Ok(_) => Err(Fail::new("no conflict")),
+        Err(TableFault::Conflict(conflict)) => Ok(conflict),
+        Err(fault) => Err(fault)?,
+    }
+}
+
+/// The state that a token rule which is shifted leads to.
+fn shift(rt: &impl Abort, tables: &Tables, state: usize, rule: usize) -> usize
+    requires { (prefix : List GrammarSymbol) × IsStateOf tables.now prefix state }
+    ensures { (prefix : List GrammarSymbol) × IsStateOf tables.now prefix result }
+{
+    match tables.action(state, Some(Kind::Rule(rule))) {
+        Some(Move::Shift(to)) => to,
+        _ => panic!(rt; "no shift"),
+    }
+}
+
+/// Which of the first `rules` token rules, and whether the end, may follow in a state.
+fn expected(
+    alloc: Global,
+    tables: &Tables,
+    state: usize,
+    rules: usize,
+) -> Result<Vec<Option<usize>>, AllocError>
+    requires { (prefix : List GrammarSymbol) × IsStateOf tables.now prefix state }
+{
+    let mut looks = Vec::new(alloc);
+    for rule in 0..rules {
+        if tables.expects(state, Some(rule)) {
+            looks.push(Some(rule))?;
+        }
+    }
+    if tables.expects(state, None) {
+        looks.push(None)?;
+    }
+    Ok(looks)
+}
+
+#[test]
+fn expects_what_sums_go_on_with(rt: HostRuntime) -> Result<(), Fail> {
+    let alloc = rt.alloc();
+    let tables = tables(alloc, SUMS)?;
+    let start = tables.start();
+    let number = shift(&rt, &tables, start, 0);
+    let open = shift(&rt, &tables, start, 2);
+    let inner = shift(&rt, &tables, open, 0);
+    let operand = [Some(0), Some(2)];
+    assert_eq!(rt;
+        expected(alloc, &tables, start, 5)?.as_slice(),
+        operand.as_slice()
+    );
+    assert_eq!(rt;
+        expected(alloc, &tables, open, 5)?.as_slice(),
+        operand.as_slice()
+    );
+    assert_eq!(rt;
+        expected(alloc, &tables, number, 5)?.as_slice(),
+        [Some(1), None].as_slice()
+    );
+    assert_eq!(rt;
+        expected(alloc, &tables, inner, 5)?.as_slice(),
+        [Some(1), Some(3)].as_slice()
+    );
+    Ok(())
+}
+
+#[test]
+fn moves_in_sums(rt: HostRuntime) -> Result<(), Fail> {
+    let tables = tables(rt.alloc(), SUMS)?;
+    let start = tables.start();
+    assert_eq!(rt; tables.action(start, None), None);
+    assert_eq!(rt; tables.action(start, Some(Kind::Invalid)), None);
+    assert!(rt; tables.goto(start, 0).is_some() && tables.goto(start, 1).is_some());
+    assert_eq!(rt; tables.goto(start, 7), None);
+    let number = shift(&rt, &tables, start, 0);
+    assert_eq!(rt; tables.action(number, None), Some(Move::Reduce(2)));
+    assert_eq!(rt;
+        tables.action(number, Some(Kind::Rule(1))),
+        Some(Move::Reduce(2))
+    );
+    assert_eq!(rt; tables.action(number, Some(Kind::Rule(3))), None);
+    Ok(())
+}
+
+#[test]
+fn tells_a_conflict_of_reductions(rt: HostRuntime) -> Result<(), Fail> {
+    let conflict = conflict(rt.alloc(), TWO_AHEAD)?;
+    assert_eq!(rt; conflict.prefix.as_slice(), [Symbol::Rule(3)].as_slice());
+    assert_eq!(rt; conflict.look, Some(0));
+    let first = Item {
+        production: Some(2),
+        at: 1,
+        look: Some(0),
+    };
+    let second = Item {
+        production: Some(3),
+        at: 1,
+        look: Some(0),
+    };
+    assert_eq!(rt; conflict.first, first);
+    assert_eq!(rt; conflict.second, second);
+    Ok(())
+}
+
+#[test]
+fn tells_the_conflict_of_choices(rt: HostRuntime) -> Result<(), Fail> {
+    let conflict = conflict(rt.alloc(), CHOICES)?;
+    let length = conflict.prefix.len();
+    assert!(rt; length >= 2);
+    assert_eq!(rt; conflict.prefix[length - 2], Symbol::Rule(0));
+    assert_eq!(rt; conflict.prefix[length - 1], Symbol::Nonterminal(0));
+    assert_eq!(rt; conflict.look, Some(1));
+    let first = Item {
+        production: Some(0),
+        at: 2,
+        look: Some(1),
+    };
+    assert_eq!(rt; conflict.first, first);
+    assert_eq!(rt; conflict.second.production, Some(1));
+    assert_eq!(rt; conflict.second.at, 2);
+    Ok(())
+}
+
+#[test]
+fn tells_the_added_start_first(rt: HostRuntime) -> Result<(), Fail> {
+    let conflict = conflict(rt.alloc(), LOOP)?;
+    assert_eq!(rt;
+        conflict.prefix.as_slice(),
+        [Symbol::Nonterminal(0)].as_slice()
+    );
+    assert_eq!(rt; conflict.look, None);
+    let first = Item {
+        production: None,
+        at: 1,
+        look: None,
+    };
+    let second = Item {
+        production: Some(0),
+        at: 1,
+        look: None,
+    };
+    assert_eq!(rt; conflict.first, first);
+    assert_eq!(rt; conflict.second, second);
+    Ok(())
+}
+
+#[test]
+fn accepts_what_lalr_refuses(rt: HostRuntime) -> Result<(), Fail> {
+    let tables = tables(rt.alloc(), NOT_LALR)?;
+    let start = tables.start();
+    assert!(rt; tables.goto(start, 0).is_some());
+    Ok(())
+}
+
+#[test]
+fn has_at_most_8192_sets(rt: HostRuntime) -> Result<(), Fail> {
+    let alloc = rt.alloc();
+    let most = Grammar::read(alloc, &long_sides(alloc, 537)?)?;
+    assert!(rt; Tables::build(alloc, &most).is_ok());
+    let more = Grammar::read(alloc, &long_sides(alloc, 538)?)?;
+    assert!(rt; matches!(&Tables::build(alloc, &more), Err(TableFault::TooManySets)));
+    Ok(())
+}
