@@ -15,7 +15,7 @@ use Rattle.definitions.specs.declared.Range.{Range}
 use Rattle.rpc.specs.declared.message.Message.{Message}
 use Rattle.rpc.specs.declared.message.RpcFault.{RpcFault}
 use Rattle.rpc.specs.Fields.{integer_of, text_at, integer_at, natural_at, has_key}
-use Rattle.rpc.specs.Messages.{Ident, named, numbered, initialize, shutdown, text_of, ChangeSaid, unfit_open, unfit_change, Told, initialized, exit, open_text, change_text, malformed, request, notice, ignored, invalid, unknown, params, Heard, unread, refused, said, heard_of}
+use Rattle.rpc.specs.Messages.{Ident, named, numbered, Asked, initialize, shutdown, text_of, tokens_of, ChangeSaid, unfit_open, unfit_change, Told, initialized, exit, open_text, change_text, malformed, request, notice, ignored, invalid, unknown, params, Heard, unread, refused, said, heard_of}
 
 -- ---- parts of a value
 
@@ -89,17 +89,18 @@ changes_at d = option_and_then changes_of (option_and_then as_array (get (codes 
 abbrev pub asked_initialize : Ident → Data → Heard
 asked_initialize id d = if is_some (as_object d) then said (request id initialize) else refused (params id true)
 
--- the parameters have the document's URI
-abbrev pub asked_text : Ident → Option (List ℕ) → Heard
-asked_text id (Some uri) = said (request id (text_of uri))
-asked_text id None = refused (params id false)
+-- the parameters have the URI of the document that is asked about
+abbrev pub asked_about : (List ℕ → Asked) → Ident → Option (List ℕ) → Heard
+asked_about ask id (Some uri) = said (request id (ask uri))
+asked_about ask id None = refused (params id false)
 
 abbrev pub request_of : List ℕ → Ident → Data → Heard
 request_of method id d =
     if bytes_eq method (codes "initialize") then asked_initialize id d else (
     if bytes_eq method (codes "shutdown") then said (request id shutdown) else (
-    if bytes_eq method (codes "lr/text") then asked_text id (uri_at d) else
-    refused (unknown id)))
+    if bytes_eq method (codes "lr/text") then asked_about text_of id (uri_at d) else (
+    if bytes_eq method (codes "lr/tokens") then asked_about tokens_of id (uri_at d) else
+    refused (unknown id))))
 
 -- ---- notifications (the last argument is the parameters)
 

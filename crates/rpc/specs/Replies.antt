@@ -2,25 +2,34 @@
 --     Answer, reply_view reply      a reply as plain data, without where its texts lie in memory
 --     reply_data answer      its JSON value
 --     code_of refusal, message_text refusal      its number and text (JSON-RPC 2.0, "Error object"; LSP 3.17, "ErrorCodes")
-use Rattle.std.specs.Prelude.{ℕ, ℤ, negsuc, true, List, codes, Option, Some, None, option_map, string_bytes}
-use Rattle.serde_json.specs.Data.{Data, null, boolean, number, unsigned, string, object, no_members, member}
+use Rattle.std.specs.Prelude.{ℕ, ℤ, negsuc, true, List, map, codes, Option, Some, None, option_map, string_bytes}
+use Rattle.serde_json.specs.Data.{Data, null, boolean, number, unsigned, string, array, no_items, item, object, no_members, member}
+use Rattle.serde_json.specs.View.{items_of}
 use Rattle.serde_json.specs.Find.{of_integer}
 use Rattle.rpc.specs.declared.reply.Refusal.{Refusal}
 use Rattle.rpc.specs.declared.reply.Refusal.TheVariants.{ParseError, InvalidRequest, MethodNotFound, InvalidParams, DocumentNotOpen, NotInitialized}
+use Rattle.definitions.specs.declared.Range.{Range}
+use Rattle.rpc.specs.declared.reply.Row.{Row}
 use Rattle.rpc.specs.declared.reply.Reply.{Reply}
-use Rattle.rpc.specs.declared.reply.Reply.TheVariants.{Capabilities, Null, Text, Error}
+use Rattle.rpc.specs.declared.reply.Reply.TheVariants.{Capabilities, Null, Text, Tokens, Error}
 use Rattle.rpc.specs.Messages.{Ident, named, numbered, id_view}
 
 pub data Answer : Type 0 where
   told_capabilities : Ident → Answer
   told_null : Ident → Answer
   told_text : Ident → ℤ → List ℕ → Answer
+  told_tokens : Ident → List (List ℕ × Range) → Answer
   told_error : Option Ident → Refusal → Answer
+
+-- a token's name in UTF-8, and its range
+abbrev pub row_view : Row → List ℕ × Range
+row_view r = (string_bytes r.name, r.range)
 
 abbrev pub reply_view : Reply → Answer
 reply_view (Capabilities id) = told_capabilities (id_view id)
 reply_view (Null id) = told_null (id_view id)
 reply_view (Text id version text) = told_text (id_view id) version (string_bytes text)
+reply_view (Tokens id rows) = told_tokens (id_view id) (map row_view rows.items)
 reply_view (Error id refusal) = told_error (option_map id_view id) refusal
 
 abbrev pub id_data : Ident → Data
@@ -71,6 +80,18 @@ document_data version text = object
     (member (codes "text") (string text)
     (member (codes "version") (number (of_integer version)) no_members))
 
+-- a token's name, and the lines and characters where it starts and ends
+abbrev pub row_data : List ℕ × Range → Data
+row_data r = array
+    (item (string r.0)
+    (item (number (unsigned r.1.start.line))
+    (item (number (unsigned r.1.start.character))
+    (item (number (unsigned r.1.end.line))
+    (item (number (unsigned r.1.end.character)) no_items)))))
+
+abbrev pub rows_data : List (List ℕ × Range) → Data
+rows_data rows = array (items_of (map row_data rows))
+
 abbrev pub result_data : Data → Data → Data
 result_data id outcome = object
     (member (codes "id") id
@@ -92,4 +113,5 @@ abbrev pub reply_data : Answer → Data
 reply_data (told_capabilities id) = result_data (id_data id) capabilities
 reply_data (told_null id) = result_data (id_data id) null
 reply_data (told_text id version text) = result_data (id_data id) (document_data version text)
+reply_data (told_tokens id rows) = result_data (id_data id) (rows_data rows)
 reply_data (told_error id refusal) = error_data (maybe_id_data id) (code_of refusal) (message_text refusal)

@@ -30,6 +30,8 @@ pub enum Call {
     Shutdown,
     /// `lr/text`: the text of a document.
     Text { uri: String },
+    /// `lr/tokens`: the tokens of a document.
+    Tokens { uri: String },
 }
 
 /// A notification whose parameters don't fit.

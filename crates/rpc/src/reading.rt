@@ -1,11 +1,11 @@
 //! Which content is which message.
 
-ghost use Rattle.std.specs.Prelude.{◌≡◌, Some, codes, map, option_map, option_and_then, IfOk, IfSome};
+ghost use Rattle.std.specs.Prelude.{◌≡◌, Some, codes, map, option_map, option_and_then, IfOk, IfSome, false, string_bytes};
 ghost use Rattle.serde_json.specs.Find.{get};
 ghost use Rattle.serde_json.specs.View.{view, items_view};
 ghost use Rattle.rpc.specs.Fields.{text_at};
-ghost use Rattle.rpc.specs.Messages.{said, id_view, change_view, note_view, message_view, heard_of};
-ghost use Rattle.rpc.specs.Reading.{maybe_range, change_of, changes_of, changes_at, opening, changing, asked_initialize, asked_text, request_of, notice_of, of_method, message_of, uri_at, params_at, Gives, Hears};
+ghost use Rattle.rpc.specs.Messages.{said, refused, params, text_of, tokens_of, id_view, change_view, note_view, message_view, fault_view, heard_of};
+ghost use Rattle.rpc.specs.Reading.{maybe_range, change_of, changes_of, changes_at, opening, changing, asked_initialize, asked_about, request_of, notice_of, of_method, message_of, uri_at, params_at, Gives, Hears};
 
 use crate::fields::text_at;
 use crate::message::{Call, Change, Id, Malformed, Message, Note, RpcFault};
@@ -103,17 +103,41 @@ fn asked_initialize(id: Id, params: &Value) -> Result<Message, RpcFault>
     }
 }
 
-fn asked_text(alloc: Global, id: Id, params: &Value) -> Result<Message, RpcFault>
-    ensures { Gives result (asked_text (id_view id) (uri_at (view params.now))) }
+// The URI of the document that the parameters name.
+fn copied_uri(alloc: Global, params: &Value) -> Result<Option<String>, AllocError>
+    ensures { IfOk result (λ uri. option_map string_bytes uri ≡ uri_at (view params.now)) }
 {
-    let Some(uri) = uri_at(params) else {
-        return Err(RpcFault::Params {
-            id,
-            initialize: false,
-        });
-    };
-    let uri = String::from_str(alloc, uri)?;
-    Ok(Message::Request(id, Call::Text { uri }))
+    match uri_at(params) {
+        Some(uri) => Ok(Some(String::from_str(alloc, uri)?)),
+        None => Ok(None),
+    }
+}
+
+fn misfit(id: Id) -> RpcFault
+    ensures { fault_view result ≡ Some (refused (params (id_view id) false)) }
+{
+    RpcFault::Params {
+        id,
+        initialize: false,
+    }
+}
+
+fn asked_text(alloc: Global, id: Id, params: &Value) -> Result<Message, RpcFault>
+    ensures { Gives result (asked_about text_of (id_view id) (uri_at (view params.now))) }
+{
+    match copied_uri(alloc, params)? {
+        Some(uri) => Ok(Message::Request(id, Call::Text { uri })),
+        None => Err(misfit(id)),
+    }
+}
+
+fn asked_tokens(alloc: Global, id: Id, params: &Value) -> Result<Message, RpcFault>
+    ensures { Gives result (asked_about tokens_of (id_view id) (uri_at (view params.now))) }
+{
+    match copied_uri(alloc, params)? {
+        Some(uri) => Ok(Message::Request(id, Call::Tokens { uri })),
+        None => Err(misfit(id)),
+    }
 }
 
 fn request_of(alloc: Global, method: &str, id: Id, params: &Value) -> Result<Message, RpcFault>
@@ -125,6 +149,8 @@ fn request_of(alloc: Global, method: &str, id: Id, params: &Value) -> Result<Mes
         Ok(Message::Request(id, Call::Shutdown))
     } else if method == "lr/text" {
         asked_text(alloc, id, params)
+    } else if method == "lr/tokens" {
+        asked_tokens(alloc, id, params)
     } else {
         Err(RpcFault::Unknown { id })
     }

@@ -1,13 +1,14 @@
 //! What is replied (JSON-RPC 2.0, "Response object").
 
-ghost use Rattle.std.specs.Prelude.{◌≡◌, codes, option_map, IfOk};
+ghost use Rattle.std.specs.Prelude.{◌≡◌, codes, map, option_map, IfOk};
 ghost use Rattle.serde_json.specs.Data.{string};
 ghost use Rattle.serde_json.specs.View.{view};
 ghost use Rattle.serde_json.specs.Written.{compact_text};
 ghost use Rattle.rpc.specs.Messages.{id_view};
-ghost use Rattle.rpc.specs.Replies.{id_data, maybe_id_data, code_of, message_text, capabilities, result_data, error_data, document_data, reply_data, reply_view};
+ghost use Rattle.rpc.specs.Replies.{id_data, maybe_id_data, code_of, message_text, capabilities, result_data, error_data, document_data, row_data, row_view, rows_data, reply_data, reply_view};
 
 use crate::message::Id;
+use definitions::Range;
 use serde_json::{Value, json};
 use std::alloc::{AllocError, Global};
 
@@ -23,6 +24,13 @@ pub enum Refusal {
     NotInitialized,
 }
 
+/// A token's name and range, as they are told.
+#[derive(Debug, Drop)]
+pub struct Row {
+    pub name: String,
+    pub range: Range,
+}
+
 /// What is replied to a request.
 #[derive(Debug, Drop)]
 pub enum Reply {
@@ -32,6 +40,8 @@ pub enum Reply {
     Null { id: Id },
     /// A document's text and version, for `lr/text`.
     Text { id: Id, version: i32, text: String },
+    /// A document's tokens, for `lr/tokens`.
+    Tokens { id: Id, rows: Vec<Row> },
     /// There is no id where the request's can't be read.
     Error { id: Option<Id>, refusal: Refusal },
 }
@@ -99,6 +109,24 @@ fn document_value(alloc: Global, version: i32, text: &str) -> Result<Value, Allo
     json!(in alloc; {"text": text, "version": version})
 }
 
+fn row_value(alloc: Global, row: &Row) -> Result<Value, AllocError>
+    ensures { IfOk result (λ v. view v ≡ row_data (row_view row.now)) }
+{
+    let Range { start, end } = row.range;
+    let name = row.name.as_str();
+    json!(in alloc; [name, start.line, start.character, end.line, end.character])
+}
+
+fn rows_value(alloc: Global, rows: &[Row]) -> Result<Value, AllocError>
+    ensures { IfOk result (λ v. view v ≡ rows_data (map row_view rows.now)) }
+{
+    let mut values = Vec::with_capacity(alloc, rows.len())?;
+    for row in rows {
+        values.push(row_value(alloc, row)?)?;
+    }
+    Ok(Value::Array(values))
+}
+
 fn result_value(alloc: Global, id: Value, outcome: Value) -> Result<Value, AllocError>
     ensures { IfOk result (λ v. view v ≡ result_data (view id) (view outcome)) }
 {
@@ -122,6 +150,10 @@ fn reply_value(alloc: Global, reply: &Reply) -> Result<Value, AllocError>
         Reply::Text { id, version, text } => {
             let document = document_value(alloc, *version, text.as_str())?;
             result_value(alloc, id_value(alloc, id)?, document)
+        }
+        Reply::Tokens { id, rows } => {
+            let rows = rows_value(alloc, rows)?;
+            result_value(alloc, id_value(alloc, id)?, rows)
         }
         Reply::Error { id, refusal } => {
             let id = maybe_id_value(alloc, id)?;

@@ -1,6 +1,6 @@
 use crate::{
-    Call, Id, Malformed, Message, Note, Position, Range, Refusal, Reply, RpcFault, one_hearing,
-    read, some_hearing, to_bytes,
+    Call, Id, Malformed, Message, Note, Position, Range, Refusal, Reply, Row, RpcFault,
+    one_hearing, read, some_hearing, to_bytes,
 };
 use std::test::Fail;
 
@@ -21,6 +21,28 @@ fn replies_have_their_bytes(rt: HostRuntime) -> Result<(), Fail> {
             },
             r#"{"id":2,"jsonrpc":"2.0","result":{"text":"2","version":2}}"#,
             58,
+        ),
+        (
+            Reply::Tokens {
+                id: Id::Number(2),
+                rows: vec![in alloc;
+                    Row {
+                        name: String::from_str(alloc, "NUM")?,
+                        range: Range {
+                            start: Position {
+                                line: 0,
+                                character: 1,
+                            },
+                            end: Position {
+                                line: 1,
+                                character: 0,
+                            },
+                        },
+                    },
+                ]?,
+            },
+            r#"{"id":2,"jsonrpc":"2.0","result":[["NUM",0,1,1,0]]}"#,
+            51,
         ),
         (
             Reply::Null { id: Id::Number(3) },
@@ -100,6 +122,7 @@ fn kind(outcome: &Result<Message, RpcFault>) -> &'static str {
         Ok(Message::Request(_, Call::Initialize)) => "initialize",
         Ok(Message::Request(_, Call::Shutdown)) => "shutdown",
         Ok(Message::Request(_, Call::Text { .. })) => "text",
+        Ok(Message::Request(_, Call::Tokens { .. })) => "tokens",
         Ok(Message::Notice(note)) => note_kind(note),
         Ok(Message::Ignored) => "ignored",
         Err(RpcFault::Parse) => "parse",
@@ -221,6 +244,11 @@ fn methods_have_their_kinds(rt: HostRuntime) -> Result<(), Fail> {
             r#""method":"lr/text","params":{"textDocument":{"uri":"a:x"}}"#,
             "ignored",
         ),
+        (
+            r#""id":4,"method":"lr/tokens","params":{"textDocument":{"uri":"a:x"}}"#,
+            "tokens",
+        ),
+        (r#""id":4,"method":"lr/tokens","params":{}"#, "params"),
         (r#""id":4,"method":"$/x""#, "unknown"),
         (r#""id":4,"method":"exit""#, "unknown"),
         (r#""id":4,"method":"textDocument/didOpen""#, "unknown"),

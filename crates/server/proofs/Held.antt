@@ -1,6 +1,6 @@
 -- What the entries of a map of documents say of the documents that are held.
-use Rattle.std.proofs.Common.{◌≡◌, ℕ, ◌+◌, false, cond, List, [], ◌∷◌, map, length, refl, sym, ap, ◌∙◌, arith}
-use Rattle.std.specs.Prelude.{String, Option, Some, None, is_some, string_bytes, string_cmp}
+use Rattle.std.proofs.Common.{◌≡◌, ℕ, ◌+◌, Bool, true, false, cond, List, [], ◌∷◌, map, length, refl, sym, ap, subst, ◌∙◌, arith}
+use Rattle.std.specs.Prelude.{String, Option, Some, None, is_some, option_map, IfSome, string_bytes, string_cmp}
 use Rattle.std.specs.List.{AllByRecursion}
 use Rattle.std.specs.Map.{lookup}
 use Rattle.std.specs.Str.{bytes_eq}
@@ -14,25 +14,28 @@ use Rattle.std.specs.BTreeMap.{is_at}
 use Rattle.std.specs.FinMap.{get, insert, len, contains_key, find, get-from_entries, get-insert, len-empty, len-insert, same_map, slice_cmp-IsAntisymmetric, nat_cmp-IsAntisymmetric}
 use Rattle.std.proofs.lemmas.Cmp.{nat_list_cmp_total}
 use Rattle.std.proofs.lemmas.Map.Text.{is_eq-slice_cmp}
+use Rattle.grammar.specs.Grammars.{FileGrammar}
 use Rattle.server.specs.declared.documents.Document.{Document}
-use Rattle.server.specs.Documents.{documents_of}
+use Rattle.server.specs.Documents.{OpenDocument, open_document, documents_of, entry_at, IsScanned, AreScanned}
 
--- what the first entry with these bytes as its key has
-abbrev pub entry_at : {Y : Type 0} → List (String Y × Document) → List ℕ → Option Document
-entry_at entries uri = lookup (is_at (λ k. slice_cmp nat_cmp uri (string_bytes k))) entries
+map_cond : {A B : Type 0} (f : A → B) (b : Bool) (x : A) (o : Option A) → option_map f (cond b (Some x) o) ≡ cond b (Some (f x)) (option_map f o)
+map_cond f true x o = refl
+map_cond f false x o = refl
 
-find_held : {Y : Type 0} (es : List (String Y × Document)) (uri : List ℕ) → find (slice_cmp nat_cmp) uri (map (λ e. (string_bytes e.0, e.1)) es) ≡ entry_at es uri
+find_held : {Y : Type 0} (es : List (String Y × Document)) (uri : List ℕ) → find (slice_cmp nat_cmp) uri (map (λ e. (string_bytes e.0, open_document e.1)) es) ≡ option_map open_document (entry_at es uri)
 find_held [] uri = refl
-find_held (e ∷ es) uri = ap (cond (is_eq (slice_cmp nat_cmp uri (string_bytes e.0))) (Some e.1)) (find_held es uri)
+find_held (e ∷ es) uri =
+    ap (cond (is_eq (slice_cmp nat_cmp uri (string_bytes e.0))) (Some (open_document e.1))) (find_held es uri)
+    ∙ sym (map_cond open_document (is_eq (slice_cmp nat_cmp uri (string_bytes e.0))) e.1 (entry_at es uri))
 
-pub get_held : {Y : Type 0} (es : List (String Y × Document)) (uri : List ℕ) → get (documents_of es) uri ≡ entry_at es uri
+pub get_held : {Y : Type 0} (es : List (String Y × Document)) (uri : List ℕ) → get (documents_of es) uri ≡ option_map open_document (entry_at es uri)
 get_held es uri = get-from_entries nat_list_cmp_total _ uri ∙ find_held es uri
 
 -- entries that differ at one URI make documents that differ there
-pub insert_held : {Y : Type 0} (es fs : List (String Y × Document)) (uri : List ℕ) (document : Document) → ((q : List ℕ) → entry_at fs q ≡ cond (bytes_eq uri q) (Some document) (entry_at es q)) → documents_of fs ≡ insert (documents_of es) uri document
+pub insert_held : {Y : Type 0} (es fs : List (String Y × Document)) (uri : List ℕ) (document : Document) → ((q : List ℕ) → entry_at fs q ≡ cond (bytes_eq uri q) (Some document) (entry_at es q)) → documents_of fs ≡ insert (documents_of es) uri (open_document document)
 insert_held es fs uri document differs = same_map nat_list_cmp_total (slice_cmp-IsAntisymmetric nat_cmp-IsAntisymmetric) _ _ (λ q.
-    get_held fs q ∙ (differs q ∙ (ap (λ b. cond b (Some document) (entry_at es q)) (same q)
-    ∙ sym (get-insert nat_list_cmp_total (documents_of es) uri document q ∙ ap (cond (eq_by_cmp (slice_cmp nat_cmp) q uri) (Some document)) (get_held es q)))))
+    get_held fs q ∙ (ap (option_map open_document) (differs q) ∙ (map_cond open_document (bytes_eq uri q) document (entry_at es q) ∙ (ap (λ b. cond b (Some (open_document document)) (option_map open_document (entry_at es q))) (same q)
+    ∙ sym (get-insert nat_list_cmp_total (documents_of es) uri (open_document document) q ∙ ap (cond (eq_by_cmp (slice_cmp nat_cmp) q uri) (Some (open_document document))) (get_held es q))))))
   where
     same : (q : List ℕ) → bytes_eq uri q ≡ eq_by_cmp (slice_cmp nat_cmp) q uri
     same q = sym (is_eq-slice_cmp uri q) ∙ (eq_by_cmp_equiv nat_list_cmp_total).symm uri q
@@ -44,8 +47,25 @@ none_above uri (e ∷ es) above = ap (λ (o : Ordering). cond (is_eq o) (Some e.
 
 pub len_held : {Y : Type 0} (es : List (String Y × Document)) → IsStrictlySortedBy string_cmp (map (λ e. e.0) es) → len (documents_of es) ≡ length es
 unfolding IsStrictlySortedBy
-len_held [] sorted = len-empty (slice_cmp nat_cmp) Document
+len_held [] sorted = len-empty (slice_cmp nat_cmp) OpenDocument
 len_held (e ∷ es) sorted =
-    let new : contains_key (documents_of es) (string_bytes e.0) ≡ false = ap is_some (get_held es (string_bytes e.0) ∙ none_above e.0 es sorted.0) in
-    let one : len (documents_of (e ∷ es)) ≡ len (documents_of es) + 1 = len-insert nat_list_cmp_total (documents_of es) (string_bytes e.0) e.1 ∙ ap (λ b. cond b (len (documents_of es)) (len (documents_of es) + 1)) new in
+    let new : contains_key (documents_of es) (string_bytes e.0) ≡ false = ap is_some (get_held es (string_bytes e.0) ∙ ap (option_map open_document) (none_above e.0 es sorted.0)) in
+    let one : len (documents_of (e ∷ es)) ≡ len (documents_of es) + 1 = len-insert nat_list_cmp_total (documents_of es) (string_bytes e.0) (open_document e.1) ∙ ap (λ b. cond b (len (documents_of es)) (len (documents_of es) + 1)) new in
     omega (arith, one, len_held es sorted.1)
+
+-- one more document whose tokens are those of its text
+pub insert_scanned : {Y : Type 0} (file : FileGrammar) (es fs : List (String Y × Document)) (uri : List ℕ) (document : Document) → ((q : List ℕ) → entry_at fs q ≡ cond (bytes_eq uri q) (Some document) (entry_at es q)) → AreScanned file es → IsScanned file document → AreScanned file fs
+insert_scanned file es fs uri document differs all is q d found = by (bytes_eq uri q) (sym (differs q) ∙ found)
+  where
+    by : (b : Bool) → cond b (Some document) (entry_at es q) ≡ Some d → IsScanned file d
+    by true e = let same : document ≡ d = cc in subst (λ (x : Document). IsScanned file x) same is
+    by false e = all q d e
+
+-- what is found has what all have
+pub found_scanned : {A : Type 0} (f : A → Document) (file : FileGrammar) (result : Option A) (o : Option Document) → option_map f result ≡ o → ((d : Document) → o ≡ Some d → IsScanned file d) → IfSome result (λ a. IsScanned file (f a))
+found_scanned f file None o e all = tt
+found_scanned f file (Some a) o e all = all (f a) (sym e)
+
+pub map_twice : {A B C : Type 0} (f : A → B) (g : B → C) (o : Option A) → option_map (λ a. g (f a)) o ≡ option_map g (option_map f o)
+map_twice f g None = refl
+map_twice f g (Some a) = refl

@@ -1,25 +1,54 @@
 -- The documents that a server holds: a finite map from the bytes of their URIs.
+--     OpenDocument      a document's version and text
 --     Held      documents by their URIs
+--     Holding      what the grammar file defines, and the documents that are held
 --     has_room uri documents      this document is held already, or one more may be
 --     documents_of entries      what the entries of a map from URIs make
-use Rattle.std.specs.Prelude.{ℕ, ℤ, ◌||◌, Bool, nat_lt, List, map, refl, String, string_bytes}
+--     IsScanned file d, AreScanned file entries      the tokens that are kept are those of the text
+use Rattle.std.specs.Prelude.{◌≡◌, ℕ, ℤ, ◌||◌, Bool, nat_lt, List, map, refl, String, Option, Some, string_bytes}
 use Rattle.std.specs.Ordering.{nat_cmp}
 use Rattle.std.specs.Cmp.Lexicographic.{slice_cmp}
 use Rattle.std.specs.Coded.{Coded, code_by, coded×, coded_ℕ, coded_ℤ, coded_list}
 use Rattle.std.specs.FinMap.{FinMap, from_entries, contains_key, len}
+use Rattle.std.specs.Map.{lookup}
+use Rattle.std.specs.BTreeMap.{is_at}
+use Rattle.grammar.specs.Grammars.{FileGrammar}
+use Rattle.lexer.specs.Tokens.{AreTokensOf}
 use Rattle.server.specs.declared.documents.Document.{Document}
+
+pub record OpenDocument : Type 0 where
+  pub version : ℤ
+  pub text : List ℕ
 
 -- URIs are compared byte for byte
 abbrev pub Held : Type 0
-Held = FinMap (slice_cmp nat_cmp) Document
+Held = FinMap (slice_cmp nat_cmp) OpenDocument
+
+pub record Holding : Type 0 where
+  pub file : FileGrammar
+  pub documents : Held
 
 -- at most 64 documents are held
 abbrev pub has_room : List ℕ → Held → Bool
 has_room uri documents = contains_key documents uri || nat_lt (len documents) 64
 
 -- a document is stored as the pair of its fields
-abbrev pub document_code : Coded Document
+abbrev pub document_code : Coded OpenDocument
 document_code = code_by (ℤ × List ℕ) (coded× coded_ℤ (coded_list coded_ℕ)) (λ d. (d.version, d.text)) (λ p. record { version = p.0; text = p.1 }) (λ _. refl)
 
+-- without the tokens that are kept
+abbrev pub open_document : Document → OpenDocument
+open_document d = record { version = d.version; text = d.text }
+
 abbrev pub documents_of : {Y : Type 0} → List (String Y × Document) → Held
-documents_of entries = from_entries (map (λ e. (string_bytes e.0, e.1)) entries)
+documents_of entries = from_entries (map (λ e. (string_bytes e.0, open_document e.1)) entries)
+
+-- what the first entry with these bytes as its key has
+abbrev pub entry_at : {Y : Type 0} → List (String Y × Document) → List ℕ → Option Document
+entry_at entries uri = lookup (is_at (λ k. slice_cmp nat_cmp uri (string_bytes k))) entries
+
+abbrev pub IsScanned : FileGrammar → Document → Type 0
+IsScanned file d = AreTokensOf file.patterns file.skips d.text d.tokens.items
+
+abbrev pub AreScanned : {Y : Type 0} → FileGrammar → List (String Y × Document) → Type 0
+AreScanned file entries = (uri : List ℕ) (d : Document) → entry_at entries uri ≡ Some d → IsScanned file d

@@ -1,75 +1,90 @@
 //! The documents that a server holds.
 
-ghost use Rattle.std.specs.Prelude.{◌≡◌, ◌||◌, nat_lt, is_some, option_map, OnOk, OnErr, string_bytes};
+ghost use Rattle.std.specs.Prelude.{◌≡◌, ◌||◌, nat_lt, is_some, option_map, IfSome, OnOk, OnErr, string_bytes};
 ghost use Rattle.std.specs.FinMap as map;
-ghost use Rattle.server.specs.Documents.{has_room};
+ghost use Rattle.server.specs.Documents.{has_room, open_document, IsScanned};
 
+use crate::language::Language;
+use lexer::Tokens;
 use std::alloc::{AllocError, Global};
 use std::collections::BTreeMap;
 use std::marker::Model;
 use text::Text;
 
-/// A document that is open.
+/// A document that is open, with the tokens of its text.
 #[derive(Drop)]
 pub struct Document {
     pub version: i32,
     pub text: Text,
+    pub tokens: Tokens,
 }
 
 /// How many documents are held at most.
 pub const MOST_DOCUMENTS: usize = 64;
 
-/// The documents that are held, by their URIs, which are compared byte for byte.
+/// The language of a grammar file, and the documents that are held, by their URIs, which are compared byte for byte. The
+/// tokens of each are those of its text.
 #[derive(Drop)]
 pub struct Documents {
+    language: Language,
     by_uri: BTreeMap<String, Document>,
 }
 
 impl Model for Documents {
-    ghost use Rattle.std.specs.Prelude.{◌≡◌, List, ℕ};
-    ghost use Rattle.std.specs.FinMap.{FinMap};
     ghost use Rattle.std.specs.FinMap as map;
-    ghost use Rattle.std.specs.Cmp.Lexicographic.{slice_cmp};
-    ghost use Rattle.std.specs.Ordering.{nat_cmp};
-    ghost use Rattle.std.specs.Coded.{coded_ℕ, coded_ℤ, coded_list, coded×, code_by};
-    ghost use Rattle.server.specs.declared.documents.Document.{Document};
-    ghost use Rattle.server.specs.Documents.{documents_of, document_code};
+    ghost use Rattle.std.specs.Coded.{codes, coded_ℕ, coded_list};
+    ghost use Rattle.definitions.specs.contracts.expression.Expression as e;
+    ghost use Rattle.server.specs.Documents.{Holding, documents_of, document_code, AreScanned};
 
-    ghost Value = { FinMap (slice_cmp nat_cmp) Document };
+    ghost Value = { Holding };
 
-    ghost coded = { map.code (coded_list coded_ℕ) document_code };
+    ghost coded = { Prim.hlevel (codes, e.the_row.coded, map.code (coded_list coded_ℕ) document_code) };
 
-    ghost view = { λ d. documents_of d.by_uri.entries };
+    ghost view = { λ d. record { file = d.language; documents = documents_of d.by_uri.entries } };
+
+    ghost invariant = { λ d. AreScanned d.language d.by_uri.entries };
 }
 
 impl Documents {
     /// None is held.
-    pub fn new(alloc: Global) -> Documents
-        ensures { result ≡ map.empty }
+    pub fn new(alloc: Global, language: Language) -> Documents
+        ensures file { result.file ≡ language }
+        ensures documents { result.documents ≡ map.empty }
     {
         Documents {
+            language,
             by_uri: BTreeMap::new(alloc),
         }
     }
 
+    /// The language of the documents.
+    pub fn language(&self) -> &Language
+        ensures { result.now ≡ self.now.file }
+    {
+        &self.language
+    }
+
     /// The document of this URI, if one is held.
     pub fn get(&self, uri: &str) -> Option<&Document>
-        ensures { option_map (λ d. d.now) result ≡ map.get self.now uri.now }
+        ensures is { option_map (λ d. open_document d.now) result ≡ map.get self.now.documents uri.now }
+        ensures scanned { IfSome result (λ d. IsScanned self.now.file d.now) }
     {
         self.by_uri.get(uri)
     }
 
     /// Whether the document of this URI is held.
     pub fn holds(&self, uri: &str) -> bool
-        ensures { result ≡ map.contains_key self.now uri.now }
+        ensures { result ≡ map.contains_key self.now.documents uri.now }
     {
         self.by_uri.contains_key(uri)
     }
 
     /// Holds the document under this URI, in the place of the one before.
     pub fn insert(&mut self, uri: String, document: Document) -> Result<(), AllocError>
-        ensures ok { OnOk result (self.new ≡ map.insert self.old (string_bytes uri) document) }
-        ensures err { OnErr result (self.new ≡ self.old) }
+        requires { IsScanned self.old.file document }
+        ensures ok { OnOk result (self.new.documents ≡ map.insert self.old.documents (string_bytes uri) (open_document document)) }
+        ensures err { OnErr result (self.new.documents ≡ self.old.documents) }
+        ensures file { self.new.file ≡ self.old.file }
     {
         self.by_uri.insert(uri, document)?;
         Ok(())
@@ -77,7 +92,7 @@ impl Documents {
 
     /// Whether the document of this URI is held already, or one more may be.
     pub fn has_room(&self, uri: &str) -> bool
-        ensures { result ≡ has_room uri.now self.now }
+        ensures { result ≡ has_room uri.now self.now.documents }
     {
         self.holds(uri) || self.by_uri.len() < MOST_DOCUMENTS
     }

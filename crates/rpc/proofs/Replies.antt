@@ -1,0 +1,50 @@
+-- No reply has a number with a fraction.
+use Rattle.std.proofs.Common.{◌≡◌, ℕ, ℤ, pos, negsuc, false, List, [], ◌∷◌, map, refl, ap, ◌∙◌}
+use Rattle.std.specs.Prelude.{◌||◌, Option, Some, None, Result, Ok, Err, IfOk}
+use Rattle.definitions.specs.declared.Range.{Range}
+use Rattle.serde_json.specs.Data.{Data, null, number}
+use Rattle.serde_json.specs.Find.{of_integer}
+use Rattle.serde_json.specs.View.{items_of}
+use Rattle.serde_json.specs.Written.{has_float, items_have_float}
+use Rattle.rpc.specs.declared.reply.Refusal.{Refusal}
+use Rattle.rpc.specs.declared.reply.Refusal.TheVariants.{ParseError, InvalidRequest, MethodNotFound, InvalidParams, DocumentNotOpen, NotInitialized}
+use Rattle.rpc.specs.Messages.{Ident, named, numbered}
+use Rattle.rpc.specs.Replies.{Answer, told_capabilities, told_null, told_text, told_tokens, told_error, capabilities, id_data, maybe_id_data, row_data, result_data, reply_data, document_data, error_data, rows_data, code_of, message_text}
+
+pub if_ok : {T E : Type 0} {P Q : T → Type 0} (r : Result T E) → ((x : T) → P x → Q x) → IfOk r P → IfOk r Q
+if_ok (Ok x) f p = f x p
+if_ok (Err e) f p = tt
+
+integer_is_whole : (z : ℤ) → has_float (number (of_integer z)) ≡ false
+integer_is_whole (pos n) = refl
+integer_is_whole (negsuc n) = refl
+
+id_is_whole : (id : Ident) → has_float (id_data id) ≡ false
+id_is_whole (named text) = refl
+id_is_whole (numbered z) = integer_is_whole z
+
+maybe_id_is_whole : (id : Option Ident) → has_float (maybe_id_data id) ≡ false
+maybe_id_is_whole None = refl
+maybe_id_is_whole (Some id) = id_is_whole id
+
+rows_are_whole : (rows : List (List ℕ × Range)) → items_have_float (items_of (map row_data rows)) ≡ false
+rows_are_whole [] = refl
+rows_are_whole (r ∷ rows) = rows_are_whole rows
+
+result_is_whole : (id outcome : Data) → has_float id ≡ false → has_float outcome ≡ false → has_float (result_data id outcome) ≡ false
+result_is_whole id outcome e f = ap (λ b. b || (has_float outcome || false)) e ∙ ap (λ b. b || false) f
+
+refusal_is_whole : (refusal : Refusal) → has_float (number (of_integer (code_of refusal))) ≡ false
+refusal_is_whole ParseError = refl
+refusal_is_whole InvalidRequest = refl
+refusal_is_whole MethodNotFound = refl
+refusal_is_whole InvalidParams = refl
+refusal_is_whole DocumentNotOpen = refl
+refusal_is_whole NotInitialized = refl
+
+pub reply_is_whole : (a : Answer) → has_float (reply_data a) ≡ false
+reply_is_whole (told_capabilities id) = result_is_whole (id_data id) capabilities (id_is_whole id) refl
+reply_is_whole (told_null id) = result_is_whole (id_data id) null (id_is_whole id) refl
+reply_is_whole (told_text id version text) = result_is_whole (id_data id) (document_data version text) (id_is_whole id) (ap (λ b. b || false) (integer_is_whole version))
+reply_is_whole (told_tokens id rows) = result_is_whole (id_data id) (rows_data rows) (id_is_whole id) (rows_are_whole rows)
+reply_is_whole (told_error id refusal) = ap (λ b. (b || false) || (has_float (maybe_id_data id) || false)) (refusal_is_whole refusal) ∙ ap (λ b. b || false) (maybe_id_is_whole id)
