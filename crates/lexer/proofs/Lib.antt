@@ -6,3 +6,4 @@ pub mod Fronts
 pub mod Remakes
 pub mod Rescanned
 pub mod Scans
+pub mod Exist

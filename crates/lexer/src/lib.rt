@@ -1,12 +1,14 @@
 //! The tokens of a text by longest matches, and what an edit changes of them.
 #![tactic(auto)]
 
+mod laws;
 mod sums;
 mod tokens;
 mod whole;
 
 pub use definitions::{Edit, Kind, KindSplice};
 pub use dfa::Source;
+pub use laws::each_text_has_tokens;
 pub use sums::{Sums, Token};
 pub use tokens::Tokens;
 pub use whole::Whole;

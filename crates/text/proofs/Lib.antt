@@ -2,3 +2,4 @@ mod Scan
 mod Lines
 mod Along
 mod Sizes
+mod Onward

@@ -7,6 +7,7 @@ ghost use Rattle.definitions.specs.Text.{IsText, edit, changed};
 ghost use Rattle.definitions.specs.Text as of;
 ghost use Rattle.definitions.specs.declared.Unit.TheVariants.{Utf16};
 
+use crate::places::Places;
 use crate::positions;
 use definitions::{Position, Range};
 use std::alloc::{AllocError, Global};
@@ -151,6 +152,13 @@ impl Text {
         ensures { result ≡ of.position Utf16 self.now offset }
     {
         positions::position(&self.characters, offset.min(self.len()))
+    }
+
+    /// A walk over the text, from its start, that tells positions as it goes.
+    pub fn places(&self) -> Places<'_>
+        ensures { result ≡ record { text = self.now; offset = 0 } }
+    {
+        Places::new(&self.characters)
     }
 
     /// How many characters the text has.

@@ -2,10 +2,12 @@
 #![tactic(auto)]
 
 mod document;
+mod places;
 mod positions;
 
 pub use definitions::{Position, Range};
 pub use document::{Chars, LONGEST_TEXT, Text, TextFault};
+pub use places::Places;
 
 #[cfg(test)]
 mod tests;

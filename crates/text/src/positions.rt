@@ -7,15 +7,15 @@ ghost use Rattle.definitions.specs.declared.Unit.TheVariants.{Utf16};
 
 use definitions::Position;
 
-// The UTF-16 units of a character.
-fn utf16_len(c: char) -> u32
+/// The UTF-16 units of a character.
+pub fn utf16_len(c: char) -> u32
     ensures { result ≡ unit Utf16 c }
 {
     c.len_utf16() as u32
 }
 
-// Whether a line break ends behind the character at `i`.
-fn is_break_end(text: &[char], i: usize) -> bool
+/// Whether a line break ends behind the character at `i`.
+pub fn is_break_end(text: &[char], i: usize) -> bool
     requires { i < length text.now }
     ensures { result ≡ ends_break (slice_index text.now i) (drop (i + 1) text.now) }
 {

@@ -1,0 +1,67 @@
+-- The rows of tokens, told one after another.
+use Rattle.std.specs.Prelude.{◌≡◌, ℕ, ◌+◌, min, List, [], ◌∷◌, ◌++◌, length, map, encode_utf8_all}
+use Rattle.std.specs.Str.{chars, IsUtf8}
+use Rattle.std.proofs.Common.{arith, refl, sym, ap, ◌∙◌, append_assoc}
+use Rattle.std.proofs.lemmas.List.{append-nil, map-append}
+use Rattle.definitions.specs.declared.Unit.TheVariants.{Utf16}
+use Rattle.definitions.specs.Text.{position}
+use Rattle.definitions.specs.Answers.{kind_name, range_of}
+use Rattle.definitions.proofs.Past.{position-min}
+use Rattle.definitions.proofs.Characters.{encodes-chars}
+use Rattle.text.specs.Places.{Place}
+use Rattle.grammar.specs.Grammars.{FileGrammar}
+use Rattle.lexer.specs.declared.sums.Token.{Token}
+use Rattle.views.specs.declared.rows.Row.{Row}
+use Rattle.views.specs.Views.{row_of, row_bytes, in_utf8, rows_from, rows_of}
+
+-- These rows are told, of the tokens before an offset. The walk stands there, or at the end of the text where that comes before
+-- it, and the rest of the tokens begins there.
+pub record IsTold (f : FileGrammar) (t : List ℕ) (items : List Token) (rows : List Row) (at : Place) (rest : List Token) : Type 0 where
+  pub offset : ℕ
+  pub text : at.text ≡ t
+  pub place : at.offset ≡ min offset (length t)
+  pub told : map row_of rows ++ rows_from f t offset rest ≡ rows_of f t items
+  pub spelled : map row_bytes rows ≡ map in_utf8 (map row_of rows)
+
+-- the walk has the position of the offset
+position-place : (t : List ℕ) (at : Place) (o : ℕ) → at.text ≡ t → at.offset ≡ min o (length t) → position Utf16 at.text at.offset ≡ position Utf16 t o
+position-place t at o e p = ap (λ u. position Utf16 u at.offset) e ∙ ap (position Utf16 t) p ∙ position-min Utf16 t o
+
+min-more : (n o k : ℕ) → min (min o n + k) n ≡ min (o + k) n
+min-more n o k = omega arith
+
+pub told_none : (f : FileGrammar) (t : List ℕ) (items : List Token) (at : Place) → at.text ≡ t → at.offset ≡ 0 → IsTold f t items [] at items
+told_none f t items at e p = record { offset = 0; text = e; place = omega (arith, p); told = refl; spelled = refl }
+
+pub told_more : (f : FileGrammar) (t : List ℕ) (items : List Token) (rows : List Row) (at next : Place) (x : Token) (rest : List Token) (r : Row)
+    → IsTold f t items rows at (x ∷ rest) → next.text ≡ at.text → next.offset ≡ min (at.offset + x.length) (length at.text)
+    → chars r.name.now ≡ kind_name f.names x.kind → IsUtf8 r.name.now → r.range.start ≡ position Utf16 at.text at.offset → r.range.end ≡ position Utf16 next.text next.offset
+    → IsTold f t items (rows ++ r ∷ []) next rest
+told_more f t items rows at next x rest r h e p name utf8 from to =
+    let text : next.text ≡ t = e ∙ h.text in
+    let place : next.offset ≡ min (h.offset + x.length) (length t) =
+    p ∙ ap (λ n. min (at.offset + x.length) (length n)) h.text ∙ ap (λ n. min (n + x.length) (length t)) h.place ∙ min-more (length t) h.offset x.length in
+    let start = from ∙ position-place t at h.offset h.text h.place in
+    let end = to ∙ position-place t next (h.offset + x.length) text place in
+    let row : row_of r ≡ (kind_name f.names x.kind, range_of Utf16 t (h.offset, h.offset + x.length)) = λ i. (name i, record { start = start i; end = end i }) in
+    let bytes : r.name.now ≡ encode_utf8_all (chars r.name.now) = sym (encodes-chars r.name.now utf8) in
+    let spelled : row_bytes r ≡ in_utf8 (row_of r) = λ i. (bytes i, r.range) in
+    record {
+      offset = h.offset + x.length;
+      text = text;
+      place = place;
+      told = ap (λ rs. rs ++ rows_from f t (h.offset + x.length) rest) (map-append row_of rows (r ∷ []))
+          ∙ append_assoc (map row_of rows) (row_of r ∷ []) (rows_from f t (h.offset + x.length) rest)
+          ∙ ap (λ y. map row_of rows ++ (y ∷ rows_from f t (h.offset + x.length) rest)) row
+          ∙ h.told;
+      spelled = map-append row_bytes rows (r ∷ [])
+          ∙ (λ i. h.spelled i ++ spelled i ∷ [])
+          ∙ sym (map-append in_utf8 (map row_of rows) (row_of r ∷ []))
+          ∙ ap (map in_utf8) (sym (map-append row_of rows (r ∷ [])));
+    }
+
+pub told_all : (f : FileGrammar) (t : List ℕ) (items : List Token) (rows : List Row) (at : Place) → IsTold f t items rows at [] → map row_of rows ≡ rows_of f t items
+told_all f t items rows at h = sym (append-nil (map row_of rows)) ∙ h.told
+
+pub spelled_all : (f : FileGrammar) (t : List ℕ) (items : List Token) (rows : List Row) (at : Place) → IsTold f t items rows at [] → map row_bytes rows ≡ map in_utf8 (rows_of f t items)
+spelled_all f t items rows at h = h.spelled ∙ ap (map in_utf8) (told_all f t items rows at h)
