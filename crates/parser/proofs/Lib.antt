@@ -1,0 +1,2 @@
+pub mod Reductions
+pub mod Moves
