@@ -1,2 +1,4 @@
 pub mod Reductions
 pub mod Moves
+pub mod Stamps
+pub mod Stops

@@ -1,15 +1,15 @@
 //! The LR(1) machine, which makes trees of what it reads.
 
-ghost use Rattle.std.specs.Prelude.{◌≡◌, ℕ, ◌+◌, ◌-◌, ◌^◌, ◌<◌, ◌≤◌, List, [], ◌∷◌, ◌++◌, length, take, slice_index_or, Option, IfOk, All};
+ghost use Rattle.std.specs.Prelude.{◌≡◌, ℕ, ◌+◌, ◌-◌, ◌^◌, ◌<◌, ◌≤◌, List, [], ◌∷◌, ◌++◌, length, take, slice_index_or, Option, IfOk};
 ghost use Rattle.definitions.specs.declared.Kind.{Kind as TokenKind};
 ghost use Rattle.definitions.specs.declared.Symbol.{Symbol};
 ghost use Rattle.definitions.specs.Trees.{HaveRoots};
 ghost use Rattle.definitions.specs.Items.{HasMove, Reduce as ReduceMove};
 ghost use Rattle.trees.specs.declared.store.Child.{Child};
-ghost use Rattle.trees.specs.Cells.{AreBelow, all_trees};
+ghost use Rattle.trees.specs.Cells.{AreBelow, forest_in};
 ghost use Rattle.theory.specs.Machine.{Reduces};
 ghost use Rattle.tables.specs.Tables.{IsAccepted, IsStateOf};
-ghost use Rattle.parser.specs.Machine.{plain_of, HasStates, HasMade, SoFar, IsMadeBy};
+ghost use Rattle.parser.specs.Machine.{plain_of, HasStates, HasMade, SoFar, AreMadeBy};
 ghost use Rattle.parser.specs.Parses.{IsStoppedAt};
 
 use crate::Verdict;
@@ -77,6 +77,7 @@ impl Machine {
         ensures states { IfOk result (λ _. HasStates tables.now (plain_of store.new self.new.stack.items) self.new.states.items) }
         ensures read { self.new.read ≡ self.old.read }
         ensures grown { take (length store.old) store.new ≡ store.old }
+        ensures room { IfOk result (λ _. length store.old < 2 ^ 64) }
         ensures made { IfOk result (λ _. HasMade store.old self.old.stack.items production number store.new self.new.stack.items) }
     {
         let (left, size) = tables.production(production);
@@ -102,9 +103,9 @@ impl Machine {
     ) -> Result<Verdict, AllocError>
         requires accepted { IsAccepted tables.now.grammar }
         requires so_far { SoFar tables.now (K.kinds kinds.now) store.old self.old.stack.items self.old.states.items self.old.read }
-        requires stamps { All (IsMadeBy number) (all_trees store.old self.old.stack.items) }
+        requires stamps { AreMadeBy number (forest_in store.old self.old.stack.items) }
         ensures stops { IfOk result (λ v. IsStoppedAt tables.now (K.kinds kinds.now) store.new v self.new.stack.items self.new.states.items) }
-        ensures stamps { IfOk result (λ _. All (IsMadeBy number) (all_trees store.new self.new.stack.items)) }
+        ensures stamps { IfOk result (λ _. AreMadeBy number (forest_in store.new self.new.stack.items)) }
         ensures grown { take (length store.old) store.new ≡ store.old }
     {
         let count = kinds.len();

@@ -1,10 +1,10 @@
 //! The parse of a list of kinds.
 
-ghost use Rattle.std.specs.Prelude.{◌≡◌, ◌↔◌, ℕ, List, length, take, true, All, IfOk, OnErr};
+ghost use Rattle.std.specs.Prelude.{◌≡◌, ◌↔◌, ℕ, List, length, take, true, IfOk, OnErr};
 ghost use Rattle.definitions.specs.declared.Kind.{Kind};
-ghost use Rattle.trees.specs.Cells.{Cell, KeepsTrees, all_trees};
+ghost use Rattle.trees.specs.Cells.{Cell, KeepsTrees, forest_in};
 ghost use Rattle.tables.specs.Tables.{Sets};
-ghost use Rattle.parser.specs.Machine.{IsMadeBy};
+ghost use Rattle.parser.specs.Machine.{AreMadeBy};
 ghost use Rattle.parser.specs.Parses.{IsParseOf, MayFollow, verdict_in};
 
 use crate::machine::Machine;
@@ -50,7 +50,7 @@ fn parsed<K: Kinds>(
     number: u64,
 ) -> Result<Parse, AllocError>
     ensures parse { IfOk result (λ p. IsParseOf tables.now (K.kinds kinds.now) store.new p) }
-    ensures stamps { IfOk result (λ p. All (IsMadeBy number) (all_trees store.new p.stack)) }
+    ensures stamps { IfOk result (λ p. AreMadeBy number (forest_in store.new p.stack)) }
     ensures grown { take (length store.old) store.new ≡ store.old }
 {
     let mut machine = Machine::new(alloc, tables)?;
@@ -74,7 +74,7 @@ impl Parse {
         kinds: &K,
     ) -> Result<Parse, AllocError>
         ensures parse { IfOk result (λ p. IsParseOf tables.now (K.kinds kinds.now) store.new p) }
-        ensures stamps { IfOk result (λ p. All (IsMadeBy 0) (all_trees store.new p.stack)) }
+        ensures stamps { IfOk result (λ p. AreMadeBy 0 (forest_in store.new p.stack)) }
         ensures grown { take (length store.old) store.new ≡ store.old }
         ensures kept { KeepsTrees (length store.old) store.old store.new }
         ensures refused { OnErr result (store.new ≡ store.old) }

@@ -1,12 +1,12 @@
-use Rattle.std.proofs.Common.{◌≡◌, ◌+◌, ◌-◌, ◌^◌, length, take, All}
-use Rattle.trees.specs.Cells.{all_trees}
-use Rattle.parser.specs.Machine.{SoFar, IsMadeBy}
+use Rattle.std.proofs.Common.{◌≡◌, ◌+◌, ◌-◌, ◌^◌, length, take}
+use Rattle.trees.specs.Cells.{forest_in}
+use Rattle.parser.specs.Machine.{SoFar, AreMadeBy}
 use Rattle.parser.proofs.machine.Machine.run.Given as goal
 
 abbrev pub invariant-moves : goal.invariant-moves
 invariant-moves g l = record {
   so_far : SoFar l.tables (g.K.Kinds.kinds l.kinds) l.store l.self.stack.items l.self.states.items l.self.read;
-  stamps : All (IsMadeBy l.number) (all_trees l.store l.self.stack.items);
+  stamps : AreMadeBy l.number (forest_in l.store l.self.stack.items);
   grown : take (length l.fn.store) l.store ≡ l.fn.store;
 }
 
