@@ -2,3 +2,4 @@ pub mod Reductions
 pub mod Moves
 pub mod Stamps
 pub mod Stops
+pub mod Expecting

@@ -35,16 +35,16 @@ states_push t stack stack' states h s next roots there =
       roots = roots;
       long = omega (arith, h.long, length-append states (next ∷ []), length-append h.symbols (s ∷ []));
       each = λ i lt. ⊎_elim
-        (λ low.
-        let is : take i whole ≡ take i h.symbols = take-append-le i h.symbols (s ∷ []) (omega (arith, low, h.long)) in
-        let at : get_or (states ++ (next ∷ [])) i 0 ≡ get_or states i 0 = get_or_append_left states (next ∷ []) 0 i low in
-        subst (λ k. IsStateOf t (take i whole) k) (sym at) (subst (λ l. IsStateOf t l (get_or states i 0)) (sym is) (h.each i low)))
-        (λ high.
-        let i_is : i ≡ length states = omega (arith, high, lt, length-append states (next ∷ [])) in
-        let all : take i whole ≡ whole = take_all i whole (omega (arith, i_is, h.long, length-append h.symbols (s ∷ []))) in
-        let at : get_or (states ++ (next ∷ [])) i 0 ≡ next = ap (λ j. get_or (states ++ (next ∷ [])) j 0) i_is ∙ get_or-append_seam states next [] 0 in
-        subst (λ k. IsStateOf t (take i whole) k) (sym at) (subst (λ l. IsStateOf t l next) (sym all) there))
-        (cases_lt i (length states));
+          (λ low.
+          let is : take i whole ≡ take i h.symbols = take-append-le i h.symbols (s ∷ []) (omega (arith, low, h.long)) in
+          let at : get_or (states ++ (next ∷ [])) i 0 ≡ get_or states i 0 = get_or_append_left states (next ∷ []) 0 i low in
+          subst (λ k. IsStateOf t (take i whole) k) (sym at) (subst (λ l. IsStateOf t l (get_or states i 0)) (sym is) (h.each i low)))
+          (λ high.
+          let i_is : i ≡ length states = omega (arith, high, lt, length-append states (next ∷ [])) in
+          let all : take i whole ≡ whole = take_all i whole (omega (arith, i_is, h.long, length-append h.symbols (s ∷ []))) in
+          let at : get_or (states ++ (next ∷ [])) i 0 ≡ next = ap (λ j. get_or (states ++ (next ∷ [])) j 0) i_is ∙ get_or-append_seam states next [] 0 in
+          subst (λ k. IsStateOf t (take i whole) k) (sym at) (subst (λ l. IsStateOf t l next) (sym all) there))
+          (cases_lt i (length states));
     }
 
 take_one_more : (kinds : List Kind) (read : ℕ) (k : Kind) → slice_get kinds read ≡ Some k → take (read + 1) kinds ≡ take read kinds ++ (k ∷ [])

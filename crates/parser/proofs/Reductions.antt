@@ -134,16 +134,16 @@ module _ (t : Sets) (stack : List Tree) (states : List ℕ) (h : HasStates t sta
         roots = roots';
         long = omega (arith, length-append front (next ∷ []), front_long, whole_long);
         each = λ i lt. ⊎_elim
-          (λ low.
-          let le : i ≤ length k.d = omega (arith, low, depth) in
-          let old : IsStateOf t (take i h.symbols) (get_or states i 0) = h.each i (omega (arith, low, long)) in
-          let is : take i h.symbols ≡ take i whole = ap (take i) same ∙ take-append-le i k.d right le ∙ sym (take-append-le i k.d (Nonterminal left ∷ []) le) in
-          let there' : get_or (front ++ (next ∷ [])) i 0 ≡ get_or states i 0 = get_or_append_left front (next ∷ []) 0 i (omega (arith, low, front_long)) ∙ get_front (n + 1) i states low in
-          subst (λ s. IsStateOf t (take i whole) s) (sym there') (subst (λ l. IsStateOf t l (get_or states i 0)) is old))
-          (λ high.
-          let i_is : i ≡ n + 1 = omega (arith, high, lt, length-append front (next ∷ []), front_long) in
-          let all : take i whole ≡ whole = take_all i whole (omega (arith, i_is, whole_long)) in
-          let is : get_or (front ++ (next ∷ [])) i 0 ≡ next = ap (λ j. get_or (front ++ (next ∷ [])) j 0) (let q : i ≡ length front = omega (arith, i_is, front_long) in q) ∙ get_or-append_seam front next [] 0 in
-          subst (λ s. IsStateOf t (take i whole) s) (sym is) (subst (λ l. IsStateOf t l next) (sym all) there))
-          (cases_lt i (n + 1));
+            (λ low.
+            let le : i ≤ length k.d = omega (arith, low, depth) in
+            let old : IsStateOf t (take i h.symbols) (get_or states i 0) = h.each i (omega (arith, low, long)) in
+            let is : take i h.symbols ≡ take i whole = ap (take i) same ∙ take-append-le i k.d right le ∙ sym (take-append-le i k.d (Nonterminal left ∷ []) le) in
+            let there' : get_or (front ++ (next ∷ [])) i 0 ≡ get_or states i 0 = get_or_append_left front (next ∷ []) 0 i (omega (arith, low, front_long)) ∙ get_front (n + 1) i states low in
+            subst (λ s. IsStateOf t (take i whole) s) (sym there') (subst (λ l. IsStateOf t l (get_or states i 0)) is old))
+            (λ high.
+            let i_is : i ≡ n + 1 = omega (arith, high, lt, length-append front (next ∷ []), front_long) in
+            let all : take i whole ≡ whole = take_all i whole (omega (arith, i_is, whole_long)) in
+            let is : get_or (front ++ (next ∷ [])) i 0 ≡ next = ap (λ j. get_or (front ++ (next ∷ [])) j 0) (let q : i ≡ length front = omega (arith, i_is, front_long) in q) ∙ get_or-append_seam front next [] 0 in
+            subst (λ s. IsStateOf t (take i whole) s) (sym is) (subst (λ l. IsStateOf t l next) (sym all) there))
+            (cases_lt i (n + 1));
       }

@@ -14,7 +14,7 @@ use Rattle.definitions.specs.Items.{Move, HasMove, HasNoConflict, Accept}
 use Rattle.theory.specs.Machine.{Run, IsStackAfter, StackHasMove}
 use Rattle.theory.proofs.Unique.{roots_unique}
 use Rattle.theory.proofs.Stack.{accepted_tree}
-use Rattle.theory.proofs.Theorems.{read_settled, settled_stack}
+use Rattle.theory.proofs.Theorems.{read_settled, settled_run}
 use Rattle.theory.proofs.Verdicts.{verdict_at_kind, verdict_at_end, stuck_at_kind, stuck_at_end}
 use Rattle.trees.specs.declared.store.NodeId.{NodeId}
 use Rattle.trees.specs.declared.store.Child.{Child}
@@ -60,11 +60,12 @@ module _ (g : Grammar) where
         (below, subst (λ l. IsSettledIn g l below) (sym x_is) settled, stack_is ∙ ap (λ l. below ++ l) (sym (ap last_leaf x_is ∙ last-append before last)))
 
   -- and the other way round
-  pub settled_after : HasNoConflict g → (x : List Kind) (trees stack : List Tree) → IsSettled g x trees → stack ≡ trees ++ last_leaf x → IsStackAfter g x stack
-  settled_after free [] trees stack h e = e ∙ ap (λ l. l ++ []) h
-  settled_after free (k ∷ x) trees stack h e =
+  pub settled_after : (x : List Kind) (trees stack : List Tree) → IsSettled g x trees → stack ≡ trees ++ last_leaf x → IsStackAfter g x stack
+  settled_after [] trees stack h e = e ∙ ap (λ l. l ++ []) h
+  settled_after (k ∷ x) trees stack h e =
       let last : last_leaf (k ∷ x) ≡ Leaf h.last ∷ [] = ap last_leaf h.kinds ∙ last-append (all_kinds trees) h.last in
-      subst (IsStackAfter g (k ∷ x)) (sym (e ∙ ap (λ l. trees ++ l) last)) (settled_stack g free k x trees h)
+      let run = settled_run g (k ∷ x) trees h in
+      (all_kinds trees, h.last, trees, h.kinds, run.0, run.1, e ∙ ap (λ l. trees ++ l) last)
 
   -- one tree on the stack is a node's
   pub one_node : (cells : List Cell) (stack : List Child) (t : Tree) (n : ℕ) → plain_of cells stack ≡ t ∷ [] → IsTree g t (Nonterminal n) → (id : NodeId) × (stack ≡ Node id ∷ [])
@@ -99,16 +100,18 @@ module _ (t : Sets) (accepted : IsAccepted t.grammar) (kinds : List Kind) (cells
       let place : length x ≡ read = omega (arith, length-take read kinds, lt) in
       let fault : IsVerdict g (x ++ (k ∷ after)) (FaultAt (length x)) = verdict_at_kind g accepted.free accepted.productive x k after h.shifted trees h.after run none in
       let same = (stuck_at_kind g accepted.free accepted.productive x h.shifted trees k h.after run none).1 in
-      let settled = after_settled g accepted.free accepted.productive x trees (subst (IsStackAfter g x) (sym same) h.after) in
-      (some_state, record {
-        below = h.below;
-        verdict = subst (λ n. IsVerdict g kinds (FaultAt n)) place (subst (λ l. IsVerdict g l (FaultAt (length x))) (sym (split_at kinds read k there.1)) fault);
-        stack = record { trees = settled.0; are = settled.1; stack_is = settled.2 };
-        alone = tt;
-        roots = h.has_states.symbols;
-        are_roots = h.has_states.roots;
-        state = top_stands t trees states h.has_states;
-      })
+      let settled = after_settled g accepted.free accepted.productive x trees (subst (IsStackAfter g x) (sym same) h.after) in (
+        some_state,
+        record {
+          below = h.below;
+          verdict = subst (λ n. IsVerdict g kinds (FaultAt n)) place (subst (λ l. IsVerdict g l (FaultAt (length x))) (sym (split_at kinds read k there.1)) fault);
+          stack = record { trees = settled.0; are = settled.1; stack_is = settled.2 };
+          alone = tt;
+          roots = h.has_states.symbols;
+          are_roots = h.has_states.roots;
+          state = top_stands t trees states h.has_states;
+        },
+      )
 
   pub at_end : IsStuck → length kinds ≤ read → IsStoppedAt t kinds cells StopsAtEnd stack states
   at_end stuck le =
@@ -120,16 +123,18 @@ module _ (t : Sets) (accepted : IsAccepted t.grammar) (kinds : List Kind) (cells
       let run : Run g None h.shifted [] trees = subst (λ l. Run g l h.shifted [] trees) next h.run in
       let after : IsStackAfter g kinds h.shifted = subst (λ l. IsStackAfter g l h.shifted) all h.after in
       let same = (stuck_at_end g accepted.free accepted.productive kinds h.shifted trees after run none).1 in
-      let settled = after_settled g accepted.free accepted.productive kinds trees (subst (IsStackAfter g kinds) (sym same) after) in
-      (some_state, record {
-        below = h.below;
-        verdict = verdict_at_end g accepted.free accepted.productive kinds h.shifted trees after run none;
-        stack = record { trees = settled.0; are = settled.1; stack_is = settled.2 };
-        alone = tt;
-        roots = h.has_states.symbols;
-        are_roots = h.has_states.roots;
-        state = top_stands t trees states h.has_states;
-      })
+      let settled = after_settled g accepted.free accepted.productive kinds trees (subst (IsStackAfter g kinds) (sym same) after) in (
+        some_state,
+        record {
+          below = h.below;
+          verdict = verdict_at_end g accepted.free accepted.productive kinds h.shifted trees after run none;
+          stack = record { trees = settled.0; are = settled.1; stack_is = settled.2 };
+          alone = tt;
+          roots = h.has_states.symbols;
+          are_roots = h.has_states.roots;
+          state = top_stands t trees states h.has_states;
+        },
+      )
 
   module _ (called : HasMove t.grammar h.has_states.symbols (slice_get kinds read) Accept) where
     the_tree : (u : Tree) × (plain_of cells stack ≡ u ∷ []) × IsTreeOf t.grammar (take read kinds) u × (slice_get kinds read ≡ None)
@@ -144,13 +149,15 @@ module _ (t : Sets) (accepted : IsAccepted t.grammar) (kinds : List Kind) (cells
         let u = the_tree.0 in
         let all : take read kinds ≡ kinds = take_all read kinds (none_there kinds read the_tree.3) in
         let node : plain (tree cells (Node id)) ∷ [] ≡ u ∷ [] = sym (ap (plain_of cells) e) ∙ the_tree.1 in
-        let same : plain (tree cells (Node id)) ≡ u = cc node in
-        (some_state, record {
-          below = h.below;
-          verdict = subst (IsTreeOf g kinds) (sym same) (subst (λ l. IsTreeOf g l u) all the_tree.2);
-          stack = record { trees = plain (tree cells (Node id)) ∷ []; are = refl; stack_is = ap (plain_of cells) e };
-          alone = e;
-          roots = h.has_states.symbols;
-          are_roots = h.has_states.roots;
-          state = top_stands t (plain_of cells stack) states h.has_states;
-        })
+        let same : plain (tree cells (Node id)) ≡ u = cc node in (
+          some_state,
+          record {
+            below = h.below;
+            verdict = subst (IsTreeOf g kinds) (sym same) (subst (λ l. IsTreeOf g l u) all the_tree.2);
+            stack = record { trees = plain (tree cells (Node id)) ∷ []; are = refl; stack_is = ap (plain_of cells) e };
+            alone = e;
+            roots = h.has_states.symbols;
+            are_roots = h.has_states.roots;
+            state = top_stands t (plain_of cells stack) states h.has_states;
+          },
+        )

@@ -5,3 +5,6 @@ mod machine;
 mod parse;
 
 pub use parse::{Parse, Verdict};
+
+#[cfg(test)]
+mod tests;
