@@ -1,0 +1,5 @@
+pub mod Reductions
+pub mod Moves
+pub mod Stamps
+pub mod Stops
+pub mod Expecting

@@ -1,0 +1,51 @@
+-- How far the machine has come.
+use Rattle.std.specs.Prelude.{◌≡◌, ℕ, ◌+◌, ◌<◌, ◌≤◌, List, [], ◌∷◌, ◌++◌, length, take, slice_get, slice_index_or}
+use Rattle.definitions.specs.declared.Kind.{Kind}
+use Rattle.definitions.specs.declared.Symbol.{Symbol}
+use Rattle.definitions.specs.Trees.{Tree, HaveRoots}
+use Rattle.definitions.specs.TreeEdits.{Stamped, StampedLeaf, StampedBranch, StampedForest, StampedNil, StampedCons, plain_trees}
+use Rattle.trees.specs.declared.store.NodeId.{NodeId}
+use Rattle.trees.specs.declared.store.Child.{Child}
+use Rattle.trees.specs.declared.store.Child.TheVariants.{Node}
+use Rattle.trees.specs.Cells.{Cell, AreBelow, IsGrown, all_trees}
+use Rattle.theory.specs.Machine.{Run, IsStackAfter}
+use Rattle.tables.specs.Tables.{Sets, IsStateOf}
+
+-- the trees of children, without their stamps
+abbrev pub plain_of : List Cell → List Child → List Tree
+plain_of cells cs = plain_trees (all_trees cells cs)
+
+-- each state stands for the roots of the trees below it
+pub record HasStates (t : Sets) (stack : List Tree) (states : List ℕ) : Type 0 where
+  pub symbols : List Symbol
+  pub roots : HaveRoots t.grammar stack symbols
+  pub long : length states ≡ length symbols + 1
+  pub each : (i : ℕ) → i < length states → IsStateOf t (take i symbols) (slice_index_or states i 0)
+
+-- the machine has put as many kinds onto the stack as it has read, and has come to this stack on the next kind
+pub record SoFar (t : Sets) (kinds : List Kind) (cells : List Cell) (stack : List Child) (states : List ℕ) (read : ℕ) : Type 0 where
+  pub has_states : HasStates t (plain_of cells stack) states
+  pub below : AreBelow (length cells) stack
+  pub within : read ≤ length kinds
+  pub shifted : List Tree
+  pub after : IsStackAfter t.grammar (take read kinds) shifted
+  pub run : Run t.grammar (slice_get kinds read) shifted [] (plain_of cells stack)
+
+-- every branch of the tree was made by this edit
+abbrev mutual
+  pub IsMadeBy : ℕ → Stamped → Type 0
+  IsMadeBy number (StampedLeaf k) = Unit {0}
+  IsMadeBy number (StampedBranch p born ts) = (born ≡ number) × AreMadeBy number ts
+
+  pub AreMadeBy : ℕ → StampedForest → Type 0
+  AreMadeBy number StampedNil = Unit {0}
+  AreMadeBy number (StampedCons t ts) = IsMadeBy number t × AreMadeBy number ts
+
+-- a reduction has made one node, of this edit's number, over the last trees of the stack
+pub record HasMade (old : List Cell) (stack : List Child) (p number : ℕ) (new : List Cell) (stack' : List Child) : Type 0 where
+  pub under : List Child
+  pub kids : List Child
+  pub id : NodeId
+  pub stack_is : stack ≡ under ++ kids
+  pub stack_is' : stack' ≡ under ++ (Node id ∷ [])
+  pub grown : IsGrown old p kids number new id

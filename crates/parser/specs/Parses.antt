@@ -1,0 +1,80 @@
+-- What a parse tells of the kinds that it was made of.
+--     IsParseOf t kinds cells parse      the parse by the tables t of these kinds, with its nodes in these cells
+--     before_fault kinds v      the kinds before a fault, and none where there is a tree
+--     MayFollow g kinds v look      at a fault, a token rule or the end may stand behind the kinds before it
+use Rattle.std.specs.Prelude.{◌≡◌, ℕ, ◌-◌, ◌<◌, List, [], ◌∷◌, ◌++◌, length, take, slice_index_or, Option, Some, None}
+use Rattle.definitions.specs.declared.Kind.{Kind}
+use Rattle.definitions.specs.declared.Kind.TheVariants.{Rule as Token}
+use Rattle.definitions.specs.declared.Symbol.{Symbol}
+use Rattle.definitions.specs.Trees.{Grammar, Tree, Leaf, HaveRoots}
+use Rattle.definitions.specs.TreeEdits.{plain}
+use Rattle.definitions.specs.Sentences.{IsSentence, IsViable, IsVerdict}
+use Rattle.definitions.specs.Sentences.{Verdict as Answer, HasTree, FaultAt, FaultAtEnd}
+use Rattle.definitions.specs.DocumentNodes.{AreDocumentTrees}
+use Rattle.trees.specs.declared.store.NodeId.{NodeId}
+use Rattle.trees.specs.declared.store.Child.{Child}
+use Rattle.trees.specs.declared.store.Child.TheVariants.{Node}
+use Rattle.trees.specs.Cells.{Cell, AreBelow, tree}
+use Rattle.tables.specs.Tables.{Sets, IsStateOf}
+use Rattle.parser.specs.declared.parse.Verdict.{Verdict}
+use Rattle.parser.specs.declared.parse.Verdict.TheVariants.{Tree as TreeAt, FaultAt as StopsAt, FaultAtEnd as StopsAtEnd}
+use Rattle.parser.specs.Machine.{plain_of}
+
+-- what callers see of a parse: the verdict, and the trees and the state in which the machine stopped
+pub record Stop : Type 0 where
+  pub verdict : Verdict
+  pub stack : List Child
+  pub state : ℕ
+
+-- the verdict that a program's answer means
+abbrev pub verdict_in : List Cell → Verdict → Answer
+verdict_in cells (TreeAt id) = HasTree (plain (tree cells (Node id)))
+verdict_in cells (StopsAt k) = FaultAt k
+verdict_in cells StopsAtEnd = FaultAtEnd
+
+abbrev pub before_fault : List Kind → Answer → List Kind
+before_fault kinds (HasTree t) = []
+before_fault kinds (FaultAt k) = take k kinds
+before_fault kinds FaultAtEnd = kinds
+
+-- the last kind as a tree, where there is one
+abbrev pub last_leaf : List Kind → List Tree
+last_leaf [] = []
+last_leaf (k ∷ []) = Leaf k ∷ []
+last_leaf (j ∷ k ∷ x) = last_leaf (k ∷ x)
+
+-- the trees of a document with this verdict, and behind them the last kind before a fault
+pub record AreStacked (g : Grammar) (kinds : List Kind) (v : Answer) (stack : List Tree) : Type 0 where
+  pub trees : List Tree
+  pub are : AreDocumentTrees g kinds v trees
+  pub stack_is : stack ≡ trees ++ last_leaf (before_fault kinds v)
+
+-- only the tree's own node is there, where there is a tree
+abbrev pub IsAlone : Verdict → List Child → Type 0
+IsAlone (TreeAt id) stack = stack ≡ Node id ∷ []
+IsAlone (StopsAt k) stack = Unit {0}
+IsAlone StopsAtEnd stack = Unit {0}
+
+-- the parse of these kinds by these tables: the verdict on the kinds, and what is on the stack, whose nodes are in the store
+pub record IsParseOf (t : Sets) (kinds : List Kind) (cells : List Cell) (parse : Stop) : Type 0 where
+  pub below : AreBelow (length cells) parse.stack
+  pub verdict : IsVerdict t.grammar kinds (verdict_in cells parse.verdict)
+  pub stack : AreStacked t.grammar kinds (verdict_in cells parse.verdict) (plain_of cells parse.stack)
+  pub alone : IsAlone parse.verdict parse.stack
+  pub roots : List Symbol
+  pub are_roots : HaveRoots t.grammar (plain_of cells parse.stack) roots
+  pub state : IsStateOf t roots parse.state
+
+-- the machine has stopped with this stack, under the last of these states
+abbrev pub IsStoppedAt : Sets → List Kind → List Cell → Verdict → List Child → List ℕ → Type 0
+IsStoppedAt t kinds cells v stack states = (0 < length states) × IsParseOf t kinds cells (record { verdict = v; stack = stack; state = slice_index_or states (length states - 1) 0 })
+
+-- some sentence goes on behind x with this token rule, or ends there
+abbrev pub GoesOnWith : Grammar → List Kind → Option ℕ → Type 0
+GoesOnWith g x (Some a) = IsViable g (x ++ (Token a ∷ []))
+GoesOnWith g x None = IsSentence g x
+
+abbrev pub MayFollow : Grammar → List Kind → Answer → Option ℕ → Type 0
+MayFollow g kinds (HasTree t) look = ⊥
+MayFollow g kinds (FaultAt k) look = GoesOnWith g (take k kinds) look
+MayFollow g kinds FaultAtEnd look = GoesOnWith g kinds look

@@ -1,0 +1,10 @@
+//! LR(1) parsing of the kinds of tokens by canonical tables (Knuth 1965).
+#![tactic(auto)]
+
+mod machine;
+mod parse;
+
+pub use parse::{Parse, Verdict};
+
+#[cfg(test)]
+mod tests;

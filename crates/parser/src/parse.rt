@@ -1,0 +1,118 @@
+//! The parse of a list of kinds.
+
+ghost use Rattle.std.specs.Prelude.{◌≡◌, ◌↔◌, ℕ, List, length, take, true, IfOk, OnErr};
+ghost use Rattle.definitions.specs.declared.Kind.{Kind};
+ghost use Rattle.trees.specs.Cells.{Cell, KeepsTrees, forest_in};
+ghost use Rattle.tables.specs.Tables.{Sets};
+ghost use Rattle.parser.specs.Machine.{AreMadeBy};
+ghost use Rattle.parser.specs.Parses.{IsParseOf, MayFollow, verdict_in};
+
+use crate::machine::Machine;
+use std::alloc::{AllocError, Global};
+use std::marker::Model;
+use tables::Tables;
+use trees::{Child, Kinds, NodeId, Store};
+
+/// What the kinds of a document's significant tokens mean.
+#[derive(Clone, Copy, Debug, PartialEq, Eq)]
+pub enum Verdict {
+    /// The tree of all tokens.
+    Tree(NodeId),
+    /// The first token with which no sentence goes on, counted from 0.
+    FaultAt(usize),
+    /// All tokens begin some sentence, and they are none.
+    FaultAtEnd,
+}
+
+/// The verdict on a list of kinds, and what the parser has made of it. It means something only beside its tables, its kinds
+/// and the store that has its nodes.
+#[derive(Drop)]
+pub struct Parse {
+    verdict: Verdict,
+    stack: Vec<Child>,
+    state: usize,
+}
+
+impl Model for Parse {
+    ghost use Rattle.parser.specs.Parses.{Stop};
+
+    ghost Value = { Stop };
+
+    ghost view = { λ p. record { verdict = p.verdict; stack = p.stack.items; state = p.state } };
+}
+
+/// The parse of the kinds, whose new nodes have this number. Where memory is refused, some nodes may stay.
+fn parsed<K: Kinds>(
+    alloc: Global,
+    tables: &Tables,
+    store: &mut Store,
+    kinds: &K,
+    number: u64,
+) -> Result<Parse, AllocError>
+    ensures parse { IfOk result (λ p. IsParseOf tables.now (K.kinds kinds.now) store.new p) }
+    ensures stamps { IfOk result (λ p. AreMadeBy number (forest_in store.new p.stack)) }
+    ensures grown { take (length store.old) store.new ≡ store.old }
+{
+    let mut machine = Machine::new(alloc, tables)?;
+    let verdict = machine.run(alloc, tables, store, kinds, number)?;
+    let state = machine.state();
+    Ok(Parse {
+        verdict,
+        stack: machine.stack,
+        state,
+    })
+}
+
+impl Parse {
+    /// The parse of the kinds. Its nodes are made by edit 0, and stand behind all others of the store.
+    ///
+    /// After a refusal the store is as before.
+    pub fn whole<K: Kinds>(
+        alloc: Global,
+        tables: &Tables,
+        store: &mut Store,
+        kinds: &K,
+    ) -> Result<Parse, AllocError>
+        ensures parse { IfOk result (λ p. IsParseOf tables.now (K.kinds kinds.now) store.new p) }
+        ensures stamps { IfOk result (λ p. AreMadeBy 0 (forest_in store.new p.stack)) }
+        ensures grown { take (length store.old) store.new ≡ store.old }
+        ensures kept { KeepsTrees (length store.old) store.old store.new }
+        ensures refused { OnErr result (store.new ≡ store.old) }
+    {
+        let before = store.len();
+        match parsed(alloc, tables, store, kinds, 0) {
+            Ok(parse) => Ok(parse),
+            Err(refusal) => {
+                store.truncate(before);
+                Err(refusal)
+            }
+        }
+    }
+
+    /// The tree, or the fault.
+    pub fn verdict(&self) -> Verdict
+        ensures { result ≡ self.now.verdict }
+    {
+        self.verdict
+    }
+
+    /// The tree alone; or at a fault the settled trees of the tokens before it, and behind them the last of these tokens, if
+    /// there is any.
+    pub fn stack(&self) -> &[Child]
+        ensures { result.now ≡ self.now.stack }
+    {
+        &self.stack
+    }
+
+    /// Whether this token rule, or where `look` is `None` the end, may stand at the fault, behind the tokens before it. Where
+    /// there is a tree, nothing may. The tables are those of the parse.
+    pub fn expects(&self, tables: &Tables, look: Option<usize>) -> bool
+        requires { (kinds : List Kind) × (cells : List Cell) × IsParseOf tables.now kinds cells self.now }
+        ensures { (kinds : List Kind) (cells : List Cell) → IsParseOf tables.now kinds cells self.now → (result ≡ true) ↔ MayFollow tables.now.grammar kinds (verdict_in cells self.now.verdict) look }
+    {
+        match self.verdict {
+            Verdict::Tree(_) => false,
+            Verdict::FaultAt(_) | Verdict::FaultAtEnd => tables.expects(self.state, look),
+        }
+    }
+}

@@ -1,0 +1,232 @@
+//! Worked kinds, of grammars of sums and of lists.
+
+ghost use Rattle.std.specs.Prelude.{◌<◌, List, length};
+ghost use Rattle.definitions.specs.declared.Kind.{Kind as TokenKind};
+ghost use Rattle.trees.specs.Cells.{Cell};
+ghost use Rattle.parser.specs.Parses.{IsParseOf};
+
+use crate::{Parse, Verdict};
+use definitions::Kind;
+use grammar::Grammar;
+use std::alloc::{AllocError, Global};
+use std::process::Abort;
+use std::test::Fail;
+use tables::Tables;
+use trees::{Child, Kinds, NodeId, Store};
+
+const SUMS: &str = r#"lrgrammar 1
+token NUM = [0-9]+
+token PLUS = "+"
+token LP = "("
+token RP = ")"
+skip WS = [ \t\r\n]+
+start Sum
+fold Atom
+Sum = Sum PLUS Atom
+Sum = Atom
+Atom = NUM
+Atom = LP Sum RP
+"#;
+
+const LISTS: &str = r#"lrgrammar 1
+token STR = "\"" [^"]* "\""
+token W = [a-z]+
+skip WS = [ ]+
+start L
+L =
+L = L Item
+Item = STR
+Item = W
+"#;
+
+const NUM: Kind = Kind::Rule(0);
+
+const PLUS: Kind = Kind::Rule(1);
+
+const LP: Kind = Kind::Rule(2);
+
+const RP: Kind = Kind::Rule(3);
+
+#[derive(Drop)]
+struct Listed<'a> {
+    kinds: &'a [Kind],
+}
+
+impl<'a> Kinds for Listed<'a> {
+    ghost kinds = { λ s. s.kinds.now };
+
+    fn len(&self) -> usize {
+        self.kinds.len()
+    }
+
+    fn kind(&self, k: usize) -> Option<Kind> {
+        self.kinds.get(k).copied()
+    }
+}
+
+fn tables(alloc: Global, text: &str) -> Result<Tables, Fail> {
+    let grammar = Grammar::read(alloc, text)?;
+    Ok(Tables::build(alloc, &grammar)?)
+}
+
+/// The node of a child that is one.
+fn node(rt: &impl Abort, store: &Store, child: Option<Child>) -> NodeId
+    ensures { result.index < length store.now }
+{
+    let Some(Child::Node(id)) = child else {
+        panic!(rt; "no node");
+    };
+    assert!(rt; id.index < store.len());
+    id
+}
+
+/// Which of the five token rules, and whether the end, may stand at the fault.
+fn expected(alloc: Global, tables: &Tables, parse: &Parse) -> Result<Vec<Option<usize>>, AllocError>
+    requires { (kinds : List TokenKind) × (cells : List Cell) × IsParseOf tables.now kinds cells parse.now }
+{
+    let mut looks = Vec::new(alloc);
+    for rule in 0..5 {
+        if parse.expects(tables, Some(rule)) {
+            looks.push(Some(rule))?;
+        }
+    }
+    if parse.expects(tables, None) {
+        looks.push(None)?;
+    }
+    Ok(looks)
+}
+
+#[test]
+fn one_tree_of_a_sum(rt: HostRuntime) -> Result<(), Fail> {
+    let alloc = rt.alloc();
+    let tables = tables(alloc, SUMS)?;
+    let mut store = Store::new(alloc);
+    let older = store.branch(alloc, 7, &[], 9)?;
+    let kinds = Listed {
+        kinds: &[NUM, PLUS, NUM],
+    };
+    let parse = Parse::whole(alloc, &tables, &mut store, &kinds)?;
+    assert_eq!(rt; store.len(), 5);
+    assert!(rt; older.index < store.len());
+    assert_eq!(rt; store.production(older), 7);
+    let Verdict::Tree(id) = parse.verdict() else {
+        panic!(rt; "no tree");
+    };
+    assert!(rt; parse.stack() == [Child::Node(id)].as_slice());
+    let sum = node(&rt, &store, Some(Child::Node(id)));
+    let left = node(&rt, &store, store.child(sum, 0));
+    let first = node(&rt, &store, store.child(left, 0));
+    let second = node(&rt, &store, store.child(sum, 2));
+    assert!(rt; store.child(sum, 1) == Some(Child::Token(PLUS)));
+    let want = [(sum, 0, 3), (left, 1, 1), (first, 2, 1), (second, 2, 1)];
+    for (id, production, tokens) in want {
+        assert!(rt; id.index < store.len());
+        assert_eq!(rt; store.production(id), production);
+        assert_eq!(rt; store.tokens(id), tokens);
+        assert_eq!(rt; store.born(id), 0);
+    }
+    assert!(rt; store.children(first) == [Child::Token(NUM)].as_slice());
+    assert!(rt; store.children(second) == [Child::Token(NUM)].as_slice());
+    assert_eq!(rt; expected(alloc, &tables, &parse)?.len(), 0);
+    Ok(())
+}
+
+#[test]
+fn a_fault_at_the_first_token_that_fits_no_sentence(rt: HostRuntime) -> Result<(), Fail> {
+    let alloc = rt.alloc();
+    let tables = tables(alloc, SUMS)?;
+    let mut store = Store::new(alloc);
+    let kinds = Listed { kinds: &[NUM, NUM] };
+    let parse = Parse::whole(alloc, &tables, &mut store, &kinds)?;
+    assert_eq!(rt; parse.verdict(), Verdict::FaultAt(1));
+    assert!(rt; parse.stack() == [Child::Token(NUM)].as_slice());
+    assert_eq!(rt;
+        expected(alloc, &tables, &parse)?.as_slice(),
+        [Some(1), None].as_slice()
+    );
+    Ok(())
+}
+
+#[test]
+fn an_invalid_token_is_a_fault(rt: HostRuntime) -> Result<(), Fail> {
+    let alloc = rt.alloc();
+    let tables = tables(alloc, SUMS)?;
+    let mut store = Store::new(alloc);
+    let kinds = Listed {
+        kinds: &[NUM, PLUS, Kind::Invalid, PLUS],
+    };
+    let parse = Parse::whole(alloc, &tables, &mut store, &kinds)?;
+    assert_eq!(rt; parse.verdict(), Verdict::FaultAt(2));
+    assert_eq!(rt; parse.stack().len(), 2);
+    assert!(rt; parse.stack()[1] == Child::Token(PLUS));
+    assert_eq!(rt;
+        expected(alloc, &tables, &parse)?.as_slice(),
+        [Some(0), Some(2)].as_slice()
+    );
+    Ok(())
+}
+
+#[test]
+fn nothing_ends_too_early(rt: HostRuntime) -> Result<(), Fail> {
+    let alloc = rt.alloc();
+    let tables = tables(alloc, SUMS)?;
+    let mut store = Store::new(alloc);
+    let parse = Parse::whole(alloc, &tables, &mut store, &Listed { kinds: &[] })?;
+    assert_eq!(rt; parse.verdict(), Verdict::FaultAtEnd);
+    assert_eq!(rt; parse.stack().len(), 0);
+    assert_eq!(rt;
+        expected(alloc, &tables, &parse)?.as_slice(),
+        [Some(0), Some(2)].as_slice()
+    );
+    Ok(())
+}
+
+#[test]
+fn an_open_parenthesis_expects_no_end(rt: HostRuntime) -> Result<(), Fail> {
+    let alloc = rt.alloc();
+    let tables = tables(alloc, SUMS)?;
+    let mut store = Store::new(alloc);
+    let parse = Parse::whole(alloc, &tables, &mut store, &Listed { kinds: &[LP, NUM] })?;
+    assert_eq!(rt; parse.verdict(), Verdict::FaultAtEnd);
+    let want = [Child::Token(LP), Child::Token(NUM)];
+    assert!(rt; parse.stack() == want.as_slice());
+    assert_eq!(rt;
+        expected(alloc, &tables, &parse)?.as_slice(),
+        [Some(1), Some(3)].as_slice()
+    );
+    Ok(())
+}
+
+#[test]
+fn a_list_of_no_items_is_a_branch(rt: HostRuntime) -> Result<(), Fail> {
+    let alloc = rt.alloc();
+    let tables = tables(alloc, LISTS)?;
+    let mut store = Store::new(alloc);
+    let parse = Parse::whole(alloc, &tables, &mut store, &Listed { kinds: &[] })?;
+    let Verdict::Tree(id) = parse.verdict() else {
+        panic!(rt; "no tree");
+    };
+    let list = node(&rt, &store, Some(Child::Node(id)));
+    assert_eq!(rt; store.production(list), 0);
+    assert_eq!(rt; store.children(list).len(), 0);
+    Ok(())
+}
+
+#[test]
+fn nests_without_recursion(rt: HostRuntime) -> Result<(), Fail> {
+    let alloc = rt.alloc();
+    let tables = tables(alloc, SUMS)?;
+    let mut store = Store::new(alloc);
+    let mut kinds = Vec::new(alloc);
+    for _ in 0..100_000 {
+        kinds.push(LP)?;
+    }
+    kinds.push(NUM)?;
+    for _ in 0..100_000 {
+        kinds.push(RP)?;
+    }
+    let parse = Parse::whole(alloc, &tables, &mut store, &Listed { kinds: &kinds })?;
+    assert!(rt; matches!(parse.verdict(), Verdict::Tree(_)));
+    assert_eq!(rt; store.len(), 200_002);
+    Ok(())
+}
