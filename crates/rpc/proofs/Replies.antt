@@ -2,14 +2,14 @@
 use Rattle.std.proofs.Common.{◌≡◌, ℕ, ℤ, pos, negsuc, false, List, [], ◌∷◌, map, refl, ap, ◌∙◌}
 use Rattle.std.specs.Prelude.{◌||◌, Option, Some, None, Result, Ok, Err, IfOk}
 use Rattle.definitions.specs.declared.Range.{Range}
-use Rattle.serde_json.specs.Data.{Data, null, number}
+use Rattle.serde_json.specs.Data.{Data, null, number, string}
 use Rattle.serde_json.specs.Find.{of_integer}
 use Rattle.serde_json.specs.View.{items_of}
 use Rattle.serde_json.specs.Written.{has_float, items_have_float}
 use Rattle.rpc.specs.declared.reply.Refusal.{Refusal}
 use Rattle.rpc.specs.declared.reply.Refusal.TheVariants.{ParseError, InvalidRequest, MethodNotFound, InvalidParams, DocumentNotOpen, NotInitialized}
 use Rattle.rpc.specs.Messages.{Ident, named, numbered}
-use Rattle.rpc.specs.Replies.{Answer, told_capabilities, told_null, told_text, told_tokens, told_error, capabilities, id_data, maybe_id_data, row_data, result_data, reply_data, document_data, error_data, rows_data, code_of, message_text}
+use Rattle.rpc.specs.Replies.{Answer, told_capabilities, told_null, told_text, told_tokens, told_tree, told_error, capabilities, id_data, maybe_id_data, row_data, result_data, reply_data, document_data, error_data, rows_data, code_of, message_text}
 
 pub if_ok : {T E : Type 0} {P Q : T → Type 0} (r : Result T E) → ((x : T) → P x → Q x) → IfOk r P → IfOk r Q
 if_ok (Ok x) f p = f x p
@@ -47,4 +47,5 @@ reply_is_whole (told_capabilities id) = result_is_whole (id_data id) capabilitie
 reply_is_whole (told_null id) = result_is_whole (id_data id) null (id_is_whole id) refl
 reply_is_whole (told_text id version text) = result_is_whole (id_data id) (document_data version text) (id_is_whole id) (ap (λ b. b || false) (integer_is_whole version))
 reply_is_whole (told_tokens id rows) = result_is_whole (id_data id) (rows_data rows) (id_is_whole id) (rows_are_whole rows)
+reply_is_whole (told_tree id text) = result_is_whole (id_data id) (string text) (id_is_whole id) refl
 reply_is_whole (told_error id refusal) = ap (λ b. (b || false) || (has_float (maybe_id_data id) || false)) (refusal_is_whole refusal) ∙ ap (λ b. b || false) (maybe_id_is_whole id)

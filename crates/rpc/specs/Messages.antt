@@ -25,12 +25,13 @@ pub data Ident : Type 0 where
   named : List ℕ → Ident
   numbered : ℤ → Ident
 
--- what a request asks; text_of and tokens_of have the document's URI
+-- what a request asks; text_of, tokens_of and tree_of have the document's URI
 pub data Asked : Type 0 where
   initialize : Asked
   shutdown : Asked
   text_of : List ℕ → Asked
   tokens_of : List ℕ → Asked
+  tree_of : List ℕ → Asked
 
 -- a text for a range, or for the whole
 pub record ChangeSaid : Type 0 where
@@ -76,6 +77,7 @@ call_view call.Initialize = initialize
 call_view call.Shutdown = shutdown
 call_view (call.Text uri) = text_of (string_bytes uri)
 call_view (call.Tokens uri) = tokens_of (string_bytes uri)
+call_view (call.Tree uri) = tree_of (string_bytes uri)
 
 abbrev pub change_view : Change → ChangeSaid
 change_view c = record { range = c.range; text = string_bytes c.text }

@@ -11,7 +11,7 @@ use Rattle.rpc.specs.declared.reply.Refusal.TheVariants.{ParseError, InvalidRequ
 use Rattle.definitions.specs.declared.Range.{Range}
 use Rattle.rpc.specs.declared.reply.Row.{Row}
 use Rattle.rpc.specs.declared.reply.Reply.{Reply}
-use Rattle.rpc.specs.declared.reply.Reply.TheVariants.{Capabilities, Null, Text, Tokens, Error}
+use Rattle.rpc.specs.declared.reply.Reply.TheVariants.{Capabilities, Null, Text, Tokens, Tree, Error}
 use Rattle.rpc.specs.Messages.{Ident, named, numbered, id_view}
 
 pub data Answer : Type 0 where
@@ -19,6 +19,7 @@ pub data Answer : Type 0 where
   told_null : Ident → Answer
   told_text : Ident → ℤ → List ℕ → Answer
   told_tokens : Ident → List (List ℕ × Range) → Answer
+  told_tree : Ident → List ℕ → Answer
   told_error : Option Ident → Refusal → Answer
 
 -- a token's name in UTF-8, and its range
@@ -30,6 +31,7 @@ reply_view (Capabilities id) = told_capabilities (id_view id)
 reply_view (Null id) = told_null (id_view id)
 reply_view (Text id version text) = told_text (id_view id) version (string_bytes text)
 reply_view (Tokens id rows) = told_tokens (id_view id) (map row_view rows.items)
+reply_view (Tree id text) = told_tree (id_view id) (string_bytes text)
 reply_view (Error id refusal) = told_error (option_map id_view id) refusal
 
 abbrev pub id_data : Ident → Data
@@ -114,4 +116,5 @@ reply_data (told_capabilities id) = result_data (id_data id) capabilities
 reply_data (told_null id) = result_data (id_data id) null
 reply_data (told_text id version text) = result_data (id_data id) (document_data version text)
 reply_data (told_tokens id rows) = result_data (id_data id) (rows_data rows)
+reply_data (told_tree id text) = result_data (id_data id) (string text)
 reply_data (told_error id refusal) = error_data (maybe_id_data id) (code_of refusal) (message_text refusal)

@@ -32,6 +32,8 @@ pub enum Call {
     Text { uri: String },
     /// `lr/tokens`: the tokens of a document.
     Tokens { uri: String },
+    /// `lr/tree`: the tree of a document.
+    Tree { uri: String },
 }
 
 /// A notification whose parameters don't fit.

@@ -4,7 +4,7 @@ ghost use Rattle.std.specs.Prelude.{◌≡◌, Some, codes, map, option_map, opt
 ghost use Rattle.serde_json.specs.Find.{get};
 ghost use Rattle.serde_json.specs.View.{view, items_view};
 ghost use Rattle.rpc.specs.Fields.{text_at};
-ghost use Rattle.rpc.specs.Messages.{said, refused, params, text_of, tokens_of, id_view, change_view, note_view, message_view, fault_view, heard_of};
+ghost use Rattle.rpc.specs.Messages.{said, refused, params, text_of, tokens_of, tree_of, id_view, change_view, note_view, message_view, fault_view, heard_of};
 ghost use Rattle.rpc.specs.Reading.{maybe_range, change_of, changes_of, changes_at, opening, changing, asked_initialize, asked_about, request_of, notice_of, of_method, message_of, uri_at, params_at, Gives, Hears};
 
 use crate::fields::text_at;
@@ -140,6 +140,15 @@ fn asked_tokens(alloc: Global, id: Id, params: &Value) -> Result<Message, RpcFau
     }
 }
 
+fn asked_tree(alloc: Global, id: Id, params: &Value) -> Result<Message, RpcFault>
+    ensures { Gives result (asked_about tree_of (id_view id) (uri_at (view params.now))) }
+{
+    match copied_uri(alloc, params)? {
+        Some(uri) => Ok(Message::Request(id, Call::Tree { uri })),
+        None => Err(misfit(id)),
+    }
+}
+
 fn request_of(alloc: Global, method: &str, id: Id, params: &Value) -> Result<Message, RpcFault>
     ensures { Gives result (request_of method.now (id_view id) (view params.now)) }
 {
@@ -151,6 +160,8 @@ fn request_of(alloc: Global, method: &str, id: Id, params: &Value) -> Result<Mes
         asked_text(alloc, id, params)
     } else if method == "lr/tokens" {
         asked_tokens(alloc, id, params)
+    } else if method == "lr/tree" {
+        asked_tree(alloc, id, params)
     } else {
         Err(RpcFault::Unknown { id })
     }

@@ -42,6 +42,8 @@ pub enum Reply {
     Text { id: Id, version: i32, text: String },
     /// A document's tokens, for `lr/tokens`.
     Tokens { id: Id, rows: Vec<Row> },
+    /// The text of a document's tree, for `lr/tree`.
+    Tree { id: Id, text: String },
     /// There is no id where the request's can't be read.
     Error { id: Option<Id>, refusal: Refusal },
 }
@@ -154,6 +156,10 @@ fn reply_value(alloc: Global, reply: &Reply) -> Result<Value, AllocError>
         Reply::Tokens { id, rows } => {
             let rows = rows_value(alloc, rows)?;
             result_value(alloc, id_value(alloc, id)?, rows)
+        }
+        Reply::Tree { id, text } => {
+            let text = Value::String(String::from_str(alloc, text.as_str())?);
+            result_value(alloc, id_value(alloc, id)?, text)
         }
         Reply::Error { id, refusal } => {
             let id = maybe_id_value(alloc, id)?;

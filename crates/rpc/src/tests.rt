@@ -45,6 +45,14 @@ fn replies_have_their_bytes(rt: HostRuntime) -> Result<(), Fail> {
             51,
         ),
         (
+            Reply::Tree {
+                id: Id::Number(2),
+                text: String::from_str(alloc, "(L)")?,
+            },
+            r#"{"id":2,"jsonrpc":"2.0","result":"(L)"}"#,
+            39,
+        ),
+        (
             Reply::Null { id: Id::Number(3) },
             r#"{"id":3,"jsonrpc":"2.0","result":null}"#,
             38,
@@ -123,6 +131,7 @@ fn kind(outcome: &Result<Message, RpcFault>) -> &'static str {
         Ok(Message::Request(_, Call::Shutdown)) => "shutdown",
         Ok(Message::Request(_, Call::Text { .. })) => "text",
         Ok(Message::Request(_, Call::Tokens { .. })) => "tokens",
+        Ok(Message::Request(_, Call::Tree { .. })) => "tree",
         Ok(Message::Notice(note)) => note_kind(note),
         Ok(Message::Ignored) => "ignored",
         Err(RpcFault::Parse) => "parse",
@@ -249,6 +258,11 @@ fn methods_have_their_kinds(rt: HostRuntime) -> Result<(), Fail> {
             "tokens",
         ),
         (r#""id":4,"method":"lr/tokens","params":{}"#, "params"),
+        (
+            r#""id":4,"method":"lr/tree","params":{"textDocument":{"uri":"a:x"}}"#,
+            "tree",
+        ),
+        (r#""id":4,"method":"lr/tree","params":{}"#, "params"),
         (r#""id":4,"method":"$/x""#, "unknown"),
         (r#""id":4,"method":"exit""#, "unknown"),
         (r#""id":4,"method":"textDocument/didOpen""#, "unknown"),

@@ -16,7 +16,7 @@ use Rattle.std.proofs.lemmas.Cmp.{nat_list_cmp_total}
 use Rattle.std.proofs.lemmas.Map.Text.{is_eq-slice_cmp}
 use Rattle.grammar.specs.Grammars.{FileGrammar}
 use Rattle.server.specs.declared.documents.Document.{Document}
-use Rattle.server.specs.Documents.{OpenDocument, open_document, documents_of, entry_at, IsScanned, AreScanned}
+use Rattle.server.specs.Documents.{OpenDocument, open_document, documents_of, entry_at, IsCurrent, AreCurrent}
 
 map_cond : {A B : Type 0} (f : A → B) (b : Bool) (x : A) (o : Option A) → option_map f (cond b (Some x) o) ≡ cond b (Some (f x)) (option_map f o)
 map_cond f true x o = refl
@@ -53,19 +53,23 @@ len_held (e ∷ es) sorted =
     let one : len (documents_of (e ∷ es)) ≡ len (documents_of es) + 1 = len-insert nat_list_cmp_total (documents_of es) (string_bytes e.0) (open_document e.1) ∙ ap (λ b. cond b (len (documents_of es)) (len (documents_of es) + 1)) new in
     omega (arith, one, len_held es sorted.1)
 
--- one more document whose tokens are those of its text
-pub insert_scanned : {Y : Type 0} (file : FileGrammar) (es fs : List (String Y × Document)) (uri : List ℕ) (document : Document) → ((q : List ℕ) → entry_at fs q ≡ cond (bytes_eq uri q) (Some document) (entry_at es q)) → AreScanned file es → IsScanned file document → AreScanned file fs
-insert_scanned file es fs uri document differs all is q d found = by (bytes_eq uri q) (sym (differs q) ∙ found)
+-- one more document that is current
+pub insert_current : {Y : Type 0} (file : FileGrammar) (es fs : List (String Y × Document)) (uri : List ℕ) (document : Document) → ((q : List ℕ) → entry_at fs q ≡ cond (bytes_eq uri q) (Some document) (entry_at es q)) → AreCurrent file es → IsCurrent file document → AreCurrent file fs
+insert_current file es fs uri document differs all is q d found = by (bytes_eq uri q) (sym (differs q) ∙ found)
   where
-    by : (b : Bool) → cond b (Some document) (entry_at es q) ≡ Some d → IsScanned file d
-    by true e = let same : document ≡ d = cc in subst (λ (x : Document). IsScanned file x) same is
+    by : (b : Bool) → cond b (Some document) (entry_at es q) ≡ Some d → IsCurrent file d
+    by true e = let same : document ≡ d = cc in subst (λ (x : Document). IsCurrent file x) same is
     by false e = all q d e
 
 -- what is found has what all have
-pub found_scanned : {A : Type 0} (f : A → Document) (file : FileGrammar) (result : Option A) (o : Option Document) → option_map f result ≡ o → ((d : Document) → o ≡ Some d → IsScanned file d) → IfSome result (λ a. IsScanned file (f a))
-found_scanned f file None o e all = tt
-found_scanned f file (Some a) o e all = all (f a) (sym e)
+pub found_current : {A : Type 0} (f : A → Document) (file : FileGrammar) (result : Option A) (o : Option Document) → option_map f result ≡ o → ((d : Document) → o ≡ Some d → IsCurrent file d) → IfSome result (λ a. IsCurrent file (f a))
+found_current f file None o e all = tt
+found_current f file (Some a) o e all = all (f a) (sym e)
 
 pub map_twice : {A B C : Type 0} (f : A → B) (g : B → C) (o : Option A) → option_map (λ a. g (f a)) o ≡ option_map g (option_map f o)
 map_twice f g None = refl
 map_twice f g (Some a) = refl
+
+pub is_some_map : {A B : Type 0} (f : A → B) (o : Option A) → is_some (option_map f o) ≡ is_some o
+is_some_map f None = refl
+is_some_map f (Some a) = refl

@@ -4,8 +4,8 @@
 --     Holding      what the grammar file defines, and the documents that are held
 --     has_room uri documents      this document is held already, or one more may be
 --     documents_of entries      what the entries of a map from URIs make
---     IsScanned file d, AreScanned file entries      the tokens that are kept are those of the text
-use Rattle.std.specs.Prelude.{◌≡◌, ℕ, ℤ, ◌||◌, Bool, nat_lt, List, map, refl, String, Option, Some, string_bytes}
+--     IsCurrent file d, AreCurrent file entries      the tokens and the verdict that are kept are those of the text
+use Rattle.std.specs.Prelude.{◌≡◌, ℕ, ℤ, ◌||◌, Bool, nat_lt, List, map, filter, refl, String, Option, Some, string_bytes}
 use Rattle.std.specs.Ordering.{nat_cmp}
 use Rattle.std.specs.Cmp.Lexicographic.{slice_cmp}
 use Rattle.std.specs.Coded.{Coded, code_by, coded×, coded_ℕ, coded_ℤ, coded_list}
@@ -13,7 +13,10 @@ use Rattle.std.specs.FinMap.{FinMap, from_entries, contains_key, len}
 use Rattle.std.specs.Map.{lookup}
 use Rattle.std.specs.BTreeMap.{is_at}
 use Rattle.grammar.specs.Grammars.{FileGrammar}
-use Rattle.lexer.specs.Tokens.{AreTokensOf}
+use Rattle.definitions.specs.declared.Kind.{Kind}
+use Rattle.lexer.specs.declared.sums.Token.{Token}
+use Rattle.lexer.specs.Tokens.{is_significant, AreTokensOf}
+use Rattle.server.specs.Languages.{IsParsed}
 use Rattle.server.specs.declared.documents.Document.{Document}
 
 pub record OpenDocument : Type 0 where
@@ -36,7 +39,7 @@ has_room uri documents = contains_key documents uri || nat_lt (len documents) 64
 abbrev pub document_code : Coded OpenDocument
 document_code = code_by (ℤ × List ℕ) (coded× coded_ℤ (coded_list coded_ℕ)) (λ d. (d.version, d.text)) (λ p. record { version = p.0; text = p.1 }) (λ _. refl)
 
--- without the tokens that are kept
+-- without its tokens and their parse
 abbrev pub open_document : Document → OpenDocument
 open_document d = record { version = d.version; text = d.text }
 
@@ -47,8 +50,14 @@ documents_of entries = from_entries (map (λ e. (string_bytes e.0, open_document
 abbrev pub entry_at : {Y : Type 0} → List (String Y × Document) → List ℕ → Option Document
 entry_at entries uri = lookup (is_at (λ k. slice_cmp nat_cmp uri (string_bytes k))) entries
 
-abbrev pub IsScanned : FileGrammar → Document → Type 0
-IsScanned file d = AreTokensOf file.patterns file.skips d.text d.tokens.items
+-- the kinds of the significant ones of stored tokens
+abbrev pub kinds_of : List Token → List Kind
+kinds_of items = map (λ x. x.kind) (filter is_significant items)
 
-abbrev pub AreScanned : {Y : Type 0} → FileGrammar → List (String Y × Document) → Type 0
-AreScanned file entries = (uri : List ℕ) (d : Document) → entry_at entries uri ≡ Some d → IsScanned file d
+-- the tokens and the verdict that are kept are those of the text
+pub record IsCurrent (file : FileGrammar) (d : Document) : Type 0 where
+  pub tokens : AreTokensOf file.patterns file.skips d.text d.tokens.items
+  pub parse : IsParsed file.grammar (kinds_of d.tokens.items) d.store d.parse
+
+abbrev pub AreCurrent : {Y : Type 0} → FileGrammar → List (String Y × Document) → Type 0
+AreCurrent file entries = (uri : List ℕ) (d : Document) → entry_at entries uri ≡ Some d → IsCurrent file d

@@ -1,12 +1,13 @@
 -- A whole session, from the bytes that are read to the bytes that are written.
---     Served old new before contents stop after      the answers of a run over the contents were written
---     ServedInPart old new before contents      a front of such answers was written, where a device failed or memory was refused
+--     Served file old new before contents stop after      the answers of a run over the contents were written
+--     ServedInPart file old new before contents      a front of such answers was written, where a device failed or memory was refused
 --     Session ..      what `run` answers and writes
 use Rattle.std.specs.Prelude.{◌≡◌, ℕ, ◌⊎◌, List, ◌++◌, Option, Some, None, Result, Ok, Err}
 use Rattle.std.specs.Io.KnownBytes.{Consumes, Appends, IsAtEnd}
 use Rattle.frames.specs.Frames.{Tail, IsOpen, Splits, finish_of}
 use Rattle.frames.specs.declared.fault.FrameFault.{FrameFault}
 use Rattle.frames.specs.declared.fault.FrameFault.TheVariants as frame
+use Rattle.grammar.specs.Grammars.{FileGrammar}
 use Rattle.rpc.specs.Replies.{Answer}
 use Rattle.server.specs.declared.serve.RunFault.{RunFault}
 use Rattle.server.specs.declared.serve.RunFault.TheVariants.{Frame, Read, Write, Memory}
@@ -17,16 +18,16 @@ use Rattle.server.specs.Runs.{Run, bytes_of}
 abbrev pub AppendsFront : Option (List ℕ) → Option (List ℕ) → List ℕ → Type 0
 AppendsFront old new bytes = (front rest : List ℕ) × (bytes ≡ front ++ rest) × Appends old new front
 
-pub record Served (old new : Option (List ℕ)) (before : State) (contents : List (List ℕ)) (stop : Option ℕ) (after : State) : Type 0 where
+pub record Served (file : FileGrammar) (old new : Option (List ℕ)) (before : State) (contents : List (List ℕ)) (stop : Option ℕ) (after : State) : Type 0 where
   pub answers : List Answer
-  pub run : Run before contents answers stop after
+  pub run : Run file before contents answers stop after
   pub written : Appends old new (bytes_of answers)
 
-pub record ServedInPart (old new : Option (List ℕ)) (before : State) (contents : List (List ℕ)) : Type 0 where
+pub record ServedInPart (file : FileGrammar) (old new : Option (List ℕ)) (before : State) (contents : List (List ℕ)) : Type 0 where
   pub answers : List Answer
   pub stop : Option ℕ
   pub after : State
-  pub run : Run before contents answers stop after
+  pub run : Run file before contents answers stop after
   pub written : AppendsFront old new (bytes_of answers)
 
 -- all answers are written at the end of the input, at `exit`, where the stream is faulty and where a read fails; where a write fails or
@@ -47,7 +48,7 @@ Ends (Err Write) left tail stop = Unit {0}
 Ends (Err Memory) left tail stop = Unit {0}
 
 -- The bytes that were read are whole frames and a tail. What was written are the frames of the answers of a run over their contents.
-pub record Session (input_old input_new output_old output_new : Option (List ℕ)) (outcome : Result ℕ RunFault) : Type 0 where
+pub record Session (file : FileGrammar) (input_old input_new output_old output_new : Option (List ℕ)) (outcome : Result ℕ RunFault) : Type 0 where
   pub bytes : List ℕ
   pub contents : List (List ℕ)
   pub tail : Tail
@@ -56,7 +57,7 @@ pub record Session (input_old input_new output_old output_new : Option (List ℕ
   pub after : State
   pub was_read : Consumes input_old input_new bytes
   pub split : Splits bytes contents tail
-  pub run : Run first_state contents answers stop after
+  pub run : Run file first_state contents answers stop after
   pub written : IsWritten outcome output_old output_new (bytes_of answers)
   pub ends : Ends outcome input_new tail stop
 

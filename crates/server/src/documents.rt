@@ -1,29 +1,59 @@
 //! The documents that a server holds.
 
-ghost use Rattle.std.specs.Prelude.{◌≡◌, ◌||◌, nat_lt, is_some, option_map, IfSome, OnOk, OnErr, string_bytes};
+ghost use Rattle.std.specs.Prelude.{◌≡◌, ◌||◌, nat_lt, is_some, option_map, IfOk, IfSome, OnOk, OnErr, string_bytes};
 ghost use Rattle.std.specs.FinMap as map;
-ghost use Rattle.server.specs.Documents.{has_room, open_document, IsScanned};
+ghost use Rattle.server.specs.Documents.{has_room, open_document, IsCurrent};
 
 use crate::language::Language;
+use crate::significant::Significant;
 use lexer::Tokens;
+use parser::Parse;
 use std::alloc::{AllocError, Global};
 use std::collections::BTreeMap;
 use std::marker::Model;
 use text::Text;
+use trees::Store;
 
-/// A document that is open, with the tokens of its text.
+/// A document that is open, with the tokens of its text and their parse, whose nodes are in the store.
 #[derive(Drop)]
 pub struct Document {
     pub version: i32,
     pub text: Text,
     pub tokens: Tokens,
+    pub store: Store,
+    pub parse: Parse,
+}
+
+impl Document {
+    /// A document of this text. Refuses for memory alone.
+    pub fn of(
+        alloc: Global,
+        language: &Language,
+        version: i32,
+        text: Text,
+    ) -> Result<Document, AllocError>
+        ensures is { IfOk result (λ d. open_document d ≡ record { version = version; text = text }) }
+        ensures current { IfOk result (IsCurrent language.now) }
+    {
+        let tokens = language.scan(alloc, &text)?;
+        let kinds = Significant::of(alloc, &tokens)?;
+        let mut store = Store::new(alloc);
+        let parse = language.parse(alloc, &mut store, &kinds)?;
+        Ok(Document {
+            version,
+            text,
+            tokens,
+            store,
+            parse,
+        })
+    }
 }
 
 /// How many documents are held at most.
 pub const MOST_DOCUMENTS: usize = 64;
 
 /// The language of a grammar file, and the documents that are held, by their URIs, which are compared byte for byte. The
-/// tokens of each are those of its text.
+/// tokens and the parse of each are those of its text.
 #[derive(Drop)]
 pub struct Documents {
     language: Language,
@@ -34,7 +64,7 @@ impl Model for Documents {
     ghost use Rattle.std.specs.FinMap as map;
     ghost use Rattle.std.specs.Coded.{codes, coded_ℕ, coded_list};
     ghost use Rattle.definitions.specs.contracts.expression.Expression as e;
-    ghost use Rattle.server.specs.Documents.{Holding, documents_of, document_code, AreScanned};
+    ghost use Rattle.server.specs.Documents.{Holding, documents_of, document_code, AreCurrent};
 
     ghost Value = { Holding };
 
@@ -42,7 +72,7 @@ impl Model for Documents {
 
     ghost view = { λ d. record { file = d.language; documents = documents_of d.by_uri.entries } };
 
-    ghost invariant = { λ d. AreScanned d.language d.by_uri.entries };
+    ghost invariant = { λ d. AreCurrent d.language d.by_uri.entries };
 }
 
 impl Documents {
@@ -67,7 +97,7 @@ impl Documents {
     /// The document of this URI, if one is held.
     pub fn get(&self, uri: &str) -> Option<&Document>
         ensures is { option_map (λ d. open_document d.now) result ≡ map.get self.now.documents uri.now }
-        ensures scanned { IfSome result (λ d. IsScanned self.now.file d.now) }
+        ensures current { IfSome result (λ d. IsCurrent self.now.file d.now) }
     {
         self.by_uri.get(uri)
     }
@@ -81,7 +111,7 @@ impl Documents {
 
     /// Holds the document under this URI, in the place of the one before.
     pub fn insert(&mut self, uri: String, document: Document) -> Result<(), AllocError>
-        requires { IsScanned self.old.file document }
+        requires { IsCurrent self.old.file document }
         ensures ok { OnOk result (self.new.documents ≡ map.insert self.old.documents (string_bytes uri) (open_document document)) }
         ensures err { OnErr result (self.new.documents ≡ self.old.documents) }
         ensures file { self.new.file ≡ self.old.file }

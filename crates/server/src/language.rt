@@ -1,13 +1,20 @@
 //! The language of a grammar file: its grammar, the automaton of its token rules, and its tables.
 
 ghost use Rattle.std.specs.Prelude.{◌≡◌, IfOk, IfErr};
-ghost use Rattle.server.specs.Languages.{IsLanguageOf, IsLoadFault};
+ghost use Rattle.lexer.specs.Tokens.{AreTokensOf};
+ghost use Rattle.server.specs.Languages.{IsLanguageOf, IsLoadFault, IsParsed, AlwaysAnswers};
 
+use crate::significant::Significant;
 use dfa::{Automaton, DfaFault};
 use grammar::{Grammar, GrammarCause, GrammarFault};
-use std::alloc::Global;
+use lexer::{Tokens, Whole, each_text_has_tokens};
+use parser::Parse;
+use parser::laws::each_list_has_a_verdict;
+use std::alloc::{AllocError, Global};
 use std::marker::Model;
 use tables::{Conflict, TableFault, Tables};
+use text::Text;
+use trees::Store;
 
 /// What a grammar file defines, made ready for scanning and parsing.
 #[derive(Drop)]
@@ -88,5 +95,36 @@ impl Language {
         ensures { result.now ≡ self.now }
     {
         &self.grammar
+    }
+
+    /// The tokens of a text. Refuses for memory alone.
+    pub fn scan(&self, alloc: Global, text: &Text) -> Result<Tokens, AllocError>
+        ensures { IfOk result (λ tokens. AreTokensOf self.now.patterns self.now.skips text.now tokens.items) }
+    {
+        let _length = text.len();
+        Tokens::scan(alloc, &self.grammar, &self.automaton, &Whole(text))
+    }
+
+    /// The parse of these kinds, with its nodes in the store. Refuses for memory alone.
+    pub fn parse(
+        &self,
+        alloc: Global,
+        store: &mut Store,
+        kinds: &Significant,
+    ) -> Result<Parse, AllocError>
+        ensures { IfOk result (IsParsed self.now.grammar kinds.now.kinds.items store.new) }
+    {
+        Parse::whole(alloc, &self.tables, store, kinds)
+    }
+
+    /// Each text has tokens, and each list of kinds a verdict.
+    pub fn always_answers(&self)
+        ensures { AlwaysAnswers self.now }
+    {
+        each_text_has_tokens();
+        each_list_has_a_verdict();
+        self.tables.moves_are_decided();
+        let _start = self.tables.start();
+        let _automaton = &self.automaton;
     }
 }

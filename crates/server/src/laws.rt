@@ -1,19 +1,20 @@
 //! Laws of the steps.
 
+ghost use Rattle.grammar.specs.Grammars.{FileGrammar};
 ghost use Rattle.server.specs.Fresh.{EveryAnswerIsFresh, EachTextHasAFreshServer, EachTextIsItsEdits};
 
 /// Whatever was read before, an answer about an open document is the one that a fresh server gives on
 /// the document's version and text.
 pub fn every_answer_is_fresh()
-    ensures { EveryAnswerIsFresh }
+    ensures { (file : FileGrammar) → EveryAnswerIsFresh file }
 {}
 
 /// A document's text after a change is its text before, edited by the changes in turn.
 pub fn each_text_is_its_edits()
-    ensures { EachTextIsItsEdits }
+    ensures { (file : FileGrammar) → EachTextIsItsEdits file }
 {}
 
 /// A text that fits is the one that some fresh server has opened.
 pub fn each_text_has_a_fresh_server()
-    ensures { EachTextHasAFreshServer }
+    ensures { (file : FileGrammar) → EachTextHasAFreshServer file }
 {}

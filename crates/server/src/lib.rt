@@ -5,6 +5,7 @@ mod documents;
 mod language;
 mod laws;
 mod serve;
+mod significant;
 mod state;
 
 pub use language::{Language, LoadFault};

@@ -4,7 +4,8 @@ ghost use Rattle.std.specs.Prelude.{◌≡◌, ◌↔◌, ◌∷◌, [], Err, ma
 ghost use Rattle.std.specs.Io.KnownBytes.{Appends};
 ghost use Rattle.frames.specs.Contents.{contents};
 ghost use Rattle.rpc.specs.Replies.{reply_view};
-ghost use Rattle.server.specs.Steps.{state_view};
+ghost use Rattle.server.specs.Languages.{AlwaysAnswers};
+ghost use Rattle.server.specs.Steps.{state_view, file_of};
 ghost use Rattle.server.specs.Runs.{bytes_of};
 ghost use Rattle.server.specs.Fresh.{EveryAnswerIsFresh};
 ghost use Rattle.server.specs.Sessions.{AppendsFront, Served, ServedInPart, Session, IsCutShort, EndsAt, run_fault};
@@ -68,9 +69,11 @@ fn serve<W: Output>(
     output: &mut W,
     content: &[u8],
 ) -> Result<Option<u8>, RunFault>
-    requires { W.failures output.old ≡ 0 }
-    ensures served { IfOk result (λ stop. Served (W.contents output.old) (W.contents output.new) (state_view server.old) (content.now ∷ []) stop (state_view server.new)) }
-    ensures part { OnErr result (ServedInPart (W.contents output.old) (W.contents output.new) (state_view server.old) (content.now ∷ [])) }
+    requires output { W.failures output.old ≡ 0 }
+    requires answers { AlwaysAnswers (file_of server.old) }
+    ensures file { file_of server.new ≡ file_of server.old }
+    ensures served { IfOk result (λ stop. Served (file_of server.old) (W.contents output.old) (W.contents output.new) (state_view server.old) (content.now ∷ []) stop (state_view server.new)) }
+    ensures part { OnErr result (ServedInPart (file_of server.old) (W.contents output.old) (W.contents output.new) (state_view server.old) (content.now ∷ [])) }
     ensures works { OnOk result (W.failures output.new ≡ 0) }
     ensures fault { IfErr result (λ e. IsCutShort e (W.failures output.new)) }
 {
@@ -87,9 +90,11 @@ fn serve_all<W: Output>(
     output: &mut W,
     frames: &[Frame],
 ) -> Result<Option<u8>, RunFault>
-    requires { W.failures output.old ≡ 0 }
-    ensures served { IfOk result (λ stop. Served (W.contents output.old) (W.contents output.new) (state_view server.old) (contents frames.now) stop (state_view server.new)) }
-    ensures part { OnErr result (ServedInPart (W.contents output.old) (W.contents output.new) (state_view server.old) (contents frames.now)) }
+    requires output { W.failures output.old ≡ 0 }
+    requires answers { AlwaysAnswers (file_of server.old) }
+    ensures file { file_of server.new ≡ file_of server.old }
+    ensures served { IfOk result (λ stop. Served (file_of server.old) (W.contents output.old) (W.contents output.new) (state_view server.old) (contents frames.now) stop (state_view server.new)) }
+    ensures part { OnErr result (ServedInPart (file_of server.old) (W.contents output.old) (W.contents output.new) (state_view server.old) (contents frames.now)) }
     ensures works { OnOk result (W.failures output.new ≡ 0) }
     ensures fault { IfErr result (λ e. IsCutShort e (W.failures output.new)) }
 {
@@ -108,9 +113,11 @@ fn serve_piece<W: Output>(
     output: &mut W,
     frames: &[Frame],
 ) -> Result<Option<u8>, RunFault>
-    requires { W.failures output.old ≡ 0 }
-    ensures served { IfOk result (λ stop. Served (W.contents output.old) (W.contents output.new) (state_view server.old) (contents frames.now) stop (state_view server.new)) }
-    ensures part { OnErr result (ServedInPart (W.contents output.old) (W.contents output.new) (state_view server.old) (contents frames.now)) }
+    requires output { W.failures output.old ≡ 0 }
+    requires answers { AlwaysAnswers (file_of server.old) }
+    ensures file { file_of server.new ≡ file_of server.old }
+    ensures served { IfOk result (λ stop. Served (file_of server.old) (W.contents output.old) (W.contents output.new) (state_view server.old) (contents frames.now) stop (state_view server.new)) }
+    ensures part { OnErr result (ServedInPart (file_of server.old) (W.contents output.old) (W.contents output.new) (state_view server.old) (contents frames.now)) }
     ensures works { OnOk result (W.failures output.new ≡ 0) }
     ensures fault { IfErr result (λ e. IsCutShort e (W.failures output.new)) }
 {
@@ -150,14 +157,15 @@ pub fn run<R: Input, W: Output>(
     requires input { R.failures input.old ≡ 0 }
     requires output { W.failures output.old ≡ 0 }
     // What is read and written is a session, whatever ends it.
-    ensures session { Session (R.remaining input.old) (R.remaining input.new) (W.contents output.old) (W.contents output.new) result }
+    ensures session { Session language (R.remaining input.old) (R.remaining input.new) (W.contents output.old) (W.contents output.new) result }
     // In each session an answer about an open document is the one that a fresh server gives on its text.
-    ensures fresh { EveryAnswerIsFresh }
+    ensures fresh { EveryAnswerIsFresh language }
 
     // A device fault is answered exactly where the device failed.
     ensures read { IsErrOf result RunFault.Read ↔ R.failures input.new ≡ 1 }
     ensures write { IsErrOf result RunFault.Write ↔ W.failures output.new ≡ 1 }
 {
+    language.always_answers();
     let mut decoder = Decoder::new(alloc);
     let mut server = Server::new(alloc, language);
     let mut buffer = [0; BUFFER_LEN];

@@ -1,17 +1,21 @@
 //! One step: phases and documents.
 
-ghost use Rattle.std.specs.Prelude.{◌≡◌, [], ◌∷◌, None, false, true, map, option_map, IfOk, OnOk, OnErr, IsErr, string_bytes, encode_utf8_all};
+ghost use Rattle.std.specs.Prelude.{◌≡◌, [], ◌∷◌, None, false, true, map, option_map, IfOk, IfSome, OnOk, OnErr, IsErr, string_bytes, encode_utf8_all};
 ghost use Rattle.std.specs.Str.{chars};
-ghost use Rattle.std.specs.FinMap.{get};
+ghost use Rattle.std.specs.FinMap.{get, insert};
 ghost use Rattle.rpc.specs.Messages.{id_view, call_view, note_view, change_view, heard_of};
-ghost use Rattle.rpc.specs.Replies.{reply_view};
-ghost use Rattle.server.specs.Steps.{state_view, first_state, edited, text_answer, opened, changed_document, exit_status, unknown_in, params_in, Asks, Tells, StepOn, Ignores};
+ghost use Rattle.rpc.specs.Replies.{row_view, reply_view};
+ghost use Rattle.lexer.specs.Tokens.{plain};
+ghost use Rattle.server.specs.Documents.{open_document, IsCurrent};
+ghost use Rattle.server.specs.Steps.{state_view, file_of, first_state, edited, text_answer, rows, TokensAnswer, TreeAnswer, opened, changed_document, exit_status, unknown_in, params_in, Asks, Tells, StepOn, Ignores};
 
 use crate::documents::{Document, Documents};
 use crate::language::Language;
-use rpc::{Call, Change, Id, Message, Note, Refusal, Reply, RpcFault};
+use parser::Verdict;
+use rpc::{Call, Change, Id, Message, Note, Refusal, Reply, Row, RpcFault};
 use std::alloc::{AllocError, Global};
 use text::{Text, TextFault};
+use views::{token_rows, tree_text};
 
 /// Where the session stands (LSP 3.17, "Server lifecycle").
 #[derive(Clone, Copy, Debug, PartialEq, Eq)]
@@ -33,7 +37,6 @@ pub struct Out {
 /// A server between two messages.
 #[derive(Drop)]
 pub struct Server {
-    language: Language,
     phase: Phase,
     documents: Documents,
     has_failed: bool,
@@ -91,7 +94,7 @@ fn one_reply(alloc: Global, reply: Reply) -> Result<Out, AllocError>
 }
 
 fn text_answer(alloc: Global, id: Id, document: Option<&Document>) -> Result<Reply, AllocError>
-    ensures { IfOk result (λ reply. reply_view reply ≡ text_answer (id_view id) (option_map (λ d. d.now) document.entry)) }
+    ensures { IfOk result (λ reply. reply_view reply ≡ text_answer (id_view id) (option_map (λ d. open_document d.now) document.entry)) }
 {
     match document {
         Some(document) => Ok(Reply::Text {
@@ -99,6 +102,84 @@ fn text_answer(alloc: Global, id: Id, document: Option<&Document>) -> Result<Rep
             version: document.version,
             text: document.text.to_string(alloc)?,
         }),
+        None => Ok(Reply::Error {
+            id: Some(id),
+            refusal: Refusal::DocumentNotOpen,
+        }),
+    }
+}
+
+/// The rows of a document's tokens, with names of their own.
+fn rows(alloc: Global, language: &Language, document: &Document) -> Result<Vec<Row>, AllocError>
+    ensures { IfOk result (λ told. map row_view told.items ≡ rows language.now document.now.text (map plain document.now.tokens.items)) }
+{
+    let found = token_rows(
+        alloc,
+        language.grammar(),
+        &document.text,
+        &document.tokens,
+    )?;
+    let mut told = Vec::with_capacity(alloc, found.len())?;
+    for row in &found {
+        told.push(Row {
+            name: String::from_str(alloc, row.name)?,
+            range: row.range,
+        })?;
+    }
+    Ok(told)
+}
+
+fn tokens_answer(
+    alloc: Global,
+    language: &Language,
+    id: Id,
+    document: Option<&Document>,
+) -> Result<Reply, AllocError>
+    requires { IfSome document.entry (λ d. IsCurrent language.now d.now) }
+    ensures { IfOk result (λ reply. TokensAnswer language.now (id_view id) (option_map (λ d. open_document d.now) document.entry) (reply_view reply)) }
+{
+    match document {
+        Some(document) => Ok(Reply::Tokens {
+            id,
+            rows: rows(alloc, language, document)?,
+        }),
+        None => Ok(Reply::Error {
+            id: Some(id),
+            refusal: Refusal::DocumentNotOpen,
+        }),
+    }
+}
+
+/// The answer about the tree of an open document.
+fn tree_of(
+    alloc: Global,
+    language: &Language,
+    id: Id,
+    document: &Document,
+) -> Result<Reply, AllocError>
+    requires { IsCurrent language.now document.now }
+    ensures { IfOk result (λ reply. TreeAnswer language.now (id_view id) (Some (open_document document.now)) (reply_view reply)) }
+{
+    match document.parse.verdict() {
+        Verdict::Tree(root) => Ok(Reply::Tree {
+            id,
+            text: tree_text(alloc, language.grammar(), &document.store, root)?,
+        }),
+        Verdict::FaultAt(_) | Verdict::FaultAtEnd => Ok(Reply::Null { id }),
+    }
+}
+
+fn tree_answer(
+    alloc: Global,
+    language: &Language,
+    id: Id,
+    document: Option<&Document>,
+) -> Result<Reply, AllocError>
+    requires { IfSome document.entry (λ d. IsCurrent language.now d.now) }
+    ensures { IfOk result (λ reply. TreeAnswer language.now (id_view id) (option_map (λ d. open_document d.now) document.entry) (reply_view reply)) }
+{
+    match document {
+        Some(document) => tree_of(alloc, language, id, document),
         None => Ok(Reply::Error {
             id: Some(id),
             refusal: Refusal::DocumentNotOpen,
@@ -125,19 +206,20 @@ impl Server {
     /// A server that no message has reached.
     pub fn new(alloc: Global, language: Language) -> Server
         ensures state { state_view result ≡ first_state }
+        ensures file { file_of result ≡ language }
         ensures works { result.has_failed ≡ false }
     {
         Server {
-            language,
             phase: Phase::New,
-            documents: Documents::new(alloc),
+            documents: Documents::new(alloc, language),
             has_failed: false,
         }
     }
 
     /// A request that fits its method.
     fn ask(&mut self, alloc: Global, id: Id, call: Call) -> Result<Out, AllocError>
-        ensures { IfOk result (λ out. Asks self.old.phase (state_view self.old) (id_view id) (call_view call) (map reply_view out.replies.items) out.stop (state_view self.new)) }
+        ensures file { file_of self.new ≡ file_of self.old }
+        ensures asks { IfOk result (λ out. Asks (file_of self.old) self.old.phase (state_view self.old) (id_view id) (call_view call) (map reply_view out.replies.items) out.stop (state_view self.new)) }
     {
         let refusal = match (self.phase, call) {
             (Phase::New, Call::Initialize) => {
@@ -152,6 +234,16 @@ impl Server {
                 let reply = text_answer(alloc, id, self.documents.get(uri.as_str()))?;
                 return one_reply(alloc, reply);
             }
+            (Phase::Ready, Call::Tokens { uri }) => {
+                let document = self.documents.get(uri.as_str());
+                let reply = tokens_answer(alloc, self.documents.language(), id, document)?;
+                return one_reply(alloc, reply);
+            }
+            (Phase::Ready, Call::Tree { uri }) => {
+                let document = self.documents.get(uri.as_str());
+                let reply = tree_answer(alloc, self.documents.language(), id, document)?;
+                return one_reply(alloc, reply);
+            }
             (Phase::New, _) => Refusal::NotInitialized,
             (Phase::Ready, Call::Initialize) | (Phase::Down, _) => Refusal::InvalidRequest,
         };
@@ -164,6 +256,22 @@ impl Server {
         )
     }
 
+    /// Holds a document of this text under this URI.
+    fn hold(
+        &mut self,
+        alloc: Global,
+        uri: String,
+        version: i32,
+        text: Text,
+    ) -> Result<(), AllocError>
+        ensures phase { self.new.phase ≡ self.old.phase }
+        ensures file { file_of self.new ≡ file_of self.old }
+        ensures documents { OnOk result (self.new.documents.documents ≡ insert self.old.documents.documents (string_bytes uri) (record { version = version; text = text })) }
+    {
+        let document = Document::of(alloc, self.documents.language(), version, text)?;
+        self.documents.insert(uri, document)
+    }
+
     /// `textDocument/didOpen`.
     fn open(
         &mut self,
@@ -173,13 +281,14 @@ impl Server {
         text: String,
     ) -> Result<(), AllocError>
         ensures phase { self.new.phase ≡ self.old.phase }
-        ensures documents { OnOk result (self.new.documents ≡ opened self.old.documents (string_bytes uri) version (chars (string_bytes text))) }
+        ensures file { file_of self.new ≡ file_of self.old }
+        ensures documents { OnOk result (self.new.documents.documents ≡ opened self.old.documents.documents (string_bytes uri) version (chars (string_bytes text))) }
     {
         if !self.documents.has_room(uri.as_str()) {
             return Ok(());
         }
         match Text::open(alloc, text.as_str()) {
-            Ok(text) => self.documents.insert(uri, Document { version, text }),
+            Ok(text) => self.hold(alloc, uri, version, text),
             Err(TextFault::TooLarge) => Ok(()),
             Err(TextFault::NoMemory) => Err(AllocError),
         }
@@ -194,21 +303,23 @@ impl Server {
         changes: Vec<Change>,
     ) -> Result<(), AllocError>
         ensures phase { self.new.phase ≡ self.old.phase }
-        ensures documents { OnOk result (self.new.documents ≡ changed_document self.old.documents (string_bytes uri) version (map change_view changes.items) (get self.old.documents (string_bytes uri))) }
+        ensures file { file_of self.new ≡ file_of self.old }
+        ensures documents { OnOk result (self.new.documents.documents ≡ changed_document self.old.documents.documents (string_bytes uri) version (map change_view changes.items) (get self.old.documents.documents (string_bytes uri))) }
     {
         let text = match self.documents.get(uri.as_str()) {
             Some(document) => edited(alloc, &document.text, &changes)?,
             None => None,
         };
         match text {
-            Some(text) => self.documents.insert(uri, Document { version, text }),
+            Some(text) => self.hold(alloc, uri, version, text),
             None => Ok(()),
         }
     }
 
     /// A notification that fits its method, or one that doesn't.
     fn tell(&mut self, alloc: Global, note: Note) -> Result<Out, AllocError>
-        ensures { IfOk result (λ out. Tells self.old.phase (state_view self.old) (note_view note) (map reply_view out.replies.items) out.stop (state_view self.new)) }
+        ensures file { file_of self.new ≡ file_of self.old }
+        ensures tells { IfOk result (λ out. Tells self.old.phase (state_view self.old) (note_view note) (map reply_view out.replies.items) out.stop (state_view self.new)) }
     {
         match (self.phase, note) {
             (phase, Note::Exit) => {
@@ -237,7 +348,8 @@ impl Server {
 
     /// The step on a message.
     fn step(&mut self, alloc: Global, message: Result<Message, RpcFault>) -> Result<Out, AllocError>
-        ensures { IfOk result (λ out. StepOn (heard_of message) (state_view self.old) (map reply_view out.replies.items) out.stop (state_view self.new)) }
+        ensures file { file_of self.new ≡ file_of self.old }
+        ensures step { IfOk result (λ out. StepOn (file_of self.old) (heard_of message) (state_view self.old) (map reply_view out.replies.items) out.stop (state_view self.new)) }
     {
         let (id, refusal) = match message {
             Ok(Message::Request(id, call)) => return self.ask(alloc, id, call),
@@ -260,7 +372,8 @@ impl Server {
         alloc: Global,
         message: Result<Message, RpcFault>,
     ) -> Result<Out, AllocError>
-        ensures step { IfOk result (λ out. StepOn (heard_of message) (state_view self.old) (map reply_view out.replies.items) out.stop (state_view self.new)) }
+        ensures file { file_of self.new ≡ file_of self.old }
+        ensures step { IfOk result (λ out. StepOn (file_of self.old) (heard_of message) (state_view self.old) (map reply_view out.replies.items) out.stop (state_view self.new)) }
         ensures failed { self.old.has_failed ≡ true → IsErr result }
         ensures err { OnErr result (self.new.has_failed ≡ true) }
         ensures ok { OnOk result (self.new.has_failed ≡ false) }

@@ -4,9 +4,8 @@ use Rattle.std.specs.Str.{chars}
 use Rattle.std.specs.FinMap.{insert}
 use Rattle.std.proofs.lemmas.Bool.{lt-leb}
 use Rattle.std.proofs.lemmas.Str.{encodes-chars}
-use Rattle.server.specs.Documents.{Held, has_room}
+use Rattle.server.specs.Documents.{OpenDocument, Held, has_room}
 use Rattle.server.specs.Steps.{fits}
-use Rattle.server.specs.declared.documents.Document.{Document}
 use Rattle.server.proofs.state.Server.open.Goals as goal
 
 either_way : (b : Bool) (held : Held) → cond b held held ≡ held
@@ -16,8 +15,8 @@ either_way false held = refl
 pub returns-in-Err-TooLarge-clause-documents : goal.returns-in-Err-TooLarge-clause-documents
 returns-in-Err-TooLarge-clause-documents c =
     let bytes = string_bytes c.args.text in
-    let held = c.args.self.now.documents in
-    let document : Document = record { version = c.args.version; text = chars bytes } in
+    let held = c.args.self.now.documents.documents in
+    let document : OpenDocument = record { version = c.args.version; text = chars bytes } in
     let same : c.as_str-2.result.now ≡ string_bytes c.args.text = c.as_str-2.ensures.value in
     let spelled : length (encode_utf8_all (chars c.as_str-2.result.now)) ≡ length c.as_str-2.result.now = ap length (encodes-chars c.as_str-2.result.now c.as_str-2.utf8) in
     let alike : length (encode_utf8_all (chars c.as_str-2.result.now)) ≡ length (encode_utf8_all (chars (string_bytes c.args.text))) = ap (λ b. length (encode_utf8_all (chars b))) same in
