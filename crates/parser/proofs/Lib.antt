@@ -3,3 +3,4 @@ pub mod Moves
 pub mod Stamps
 pub mod Stops
 pub mod Expecting
+pub mod Total

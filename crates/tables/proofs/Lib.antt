@@ -21,3 +21,4 @@ pub mod Counted
 pub mod Answering
 pub mod FromFile
 pub mod Expecting
+pub mod Deciding

@@ -11,3 +11,4 @@ pub mod Actions
 pub mod Reports
 pub mod Tables
 pub mod Faults
+pub mod Decidable

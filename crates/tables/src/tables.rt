@@ -15,6 +15,7 @@ ghost use Rattle.tables.specs.Collection.{AreStates};
 ghost use Rattle.tables.specs.Input.{IsSound};
 ghost use Rattle.tables.specs.Faults.{IsConflictOf, IsRight, RefutesLr1};
 ghost use Rattle.tables.specs.Tables.{IsStateOf, IsAction, IsAccepted};
+ghost use Rattle.tables.specs.Decidable.{AreMovesDecided};
 
 use crate::collection::States;
 use crate::conflict::{Conflict, conflict_of};
@@ -188,6 +189,13 @@ impl Tables {
             None => None,
         };
         self.action(state, next).is_some()
+    }
+
+    /// For every prefix with an item, and not for the states alone, it is decided what its items call for.
+    pub fn moves_are_decided(&self)
+        ensures { AreMovesDecided self.now.grammar }
+    {
+        let _rows = &self.rows;
     }
 
     /// The left side of a production, and the length of its right side.

@@ -1,0 +1,9 @@
+use Rattle.std.proofs.Common.{subst}
+use Rattle.tables.specs.Decidable.{AreMovesDecided}
+use Rattle.tables.proofs.Deciding.{moves_decided}
+use Rattle.tables.proofs.tables.Tables.moves_are_decided.Goals as goal
+
+pub returns : goal.returns
+returns c =
+    let inside = c.self.inside in
+    subst (λ t. AreMovesDecided t.grammar) c.self.view_is (moves_decided inside.input inside.kernels inside.rows.items inside.moves.items c.self.invariant)
