@@ -4,7 +4,7 @@ use grammar::Grammar;
 use lexer::{Kind, Tokens, Whole};
 use std::alloc::{AllocError, Global};
 use std::test::Fail;
-use text::Text;
+use text::{LONGEST_TEXT, Text};
 use trees::{Child, NodeId, Store};
 
 /// Sums of numbers: the productions are `Sum = Sum PLUS Atom`, `Sum = Atom`, `Atom = NUM` and `Atom = LP Sum RP`.
@@ -20,6 +20,8 @@ fn rows(alloc: Global, file: &str, text: &str) -> Result<String, Fail> {
     let grammar = Grammar::read(alloc, file)?;
     let automaton = Automaton::build(alloc, grammar.patterns())?;
     let text = Text::open(alloc, text)?;
+    let count = text.len();
+    prove!(count <= LONGEST_TEXT);
     let tokens = Tokens::scan(alloc, &grammar, &automaton, &Whole(&text))?;
     let rows = token_rows(alloc, &grammar, &text, &tokens)?;
     let mut lines = String::new(alloc);
