@@ -51,6 +51,20 @@ fn characters_past_the_first_plane_count_two(rt: HostRuntime) -> Result<(), Fail
 }
 
 #[test]
+fn a_walk_tells_each_position(rt: HostRuntime) -> Result<(), Fail> {
+    let text = Text::open(rt.alloc(), "1\r\n\u{1f600}2")?;
+    let mut places = text.places();
+    for (line, character) in [(0, 0), (0, 1), (0, 1), (1, 0), (1, 2), (1, 3), (1, 3)] {
+        assert_eq!(rt; places.position(), at(line, character));
+        places.advance(1);
+    }
+    let mut places = text.places();
+    places.advance(4);
+    assert_eq!(rt; places.position(), at(1, 2));
+    Ok(())
+}
+
+#[test]
 fn changes_follow_one_another(rt: HostRuntime) -> Result<(), Fail> {
     let alloc = rt.alloc();
     let mut text = Text::open(alloc, "")?;
