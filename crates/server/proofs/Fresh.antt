@@ -26,7 +26,7 @@ use Rattle.grammar.specs.Grammars.{FileGrammar}
 use Rattle.server.specs.declared.state.Phase.{Phase}
 use Rattle.server.specs.declared.state.Phase.TheVariants.{New, Ready, Down}
 use Rattle.server.specs.Documents.{OpenDocument, Held, has_room}
-use Rattle.server.specs.Steps.{State, first_state, Step, Asks, Tells, Replies, Holds, fits, edited, opened, changed_document, edited_document, text_answer, TokensAnswer, TreeAnswer}
+use Rattle.server.specs.Steps.{State, first_state, Step, Asks, Tells, Holds, fits, edited, opened, changed_document, edited_document, text_answer, TokensAnswer, TreeAnswer}
 use Rattle.server.specs.Runs.{Run}
 use Rattle.server.specs.Fresh.{IsFresh, IsAbout, EveryAnswerIsFresh, EachTextHasAFreshServer, EachTextIsItsEdits}
 
@@ -150,7 +150,7 @@ run_fits file (content ∷ contents) old answers stop new r all =
 fresh_documents : (uri : List ℕ) (version : ℤ) (text : List ℕ) → fits text ≡ true → opened empty uri version text ≡ insert empty uri (record { version = version; text = text })
 fresh_documents uri version text fit =
     let none : Held = empty in
-    let room : has_room uri empty ≡ true = ap (λ o. is_some o || nat_lt (len none) 64) (get-empty (slice_cmp nat_cmp) uri) ∙ ap (λ n. nat_lt n 64) (len-empty (slice_cmp nat_cmp) Document) in
+    let room : has_room uri empty ≡ true = ap (λ o. is_some o || nat_lt (len none) 64) (get-empty (slice_cmp nat_cmp) uri) ∙ ap (λ n. nat_lt n 64) (len-empty (slice_cmp nat_cmp) OpenDocument) in
     let added : Held = insert empty uri (record { version = version; text = text }) in
     ap (λ b. cond b (cond (fits text) added empty) empty) room ∙ ap (λ b. cond b added empty) fit
 

@@ -1,4 +1,5 @@
 mod Held
+mod Current
 mod Totals
 mod Runs
 mod Parts

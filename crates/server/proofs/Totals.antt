@@ -60,7 +60,7 @@ some_tokens file total id (Some d) = by (is_text d.text)
   where
     by : IsText d.text ⊎ (IsText d.text → ⊥) → (answer : Answer) × TokensAnswer file id (Some d) answer
     by (inl text) = let tokens = total.tokens d.text text in (told_tokens id (rows file d.text tokens.0), λ _. (tokens.0, tokens.1, refl))
-    by (inr no) = (told_null id, λ text. absurd (no text))
+    by (inr never) = (told_null id, λ text. absurd (never text))
 
 some_tree : (file : FileGrammar) → AlwaysAnswers file → (id : Ident) (o : Option OpenDocument) → (answer : Answer) × TreeAnswer file id o answer
 some_tree file total id None = (_, refl)
@@ -71,7 +71,7 @@ some_tree file total id (Some d) = by (is_text d.text)
         let tokens = total.tokens d.text text in
         let verdict = total.verdicts (kinds file.skips tokens.0) in
         (tree_answer file id verdict.0, λ _. (tokens.0, tokens.1, (verdict.0, verdict.1, refl)))
-    by (inr no) = (told_null id, λ text. absurd (no text))
+    by (inr never) = (told_null id, λ text. absurd (never text))
 
 some_asks : (file : FileGrammar) → AlwaysAnswers file → (phase : Phase) (old : State) (id : Ident) (asked : Asked) → (answers : List Answer) × (stop : Option ℕ) × (new : State) × Asks file phase old id asked answers stop new
 some_asks file total New old id initialize = (_, _, _, (refl, refl, refl))

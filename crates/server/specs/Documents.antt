@@ -9,7 +9,7 @@ use Rattle.std.specs.Prelude.{◌≡◌, ℕ, ℤ, ◌||◌, Bool, nat_lt, List,
 use Rattle.std.specs.Ordering.{nat_cmp}
 use Rattle.std.specs.Cmp.Lexicographic.{slice_cmp}
 use Rattle.std.specs.Coded.{Coded, code_by, coded×, coded_ℕ, coded_ℤ, coded_list}
-use Rattle.std.specs.FinMap.{FinMap, from_entries, contains_key, len}
+use Rattle.std.specs.FinMap.{FinMap, code, from_entries, contains_key, len}
 use Rattle.std.specs.Map.{lookup}
 use Rattle.std.specs.BTreeMap.{is_at}
 use Rattle.grammar.specs.Grammars.{FileGrammar}
@@ -38,6 +38,9 @@ has_room uri documents = contains_key documents uri || nat_lt (len documents) 64
 -- a document is stored as the pair of its fields
 abbrev pub document_code : Coded OpenDocument
 document_code = code_by (ℤ × List ℕ) (coded× coded_ℤ (coded_list coded_ℕ)) (λ d. (d.version, d.text)) (λ p. record { version = p.0; text = p.1 }) (λ _. refl)
+
+abbrev pub held_code : Coded Held
+held_code = code (coded_list coded_ℕ) document_code
 
 -- without its tokens and their parse
 abbrev pub open_document : Document → OpenDocument

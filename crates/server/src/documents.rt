@@ -61,14 +61,13 @@ pub struct Documents {
 }
 
 impl Model for Documents {
-    ghost use Rattle.std.specs.FinMap as map;
-    ghost use Rattle.std.specs.Coded.{codes, coded_ℕ, coded_list};
+    ghost use Rattle.std.specs.Coded.{codes};
     ghost use Rattle.definitions.specs.contracts.expression.Expression as e;
-    ghost use Rattle.server.specs.Documents.{Holding, documents_of, document_code, AreCurrent};
+    ghost use Rattle.server.specs.Documents.{Holding, held_code, documents_of, AreCurrent};
 
     ghost Value = { Holding };
 
-    ghost coded = { Prim.hlevel (codes, e.the_row.coded, map.code (coded_list coded_ℕ) document_code) };
+    ghost coded = { Prim.hlevel (codes, e.the_row.coded, held_code) };
 
     ghost view = { λ d. record { file = d.language; documents = documents_of d.by_uri.entries } };
 

@@ -113,12 +113,7 @@ fn text_answer(alloc: Global, id: Id, document: Option<&Document>) -> Result<Rep
 fn rows(alloc: Global, language: &Language, document: &Document) -> Result<Vec<Row>, AllocError>
     ensures { IfOk result (λ told. map row_view told.items ≡ rows language.now document.now.text (map plain document.now.tokens.items)) }
 {
-    let found = token_rows(
-        alloc,
-        language.grammar(),
-        &document.text,
-        &document.tokens,
-    )?;
+    let found = token_rows(alloc, language.grammar(), &document.text, &document.tokens)?;
     let mut told = Vec::with_capacity(alloc, found.len())?;
     for row in &found {
         told.push(Row {
@@ -135,7 +130,7 @@ fn tokens_answer(
     id: Id,
     document: Option<&Document>,
 ) -> Result<Reply, AllocError>
-    requires { IfSome document.entry (λ d. IsCurrent language.now d.now) }
+    requires { IfSome document (λ d. IsCurrent language.now d.now) }
     ensures { IfOk result (λ reply. TokensAnswer language.now (id_view id) (option_map (λ d. open_document d.now) document.entry) (reply_view reply)) }
 {
     match document {
@@ -175,7 +170,7 @@ fn tree_answer(
     id: Id,
     document: Option<&Document>,
 ) -> Result<Reply, AllocError>
-    requires { IfSome document.entry (λ d. IsCurrent language.now d.now) }
+    requires { IfSome document (λ d. IsCurrent language.now d.now) }
     ensures { IfOk result (λ reply. TreeAnswer language.now (id_view id) (option_map (λ d. open_document d.now) document.entry) (reply_view reply)) }
 {
     match document {

@@ -20,6 +20,17 @@ Atom = NUM
 Atom = LP Sum RP
 "#;
 
+const LISTS: &str = r#"lrgrammar 1
+token STR = "\"" [^"]* "\""
+token W = [a-z]+
+skip WS = [ ]+
+start L
+L =
+L = L Item
+Item = STR
+Item = W
+"#;
+
 const CHOICES: &str = r#"lrgrammar 1
 token IF = "if"
 token ELSE = "else"
@@ -60,12 +71,21 @@ P = C
 Q = C
 "#;
 
-/// The language of the grammar of sums.
-pub fn sums(alloc: Global) -> Result<Language, Fail> {
-    match load(alloc, SUMS.as_bytes())? {
+fn language(alloc: Global, file: &str) -> Result<Language, Fail> {
+    match load(alloc, file.as_bytes())? {
         Ok(language) => Ok(language),
         Err(_) => Err(AllocError.into()),
     }
+}
+
+/// The language of the grammar of sums.
+pub fn sums(alloc: Global) -> Result<Language, Fail> {
+    language(alloc, SUMS)
+}
+
+/// The language of the grammar of lists of words and strings.
+pub fn lists(alloc: Global) -> Result<Language, Fail> {
+    language(alloc, LISTS)
 }
 
 /// `check` prints this of a file, and ends with this status.
@@ -90,7 +110,7 @@ fn prints(
 #[test]
 fn grammars_are_accepted(rt: HostRuntime) -> Result<(), Fail> {
     let alloc = rt.alloc();
-    for file in [SUMS, CROSSED] {
+    for file in [SUMS, LISTS, CROSSED] {
         prints(&rt, alloc, file.as_bytes(), "ok\n", "", 0)?;
     }
     let named_as_a_word = "lrgrammar 1\ntoken X = \"x\"\nstart token\ntoken = X\n";

@@ -1,9 +1,9 @@
 //! Sessions, from bytes to bytes.
 
 use super::devices::{Pieces, Record, Taker};
-use super::grammars::sums;
+use super::grammars::{lists, sums};
 use frames::FrameFault;
-use server::{RunFault, run};
+use server::{Language, RunFault, run};
 use std::alloc::Global;
 use std::cell::RefCell;
 use std::process::Abort;
@@ -83,8 +83,9 @@ const WHOLE: Way = Way {
 };
 
 /// Runs a session, and answers its outcome and its record.
-fn run_on(
+fn run_by(
     alloc: Global,
+    language: Language,
     input: &[u8],
     way: Way,
     due: &[(usize, usize)],
@@ -106,8 +107,18 @@ fn run_on(
         calls: way.calls,
         has_failed: false,
     };
-    let outcome = run(alloc, sums(alloc)?, &mut pieces, &mut taker);
+    let outcome = run(alloc, language, &mut pieces, &mut taker);
     Ok((outcome, record.into_inner()))
+}
+
+/// The same by the language of sums.
+fn run_on(
+    alloc: Global,
+    input: &[u8],
+    way: Way,
+    due: &[(usize, usize)],
+) -> Result<(Result<u8, RunFault>, Record), Fail> {
+    run_by(alloc, sums(alloc)?, input, way, due)
 }
 
 /// These contents, one by one and in one piece, are answered with these and this outcome.
@@ -294,6 +305,92 @@ fn texts_are_edited(rt: HostRuntime) -> Result<(), Fail> {
         "1+2",
         &[((0, 3), (0, 1), ""), ((99, 0), (99, 0), "+3")],
         "1+3",
+    )
+}
+
+/// A document of this text, as JSON escapes it, is answered so when it is asked about by this method.
+fn is_answered(
+    rt: &impl Abort,
+    alloc: Global,
+    language: Language,
+    text: &str,
+    method: &str,
+    wanted: &str,
+) -> Result<(), Fail> {
+    let opened = opening(alloc, "a:x", text)?;
+    let asked = format!(in alloc;
+        "{{\"jsonrpc\":\"2.0\",\"id\":2,\"method\":\"{method}\",\"params\":{{\"textDocument\":{{\"uri\":\"a:x\"}}}}}}"
+    )?;
+    let answer = format!(in alloc; "{{\"id\":2,\"jsonrpc\":\"2.0\",\"result\":{wanted}}}")?;
+    let input = framed(alloc, &[INITIALIZE, opened.as_str(), asked.as_str()])?;
+    let output = framed(alloc, &[CAPABILITIES, answer.as_str()])?;
+    let (outcome, record) = run_by(alloc, language, &input, WHOLE, &[])?;
+    assert_eq!(rt; outcome, Ok(1));
+    assert_eq!(rt; record.taken.as_slice(), output.as_slice(), "at {text}");
+    Ok(())
+}
+
+#[test]
+fn tokens_are_told(rt: HostRuntime) -> Result<(), Fail> {
+    let alloc = rt.alloc();
+    let rows = [
+        (
+            "1 +\\r\\n2",
+            "[[\"NUM\",0,0,0,1],[\"WS\",0,1,0,2],[\"PLUS\",0,2,0,3],[\"WS\",0,3,1,0],[\"NUM\",1,0,1,1]]",
+        ),
+        ("", "[]"),
+        ("\u{1F600}1", "[[\"invalid\",0,0,0,2],[\"NUM\",0,2,0,3]]"),
+    ];
+    for (text, wanted) in rows {
+        is_answered(&rt, alloc, sums(alloc)?, text, "lr/tokens", wanted)?;
+    }
+    let wanted = "[[\"invalid\",0,0,0,0],[\"invalid\",0,0,1,0]]";
+    is_answered(&rt, alloc, lists(alloc)?, "\\r\\n", "lr/tokens", wanted)
+}
+
+#[test]
+fn trees_are_told(rt: HostRuntime) -> Result<(), Fail> {
+    let alloc = rt.alloc();
+    let rows = [
+        ("1+2", "\"(Sum (Sum (Atom NUM)) PLUS (Atom NUM))\""),
+        ("1 2", "null"),
+        ("", "null"),
+        ("(1", "null"),
+    ];
+    for (text, wanted) in rows {
+        is_answered(&rt, alloc, sums(alloc)?, text, "lr/tree", wanted)?;
+    }
+    is_answered(&rt, alloc, lists(alloc)?, "", "lr/tree", "\"(L)\"")
+}
+
+#[test]
+fn answers_follow_the_edits(rt: HostRuntime) -> Result<(), Fail> {
+    let alloc = rt.alloc();
+    let opened = opening(alloc, "a:x", "\u{1F600}1")?;
+    let changed = change(alloc, (0, 0), (0, 2), "5+")?;
+    let tokens =
+        "{\"jsonrpc\":\"2.0\",\"id\":4,\"method\":\"lr/tokens\",\"params\":{\"textDocument\":{\"uri\":\"a:x\"}}}";
+    let tree =
+        "{\"jsonrpc\":\"2.0\",\"id\":5,\"method\":\"lr/tree\",\"params\":{\"textDocument\":{\"uri\":\"a:x\"}}}";
+    let told_tokens =
+        "{\"id\":4,\"jsonrpc\":\"2.0\",\"result\":[[\"NUM\",0,0,0,1],[\"PLUS\",0,1,0,2],[\"NUM\",0,2,0,3]]}";
+    let told_tree =
+        "{\"id\":5,\"jsonrpc\":\"2.0\",\"result\":\"(Sum (Sum (Atom NUM)) PLUS (Atom NUM))\"}";
+    converses(
+        &rt,
+        alloc,
+        &[INITIALIZE, opened.as_str(), changed.as_str(), tokens, tree],
+        &[CAPABILITIES, told_tokens, told_tree],
+        Ok(1),
+    )?;
+    let not_open =
+        "{\"error\":{\"code\":-32602,\"message\":\"document not open\"},\"id\":4,\"jsonrpc\":\"2.0\"}";
+    converses(
+        &rt,
+        alloc,
+        &[INITIALIZE, tokens],
+        &[CAPABILITIES, not_open],
+        Ok(1),
     )
 }
 

@@ -1,7 +1,6 @@
-use Rattle.std.proofs.Common.{◌≡◌, sym, ap, subst, ◌∙◌}
-use Rattle.std.specs.Prelude.{Some, option_map}
+use Rattle.std.proofs.Common.{sym, ap, subst, ◌∙◌}
+use Rattle.std.specs.Prelude.{option_map}
 use Rattle.std.specs.FinMap.{get}
-use Rattle.server.specs.declared.documents.Document.{Document}
 use Rattle.server.specs.Documents.{open_document, IsCurrent}
 use Rattle.server.proofs.Held.{get_held, map_twice, found_current}
 use Rattle.server.proofs.documents.Documents.get.Goals as goal

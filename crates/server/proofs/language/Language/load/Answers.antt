@@ -1,5 +1,4 @@
 use Rattle.std.proofs.Common.{sym, subst}
-use Rattle.definitions.specs.Items.{HasMoreSetsThan}
 use Rattle.dfa.specs.Positions.{HasMoreStatesThan}
 use Rattle.tables.specs.Faults.{IsRight}
 use Rattle.tables.specs.declared.tables.TableFault.{TableFault}

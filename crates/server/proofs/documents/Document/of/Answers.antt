@@ -1,0 +1,9 @@
+use Rattle.std.proofs.Common.{subst}
+use Rattle.server.specs.Languages.{IsParsed}
+use Rattle.server.proofs.documents.Document.of.Goals as goal
+
+pub returns-clause-current : goal.returns-clause-current
+returns-clause-current c = record {
+  tokens = c.in_ok-tokens.ensures;
+  parse = subst (λ kinds. IsParsed c.args.language.now.grammar kinds c.parse.new.store c.in_ok-parse.parse) c.in_ok-kinds.ensures c.in_ok-parse.ensures;
+}
