@@ -7,26 +7,39 @@ use std::alloc::{AllocError, Global};
 /// What the command line asks for.
 #[derive(Debug, Drop)]
 pub enum Task {
+    /// Check the grammar in the file of this path.
+    Check(String),
     /// Serve an editor by the grammar in the file of this path.
     Serve(String),
 }
 
-/// `lrls serve GRAMMAR`, as the words say it.
-fn command<'a>(alloc: Global) -> Result<Command<'a>, AllocError> {
+/// A command that takes a grammar's path.
+fn with_grammar<'a>(alloc: Global, name: &'a str) -> Result<Command<'a>, AllocError> {
     let grammar = Arg::new(alloc, "GRAMMAR").required(true);
-    let serve = Command::new(alloc, "serve").arg(grammar)?;
+    Command::new(alloc, name).arg(grammar)
+}
+
+/// `lrls check GRAMMAR` and `lrls serve GRAMMAR`, as the words say them.
+fn command<'a>(alloc: Global) -> Result<Command<'a>, AllocError> {
     Command::new(alloc, "lrls")
         .subcommand_required(true)
-        .subcommand(serve)
+        .subcommand(with_grammar(alloc, "check")?)?
+        .subcommand(with_grammar(alloc, "serve")?)
+}
+
+/// The path that a command was given.
+fn path_of(alloc: Global, matches: &ArgMatches) -> Result<Option<String>, AllocError> {
+    match matches.get_str("GRAMMAR") {
+        Some(path) => Ok(Some(String::from_str(alloc, path)?)),
+        None => Ok(None),
+    }
 }
 
 /// The command that was matched.
 fn matched(alloc: Global, matches: &ArgMatches) -> Result<Option<Task>, AllocError> {
     match matches.subcommand() {
-        Some(("serve", serve)) => match serve.get_str("GRAMMAR") {
-            Some(path) => Ok(Some(Task::Serve(String::from_str(alloc, path)?))),
-            None => Ok(None),
-        },
+        Some(("check", check)) => Ok(path_of(alloc, check)?.map(Task::Check)),
+        Some(("serve", serve)) => Ok(path_of(alloc, serve)?.map(Task::Serve)),
         _ => Ok(None),
     }
 }

@@ -5,15 +5,31 @@ ghost use Rattle.lrls.specs.Status.{status_of, fault_of};
 ghost use Rattle.lrls.specs.declared.fault.Fault.TheVariants.{NoMemory};
 
 use frames::FrameFault;
-use server::{LoadFault, RunFault};
+use grammar::GrammarFault;
+use server::RunFault;
 use std::alloc::AllocError;
 use thiserror::Error;
 
 /// A fault that the program prints on standard error.
-#[derive(Clone, Copy, Debug, PartialEq, Eq, Error)]
+#[derive(Debug, Drop, PartialEq, Eq, Error)]
 pub enum Fault {
     #[error("usage: lrls check GRAMMAR | parse GRAMMAR TEXT | serve GRAMMAR")]
     CommandLine,
+    /// The first fault of the grammar's file.
+    #[error("lrls: {0}")]
+    Grammar(GrammarFault),
+    #[error("lrls: over 4096 automaton states")]
+    TooManyStates,
+    #[error("lrls: over 8192 table states")]
+    TooManySets,
+    /// A conflict on the token of this name, or on the `end`.
+    #[error("lrls: conflict on {0}")]
+    Conflict(String),
+    #[error("lrls: grammar is not UTF-8")]
+    NotUtf8,
+    /// The file of this path can't be read.
+    #[error("lrls: cannot read {0}")]
+    CannotRead(String),
     #[error("lrls: no memory")]
     NoMemory,
     #[error("lrls: frame fault {0}")]
@@ -26,12 +42,18 @@ pub enum Fault {
 
 impl Fault {
     /// The exit status: 2 where the command line or the grammar was refused, else 1.
-    pub fn status(self) -> u8
-        ensures { result ≡ status_of self }
+    pub fn status(&self) -> u8
+        ensures { result ≡ status_of self.now }
     {
         match self {
-            Fault::CommandLine => 2,
-            Fault::NoMemory | Fault::Frame(_) | Fault::Read | Fault::Write => 1,
+            Fault::CommandLine
+            | Fault::Grammar(_)
+            | Fault::TooManyStates
+            | Fault::TooManySets
+            | Fault::Conflict(_)
+            | Fault::NotUtf8 => 2,
+            Fault::CannotRead(_) | Fault::NoMemory | Fault::Frame(_) | Fault::Read | Fault::Write =>
+                1,
         }
     }
 }
@@ -41,16 +63,6 @@ impl From<AllocError> for Fault {
 
     fn from(_: AllocError) -> Fault {
         Fault::NoMemory
-    }
-}
-
-impl From<LoadFault> for Fault {
-    ghost from_gives = { λ _ e. e ≡ NoMemory };
-
-    fn from(fault: LoadFault) -> Fault {
-        match fault {
-            LoadFault::NoMemory => Fault::NoMemory,
-        }
     }
 }
 

@@ -1,23 +1,26 @@
-//! The program `lrls`: a language server on standard input and output.
+//! The program `lrls`: checks grammars, and is a language server on standard input and output.
 #![tactic(auto)]
 
 mod command_line;
+mod commands;
 mod fault;
 #[cfg(test)]
 mod tests;
 
 use crate::command_line::{Task, words};
+use crate::commands::{Printed, check, load};
 use crate::fault::Fault;
 use frames::{ReadInput, WriteOutput};
 use server::{Language, run};
 use std::alloc::Global;
+use std::io::{ErrorKind, Write};
 use std::process::ExitCode;
 
 /// The words that stand behind the program's name.
 fn given_words(rt: &HostRuntime) -> Result<Vec<String>, Fault> {
     let mut given = match std::env::args(rt) {
         Ok(given) => given,
-        Err(error) if error.kind() == std::io::ErrorKind::OutOfMemory => {
+        Err(error) if error.kind() == ErrorKind::OutOfMemory => {
             return Err(Fault::NoMemory);
         }
         Err(_) => return Err(Fault::CommandLine),
@@ -26,19 +29,53 @@ fn given_words(rt: &HostRuntime) -> Result<Vec<String>, Fault> {
     Ok(given.collect(rt.alloc())?)
 }
 
+/// The language of the grammar in the file of this path, or what is printed where there is none.
+fn loaded(rt: &HostRuntime, path: &str) -> Result<Result<Language, Printed>, Fault> {
+    match std::fs::read(rt, path) {
+        Ok(bytes) => Ok(load(rt.alloc(), &bytes)?),
+        Err(error) if error.kind() == ErrorKind::OutOfMemory => Err(Fault::NoMemory),
+        Err(_) => Err(Fault::CannotRead(String::from_str(rt.alloc(), path)?)),
+    }
+}
+
+/// Prints what a command answers, and answers its status.
+fn print(rt: &HostRuntime, printed: &Printed) -> Result<u8, Fault> {
+    let _ = rt.stderr().write_all(&printed.err);
+    match rt.stdout().write_all(&printed.out) {
+        Ok(()) => Ok(printed.status),
+        Err(_) => Err(Fault::Write),
+    }
+}
+
+/// Checks a grammar.
+fn check_file(rt: &HostRuntime, path: &str) -> Result<u8, Fault> {
+    match loaded(rt, path)? {
+        Ok(language) => print(rt, &check(rt.alloc(), &language)?),
+        Err(printed) => print(rt, &printed),
+    }
+}
+
 /// Serves an editor until it leaves.
-fn serve(rt: &HostRuntime, alloc: Global) -> Result<u8, Fault> {
-    let language = Language::load(alloc, "")?;
+fn serve(rt: &HostRuntime, alloc: Global, language: Language) -> Result<u8, Fault> {
     let mut input = ReadInput::new(rt.stdin());
     let mut output = WriteOutput::new(rt.stdout());
     Ok(run(alloc, language, &mut input, &mut output)?)
+}
+
+/// Serves an editor by the grammar in a file.
+fn serve_file(rt: &HostRuntime, path: &str) -> Result<u8, Fault> {
+    match loaded(rt, path)? {
+        Ok(language) => serve(rt, rt.alloc(), language),
+        Err(printed) => print(rt, &printed),
+    }
 }
 
 /// Does what the command line asks, and answers the exit status.
 fn started(rt: &HostRuntime) -> Result<u8, Fault> {
     let given = given_words(rt)?;
     match words(rt.alloc(), &given)? {
-        Some(Task::Serve(_grammar)) => serve(rt, rt.alloc()),
+        Some(Task::Check(path)) => check_file(rt, path.as_str()),
+        Some(Task::Serve(path)) => serve_file(rt, path.as_str()),
         None => Err(Fault::CommandLine),
     }
 }

@@ -1,5 +1,5 @@
 -- What the loop of a session keeps, and what it leaves.
-use Rattle.std.proofs.Common.{◌≡◌, ◌≢◌, ℕ, List, [], ◌++◌, refl, ap, sym, inl, inr, ◌∙◌, append_assoc}
+use Rattle.std.proofs.Common.{◌≡◌, ◌≢◌, ℕ, List, [], ◌++◌, refl, ap, sym, subst, inl, inr, ◌∙◌, append_assoc}
 use Rattle.std.specs.Prelude.{Option, Some, None, Result, Ok, Err}
 use Rattle.std.specs.Io.KnownBytes.{Consumes, Keeps, IsAtEnd}
 use Rattle.frames.specs.declared.fault.FrameFault.{FrameFault}
@@ -139,3 +139,16 @@ is_open (Faulty g) h = absurd (let e : ⊥ = cc in e)
 
 pub nothing_read : Splits [] [] (Open [])
 nothing_read = (refl, tt)
+
+-- before the first read
+pub at_start : (input output : Option (List ℕ)) (input_failures output_failures : ℕ) (tail : Tail) (state : State) → input_failures ≡ 0 → output_failures ≡ 0 → tail ≡ Open [] → state ≡ first_state → IsReady input input input_failures output output output_failures tail state
+at_start input output input_failures output_failures tail state reads writes new first = record {
+  bytes = [];
+  contents = [];
+  was_read = consumes_nothing input;
+  split = subst (λ (t : Tail). Splits [] [] t) (sym new) (refl, tt);
+  served = subst (λ (s : State). Served output output first_state [] None s) (sym first) (served_nothing output first_state);
+  reads = reads;
+  writes = writes;
+  goes_on = subst (λ (t : Tail). IsOpen t) (sym new) tt;
+}

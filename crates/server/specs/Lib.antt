@@ -1,4 +1,5 @@
 pub mod Documents
+pub mod Languages
 pub mod Steps
 pub mod Runs
 pub mod Sessions

@@ -4,23 +4,30 @@ use frames::FrameFault;
 use std::alloc::Global;
 use std::test::Fail;
 
-/// The grammar that `serve` names, where the words of the line are that command.
-fn path_of(alloc: Global, line: &str) -> Result<Option<String>, Fail> {
+/// What the words of the line ask for: the command, and the path that it names.
+fn told(alloc: Global, line: &str) -> Result<Option<String>, Fail> {
     let mut given = Vec::new(alloc);
     for word in line.split_whitespace() {
         given.push(String::from_str(alloc, word)?)?;
     }
     match words(alloc, &given)? {
-        Some(Task::Serve(path)) => Ok(Some(path)),
+        Some(Task::Check(path)) => Ok(Some(format!(in alloc; "check of {path}")?)),
+        Some(Task::Serve(path)) => Ok(Some(format!(in alloc; "serve by {path}")?)),
         None => Ok(None),
     }
 }
 
 #[test]
-fn serve_names_its_grammar(rt: HostRuntime) -> Result<(), Fail> {
-    match path_of(rt.alloc(), "serve grammars/g0.lr")? {
-        Some(path) => assert_eq!(rt; path.as_str(), "grammars/g0.lr"),
-        None => assert!(rt; false),
+fn commands_name_their_grammar(rt: HostRuntime) -> Result<(), Fail> {
+    let alloc = rt.alloc();
+    for (line, wanted) in [
+        ("serve grammars/g0.lr", "serve by grammars/g0.lr"),
+        ("check grammars/g0.lr", "check of grammars/g0.lr"),
+    ] {
+        match told(alloc, line)? {
+            Some(task) => assert_eq!(rt; task.as_str(), wanted),
+            None => assert!(rt; false),
+        }
     }
     Ok(())
 }
@@ -35,11 +42,12 @@ fn other_words_are_refused(rt: HostRuntime) -> Result<(), Fail> {
         "serve --help",
         "--help",
         "help",
-        "check a",
+        "check",
+        "check a b",
         "parse a b",
     ];
     for line in lines {
-        assert!(rt; path_of(alloc, line)?.is_none(), "at {line}");
+        assert!(rt; told(alloc, line)?.is_none(), "at {line}");
     }
     Ok(())
 }
@@ -50,6 +58,19 @@ fn faults_have_their_texts(rt: HostRuntime) -> Result<(), Fail> {
     let usage = "usage: lrls check GRAMMAR | parse GRAMMAR TEXT | serve GRAMMAR";
     let cases = [
         (Fault::CommandLine, usage, 2),
+        (Fault::TooManyStates, "lrls: over 4096 automaton states", 2),
+        (Fault::TooManySets, "lrls: over 8192 table states", 2),
+        (
+            Fault::Conflict(String::from_str(alloc, "end")?),
+            "lrls: conflict on end",
+            2,
+        ),
+        (Fault::NotUtf8, "lrls: grammar is not UTF-8", 2),
+        (
+            Fault::CannotRead(String::from_str(alloc, "a/b")?),
+            "lrls: cannot read a/b",
+            1,
+        ),
         (Fault::NoMemory, "lrls: no memory", 1),
         (
             Fault::Frame(FrameFault::SecondLength),

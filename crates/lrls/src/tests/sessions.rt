@@ -1,8 +1,9 @@
 //! Sessions, from bytes to bytes.
 
 use super::devices::{Pieces, Record, Taker};
+use super::grammars::sums;
 use frames::FrameFault;
-use server::{Language, RunFault, run};
+use server::{RunFault, run};
 use std::alloc::Global;
 use std::cell::RefCell;
 use std::process::Abort;
@@ -105,8 +106,7 @@ fn run_on(
         calls: way.calls,
         has_failed: false,
     };
-    let language = Language::load(alloc, "").unwrap();
-    let outcome = run(alloc, language, &mut pieces, &mut taker);
+    let outcome = run(alloc, sums(alloc)?, &mut pieces, &mut taker);
     Ok((outcome, record.into_inner()))
 }
 

@@ -7,9 +7,12 @@ use Rattle.frames.specs.Contents.{contents}
 use Rattle.server.specs.declared.serve.RunFault.{RunFault}
 use Rattle.server.specs.Steps.{state_view}
 use Rattle.server.specs.Sessions.{Served, ServedInPart, Session, IsCutShort}
-use Rattle.server.proofs.Loop.{fed, read_fails, input_ends, exits, stream_fails, answering_fails, feeding_fails, is_open}
+use Rattle.server.proofs.Loop.{at_start, fed, read_fails, input_ends, exits, stream_fails, answering_fails, feeding_fails, is_open}
 use Rattle.server.proofs.Fresh.{every_answer_is_fresh}
 use Rattle.server.proofs.serve.run.Goals as goal
+
+pub loop-count-init : goal.loop-count-init
+loop-count-init g c = at_start _ _ _ _ _ _ c.requires.input c.requires.output c.new-decoder.ensures c.new-server.ensures.state
 
 pub returns-in-Err-clause-session : goal.returns-in-Err-clause-session
 returns-in-Err-clause-session g c = read_fails _ _ _ _ _ _ _ _ _ c.loop-count.invariant c.in-Err.ensures.bytes
