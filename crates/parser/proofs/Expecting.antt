@@ -1,18 +1,17 @@
 -- What the state in which the machine stopped expects.
-use Rattle.std.proofs.Common.{◌≡◌, ◌↔◌, ◌⊎◌, ℕ, List, [], ◌∷◌, ◌++◌, take, Bool, true, Option, Some, None, refl, sym, ap, ◌∙◌, subst, inl, inr}
+use Rattle.std.proofs.Common.{◌≡◌, ◌↔◌, ◌⊎◌, ℕ, List, [], ◌∷◌, ◌++◌, take, Bool, true, Option, Some, None, refl, sym, subst, inl, inr}
 use Rattle.definitions.specs.declared.Kind.{Kind}
 use Rattle.definitions.specs.declared.Kind.TheVariants.{Rule as Token}
 use Rattle.definitions.specs.declared.Symbol.{Symbol}
-use Rattle.definitions.specs.Trees.{Grammar, Tree, HaveRoots}
+use Rattle.definitions.specs.Trees.{Tree, HaveRoots}
 use Rattle.definitions.specs.Sentences.{IsSentence, IsViable}
-use Rattle.definitions.specs.Sentences.{Verdict as Answer, HasTree, FaultAt, FaultAtEnd}
 use Rattle.theory.specs.Machine.{IsStackAfter}
 use Rattle.trees.specs.Cells.{Cell}
 use Rattle.tables.specs.Tables.{Sets, IsStateOf}
 use Rattle.parser.specs.declared.parse.Verdict.{Verdict}
 use Rattle.parser.specs.declared.parse.Verdict.TheVariants.{Tree as TreeAt, FaultAt as StopsAt, FaultAtEnd as StopsAtEnd}
 use Rattle.parser.specs.Machine.{plain_of}
-use Rattle.parser.specs.Parses.{Stop, IsParseOf, AreStacked, GoesOnWith, MayFollow, before_fault, verdict_in}
+use Rattle.parser.specs.Parses.{Stop, IsParseOf, AreStacked, GoesOnWith, MayFollow, verdict_in}
 use Rattle.parser.proofs.Stops.{settled_after}
 
 abbrev pub IsFault : Verdict → Type 0

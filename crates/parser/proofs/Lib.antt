@@ -4,3 +4,4 @@ pub mod Stamps
 pub mod Stops
 pub mod Expecting
 pub mod Total
+pub mod Counts

@@ -1,7 +1,7 @@
 -- A reduction puts one tree in the place of those of its production's right side, and there is a state to go to.
-use Rattle.std.proofs.Common.{◌≡◌, ℕ, ◌+◌, ◌-◌, ◌<◌, ◌≤◌, zero, suc, List, [], ◌∷◌, ◌++◌, length, take, drop, get_or, Option, Some, None, refl, sym, ap, ◌∙◌, subst, arith, length-append, length-take, length-drop, take-append-drop, ⊎_elim}
+use Rattle.std.proofs.Common.{◌≡◌, ℕ, ◌+◌, ◌-◌, ◌<◌, ◌≤◌, zero, suc, List, [], ◌∷◌, ◌++◌, length, take, drop, get_or, Option, refl, sym, ap, ◌∙◌, subst, arith, length-append, length-take, length-drop, take-append-drop, ⊎_elim}
 use Rattle.std.proofs.lemmas.Bool.{cases_lt}
-use Rattle.std.proofs.lemmas.List.{append_cancel_right, take-append-le, get_or_append_left, take_all}
+use Rattle.std.proofs.lemmas.List.{take-append-le, get_or_append_left, take_all}
 use Rattle.std.proofs.Math.Seq.{get_or-append_seam}
 use Rattle.definitions.specs.declared.Kind.{Kind}
 use Rattle.definitions.specs.declared.Symbol.{Symbol}
@@ -12,11 +12,11 @@ use Rattle.definitions.specs.Items.{HasMove, Reduce}
 use Rattle.theory.specs.Machine.{Reduces}
 use Rattle.theory.proofs.Unique.{roots_unique}
 use Rattle.theory.proofs.Simulation.{length-roots}
-use Rattle.theory.proofs.Stack.{Handle, reduces_roots}
+use Rattle.theory.proofs.Stack.{Handle}
 use Rattle.trees.specs.declared.store.NodeId.{NodeId}
 use Rattle.trees.specs.declared.store.Child.{Child}
 use Rattle.trees.specs.declared.store.Child.TheVariants.{Node}
-use Rattle.trees.specs.Cells.{Cell, AreBelow, IsGrown, tree, tree_of, trees_of, trees_from, forest_of, branch_of}
+use Rattle.trees.specs.Cells.{Cell, AreBelow, IsGrown, tree, tree_of, trees_of, trees_from, forest_of}
 use Rattle.trees.proofs.Cells.{grown-tree, grown-new}
 use Rattle.tables.specs.Tables.{Sets, IsStateOf}
 use Rattle.parser.specs.Machine.{plain_of, HasStates, HasMade}

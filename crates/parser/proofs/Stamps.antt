@@ -1,12 +1,9 @@
 -- Where branches are made by one edit, so is the branch over them; and a reduction leaves nodes of the store.
 use Rattle.std.proofs.Common.{◌≡◌, ℕ, ◌+◌, ◌<◌, ◌≤◌, zero, suc, List, [], ◌∷◌, ◌++◌, length, take, refl, sym, ap, ◌∙◌, subst, arith, length-append}
-use Rattle.std.proofs.lemmas.List.{take-append-le, take_all}
-use Rattle.definitions.specs.declared.Kind.{Kind}
-use Rattle.definitions.specs.TreeEdits.{Stamped, StampedBranch, StampedForest}
-use Rattle.trees.specs.declared.store.NodeId.{NodeId}
+use Rattle.definitions.specs.TreeEdits.{Stamped}
 use Rattle.trees.specs.declared.store.Child.{Child}
-use Rattle.trees.specs.declared.store.Child.TheVariants.{Token, Node}
-use Rattle.trees.specs.Cells.{Cell, AreBelow, IsGrown, KeepsTrees, IsBelow, tree, trees_from, forest_of, forest_in, branch_of}
+use Rattle.trees.specs.declared.store.Child.TheVariants.{Node}
+use Rattle.trees.specs.Cells.{Cell, AreBelow, KeepsTrees, tree, trees_from, forest_of, forest_in, branch_of}
 use Rattle.trees.proofs.Cells.{grown-new, grown-trees, forest-more, from-length, all_below-more, take-tree}
 use Rattle.parser.specs.Machine.{HasMade, IsMadeBy, AreMadeBy}
 use Rattle.parser.proofs.Reductions.{below-append, below-front}

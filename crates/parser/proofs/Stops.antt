@@ -1,14 +1,13 @@
 -- What the place where the machine stops tells.
-use Rattle.std.proofs.Common.{◌≡◌, ℕ, ◌+◌, ◌-◌, ◌<◌, ◌≤◌, zero, suc, List, [], ◌∷◌, ◌++◌, length, take, drop, get_or, slice_get, Option, Some, None, refl, sym, ap, ◌∙◌, subst, arith, length-append, length-take, take-append-drop}
+use Rattle.std.proofs.Common.{◌≡◌, ℕ, ◌<◌, ◌≤◌, zero, suc, List, [], ◌∷◌, ◌++◌, length, take, drop, slice_get, Option, Some, None, refl, sym, ap, ◌∙◌, subst, arith, length-take}
 use Rattle.std.proofs.lemmas.List.{take_all}
 use Rattle.std.proofs.lemmas.Option.{slice_get_past}
 use Rattle.definitions.specs.declared.Kind.{Kind}
 use Rattle.definitions.specs.declared.Kind.TheVariants.{Rule as TokenRule, Invalid}
-use Rattle.definitions.specs.declared.Symbol.{Symbol}
 use Rattle.definitions.specs.declared.Symbol.TheVariants.{Nonterminal}
-use Rattle.definitions.specs.Trees.{Grammar, Tree, Leaf, HaveRoots, IsTree, all_kinds}
+use Rattle.definitions.specs.Trees.{Grammar, Tree, Leaf, IsTree, all_kinds}
 use Rattle.definitions.specs.TreeEdits.{plain}
-use Rattle.definitions.specs.Sentences.{IsVerdict, IsTreeOf, AllProductive, HasTree, FaultAt, FaultAtEnd}
+use Rattle.definitions.specs.Sentences.{IsVerdict, IsTreeOf, AllProductive, FaultAt}
 use Rattle.definitions.specs.Settled.{IsSettledIn, IsSettled}
 use Rattle.definitions.specs.Items.{Move, HasMove, HasNoConflict, Accept}
 use Rattle.theory.specs.Machine.{Run, IsStackAfter, StackHasMove}
@@ -23,7 +22,7 @@ use Rattle.trees.specs.Cells.{Cell, tree}
 use Rattle.tables.specs.Tables.{Sets, IsAccepted}
 use Rattle.parser.specs.declared.parse.Verdict.TheVariants.{Tree as TreeAt, FaultAt as StopsAt, FaultAtEnd as StopsAtEnd}
 use Rattle.parser.specs.Machine.{plain_of, SoFar}
-use Rattle.parser.specs.Parses.{AreStacked, IsStoppedAt, last_leaf}
+use Rattle.parser.specs.Parses.{IsStoppedAt, last_leaf}
 use Rattle.parser.proofs.Moves.{top_stands, run_on}
 
 last-append : (before : List Kind) (last : Kind) → last_leaf (before ++ (last ∷ [])) ≡ Leaf last ∷ []

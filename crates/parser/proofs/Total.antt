@@ -7,9 +7,9 @@ use Rattle.definitions.specs.declared.Symbol.{Symbol}
 use Rattle.definitions.specs.declared.Symbol.TheVariants.{Rule as Terminal}
 use Rattle.definitions.specs.Trees.{Grammar, Tree, Leaf, HaveRoots}
 use Rattle.definitions.specs.Sentences.{Verdict, HasTree, FaultAt, FaultAtEnd, IsVerdict, IsTreeOf}
-use Rattle.definitions.specs.Items.{Item, HasMove, HasItem, IsValid, Shift}
+use Rattle.definitions.specs.Items.{HasMove, HasItem, Shift}
 use Rattle.theory.specs.Closure.{ByRules, Start, Goto}
-use Rattle.theory.specs.Machine.{Shifts, Stay, IsStackAfter, StackHasMove}
+use Rattle.theory.specs.Machine.{Stay, IsStackAfter, StackHasMove}
 use Rattle.theory.proofs.LawProofs.{stack_exists}
 use Rattle.theory.proofs.Rules.{rules_valid, valid_rules}
 use Rattle.theory.proofs.Simulation.{roots-append}

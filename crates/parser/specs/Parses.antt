@@ -11,7 +11,6 @@ use Rattle.definitions.specs.TreeEdits.{plain}
 use Rattle.definitions.specs.Sentences.{IsSentence, IsViable, IsVerdict}
 use Rattle.definitions.specs.Sentences.{Verdict as Answer, HasTree, FaultAt, FaultAtEnd}
 use Rattle.definitions.specs.DocumentNodes.{AreDocumentTrees}
-use Rattle.trees.specs.declared.store.NodeId.{NodeId}
 use Rattle.trees.specs.declared.store.Child.{Child}
 use Rattle.trees.specs.declared.store.Child.TheVariants.{Node}
 use Rattle.trees.specs.Cells.{Cell, AreBelow, tree}

@@ -3,6 +3,7 @@
 ghost use Rattle.std.specs.Prelude.{◌≡◌, ℕ, ◌+◌, ◌-◌, ◌^◌, ◌<◌, ◌≤◌, List, [], ◌∷◌, ◌++◌, length, take, slice_index_or, Option, IfOk};
 ghost use Rattle.definitions.specs.declared.Kind.{Kind as TokenKind};
 ghost use Rattle.definitions.specs.declared.Symbol.{Symbol};
+ghost use Rattle.definitions.specs.Nodes.{all_branches};
 ghost use Rattle.definitions.specs.Trees.{HaveRoots};
 ghost use Rattle.definitions.specs.Items.{HasMove, Reduce as ReduceMove};
 ghost use Rattle.trees.specs.declared.store.Child.{Child};
@@ -107,6 +108,7 @@ impl Machine {
         ensures stops { IfOk result (λ v. IsStoppedAt tables.now (K.kinds kinds.now) store.new v self.new.stack.items self.new.states.items) }
         ensures stamps { IfOk result (λ _. AreMadeBy number (forest_in store.new self.new.stack.items)) }
         ensures grown { take (length store.old) store.new ≡ store.old }
+        ensures count { IfOk result (λ _. length store.new + all_branches (plain_of store.old self.old.stack.items) ≡ length store.old + all_branches (plain_of store.new self.new.stack.items)) }
     {
         let count = kinds.len();
         'moves: loop {

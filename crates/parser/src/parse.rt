@@ -1,10 +1,11 @@
 //! The parse of a list of kinds.
 
-ghost use Rattle.std.specs.Prelude.{◌≡◌, ◌↔◌, ℕ, List, length, take, true, IfOk, OnErr};
+ghost use Rattle.std.specs.Prelude.{◌≡◌, ◌↔◌, ◌+◌, ℕ, List, length, take, true, IfOk, OnErr};
 ghost use Rattle.definitions.specs.declared.Kind.{Kind};
+ghost use Rattle.definitions.specs.Nodes.{all_branches};
 ghost use Rattle.trees.specs.Cells.{Cell, KeepsTrees, forest_in};
 ghost use Rattle.tables.specs.Tables.{Sets};
-ghost use Rattle.parser.specs.Machine.{AreMadeBy};
+ghost use Rattle.parser.specs.Machine.{plain_of, AreMadeBy};
 ghost use Rattle.parser.specs.Parses.{IsParseOf, MayFollow, verdict_in};
 
 use crate::machine::Machine;
@@ -52,6 +53,7 @@ fn parsed<K: Kinds>(
     ensures parse { IfOk result (λ p. IsParseOf tables.now (K.kinds kinds.now) store.new p) }
     ensures stamps { IfOk result (λ p. AreMadeBy number (forest_in store.new p.stack)) }
     ensures grown { take (length store.old) store.new ≡ store.old }
+    ensures count { IfOk result (λ p. length store.new ≡ length store.old + all_branches (plain_of store.new p.stack)) }
 {
     let mut machine = Machine::new(alloc, tables)?;
     let verdict = machine.run(alloc, tables, store, kinds, number)?;
@@ -64,7 +66,7 @@ fn parsed<K: Kinds>(
 }
 
 impl Parse {
-    /// The parse of the kinds. Its nodes are made by edit 0, and stand behind all others of the store.
+    /// The parse of the kinds. Its nodes are made by edit 0, and stand behind all others of the store; none is made in vain.
     ///
     /// After a refusal the store is as before.
     pub fn whole<K: Kinds>(
@@ -76,6 +78,7 @@ impl Parse {
         ensures parse { IfOk result (λ p. IsParseOf tables.now (K.kinds kinds.now) store.new p) }
         ensures stamps { IfOk result (λ p. AreMadeBy 0 (forest_in store.new p.stack)) }
         ensures grown { take (length store.old) store.new ≡ store.old }
+        ensures count { IfOk result (λ p. length store.new ≡ length store.old + all_branches (plain_of store.new p.stack)) }
         ensures kept { KeepsTrees (length store.old) store.old store.new }
         ensures refused { OnErr result (store.new ≡ store.old) }
     {

@@ -69,14 +69,16 @@ fn tables(alloc: Global, text: &str) -> Result<Tables, Fail> {
     Ok(Tables::build(alloc, &grammar)?)
 }
 
-/// The node of a child that is one.
-fn node(rt: &impl Abort, store: &Store, child: Option<Child>) -> NodeId
+/// The node of a child that is one, which edit 0 has made of this production.
+fn node(rt: &impl Abort, store: &Store, child: Option<Child>, production: usize) -> NodeId
     ensures { result.index < length store.now }
 {
     let Some(Child::Node(id)) = child else {
         panic!(rt; "no node");
     };
     assert!(rt; id.index < store.len());
+    assert_eq!(rt; store.production(id), production);
+    assert_eq!(rt; store.born(id), 0);
     id
 }
 
@@ -101,33 +103,35 @@ fn one_tree_of_a_sum(rt: HostRuntime) -> Result<(), Fail> {
     let alloc = rt.alloc();
     let tables = tables(alloc, SUMS)?;
     let mut store = Store::new(alloc);
-    let older = store.branch(alloc, 7, &[], 9)?;
     let kinds = Listed {
         kinds: &[NUM, PLUS, NUM],
     };
     let parse = Parse::whole(alloc, &tables, &mut store, &kinds)?;
-    assert_eq!(rt; store.len(), 5);
-    assert!(rt; older.index < store.len());
-    assert_eq!(rt; store.production(older), 7);
     let Verdict::Tree(id) = parse.verdict() else {
         panic!(rt; "no tree");
     };
     assert!(rt; parse.stack() == [Child::Node(id)].as_slice());
-    let sum = node(&rt, &store, Some(Child::Node(id)));
-    let left = node(&rt, &store, store.child(sum, 0));
-    let first = node(&rt, &store, store.child(left, 0));
-    let second = node(&rt, &store, store.child(sum, 2));
+    let sum = node(&rt, &store, Some(Child::Node(id)), 0);
+    let left = node(&rt, &store, store.child(sum, 0), 1);
+    let first = node(&rt, &store, store.child(left, 0), 2);
+    let second = node(&rt, &store, store.child(sum, 2), 2);
     assert!(rt; store.child(sum, 1) == Some(Child::Token(PLUS)));
-    let want = [(sum, 0, 3), (left, 1, 1), (first, 2, 1), (second, 2, 1)];
-    for (id, production, tokens) in want {
-        assert!(rt; id.index < store.len());
-        assert_eq!(rt; store.production(id), production);
-        assert_eq!(rt; store.tokens(id), tokens);
-        assert_eq!(rt; store.born(id), 0);
-    }
     assert!(rt; store.children(first) == [Child::Token(NUM)].as_slice());
     assert!(rt; store.children(second) == [Child::Token(NUM)].as_slice());
-    assert_eq!(rt; expected(alloc, &tables, &parse)?.len(), 0);
+    assert!(rt; !parse.expects(&tables, Some(1)) && !parse.expects(&tables, None));
+    Ok(())
+}
+
+#[test]
+fn older_nodes_stay(rt: HostRuntime) -> Result<(), Fail> {
+    let alloc = rt.alloc();
+    let tables = tables(alloc, SUMS)?;
+    let mut store = Store::new(alloc);
+    let older = store.branch(alloc, 7, &[], 9)?;
+    let _parse = Parse::whole(alloc, &tables, &mut store, &Listed { kinds: &[NUM] })?;
+    assert_eq!(rt; store.len(), 3);
+    assert!(rt; older.index < store.len());
+    assert_eq!(rt; store.born(older), 9);
     Ok(())
 }
 
@@ -206,8 +210,7 @@ fn a_list_of_no_items_is_a_branch(rt: HostRuntime) -> Result<(), Fail> {
     let Verdict::Tree(id) = parse.verdict() else {
         panic!(rt; "no tree");
     };
-    let list = node(&rt, &store, Some(Child::Node(id)));
-    assert_eq!(rt; store.production(list), 0);
+    let list = node(&rt, &store, Some(Child::Node(id)), 0);
     assert_eq!(rt; store.children(list).len(), 0);
     Ok(())
 }

@@ -1,7 +1,7 @@
-use Rattle.std.proofs.Common.{◌≡◌, ◌+◌, ◌-◌, ◌≤◌, ◌<◌, ℕ, List, [], ◌∷◌, ◌++◌, length, length-take, take, drop, get_or, refl, sym, ap, ◌∙◌, subst, rules, arith, length-append}
+use Rattle.std.proofs.Common.{◌≡◌, ◌+◌, ◌-◌, ◌≤◌, ℕ, List, [], ◌∷◌, ◌++◌, length, length-take, take, drop, get_or, sym, ap, ◌∙◌, subst, rules, arith, length-append}
 use Rattle.definitions.specs.declared.Symbol.{Symbol}
 use Rattle.definitions.specs.declared.Symbol.TheVariants.{Nonterminal}
-use Rattle.definitions.specs.Trees.{Grammar, Tree, HaveRoots, HasProduction}
+use Rattle.definitions.specs.Trees.{Grammar, Tree, HaveRoots}
 use Rattle.std.proofs.lemmas.List.{append_cancel_right}
 use Rattle.theory.proofs.Simulation.{length-roots}
 use Rattle.theory.proofs.Sets.{goto_there}

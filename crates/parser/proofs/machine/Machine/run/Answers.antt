@@ -1,15 +1,16 @@
-use Rattle.std.proofs.Common.{◌≡◌, ◌<◌, ◌≤◌, ◌+◌, ◌∷◌, ◌++◌, [], length, get_or, slice_get, Option, Some, None, refl, sym, ap, ◌∙◌, subst, rules, arith}
+use Rattle.std.proofs.Common.{◌≡◌, ◌<◌, ◌≤◌, ◌+◌, ◌∷◌, ◌++◌, [], length, get_or, slice_get, Some, sym, ap, ◌∙◌, subst, arith}
 use Rattle.definitions.specs.Items.{HasMove, Shift, Reduce, Accept}
+use Rattle.definitions.specs.Nodes.{all_branches}
 use Rattle.trees.specs.Cells.{forest_in, trees_from}
-use Rattle.trees.specs.declared.store.Child.{Child}
 use Rattle.trees.specs.declared.store.Child.TheVariants.{Token as TokenChild, Node}
 use Rattle.definitions.specs.declared.Kind.TheVariants.{Rule as Token}
 use Rattle.theory.specs.Machine.{Reduces}
 use Rattle.tables.specs.Actions.{plain}
-use Rattle.tables.specs.Tables.{IsAction, IsStateOf}
+use Rattle.tables.specs.Tables.{IsStateOf}
 use Rattle.parser.specs.Machine.{SoFar, AreMadeBy, plain_of}
 use Rattle.parser.proofs.Moves.{top_stands, shifted_on, reduced_on}
-use Rattle.parser.proofs.Stamps.{made-append, stamped_on, below_on, front_stays}
+use Rattle.parser.proofs.Stamps.{made-append, stamped_on, below_on, front_stays, grown_by_one}
+use Rattle.parser.proofs.Counts.{shift_count, reduce_count}
 use Rattle.parser.proofs.Stops.{at_fault, at_end, at_tree, one_on_stack}
 use Rattle.parser.proofs.machine.Machine.run.Goals as goal
 
@@ -36,6 +37,7 @@ moves-preserved-in-Some-Shift g c =
       so_far = so_far;
       stamps = subst (λ s. AreMadeBy c.args.number (forest_in cells s)) (sym push.stack) (made-append c.args.number (trees_from [] cells) m.stack.items (TokenChild k ∷ []) c.moves.invariant.stamps (tt, tt));
       grown = c.moves.invariant.grown;
+      count = c.moves.invariant.count ∙ ap (λ n. length c.args.store.now + n) (sym (subst (λ s. all_branches (plain_of cells s) ≡ all_branches (plain_of cells m.stack.items)) (sym push.stack) (shift_count cells m.stack.items k)));
     }
 
 pub moves-preserved : goal.moves-preserved
@@ -59,6 +61,7 @@ moves-preserved g c =
       so_far = subst (SoFar t kinds new m'.stack.items m'.states.items) (sym done.read) on;
       stamps = stamped_on cells m.stack.items p c.args.number new m'.stack.items done.made h.below c.moves.invariant.stamps;
       grown = front_stays c.args.store.now cells new c.moves.invariant.grown done.grown;
+      count = omega (arith, c.moves.invariant.count, grown_by_one cells m.stack.items p c.args.number new m'.stack.items done.made, reduce_count t.grammar (plain_of cells m.stack.items) (slice_get kinds m.read) (plain_of new m'.stack.items) reduces);
     }
 
 pub returns-then-self-count-clause-stops : goal.returns-then-self-count-clause-stops

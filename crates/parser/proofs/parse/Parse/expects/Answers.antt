@@ -1,4 +1,4 @@
-use Rattle.std.proofs.Common.{◌≡◌, refl, sym, ap, ◌∙◌, subst}
+use Rattle.std.proofs.Common.{◌≡◌, refl, sym, ap, subst}
 use Rattle.parser.proofs.Expecting.{IsFault, TellsRules, TellsEnd, expected}
 use Rattle.parser.proofs.parse.Parse.expects.Goals as goal
 
