@@ -8,7 +8,7 @@ use Rattle.std.proofs.lemmas.Bool.{and_from}
 use Rattle.std.proofs.lemmas.List.Elements.{recursion_from_All}
 use Rattle.std.proofs.lemmas.Str.{chars-encodes}
 use Rattle.rpc.specs.Messages.{numbered}
-use Rattle.definitions.specs.Text.{IsCharacter}
+use Rattle.definitions.specs.Text.{IsCharacter, IsText}
 use Rattle.definitions.proofs.TextLaws.{IsScalar-from_character}
 use Rattle.std.specs.Ordering.{nat_cmp, is_eq, eq_by_cmp}
 use Rattle.std.specs.declared.cmp.Ordering.{Ordering}
@@ -19,16 +19,22 @@ use Rattle.std.specs.FinMap.{empty, get, insert, len, get-empty, get-insert, len
 use Rattle.std.proofs.lemmas.Cmp.{nat_list_cmp_total}
 use Rattle.rpc.specs.Messages.{Ident, Asked, initialize, shutdown, text_of, tokens_of, tree_of, Told, initialized, exit, open_text, change_text, malformed, request, notice, ignored, said, refused, unread, invalid, unknown, params, Heard, ChangeSaid}
 use Rattle.rpc.specs.Reading.{hearing}
-use Rattle.rpc.specs.Replies.{Answer}
+use Rattle.rpc.specs.Replies.{Answer, told_tokens}
 use Rattle.definitions.specs.Text.{changed}
 use Rattle.definitions.specs.declared.Unit.TheVariants.{Utf16}
+use Rattle.definitions.specs.declared.Kind.{Kind}
+use Rattle.definitions.specs.declared.expression.Expression.{Expression}
+use Rattle.definitions.specs.Items.{HasNoConflict}
+use Rattle.definitions.specs.Sentences.{Verdict, IsVerdict}
+use Rattle.definitions.specs.Tokens.{Token, AreTokens, kinds}
+use Rattle.definitions.specs.Trees.{Grammar}
 use Rattle.grammar.specs.Grammars.{FileGrammar}
 use Rattle.server.specs.declared.state.Phase.{Phase}
 use Rattle.server.specs.declared.state.Phase.TheVariants.{New, Ready, Down}
 use Rattle.server.specs.Documents.{OpenDocument, Held, has_room}
-use Rattle.server.specs.Steps.{State, first_state, Step, Asks, Tells, Holds, fits, edited, opened, changed_document, edited_document, text_answer, TokensAnswer, TreeAnswer}
+use Rattle.server.specs.Steps.{State, first_state, Step, Asks, Tells, Holds, fits, edited, opened, changed_document, edited_document, text_answer, rows, tree_answer, TokensAnswer, TreeAnswer}
 use Rattle.server.specs.Runs.{Run}
-use Rattle.server.specs.Fresh.{IsFresh, IsAbout, EveryAnswerIsFresh, EachTextHasAFreshServer, EachTextIsItsEdits}
+use Rattle.server.specs.Fresh.{IsFresh, IsAbout, EveryAnswerIsFresh, EachAnswerIsOne, EachTextHasAFreshServer, EachTextIsItsEdits}
 
 -- ---- what a look-up finds after a document was inserted
 
@@ -183,6 +189,39 @@ every_answer_is_fresh file contents before state fresh uri document run ready he
     let asks : Asks file Ready state id asked answers stop new = subst (λ (p : Phase). Asks file p state id asked answers stop new) ready step in
     let again = asked_again file state fresh uri id asked answers stop new about (held ∙ sym has.1) asks in
     subst (λ (p : Phase). Asks file p fresh id asked answers stop fresh) (sym has.0) again
+
+-- ---- there is one answer
+
+abbrev pub OneListOfTokens : Type 0
+OneListOfTokens = (rules : List Expression) (t : List ℕ) (xs ys : List Token) → AreTokens rules t xs → AreTokens rules t ys → xs ≡ ys
+
+abbrev pub OneVerdict : Type 0
+OneVerdict = (g : Grammar) → HasNoConflict g → (x : List Kind) (v w : Verdict) → IsVerdict g x v → IsVerdict g x w → v ≡ w
+
+one_answer : OneListOfTokens → OneVerdict → (file : FileGrammar) → HasNoConflict file.grammar → (state : State) (uri : List ℕ) (document : OpenDocument) → get state.documents uri ≡ Some document → IsText document.text
+    → (id : Ident) (asked : Asked) (one two : List Answer) (stop halt : Option ℕ) (new after : State) → IsAbout uri asked → Asks file Ready state id asked one stop new → Asks file Ready state id asked two halt after → one ≡ two
+one_answer tokens verdict file free state uri document held text id initialize one two stop halt new after about s t = absurd about
+one_answer tokens verdict file free state uri document held text id shutdown one two stop halt new after about s t = absurd about
+one_answer tokens verdict file free state uri document held text id (text_of other) one two stop halt new after about s t = s.0 ∙ sym t.0
+one_answer tokens verdict file free state uri document held text id (tokens_of other) one two stop halt new after about s t =
+    let here : get state.documents other ≡ Some document = subst (λ u. get state.documents u ≡ Some document) (sym about) held in
+    let a = subst (λ (o : Option OpenDocument). TokensAnswer file id o s.0) here s.1 text in
+    let b = subst (λ (o : Option OpenDocument). TokensAnswer file id o t.0) here t.1 text in
+    let same : a.0 ≡ b.0 = tokens file.patterns document.text a.0 b.0 a.1 b.1 in
+    let answers : s.0 ≡ t.0 = a.2 ∙ (ap (λ xs. told_tokens id (rows file document.text xs)) same ∙ sym b.2) in
+    s.2.0 ∙ (ap (λ x. x ∷ []) answers ∙ sym t.2.0)
+one_answer tokens verdict file free state uri document held text id (tree_of other) one two stop halt new after about s t =
+    let here : get state.documents other ≡ Some document = subst (λ u. get state.documents u ≡ Some document) (sym about) held in
+    let a = subst (λ (o : Option OpenDocument). TreeAnswer file id o s.0) here s.1 text in
+    let b = subst (λ (o : Option OpenDocument). TreeAnswer file id o t.0) here t.1 text in
+    let same : a.0 ≡ b.0 = tokens file.patterns document.text a.0 b.0 a.1 b.1 in
+    let av : IsVerdict file.grammar (kinds file.skips b.0) a.2.0 = subst (λ xs. IsVerdict file.grammar (kinds file.skips xs) a.2.0) same a.2.1 in
+    let answers : s.0 ≡ t.0 = a.2.2 ∙ (ap (tree_answer file id) (verdict file.grammar free (kinds file.skips b.0) a.2.0 b.2.0 av b.2.1) ∙ sym b.2.2) in
+    s.2.0 ∙ (ap (λ x. x ∷ []) answers ∙ sym t.2.0)
+
+pub each_answer_is_one : OneListOfTokens → OneVerdict → (file : FileGrammar) → EachAnswerIsOne file
+each_answer_is_one tokens verdict file free state uri document ready held text id asked one two stop halt new after about s t =
+    one_answer tokens verdict file free state uri document held text id asked one two stop halt new after about (subst (λ (p : Phase). Asks file p state id asked one stop new) ready s) (subst (λ (p : Phase). Asks file p state id asked two halt after) ready t)
 
 pub each_text_is_its_edits : (file : FileGrammar) → EachTextIsItsEdits file
 each_text_is_its_edits file old new uri version changes document text answers stop ready held edits step =

@@ -2,6 +2,7 @@
 --     IsFresh file uri version text state      the state of a server that was just initialized and then opened this text
 --     EveryAnswerIsFresh      whatever was read before, an answer about an open document is the one that a fresh server gives
 --         on the document's version and text
+--     EachAnswerIsOne      where no set of the grammar has a conflict, there is one answer about an open document of Unicode characters
 --     EachTextHasAFreshServer      some fresh server has opened it, if it is a text that fits
 --     EachTextIsItsEdits      a document's text after a change is its text before, edited; no other document changes
 use Rattle.std.specs.Prelude.{◌≡◌, ◌≢◌, ℕ, ℤ, true, List, [], ◌∷◌, Option, Some, None}
@@ -12,6 +13,7 @@ use Rattle.rpc.specs.Messages.{Ident, Asked, initialize, shutdown, text_of, toke
 use Rattle.rpc.specs.Replies.{Answer, told_capabilities}
 use Rattle.server.specs.Documents.{OpenDocument}
 use Rattle.server.specs.declared.state.Phase.TheVariants.{Ready}
+use Rattle.definitions.specs.Items.{HasNoConflict}
 use Rattle.definitions.specs.Text.{IsText}
 use Rattle.server.specs.Steps.{State, first_state, Step, fits, edited}
 use Rattle.server.specs.Runs.{Run}
@@ -39,6 +41,13 @@ EveryAnswerIsFresh file =
     → IsFresh file uri document.version document.text fresh
     → (id : Ident) (asked : Asked) (answers : List Answer) (stop : Option ℕ) (new : State) → IsAbout uri asked
     → Step file state (said (request id asked)) answers stop new → Step file fresh (said (request id asked)) answers stop fresh
+
+abbrev pub EachAnswerIsOne : FileGrammar → Type 0
+EachAnswerIsOne file =
+    HasNoConflict file.grammar → (state : State) (uri : List ℕ) (document : OpenDocument)
+    → state.phase ≡ Ready → get state.documents uri ≡ Some document → IsText document.text
+    → (id : Ident) (asked : Asked) (one two : List Answer) (stop halt : Option ℕ) (new after : State) → IsAbout uri asked
+    → Step file state (said (request id asked)) one stop new → Step file state (said (request id asked)) two halt after → one ≡ two
 
 abbrev pub EachTextHasAFreshServer : FileGrammar → Type 0
 EachTextHasAFreshServer file = (uri : List ℕ) (version : ℤ) (text : List ℕ) → IsText text → fits text ≡ true → (state : State) × IsFresh file uri version text state

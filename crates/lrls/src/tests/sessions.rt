@@ -21,6 +21,12 @@ const EXIT: &str = "{\"jsonrpc\":\"2.0\",\"method\":\"exit\"}";
 const ASK_TEXT: &str =
     "{\"jsonrpc\":\"2.0\",\"id\":2,\"method\":\"lr/text\",\"params\":{\"textDocument\":{\"uri\":\"a:x\"}}}";
 
+const ASK_TOKENS: &str =
+    "{\"jsonrpc\":\"2.0\",\"id\":4,\"method\":\"lr/tokens\",\"params\":{\"textDocument\":{\"uri\":\"a:x\"}}}";
+
+const ASK_TREE: &str =
+    "{\"jsonrpc\":\"2.0\",\"id\":5,\"method\":\"lr/tree\",\"params\":{\"textDocument\":{\"uri\":\"a:x\"}}}";
+
 const NOT_OPEN: &str =
     "{\"error\":{\"code\":-32602,\"message\":\"document not open\"},\"id\":2,\"jsonrpc\":\"2.0\"}";
 
@@ -368,10 +374,6 @@ fn answers_follow_the_edits(rt: HostRuntime) -> Result<(), Fail> {
     let alloc = rt.alloc();
     let opened = opening(alloc, "a:x", "\u{1F600}1")?;
     let changed = change(alloc, (0, 0), (0, 2), "5+")?;
-    let tokens =
-        "{\"jsonrpc\":\"2.0\",\"id\":4,\"method\":\"lr/tokens\",\"params\":{\"textDocument\":{\"uri\":\"a:x\"}}}";
-    let tree =
-        "{\"jsonrpc\":\"2.0\",\"id\":5,\"method\":\"lr/tree\",\"params\":{\"textDocument\":{\"uri\":\"a:x\"}}}";
     let told_tokens =
         "{\"id\":4,\"jsonrpc\":\"2.0\",\"result\":[[\"NUM\",0,0,0,1],[\"PLUS\",0,1,0,2],[\"NUM\",0,2,0,3]]}";
     let told_tree =
@@ -379,7 +381,13 @@ fn answers_follow_the_edits(rt: HostRuntime) -> Result<(), Fail> {
     converses(
         &rt,
         alloc,
-        &[INITIALIZE, opened.as_str(), changed.as_str(), tokens, tree],
+        &[
+            INITIALIZE,
+            opened.as_str(),
+            changed.as_str(),
+            ASK_TOKENS,
+            ASK_TREE,
+        ],
         &[CAPABILITIES, told_tokens, told_tree],
         Ok(1),
     )?;
@@ -388,7 +396,7 @@ fn answers_follow_the_edits(rt: HostRuntime) -> Result<(), Fail> {
     converses(
         &rt,
         alloc,
-        &[INITIALIZE, tokens],
+        &[INITIALIZE, ASK_TOKENS],
         &[CAPABILITIES, not_open],
         Ok(1),
     )
