@@ -10,3 +10,6 @@ pub use dfa::Source;
 pub use sums::{Sums, Token};
 pub use tokens::Tokens;
 pub use whole::Whole;
+
+#[cfg(test)]
+mod tests;
