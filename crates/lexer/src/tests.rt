@@ -103,40 +103,6 @@ impl Source for Counted<'_> {
     ghost inside = { λ s i h. h };
 }
 
-/// What a rescan answers, and how many characters it read.
-#[derive(Drop)]
-struct Rescan {
-    splice: KindSplice,
-    reads: usize,
-}
-
-/// Puts a piece in the place of some characters, and brings the tokens to the text.
-fn change(
-    alloc: Global,
-    language: &Language,
-    text: &mut Text,
-    tokens: &mut Tokens,
-    edit: Edit,
-    piece: &str,
-) -> Result<Rescan, Fail>
-    requires sound { IsAutomaton language.now.grammar.patterns language.now.automaton }
-    requires tokens { AreTokensOf language.now.grammar.patterns language.now.grammar.skips text.old tokens.old.items }
-    requires inside { edit.at + edit.removed ≤ length text.old }
-    requires inserted { edit.inserted ≡ length (chars piece.now) }
-    ensures { OnOk result (AreTokensOf language.now.grammar.patterns language.now.grammar.skips text.new tokens.new.items) }
-{
-    let _before = text.len();
-    text.replace(alloc, edit.at, edit.at + edit.removed, piece)?;
-    let _after = text.len();
-    let source = Counted {
-        whole: Whole(text),
-        reads: Cell::new(0),
-    };
-    let splice = tokens.rescan(alloc, &language.grammar, &language.automaton, &source, edit)?;
-    let reads = source.reads.get();
-    Ok(Rescan { splice, reads })
-}
-
 /// An edit of a text, and what is to come of it.
 #[derive(Clone, Copy)]
 struct Step<'a> {
@@ -149,6 +115,45 @@ struct Step<'a> {
     from: usize,
     to: usize,
     kinds: &'a [Kind],
+}
+
+/// What a rescan answers, and how many characters it read.
+#[derive(Drop)]
+struct Rescan {
+    splice: KindSplice,
+    reads: usize,
+}
+
+/// Makes the edit of a step, and brings the tokens to the text.
+fn change(
+    alloc: Global,
+    language: &Language,
+    text: &mut Text,
+    tokens: &mut Tokens,
+    step: &Step<'_>,
+) -> Result<Rescan, Fail>
+    requires sound { IsAutomaton language.now.grammar.patterns language.now.automaton }
+    requires tokens { AreTokensOf language.now.grammar.patterns language.now.grammar.skips text.old tokens.old.items }
+    requires inside { step.now.at + step.now.removed ≤ length text.old }
+    ensures { OnOk result (AreTokensOf language.now.grammar.patterns language.now.grammar.skips text.new tokens.new.items) }
+{
+    let piece = Text::open(alloc, step.piece)?;
+    let edit = Edit {
+        at: step.at,
+        removed: step.removed,
+        inserted: piece.len(),
+        number: step.number,
+    };
+    let _before = text.len();
+    text.replace(alloc, step.at, step.at + step.removed, step.piece)?;
+    let _after = text.len();
+    let source = Counted {
+        whole: Whole(text),
+        reads: Cell::new(0),
+    };
+    let splice = tokens.rescan(alloc, &language.grammar, &language.automaton, &source, edit)?;
+    let reads = source.reads.get();
+    Ok(Rescan { splice, reads })
 }
 
 /// How many tokens have this stamp.
@@ -164,7 +169,7 @@ fn born_by(tokens: &Tokens, number: u64) -> usize {
     count
 }
 
-/// Makes the edit of a step, and sees that what comes of it is what is to come.
+/// Makes the edit of a step, sees that what comes of it is what is to come, and answers how many characters were read.
 fn check_step(
     rt: &impl Abort,
     alloc: Global,
@@ -172,7 +177,7 @@ fn check_step(
     text: &mut Text,
     tokens: &mut Tokens,
     step: &Step<'_>,
-) -> Result<(), Fail>
+) -> Result<usize, Fail>
     requires sound { IsAutomaton language.now.grammar.patterns language.now.automaton }
     requires tokens { AreTokensOf language.now.grammar.patterns language.now.grammar.skips text.old tokens.old.items }
     ensures { OnOk result (AreTokensOf language.now.grammar.patterns language.now.grammar.skips text.new tokens.new.items) }
@@ -180,20 +185,14 @@ fn check_step(
     let length = text.len();
     assert!(rt; step.at <= length);
     assert!(rt; step.removed <= length - step.at);
-    let edit = Edit {
-        at: step.at,
-        removed: step.removed,
-        inserted: step.piece.chars().count(),
-        number: step.number,
-    };
-    let rescan = change(alloc, language, text, tokens, edit, step.piece)?;
+    let rescan = change(alloc, language, text, tokens, step)?;
     assert_eq!(rt; tokens.scanned(), step.scanned);
     assert_eq!(rt; born_by(tokens, step.number), step.scanned);
     assert_eq!(rt; tokens.count(), step.count);
     assert_eq!(rt; rescan.splice.from, step.from);
     assert_eq!(rt; rescan.splice.to, step.to);
     assert!(rt; rescan.splice.kinds.as_slice() == step.kinds);
-    Ok(())
+    Ok(rescan.reads)
 }
 
 /// Opens a text and makes the edit of a step.
@@ -208,7 +207,8 @@ fn check(
 {
     let mut text = Text::open(alloc, open)?;
     let mut tokens = scan(alloc, language, &text)?;
-    check_step(rt, alloc, language, &mut text, &mut tokens, step)
+    check_step(rt, alloc, language, &mut text, &mut tokens, step)?;
+    Ok(())
 }
 
 /// Whether the tokens of a text have these names, lengths, reaches and starts, and stamp 0.
@@ -297,12 +297,18 @@ fn rescans_sums(rt: HostRuntime) -> Result<(), Fail> {
     let sums = load(alloc, SUMS)?;
     let rows = [
         ("1+2", step_by_7((1, 0, " "), (2, 4), (0, 0, &[]))),
-        ("1+ 2", step_by_7((3, 0, "3+"), (3, 6), (2, 2, &[NUM, PLUS]))),
+        (
+            "1+ 2",
+            step_by_7((3, 0, "3+"), (3, 6), (2, 2, &[NUM, PLUS])),
+        ),
         ("1+2+3", step_by_7((0, 0, ")"), (1, 6), (0, 0, &[RP]))),
         (")1+2+3", step_by_7((0, 1, ""), (0, 5), (0, 1, &[]))),
         ("(1)", step_by_7((2, 1, ""), (1, 2), (1, 3, &[NUM]))),
         ("1+2+3", step_by_7((5, 0, "4"), (1, 5), (4, 4, &[]))),
-        ("1+2+3", step_by_7((5, 0, "+4"), (3, 7), (4, 5, &[NUM, PLUS, NUM]))),
+        (
+            "1+2+3",
+            step_by_7((5, 0, "+4"), (3, 7), (4, 5, &[NUM, PLUS, NUM])),
+        ),
         ("1+2+3", step_by_7((0, 0, "9"), (1, 5), (0, 0, &[]))),
         ("1+2+3", step_by_7((4, 1, ""), (1, 4), (3, 5, &[PLUS]))),
     ];
@@ -334,7 +340,8 @@ fn rescans_what_was_rescanned(rt: HostRuntime) -> Result<(), Fail> {
     check_step(&rt, alloc, &lists, &mut text, &mut tokens, &second)?;
     let mut third = step_by_7((6, 1, ""), (4, 4), (0, 1, &words));
     third.number = 9;
-    check_step(&rt, alloc, &lists, &mut text, &mut tokens, &third)
+    check_step(&rt, alloc, &lists, &mut text, &mut tokens, &third)?;
+    Ok(())
 }
 
 #[test]
@@ -347,15 +354,8 @@ fn reads_few_characters(rt: HostRuntime) -> Result<(), Fail> {
     }
     let mut text = Text::open(alloc, &open)?;
     let mut tokens = scan(alloc, &sums, &text)?;
-    assert_eq!(rt; text.len(), 100_000);
-    let edit = Edit {
-        at: 50_000,
-        removed: 0,
-        inserted: 1,
-        number: 1,
-    };
-    let rescan = change(alloc, &sums, &mut text, &mut tokens, edit, "9")?;
-    assert!(rt; 0 < rescan.reads && rescan.reads < 100);
-    assert_eq!(rt; tokens.count(), 100_000);
+    let edit = step_by_7((50_000, 0, "9"), (2, 100_000), (49_999, 49_999, &[]));
+    let reads = check_step(&rt, alloc, &sums, &mut text, &mut tokens, &edit)?;
+    assert!(rt; 0 < reads && reads < 100);
     Ok(())
 }
