@@ -1,5 +1,5 @@
 -- Names that are found by their texts.
-use Rattle.std.proofs.Common.{◌≡◌, ℕ, suc, ◌+◌, ◌<◌, ◌≤◌, ◌==◌, Bool, true, false, cond, nat_lt, not, List, [], ◌∷◌, ◌++◌, length, map, position, Option, None, Some, is_some, Bor, refl, sym, ap, subst, ◌∙◌, ◌||◌, true≢false, if◌then◌else◌, unwrap_or, arith, lt-ltb, le-ltb}
+use Rattle.std.proofs.Common.{◌≡◌, ℕ, suc, ◌+◌, ◌<◌, ◌≤◌, Bool, true, false, cond, nat_lt, not, List, [], ◌∷◌, ◌++◌, length, position, Option, None, Some, is_some, Bor, refl, sym, ap, ◌∙◌, ◌||◌, true≢false, if◌then◌else◌, unwrap_or, arith, lt-ltb, le-ltb}
 use Rattle.std.proofs.lemmas.List.{length_push, map-append}
 use Rattle.std.proofs.lemmas.List.Folds.{position_or_len_push}
 use Rattle.std.proofs.lemmas.List.Sums.{prefix_len-le-length}
@@ -13,7 +13,6 @@ use Rattle.grammar.specs.Words.{Word}
 use Rattle.grammar.specs.Contents.{is_among, number_of, with_name}
 use Rattle.grammar.specs.Said.{texts}
 use Rattle.grammar.specs.Numbers.{AreNumbers}
-use Rattle.grammar.proofs.Mapped.{list_any-map, place-map}
 use Rattle.grammar.proofs.Splits.{length-texts}
 
 turned : (a b : Word) → bytes_eq a b ≡ bytes_eq b a

@@ -16,7 +16,7 @@ use Rattle.grammar.specs.Statements.{Statement, Line, Nothing, Production, Rule,
 use Rattle.grammar.specs.Contents.{as_rule, as_production, rules, productions, nonterminals, rule_names, is_among, with_name, defines, defined_behind, defined}
 use Rattle.grammar.specs.Grammars.{IsKnown}
 use Rattle.grammar.specs.Meaning.{file_grammar}
-use Rattle.grammar.specs.Said.{said, statement_of, all_said, texts, rule_line, AreNames, with_rule, with_left, with_production, with_start}
+use Rattle.grammar.specs.Said.{said, statement_of, all_said, AreNames, with_rule, with_left, with_production, with_start}
 use Rattle.grammar.proofs.Lines.{rules-step, nonterminals-step, names-step}
 use Rattle.grammar.proofs.Splits.{cons_option-append, said_more, said_split}
 

@@ -17,7 +17,7 @@ use Rattle.definitions.specs.declared.expression.Expression.{Expression}
 use Rattle.grammar.specs.Statements.{Line, Nothing, Production, Rule, Start, Fold, Bad, Statement, at}
 use Rattle.grammar.specs.Contents as of
 use Rattle.grammar.specs.Faults.{Cause, HasPattern, early_fault, late_fault, told, or_else, IsFaultless, AreFaultless, IsLineFault}
-use Rattle.grammar.specs.Said.{with_rule, with_left, with_production, with_start, texts, rule_line, AreNames, ArePatterns, IsPatternOf, with_pattern, AreFew, IsRead, all_said}
+use Rattle.grammar.specs.Said.{with_rule, with_left, with_production, with_start, AreNames, ArePatterns, IsPatternOf, with_pattern, AreFew, IsRead, all_said}
 
 pub has_pattern : (l : Line) (p : Option Expression) → IsPatternOf l p → HasPattern l
 has_pattern Nothing p h = tt

@@ -18,7 +18,7 @@ use Rattle.grammar.specs.Faults.{IsWhole, HaveReferents, Unproductive, IsFirstPr
 use Rattle.grammar.specs.Grammars.{FileGrammar, IsGrammar, IsUsable}
 use Rattle.grammar.specs.Marks.{AreBelow, AllProductiveIn, IsUnproductiveIn}
 use Rattle.grammar.specs.Meaning.{file_grammar, IsGrammarOf}
-use Rattle.grammar.specs.Said.{texts, all_said, rule_line, IsRead}
+use Rattle.grammar.specs.Said.{texts, all_said, IsRead}
 use Rattle.grammar.specs.Told.{Tells}
 use Rattle.grammar.proofs.Ranges.{lefts_below, is_grammar}
 use Rattle.grammar.proofs.Splits.{tells_map, length-texts}

@@ -1,12 +1,9 @@
 //! The names that the lines of a file define.
 
 ghost use Rattle.std.specs.Prelude.{◌≡◌, ◌+◌, ◌<◌, ◌≤◌, ◌^◌, List, [], None, Some, if◌then◌else◌, length, map, OnOk, IfOk, nat_lt};
-ghost use Rattle.std.specs.Str.{bytes_eq};
-ghost use Rattle.std.specs.List.{list_any};
 ghost use Rattle.definitions.specs.declared.Symbol.TheVariants.{Nonterminal};
 ghost use Rattle.grammar.specs.Statements.{Statement};
-ghost use Rattle.grammar.specs.Contents.{defines, is_among, number_of, symbol_of, with_name};
-ghost use Rattle.grammar.specs.Faults.{is_skip_rule, symbol_fault};
+ghost use Rattle.grammar.specs.Contents.{defines, is_among};
 ghost use Rattle.grammar.specs.Said.{said, rule_line, texts, AreNames, with_rule, with_left, with_production, with_start};
 
 use crate::line::Line;
@@ -86,31 +83,10 @@ impl<'a> Names<'a> {
     fn new_nonterminal(&self, left: &str) -> Option<Symbol>
         ensures { result ≡ (if is_among left.now self.now.nonterminals then None else Some (Nonterminal (length self.now.nonterminals))) }
     {
-        if self.has_nonterminal(left) {
+        if self.nonterminals.contains(left) {
             None
         } else {
             Some(Symbol::Nonterminal(self.nonterminals.len()))
         }
-    }
-
-    /// Whether a rule has this name.
-    pub fn has_rule(&self, name: &str) -> bool
-        ensures { result ≡ list_any (λ r. bytes_eq r.name name.now) self.now.rules }
-    {
-        self.rules.contains(name)
-    }
-
-    /// Whether a skip rule has this name.
-    pub fn has_skip_rule(&self, name: &str) -> bool
-        ensures { result ≡ list_any (is_skip_rule name.now) self.now.rules }
-    {
-        self.rules.contains_skip(name)
-    }
-
-    /// Whether a nonterminal has this name.
-    pub fn has_nonterminal(&self, name: &str) -> bool
-        ensures { result ≡ is_among name.now self.now.nonterminals }
-    {
-        self.nonterminals.contains(name)
     }
 }

@@ -17,7 +17,7 @@ use std::alloc::{AllocError, Global};
 fn symbol_of(name: &str, names: &Names<'_>) -> Symbol
     ensures { result ≡ symbol_of names.now.nonterminals (map (λ r. r.name) names.now.rules) name.now }
 {
-    if names.has_nonterminal(name) {
+    if names.nonterminals.contains(name) {
         Symbol::Nonterminal(names.nonterminals.number(name))
     } else {
         Symbol::Rule(names.rules.number(name))

@@ -2,7 +2,7 @@ use Rattle.std.proofs.Common.{◌∙◌, ◌++◌, [], ap, sym, take}
 use Rattle.std.specs.Prelude.{map}
 use Rattle.std.specs.List.{cons_option}
 use Rattle.grammar.specs.Contents.{production_of, productions}
-use Rattle.grammar.specs.Said.{texts, rule_line, all_said}
+use Rattle.grammar.specs.Said.{all_said}
 use Rattle.grammar.proofs.Splits.{productions_more}
 use Rattle.grammar.proofs.numbers.productions.Goals as goal
 

@@ -1,4 +1,4 @@
-use Rattle.std.proofs.Common.{◌∙◌, ap, sym, map, unwrap_or, position}
+use Rattle.std.proofs.Common.{◌∙◌, ap, sym, map, unwrap_or}
 use Rattle.std.proofs.lemmas.List.{length-map}
 use Rattle.std.specs.Str.{bytes_eq}
 use Rattle.grammar.specs.Contents.{number_of}
