@@ -1,4 +1,5 @@
 pub mod Mapped
+pub mod Finding
 pub mod Blanks
 pub mod Pushed
 pub mod Lines

@@ -17,7 +17,7 @@ use Rattle.definitions.specs.declared.expression.Expression.{Expression}
 use Rattle.grammar.specs.Statements.{Line, Nothing, Production, Rule, Start, Fold, Bad, Statement, at}
 use Rattle.grammar.specs.Contents as of
 use Rattle.grammar.specs.Faults.{Cause, HasPattern, early_fault, late_fault, told, or_else, IsFaultless, AreFaultless, IsLineFault}
-use Rattle.grammar.specs.Said.{with_rule, with_left, with_production, with_start, texts, rule_line, AreNames, ArePatterns, IsPatternOf, with_pattern, AreFew, IsRead, all_said}
+use Rattle.grammar.specs.Said.{with_rule, with_left, with_production, with_start, AreNames, ArePatterns, IsPatternOf, with_pattern, AreFew, IsRead, all_said}
 
 pub has_pattern : (l : Line) (p : Option Expression) → IsPatternOf l p → HasPattern l
 has_pattern Nothing p h = tt
@@ -99,7 +99,7 @@ start-step ss n (Start name) = ap (λ ws. nat_lt 0 (length ws)) (filter_map-appe
 start-step ss n (Fold name) = starts_with_none ss n (Fold name) refl
 start-step ss n Bad = starts_with_none ss n Bad refl
 
-pub names-step : (names names' : Names) (ss : List Statement) (n : ℕ) (l : Line) → AreNames names ss → map rule_line names'.rules.items ≡ with_rule (map rule_line names.rules.items) l → texts names'.nonterminals.items ≡ with_left (texts names.nonterminals.items) l → names'.productions ≡ with_production names.productions l → names'.started ≡ with_start names.started l → AreNames names' (ss ++ at n l ∷ [])
+pub names-step : (names names' : Names) (ss : List Statement) (n : ℕ) (l : Line) → AreNames names ss → names'.rules ≡ with_rule names.rules l → names'.nonterminals ≡ with_left names.nonterminals l → names'.productions ≡ with_production names.productions l → names'.started ≡ with_start names.started l → AreNames names' (ss ++ at n l ∷ [])
 names-step names names' ss n l are rs ns ps st = record {
   rules = rs ∙ ap (λ x. with_rule x l) are.rules ∙ sym (rules-step ss n l);
   nonterminals = ns ∙ ap (λ x. with_left x l) are.nonterminals ∙ sym (nonterminals-step ss n l);

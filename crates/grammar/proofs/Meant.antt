@@ -18,7 +18,7 @@ use Rattle.grammar.specs.Faults.{IsWhole, HaveReferents, Unproductive, IsFirstPr
 use Rattle.grammar.specs.Grammars.{FileGrammar, IsGrammar, IsUsable}
 use Rattle.grammar.specs.Marks.{AreBelow, AllProductiveIn, IsUnproductiveIn}
 use Rattle.grammar.specs.Meaning.{file_grammar, IsGrammarOf}
-use Rattle.grammar.specs.Said.{texts, all_said, rule_line, IsRead}
+use Rattle.grammar.specs.Said.{texts, all_said, IsRead}
 use Rattle.grammar.specs.Told.{Tells}
 use Rattle.grammar.proofs.Ranges.{lefts_below, is_grammar}
 use Rattle.grammar.proofs.Splits.{tells_map, length-texts}
@@ -27,24 +27,24 @@ module _ (text : List ℕ) (file : File) (whole : IsWhole text) (read : IsRead f
   abbrev ss : List Statement
   ss = statements text
 
-  pub productions_are : (ns : List Numbered) (ps : List Production') → ns ≡ file.statements.items → ps ≡ map (production_of (texts file.names.nonterminals.items) (map (λ r. r.name) (map rule_line file.names.rules.items))) (productions (all_said ns)) → ps ≡ (grammar_of ss).productions
+  pub productions_are : (ns : List Numbered) (ps : List Production') → ns ≡ file.statements.items → ps ≡ map (production_of file.names.nonterminals (map (λ r. r.name) file.names.rules)) (productions (all_said ns)) → ps ≡ (grammar_of ss).productions
   productions_are ns ps same are =
       are
-      ∙ ap (λ x. map (production_of (texts file.names.nonterminals.items) (map (λ r. r.name) (map rule_line file.names.rules.items))) (productions (all_said x))) same
-      ∙ ap (λ x. map (production_of (texts file.names.nonterminals.items) (map (λ r. r.name) (map rule_line file.names.rules.items))) (productions x)) read.statements
-      ∙ ap (λ x. map (production_of x (map (λ r. r.name) (map rule_line file.names.rules.items))) (productions ss)) read.names.nonterminals
+      ∙ ap (λ x. map (production_of file.names.nonterminals (map (λ r. r.name) file.names.rules)) (productions (all_said x))) same
+      ∙ ap (λ x. map (production_of file.names.nonterminals (map (λ r. r.name) file.names.rules)) (productions x)) read.statements
+      ∙ ap (λ x. map (production_of x (map (λ r. r.name) file.names.rules)) (productions ss)) read.names.nonterminals
       ∙ ap (λ x. map (production_of (nonterminals ss) (map (λ r. r.name) x)) (productions ss)) read.names.rules
 
-  pub names_are : (names : List (Bor (List ℕ))) → names ≡ file.names.nonterminals.items → texts names ≡ nonterminals ss
-  names_are names same = ap texts same ∙ read.names.nonterminals
+  pub names_are : (names : List (Bor (List ℕ))) → texts names ≡ file.names.nonterminals → texts names ≡ nonterminals ss
+  names_are names same = same ∙ read.names.nonterminals
 
-  count_is : (names : List (Bor (List ℕ))) → names ≡ file.names.nonterminals.items → length names ≡ length (nonterminals ss)
+  count_is : (names : List (Bor (List ℕ))) → texts names ≡ file.names.nonterminals → length names ≡ length (nonterminals ss)
   count_is names same = sym (length-texts names) ∙ ap length (names_are names same)
 
-  pub below : (names : List (Bor (List ℕ))) (ps : List Production') → names ≡ file.names.nonterminals.items → ps ≡ (grammar_of ss).productions → AreBelow ps (length names)
+  pub below : (names : List (Bor (List ℕ))) (ps : List Production') → texts names ≡ file.names.nonterminals → ps ≡ (grammar_of ss).productions → AreBelow ps (length names)
   below names ps same are p x there = omega (arith, lefts_below ss p x (ap (λ ys. slice_get ys p) (sym are) ∙ there), count_is names same)
 
-  pub unproductive_fault : (names : List (Bor (List ℕ))) (told : List Statement) (ps : List Production') (r : Refusal) → names ≡ file.names.nonterminals.items → told ≡ ss → ps ≡ (grammar_of ss).productions → Tells r (λ line c. (n : ℕ) × ((w : Word) × (slice_get (texts names) n ≡ Some w) × (c ≡ Unproductive w) × IsUnproductiveIn ps n × IsFirstProduction told w line)) → Tells r (λ line c. IsFault text line c)
+  pub unproductive_fault : (names : List (Bor (List ℕ))) (told : List Statement) (ps : List Production') (r : Refusal) → texts names ≡ file.names.nonterminals → told ≡ ss → ps ≡ (grammar_of ss).productions → Tells r (λ line c. (n : ℕ) × ((w : Word) × (slice_get (texts names) n ≡ Some w) × (c ≡ Unproductive w) × IsUnproductiveIn ps n × IsFirstProduction told w line)) → Tells r (λ line c. IsFault text line c)
   unproductive_fault names told ps r same said are =
       tells_map r _ (λ line c. IsFault text line c)
       (λ line c h.
@@ -56,26 +56,28 @@ module _ (text : List ℕ) (file : File) (whole : IsWhole text) (read : IsRead f
       (ap (λ ws. slice_get ws n) (sym (names_are names same)) ∙ there)
       (subst (λ (xs : List Statement). IsFirstProduction xs w line) said first)))
 
-  productive : (names : List (Bor (List ℕ))) (ps : List Production') → names ≡ file.names.nonterminals.items → ps ≡ (grammar_of ss).productions → AllProductiveIn ps (length names) → (n : ℕ) → n < length (nonterminals ss) → IsProductive (grammar_of ss) (Nonterminal n)
+  productive : (names : List (Bor (List ℕ))) (ps : List Production') → texts names ≡ file.names.nonterminals → ps ≡ (grammar_of ss).productions → AllProductiveIn ps (length names) → (n : ℕ) → n < length (nonterminals ss) → IsProductive (grammar_of ss) (Nonterminal n)
   productive names ps same are all n within = all (grammar_of ss) n (sym are) (omega (arith, within, count_is names same))
 
-  pub is_sound : (names : List (Bor (List ℕ))) (ps : List Production') → names ≡ file.names.nonterminals.items → ps ≡ (grammar_of ss).productions → AllProductiveIn ps (length names) → IsGrammar (file_grammar (all_said file.statements.items) file.patterns.items)
+  pub is_sound : (names : List (Bor (List ℕ))) (ps : List Production') → texts names ≡ file.names.nonterminals → ps ≡ (grammar_of ss).productions → AllProductiveIn ps (length names) → IsGrammar (file_grammar (all_said file.statements.items) file.patterns.items)
   is_sound names ps same are all =
       subst (λ (xs : List Statement). IsGrammar (file_grammar xs file.patterns.items)) (sym read.statements)
       (is_grammar ss file.patterns.items whole.faultless refers whole.started read.few read.patterns (productive names ps same are all))
 
-  pub is_meant : (names : List (Bor (List ℕ))) (ps : List Production') (f : FileGrammar) → names ≡ file.names.nonterminals.items → ps ≡ (grammar_of ss).productions → AllProductiveIn ps (length names) → f ≡ file_grammar (all_said file.statements.items) file.patterns.items → IsGrammarOf text f
+  pub is_meant : (names : List (Bor (List ℕ))) (ps : List Production') (f : FileGrammar) → texts names ≡ file.names.nonterminals → ps ≡ (grammar_of ss).productions → AllProductiveIn ps (length names) → f ≡ file_grammar (all_said file.statements.items) file.patterns.items → IsGrammarOf text f
   is_meant names ps f same are all is =
       let of_file : f ≡ file_grammar ss file.patterns.items = is ∙ ap (λ xs. file_grammar xs file.patterns.items) read.statements in
       subst (λ (g : FileGrammar). IsGrammarOf text g) (sym of_file)
       (record { whole = whole; referents = refers; patterns = read.patterns; productive = productive names ps same are all; is = refl })
 
 -- a grammar of the same parts
-pub made : (f : FileGrammar) (names : List (List ℕ)) (skips : List Bool) (lefts : List (List ℕ)) (folds : List Bool) (start : ℕ) (ps : List Production') (defined : List Symbol) → IsGrammar f → names ≡ f.names → skips ≡ f.skips → lefts ≡ f.nonterminals → folds ≡ f.folds → start ≡ f.grammar.start → ps ≡ f.grammar.productions → defined ≡ f.defined → IsGrammar (record { names = names; patterns = f.patterns; skips = skips; nonterminals = lefts; folds = folds; grammar = record { start = start; rules = length names; productions = ps }; defined = defined })
-made f names skips lefts folds start ps defined sound a b c d e g h =
+pub same_parts : (f : FileGrammar) (names : List (List ℕ)) (skips : List Bool) (lefts : List (List ℕ)) (folds : List Bool) (start : ℕ) (ps : List Production') (defined : List Symbol) → IsGrammar f → names ≡ f.names → skips ≡ f.skips → lefts ≡ f.nonterminals → folds ≡ f.folds → start ≡ f.grammar.start → ps ≡ f.grammar.productions → defined ≡ f.defined → ◌≡◌ {A = FileGrammar} (record { names = names; patterns = f.patterns; skips = skips; nonterminals = lefts; folds = folds; grammar = record { start = start; rules = length names; productions = ps }; defined = defined }) (record { names = f.names; patterns = f.patterns; skips = f.skips; nonterminals = f.nonterminals; folds = f.folds; grammar = record { start = f.grammar.start; rules = f.grammar.rules; productions = f.grammar.productions }; defined = f.defined })
+same_parts f names skips lefts folds start ps defined sound a b c d e g h =
     let rules : length names ≡ f.grammar.rules = ap length a ∙ sym sound.rules in
-    let same : record { names = names; patterns = f.patterns; skips = skips; nonterminals = lefts; folds = folds; grammar = record { start = start; rules = length names; productions = ps }; defined = defined } ≡ record { names = f.names; patterns = f.patterns; skips = f.skips; nonterminals = f.nonterminals; folds = f.folds; grammar = record { start = f.grammar.start; rules = f.grammar.rules; productions = f.grammar.productions }; defined = f.defined } = cc in
-    subst (λ (x : FileGrammar). IsGrammar x) (sym same) sound
+    cc
+
+pub made : (f : FileGrammar) (names : List (List ℕ)) (skips : List Bool) (lefts : List (List ℕ)) (folds : List Bool) (start : ℕ) (ps : List Production') (defined : List Symbol) → IsGrammar f → names ≡ f.names → skips ≡ f.skips → lefts ≡ f.nonterminals → folds ≡ f.folds → start ≡ f.grammar.start → ps ≡ f.grammar.productions → defined ≡ f.defined → IsGrammar (record { names = names; patterns = f.patterns; skips = skips; nonterminals = lefts; folds = folds; grammar = record { start = start; rules = length names; productions = ps }; defined = defined })
+made f names skips lefts folds start ps defined sound a b c d e g h = subst (λ (x : FileGrammar). IsGrammar x) (sym (same_parts f names skips lefts folds start ps defined sound a b c d e g h)) sound
 
 pub start_within : (f : FileGrammar) (start count : ℕ) → IsGrammar f → start ≡ f.grammar.start → count ≡ length f.nonterminals → start < count
 start_within f start count sound a b = omega (arith, sound.start, a, b)

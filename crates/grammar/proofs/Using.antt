@@ -1,16 +1,14 @@
 -- What marks at used nonterminals mean.
-use Rattle.std.proofs.Common.{◌≡◌, ◌≢◌, inl, inr, ℕ, zero, suc, ◌+◌, ◌<◌, Bool, true, false, ◌&&◌, List, [], ◌∷◌, ◌++◌, refl, ap, sym, ◌∙◌, length, take, drop, get_or, set, replicate, arith, subst}
+use Rattle.std.proofs.Common.{◌≡◌, inl, inr, ℕ, zero, suc, ◌+◌, ◌<◌, Bool, true, false, ◌&&◌, List, [], ◌∷◌, ◌++◌, refl, ap, sym, ◌∙◌, length, take, drop, get_or, set, replicate, arith, subst}
 use Rattle.std.specs.Prelude.{Some, slice_get, slice_index_or}
-use Rattle.std.specs.List.{list_all}
 use Rattle.std.proofs.lemmas.List.{take_more, get_or-set_other}
 use Rattle.std.proofs.lemmas.Grind.{get_or-set_at}
-use Rattle.std.proofs.lemmas.Option.{slice_get_read}
 use Rattle.definitions.specs.declared.Symbol.{Symbol}
-use Rattle.definitions.specs.declared.Symbol.TheVariants.{Rule as Terminal, Nonterminal}
-use Rattle.definitions.specs.Trees.{Grammar, Production, HasProduction}
+use Rattle.definitions.specs.declared.Symbol.TheVariants.{Nonterminal}
+use Rattle.definitions.specs.Trees.{Grammar, Production}
 use Rattle.definitions.specs.Sentences.{IsUsed, The_start, On_right}
 use Rattle.grammar.specs.Marks.{is_marked, are_marked}
-use Rattle.grammar.specs.Uses.{IsSpread, IsUnmarkedIn, IsReached, AreWithin, AreOnlyUsed, AreAllUsed, AreUsed}
+use Rattle.grammar.specs.Uses.{IsSpread, IsUnmarkedIn, IsReached, AreWithin, AreOnlyUsed, AreAllUsed}
 use Rattle.grammar.proofs.Marking.{and-left, and-right, same_or_not}
 use Rattle.grammar.proofs.Pushed.{push_at}
 

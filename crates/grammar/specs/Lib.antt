@@ -5,6 +5,7 @@ pub mod Faults
 pub mod Grammars
 pub mod Marks
 pub mod Told
+pub mod Numbers
 pub mod Said
 pub mod Meaning
 pub mod Uses

@@ -6,7 +6,7 @@ use Rattle.definitions.specs.declared.expression.Expression.{Expression}
 use Rattle.definitions.specs.Spelling.{IsPattern}
 use Rattle.grammar.specs.declared.line.Line.{Line as Kept}
 use Rattle.grammar.specs.declared.line.Line.TheVariants as k
-use Rattle.grammar.specs.declared.names.RuleName.{RuleName}
+use Rattle.grammar.specs.declared.rules.RuleName.{RuleName}
 use Rattle.grammar.specs.declared.names.Names.{Names}
 use Rattle.grammar.specs.declared.statements.Numbered.{Numbered}
 use Rattle.grammar.specs.declared.statements.File.{File}
@@ -38,8 +38,8 @@ rule_line r = record { skip = r.skip; name = r.name.now; pattern = r.pattern.now
 
 -- the names are those that the statements define
 pub record AreNames (names : Names) (ss : List Statement) : Type 0 where
-  pub rules : map rule_line names.rules.items ≡ rules ss
-  pub nonterminals : texts names.nonterminals.items ≡ nonterminals ss
+  pub rules : names.rules ≡ rules ss
+  pub nonterminals : names.nonterminals ≡ nonterminals ss
   pub productions : names.productions ≡ length (productions ss)
   pub started : names.started ≡ nat_lt 0 (length (starts ss))
 

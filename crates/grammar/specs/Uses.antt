@@ -1,7 +1,7 @@
 -- Marks at the nonterminals that derivations from the start use.
-use Rattle.std.specs.Prelude.{◌≡◌, ◌↔◌, ℕ, ◌<◌, Bool, true, false, IsTrue, List, Some, slice_get, slice_index_or}
+use Rattle.std.specs.Prelude.{◌≡◌, ℕ, ◌<◌, Bool, true, false, List, Some, slice_get, slice_index_or}
 use Rattle.definitions.specs.declared.Symbol.{Symbol}
-use Rattle.definitions.specs.declared.Symbol.TheVariants.{Rule as Terminal, Nonterminal}
+use Rattle.definitions.specs.declared.Symbol.TheVariants.{Nonterminal}
 use Rattle.definitions.specs.Trees.{Grammar, Production}
 use Rattle.definitions.specs.Sentences.{IsUsed}
 use Rattle.grammar.specs.Marks.{are_marked}

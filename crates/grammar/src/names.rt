@@ -1,33 +1,24 @@
 //! The names that the lines of a file define.
 
 ghost use Rattle.std.specs.Prelude.{◌≡◌, ◌+◌, ◌<◌, ◌≤◌, ◌^◌, List, [], None, Some, if◌then◌else◌, length, map, OnOk, IfOk, nat_lt};
-ghost use Rattle.std.specs.Str.{bytes_eq};
-ghost use Rattle.std.specs.List.{list_any};
 ghost use Rattle.definitions.specs.declared.Symbol.TheVariants.{Nonterminal};
 ghost use Rattle.grammar.specs.Statements.{Statement};
-ghost use Rattle.grammar.specs.Contents.{defines, is_among, number_of, symbol_of, with_name};
-ghost use Rattle.grammar.specs.Faults.{is_skip_rule, symbol_fault};
+ghost use Rattle.grammar.specs.Contents.{defines, is_among};
 ghost use Rattle.grammar.specs.Said.{said, rule_line, texts, AreNames, with_rule, with_left, with_production, with_start};
 
 use crate::line::Line;
+use crate::name_set::NameSet;
+use crate::rules::{RuleName, Rules};
 use definitions::Symbol;
 use std::alloc::{AllocError, Global};
-
-/// A `token` or `skip` rule.
-#[derive(Clone, Copy)]
-pub struct RuleName<'a> {
-    pub skip: bool,
-    pub name: &'a str,
-    pub pattern: &'a str,
-}
 
 /// What the lines so far define.
 #[derive(Drop)]
 pub struct Names<'a> {
     /// The rules, in file order.
-    pub rules: Vec<RuleName<'a>>,
+    pub rules: Rules<'a>,
     /// The nonterminals, in the order of their first productions.
-    pub nonterminals: Vec<&'a str>,
+    pub nonterminals: NameSet<'a>,
     /// How many productions there are.
     pub productions: usize,
     /// Whether there is a start.
@@ -40,8 +31,8 @@ impl<'a> Names<'a> {
         ensures { AreNames result [] }
     {
         Names {
-            rules: Vec::new(alloc),
-            nonterminals: Vec::new(alloc),
+            rules: Rules::new(alloc),
+            nonterminals: NameSet::new(alloc),
             productions: 0,
             started: false,
         }
@@ -50,8 +41,8 @@ impl<'a> Names<'a> {
     /// Adds what a line defines.
     pub fn note(&mut self, line: &Line<'a>) -> Result<(), AllocError>
         requires { self.old.productions < 2 ^ 32 }
-        ensures rules { OnOk result (map rule_line self.new.rules.items ≡ with_rule (map rule_line self.old.rules.items) (said line.now)) }
-        ensures nonterminals { OnOk result (texts self.new.nonterminals.items ≡ with_left (texts self.old.nonterminals.items) (said line.now)) }
+        ensures rules { OnOk result (self.new.rules ≡ with_rule self.old.rules (said line.now)) }
+        ensures nonterminals { OnOk result (self.new.nonterminals ≡ with_left self.old.nonterminals (said line.now)) }
         ensures productions { OnOk result (self.new.productions ≡ with_production self.old.productions (said line.now)) }
         ensures started { OnOk result (self.new.started ≡ with_start self.old.started (said line.now)) }
     {
@@ -61,14 +52,14 @@ impl<'a> Names<'a> {
                 name,
                 pattern,
             } => {
-                self.rules.push(RuleName {
+                self.rules.add(RuleName {
                     skip: *skip,
                     name,
                     pattern,
                 })?;
             }
             Line::Production { left, .. } => {
-                add_name(&mut self.nonterminals, left)?;
+                self.nonterminals.add(left)?;
                 self.productions += 1;
             }
             Line::Start(_) => self.started = true,
@@ -90,50 +81,12 @@ impl<'a> Names<'a> {
 
     /// The nonterminal that a left side defines, unless it is there.
     fn new_nonterminal(&self, left: &str) -> Option<Symbol>
-        ensures { result ≡ (if is_among left.now (texts self.now.nonterminals.items) then None else Some (Nonterminal (length (texts self.now.nonterminals.items)))) }
+        ensures { result ≡ (if is_among left.now self.now.nonterminals then None else Some (Nonterminal (length self.now.nonterminals))) }
     {
-        if self.has_nonterminal(left) {
+        if self.nonterminals.contains(left) {
             None
         } else {
             Some(Symbol::Nonterminal(self.nonterminals.len()))
         }
     }
-
-    /// Whether a rule has this name.
-    pub fn has_rule(&self, name: &str) -> bool
-        ensures { result ≡ list_any (λ r. bytes_eq r.name name.now) (map rule_line self.now.rules.items) }
-    {
-        self.rules.iter().any(|rule| rule.name == name)
-    }
-
-    /// Whether a skip rule has this name.
-    pub fn has_skip_rule(&self, name: &str) -> bool
-        ensures { result ≡ list_any (is_skip_rule name.now) (map rule_line self.now.rules.items) }
-    {
-        self.rules.iter().any(|rule| rule.skip && rule.name == name)
-    }
-
-    /// Whether a nonterminal has this name.
-    pub fn has_nonterminal(&self, name: &str) -> bool
-        ensures { result ≡ is_among name.now (texts self.now.nonterminals.items) }
-    {
-        is_among(name, &self.nonterminals)
-    }
-}
-
-/// Whether the name is one of these.
-fn is_among(name: &str, names: &[&str]) -> bool
-    ensures { result ≡ is_among name.now (texts names.now) }
-{
-    names.iter().any(|other| *other == name)
-}
-
-/// Adds a name unless it is there.
-fn add_name<'a>(names: &mut Vec<&'a str>, name: &'a str) -> Result<(), AllocError>
-    ensures { OnOk result (texts names.new.items ≡ with_name (texts names.old.items) name.now) }
-{
-    if !is_among(name, names) {
-        names.push(name)?;
-    }
-    Ok(())
 }

@@ -1,50 +1,31 @@
 //! The grammar of a file's lines, in numbers.
 
 ghost use Rattle.std.specs.Prelude.{◌≡◌, ◌++◌, [], IfOk, OnOk, map, option_map};
-ghost use Rattle.std.specs.Str.{bytes_eq, chars};
+ghost use Rattle.std.specs.Str.{chars};
 ghost use Rattle.std.specs.List.{cons_option};
 ghost use Rattle.grammar.specs.Contents.{number_of, symbol_of, production_of, as_production, productions, starts, first_of, folds_name, is_fold};
-ghost use Rattle.grammar.specs.Said.{said, all_said, texts, rule_line};
+ghost use Rattle.grammar.specs.Said.{said, all_said, texts};
 
 use crate::grammar::{Name, Production};
 use crate::line::Line;
-use crate::names::{Names, RuleName};
+use crate::names::Names;
 use crate::statements::Numbered;
 use definitions::Symbol;
 use std::alloc::{AllocError, Global};
 
-/// The place of a name among these; their count where it is none of them.
-pub fn number_of(name: &str, names: &[&str]) -> usize
-    ensures { result ≡ number_of name.now (texts names.now) }
-{
-    names
-        .iter()
-        .position(|other| *other == name)
-        .unwrap_or(names.len())
-}
-
-fn rule_number(name: &str, rules: &[RuleName<'_>]) -> usize
-    ensures { result ≡ number_of name.now (map (λ r. r.name) (map rule_line rules.now)) }
-{
-    rules
-        .iter()
-        .position(|rule| rule.name == name)
-        .unwrap_or(rules.len())
-}
-
 /// The symbol of a name.
 fn symbol_of(name: &str, names: &Names<'_>) -> Symbol
-    ensures { result ≡ symbol_of (texts names.now.nonterminals.items) (map (λ r. r.name) (map rule_line names.now.rules.items)) name.now }
+    ensures { result ≡ symbol_of names.now.nonterminals (map (λ r. r.name) names.now.rules) name.now }
 {
-    if names.has_nonterminal(name) {
-        Symbol::Nonterminal(number_of(name, &names.nonterminals))
+    if names.nonterminals.contains(name) {
+        Symbol::Nonterminal(names.nonterminals.number(name))
     } else {
-        Symbol::Rule(rule_number(name, &names.rules))
+        Symbol::Rule(names.rules.number(name))
     }
 }
 
 fn symbols_of(alloc: Global, right: &[&str], names: &Names<'_>) -> Result<Vec<Symbol>, AllocError>
-    ensures { IfOk result (λ symbols. symbols.items ≡ map (symbol_of (texts names.now.nonterminals.items) (map (λ r. r.name) (map rule_line names.now.rules.items))) (texts right.now)) }
+    ensures { IfOk result (λ symbols. symbols.items ≡ map (symbol_of names.now.nonterminals (map (λ r. r.name) names.now.rules)) (texts right.now)) }
 {
     let mut symbols = Vec::with_capacity(alloc, right.len())?;
     for name in right {
@@ -59,11 +40,11 @@ fn production_of(
     line: &Line<'_>,
     names: &Names<'_>,
 ) -> Result<Option<Production>, AllocError>
-    ensures { IfOk result (λ p. p ≡ option_map (production_of (texts names.now.nonterminals.items) (map (λ r. r.name) (map rule_line names.now.rules.items))) (as_production (said line.now))) }
+    ensures { IfOk result (λ p. p ≡ option_map (production_of names.now.nonterminals (map (λ r. r.name) names.now.rules)) (as_production (said line.now))) }
 {
     match line {
         Line::Production { left, right } => Ok(Some(Production {
-            left: number_of(left, &names.nonterminals),
+            left: names.nonterminals.number(left),
             right: symbols_of(alloc, right, names)?,
         })),
         _ => Ok(None),
@@ -76,7 +57,7 @@ pub fn productions(
     statements: &[Numbered<'_>],
     names: &Names<'_>,
 ) -> Result<Vec<Production>, AllocError>
-    ensures { IfOk result (λ found. found.items ≡ map (production_of (texts names.now.nonterminals.items) (map (λ r. r.name) (map rule_line names.now.rules.items))) (productions (all_said statements.now))) }
+    ensures { IfOk result (λ found. found.items ≡ map (production_of names.now.nonterminals (map (λ r. r.name) names.now.rules)) (productions (all_said statements.now))) }
 {
     let mut found = Vec::new(alloc);
     for statement in statements {
@@ -112,9 +93,9 @@ fn first_start<'a>(statements: &[Numbered<'a>]) -> &'a str
 
 /// The number of the start.
 pub fn start(statements: &[Numbered<'_>], names: &Names<'_>) -> usize
-    ensures { result ≡ number_of (first_of (starts (all_said statements.now))) (texts names.now.nonterminals.items) }
+    ensures { result ≡ number_of (first_of (starts (all_said statements.now))) names.now.nonterminals }
 {
-    number_of(first_start(statements), &names.nonterminals)
+    names.nonterminals.number(first_start(statements))
 }
 
 /// Whether each nonterminal folds.
@@ -123,10 +104,11 @@ pub fn folds(
     statements: &[Numbered<'_>],
     names: &Names<'_>,
 ) -> Result<Vec<bool>, AllocError>
-    ensures { IfOk result (λ folds. folds.items ≡ map (λ w. is_fold w (all_said statements.now)) (texts names.now.nonterminals.items)) }
+    ensures { IfOk result (λ folds. folds.items ≡ map (λ w. is_fold w (all_said statements.now)) names.now.nonterminals) }
 {
-    let mut folds = Vec::with_capacity(alloc, names.nonterminals.len())?;
-    for name in &names.nonterminals {
+    let all = names.nonterminals.as_slice();
+    let mut folds = Vec::with_capacity(alloc, all.len())?;
+    for name in all {
         folds.push(is_fold(name, statements))?;
     }
     Ok(folds)

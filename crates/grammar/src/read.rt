@@ -13,9 +13,9 @@ use crate::defined::defined;
 use crate::fault::Refusal;
 use crate::file::read_file;
 use crate::grammar::{Grammar, Name, Production};
-use crate::names::RuleName;
 use crate::notes::notes;
 use crate::numbers;
+use crate::rules::RuleName;
 use crate::statements::File;
 use crate::unproductive::test_productive;
 use crate::used::used;
@@ -33,7 +33,7 @@ pub fn read<'a>(alloc: Global, text: &'a str) -> Result<Grammar, Refusal<'a>>
     let productions = numbers::productions(alloc, &file.statements, &file.names)?;
     match test_productive(
         alloc,
-        &file.names.nonterminals,
+        file.names.nonterminals.as_slice(),
         &file.statements,
         &productions,
     ) {
@@ -61,16 +61,16 @@ fn grammar_of(
         names,
         patterns,
     } = file;
-    let skips = skips(alloc, &names.rules)?;
+    let skips = skips(alloc, names.rules.as_slice())?;
     let start = numbers::start(&statements, &names);
     let defined = defined(alloc, &statements)?;
     let marks = used(alloc, names.nonterminals.len(), start, &productions)?;
     let notes = notes(alloc, &defined, &skips, &productions, &marks)?;
     Ok(Grammar {
-        names: rule_names(alloc, &names.rules)?,
+        names: rule_names(alloc, names.rules.as_slice())?,
         patterns,
         skips,
-        nonterminals: numbers::owned(alloc, &names.nonterminals)?,
+        nonterminals: numbers::owned(alloc, names.nonterminals.as_slice())?,
         folds: numbers::folds(alloc, &statements, &names)?,
         start,
         productions,

@@ -44,7 +44,7 @@ fn reference_fault<'a>(names: &Names<'a>, line: &Line<'a>) -> Option<Cause<'a>>
 fn nonterminal_fault<'a>(names: &Names<'a>, name: &'a str) -> Option<Cause<'a>>
     ensures { (ss : List Statement) → AreNames names.now ss → option_map cause_of result ≡ told (not (is_among name.now (nonterminals ss))) (Faults.NotANonterminal name.now) }
 {
-    if names.has_nonterminal(name) {
+    if names.nonterminals.contains(name) {
         None
     } else {
         Some(Cause::NotANonterminal(name))
@@ -66,11 +66,11 @@ fn right_fault<'a>(names: &Names<'a>, right: &[&'a str]) -> Option<Cause<'a>>
 fn symbol_fault<'a>(names: &Names<'a>, name: &'a str) -> Option<Cause<'a>>
     ensures { (ss : List Statement) → AreNames names.now ss → option_map cause_of result ≡ symbol_fault ss name.now }
 {
-    if names.has_nonterminal(name) {
+    if names.nonterminals.contains(name) {
         None
-    } else if names.has_skip_rule(name) {
+    } else if names.rules.contains_skip(name) {
         Some(Cause::SkipInProduction(name))
-    } else if names.has_rule(name) {
+    } else if names.rules.contains(name) {
         None
     } else {
         Some(Cause::Undefined(name))

@@ -148,7 +148,7 @@ impl<'a> File<'a> {
         if let Some(cause) = first_reserved(right) {
             return Some(cause);
         }
-        if self.names.has_rule(left) || self.has_production(left, right) {
+        if self.names.rules.contains(left) || self.has_production(left, right) {
             return Some(Cause::DefinedTwice(left));
         }
         None
@@ -161,7 +161,7 @@ impl<'a> File<'a> {
         if is_reserved(name) {
             return Some(Cause::Reserved(name));
         }
-        if self.names.has_rule(name) || self.names.has_nonterminal(name) {
+        if self.names.rules.contains(name) || self.names.nonterminals.contains(name) {
             return Some(Cause::DefinedTwice(name));
         }
         None
@@ -217,7 +217,9 @@ impl<'a> File<'a> {
         if MOST_SYMBOLS < right.len() {
             return Some(Cause::Passed(Limit::Symbols));
         }
-        if !self.names.has_nonterminal(left) && self.names.nonterminals.len() >= MOST_NONTERMINALS {
+        if !self.names.nonterminals.contains(left)
+            && self.names.nonterminals.len() >= MOST_NONTERMINALS
+        {
             return Some(Cause::Passed(Limit::Nonterminals));
         }
         if self.names.productions < MOST_PRODUCTIONS {

@@ -12,3 +12,6 @@ pub use laws::each_text_has_tokens;
 pub use sums::{Sums, Token};
 pub use tokens::Tokens;
 pub use whole::Whole;
+
+#[cfg(test)]
+mod tests;

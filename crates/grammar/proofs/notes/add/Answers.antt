@@ -1,5 +1,4 @@
-use Rattle.std.proofs.Common.{◌≡◌, ◌∙◌, sym, subst, true, false, List, [], ◌∷◌, ◌++◌}
-use Rattle.definitions.specs.declared.Symbol.{Symbol}
+use Rattle.std.proofs.Common.{◌∙◌, sym, subst, [], ◌∷◌, ◌++◌}
 use Rattle.grammar.specs.Notes.{AreNotes}
 use Rattle.grammar.proofs.Noting.{told_last, skipped_last, used_last}
 use Rattle.grammar.proofs.Numbered.{true_not_false}

@@ -1,4 +1,4 @@
-use Rattle.std.proofs.Common.{◌≡◌, ◌∙◌, sym, subst, true}
+use Rattle.std.proofs.Common.{◌∙◌, sym, subst}
 use Rattle.definitions.specs.Sentences.{IsUsed}
 use Rattle.grammar.proofs.Noting.{rule_used}
 use Rattle.grammar.proofs.notes.is_used.Goals as goal

@@ -1,6 +1,5 @@
-use Rattle.std.proofs.Common.{◌≡◌, ◌∙◌, sym, subst, refl, take, List, [], arith}
+use Rattle.std.proofs.Common.{sym, subst, refl, take, [], arith}
 use Rattle.std.proofs.lemmas.List.{take_all}
-use Rattle.definitions.specs.declared.Symbol.{Symbol}
 use Rattle.grammar.specs.Notes.{AreNotes, none}
 use Rattle.grammar.proofs.Noting.{one_more}
 use Rattle.grammar.proofs.notes.notes.Goals as goal

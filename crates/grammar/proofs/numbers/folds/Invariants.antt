@@ -5,4 +5,4 @@ use Rattle.grammar.specs.Said.{texts, all_said}
 use Rattle.grammar.proofs.numbers.folds.Given as goal
 
 abbrev pub invariant-loop-name : goal.invariant-loop-name
-invariant-loop-name l = l.folds.items ≡ map (λ w. is_fold w (all_said l.statements)) (texts (take l.name-index l.names.nonterminals.items))
+invariant-loop-name l = l.folds.items ≡ map (λ w. is_fold w (all_said l.statements)) (texts (take l.name-index l.all))

@@ -1,8 +1,8 @@
 use Rattle.std.proofs.Common.{◌≡◌, take}
 use Rattle.std.specs.Prelude.{map}
 use Rattle.grammar.specs.Contents.{production_of, productions}
-use Rattle.grammar.specs.Said.{texts, rule_line, all_said}
+use Rattle.grammar.specs.Said.{all_said}
 use Rattle.grammar.proofs.numbers.productions.Given as goal
 
 abbrev pub invariant-loop-statement : goal.invariant-loop-statement
-invariant-loop-statement l = l.found.items ≡ map (production_of (texts l.names.nonterminals.items) (map (λ r. r.name) (map rule_line l.names.rules.items))) (productions (all_said (take l.statement-index l.statements)))
+invariant-loop-statement l = l.found.items ≡ map (production_of l.names.nonterminals (map (λ r. r.name) l.names.rules)) (productions (all_said (take l.statement-index l.statements)))

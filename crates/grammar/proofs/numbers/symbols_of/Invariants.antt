@@ -1,8 +1,8 @@
 use Rattle.std.proofs.Common.{◌≡◌, take}
 use Rattle.std.specs.Prelude.{map}
 use Rattle.grammar.specs.Contents.{symbol_of}
-use Rattle.grammar.specs.Said.{texts, rule_line}
+use Rattle.grammar.specs.Said.{texts}
 use Rattle.grammar.proofs.numbers.symbols_of.Given as goal
 
 abbrev pub invariant-loop-name : goal.invariant-loop-name
-invariant-loop-name l = l.symbols.items ≡ map (symbol_of (texts l.names.nonterminals.items) (map (λ r. r.name) (map rule_line l.names.rules.items))) (texts (take l.name-index l.right))
+invariant-loop-name l = l.symbols.items ≡ map (symbol_of l.names.nonterminals (map (λ r. r.name) l.names.rules)) (texts (take l.name-index l.right))

@@ -1,10 +1,7 @@
-use Rattle.std.proofs.Common.{◌≡◌, ◌∙◌, inl, inr, arith, ℕ, ◌<◌, Bool, true, false, List, refl, sym, ap, length, get_or, set, subst, replicate}
+use Rattle.std.proofs.Common.{◌≡◌, ◌∙◌, arith, ◌<◌, Bool, true, false, List, sym, ap, length, set, subst, replicate}
 use Rattle.std.proofs.lemmas.List.{length-set, length-replicate}
-use Rattle.definitions.specs.declared.Symbol.TheVariants.{Nonterminal}
-use Rattle.definitions.specs.Trees.{Grammar, Production}
-use Rattle.definitions.specs.Sentences.{IsUsed, The_start}
 use Rattle.grammar.specs.Uses.{IsSpread, IsReached, AreOnlyUsed}
-use Rattle.grammar.proofs.Marking.{fewer_unmarked, same_or_not}
+use Rattle.grammar.proofs.Marking.{fewer_unmarked}
 use Rattle.grammar.proofs.Using.{used_more, all_used, reached_within, start_used, still_marked}
 use Rattle.std.proofs.lemmas.List.{get_or-set_same}
 use Rattle.grammar.proofs.used.used.Goals as goal

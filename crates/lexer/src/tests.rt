@@ -1,0 +1,361 @@
+//! Worked texts and edits.
+
+ghost use Rattle.std.specs.Prelude.{◌≡◌, ◌+◌, ◌<◌, ◌≤◌, length, IfOk, OnOk};
+ghost use Rattle.std.specs.Str.{chars};
+ghost use Rattle.dfa.specs.Table.{IsAutomaton};
+ghost use Rattle.lexer.specs.Tokens.{AreTokensOf};
+
+use crate::{Edit, Kind, KindSplice, Source, Tokens, Whole};
+use dfa::Automaton;
+use grammar::Grammar;
+use std::alloc::Global;
+use std::cell::Cell;
+use std::process::Abort;
+use std::test::Fail;
+use text::Text;
+
+const SUMS: &str = r#"lrgrammar 1
+token NUM = [0-9]+
+token PLUS = "+"
+token LP = "("
+token RP = ")"
+skip WS = [ \t\r\n]+
+start Sum
+fold Atom
+Sum = Sum PLUS Atom
+Sum = Atom
+Atom = NUM
+Atom = LP Sum RP
+"#;
+
+const LISTS: &str = r#"lrgrammar 1
+token STR = "\"" [^"]* "\""
+token W = [a-z]+
+skip WS = [ ]+
+start L
+L =
+L = L Item
+Item = STR
+Item = W
+"#;
+
+const LETTERS: &str = r#"lrgrammar 1
+token ABC = "abc"
+token A = "a"
+token B = "b"
+token D = "d"
+start S
+S = ABC A B D
+"#;
+
+const NUM: Kind = Kind::Rule(0);
+
+const PLUS: Kind = Kind::Rule(1);
+
+const RP: Kind = Kind::Rule(3);
+
+/// A grammar and the automaton of its rules.
+#[derive(Drop)]
+struct Language {
+    grammar: Grammar,
+    automaton: Automaton,
+}
+
+fn load(alloc: Global, text: &str) -> Result<Language, Fail>
+    ensures { IfOk result (λ l. IsAutomaton l.grammar.patterns l.automaton) }
+{
+    let grammar = Grammar::read(alloc, text)?;
+    let automaton = Automaton::build(alloc, grammar.patterns())?;
+    Ok(Language { grammar, automaton })
+}
+
+/// The tokens of a whole text.
+fn scan(alloc: Global, language: &Language, text: &Text) -> Result<Tokens, Fail>
+    requires { IsAutomaton language.now.grammar.patterns language.now.automaton }
+    ensures { IfOk result (λ tokens. AreTokensOf language.now.grammar.patterns language.now.grammar.skips text.now tokens.items) }
+{
+    let _length = text.len();
+    let tokens = Tokens::scan(alloc, &language.grammar, &language.automaton, &Whole(text))?;
+    Ok(tokens)
+}
+
+/// A text whose reads are counted.
+#[derive(Drop)]
+struct Counted<'a> {
+    whole: Whole<'a>,
+    reads: Cell<usize>,
+}
+
+impl Source for Counted<'_> {
+    ghost text = { λ s. s.whole.0.now };
+
+    ghost in_window = { λ s i. i < length s.whole.0.now };
+
+    fn len(&self) -> usize {
+        self.whole.len()
+    }
+
+    fn get(&self, i: usize) -> char {
+        self.reads.set(self.reads.get().saturating_add(1));
+        self.whole.get(i)
+    }
+
+    ghost inside = { λ s i h. h };
+}
+
+/// An edit of a text, and what is to come of it.
+#[derive(Clone, Copy)]
+struct Step<'a> {
+    at: usize,
+    removed: usize,
+    piece: &'a str,
+    number: u64,
+    scanned: usize,
+    count: usize,
+    from: usize,
+    to: usize,
+    kinds: &'a [Kind],
+}
+
+/// What a rescan answers, and how many characters it read.
+#[derive(Drop)]
+struct Rescan {
+    splice: KindSplice,
+    reads: usize,
+}
+
+/// Makes the edit of a step, and brings the tokens to the text.
+fn change(
+    alloc: Global,
+    language: &Language,
+    text: &mut Text,
+    tokens: &mut Tokens,
+    step: &Step<'_>,
+) -> Result<Rescan, Fail>
+    requires sound { IsAutomaton language.now.grammar.patterns language.now.automaton }
+    requires tokens { AreTokensOf language.now.grammar.patterns language.now.grammar.skips text.old tokens.old.items }
+    requires inside { step.now.at + step.now.removed ≤ length text.old }
+    ensures { OnOk result (AreTokensOf language.now.grammar.patterns language.now.grammar.skips text.new tokens.new.items) }
+{
+    let piece = Text::open(alloc, step.piece)?;
+    let edit = Edit {
+        at: step.at,
+        removed: step.removed,
+        inserted: piece.len(),
+        number: step.number,
+    };
+    let _before = text.len();
+    text.replace(alloc, step.at, step.at + step.removed, step.piece)?;
+    let _after = text.len();
+    let source = Counted {
+        whole: Whole(text),
+        reads: Cell::new(0),
+    };
+    let splice = tokens.rescan(alloc, &language.grammar, &language.automaton, &source, edit)?;
+    let reads = source.reads.get();
+    Ok(Rescan { splice, reads })
+}
+
+/// How many tokens have this stamp.
+fn born_by(tokens: &Tokens, number: u64) -> usize {
+    let mut count: usize = 0;
+    for i in 0..tokens.count() {
+        if let Some(token) = tokens.token(i) {
+            if token.born == number {
+                count = count.saturating_add(1);
+            }
+        }
+    }
+    count
+}
+
+/// Makes the edit of a step, sees that what comes of it is what is to come, and answers how many characters were read.
+fn check_step(
+    rt: &impl Abort,
+    alloc: Global,
+    language: &Language,
+    text: &mut Text,
+    tokens: &mut Tokens,
+    step: &Step<'_>,
+) -> Result<usize, Fail>
+    requires sound { IsAutomaton language.now.grammar.patterns language.now.automaton }
+    requires tokens { AreTokensOf language.now.grammar.patterns language.now.grammar.skips text.old tokens.old.items }
+    ensures { OnOk result (AreTokensOf language.now.grammar.patterns language.now.grammar.skips text.new tokens.new.items) }
+{
+    let length = text.len();
+    assert!(rt; step.at <= length);
+    assert!(rt; step.removed <= length - step.at);
+    let rescan = change(alloc, language, text, tokens, step)?;
+    assert_eq!(rt; tokens.scanned(), step.scanned);
+    assert_eq!(rt; born_by(tokens, step.number), step.scanned);
+    assert_eq!(rt; tokens.count(), step.count);
+    assert_eq!(rt; rescan.splice.from, step.from);
+    assert_eq!(rt; rescan.splice.to, step.to);
+    assert!(rt; rescan.splice.kinds.as_slice() == step.kinds);
+    Ok(rescan.reads)
+}
+
+/// Opens a text and makes the edit of a step.
+fn check(
+    rt: &impl Abort,
+    alloc: Global,
+    language: &Language,
+    open: &str,
+    step: &Step<'_>,
+) -> Result<(), Fail>
+    requires { IsAutomaton language.now.grammar.patterns language.now.automaton }
+{
+    let mut text = Text::open(alloc, open)?;
+    let mut tokens = scan(alloc, language, &text)?;
+    check_step(rt, alloc, language, &mut text, &mut tokens, step)?;
+    Ok(())
+}
+
+/// Whether the tokens of a text have these names, lengths, reaches and starts, and stamp 0.
+fn has_tokens(
+    alloc: Global,
+    language: &Language,
+    text: &str,
+    rows: &[(&str, usize, usize, usize)],
+) -> Result<bool, Fail>
+    requires { IsAutomaton language.now.grammar.patterns language.now.automaton }
+{
+    let tokens = scan(alloc, language, &Text::open(alloc, text)?)?;
+    if tokens.count() != rows.len() || tokens.scanned() != rows.len() {
+        return Ok(false);
+    }
+    for (i, row) in rows.iter().enumerate() {
+        let Some(token) = tokens.token(i) else {
+            return Ok(false);
+        };
+        let name = language.grammar.kind_name(token.kind);
+        let start = tokens.start_of(i);
+        if (name, token.length, token.reach, start) != *row || token.born != 0 {
+            return Ok(false);
+        }
+    }
+    Ok(true)
+}
+
+#[test]
+fn scans_whole_texts(rt: HostRuntime) -> Result<(), Fail> {
+    let alloc = rt.alloc();
+    let sums = load(alloc, SUMS)?;
+    let rows = [
+        ("NUM", 1, 2, 0),
+        ("WS", 1, 2, 1),
+        ("PLUS", 1, 2, 2),
+        ("WS", 2, 3, 3),
+        ("NUM", 1, 2, 5),
+    ];
+    assert!(rt; has_tokens(alloc, &sums, "1 +\r\n2", &rows)?);
+    assert!(rt; has_tokens(alloc, &sums, "", &[])?);
+    let lists = load(alloc, LISTS)?;
+    let rows = [("invalid", 1, 1, 0), ("invalid", 1, 1, 1)];
+    assert!(rt; has_tokens(alloc, &lists, "\r\n", &rows)?);
+    let letters = load(alloc, LETTERS)?;
+    let rows = [("A", 1, 3, 0), ("B", 1, 2, 1), ("D", 1, 2, 2)];
+    assert!(rt; has_tokens(alloc, &letters, "abd", &rows)?);
+    Ok(())
+}
+
+#[test]
+fn tells_the_significant_tokens(rt: HostRuntime) -> Result<(), Fail> {
+    let alloc = rt.alloc();
+    let sums = load(alloc, SUMS)?;
+    let tokens = scan(alloc, &sums, &Text::open(alloc, "1 +\r\n2")?)?;
+    assert_eq!(rt; tokens.items().len(), 5);
+    assert_eq!(rt; tokens.significant(), 3);
+    assert_eq!(rt; tokens.place(0), 0);
+    assert_eq!(rt; tokens.place(1), 2);
+    assert_eq!(rt; tokens.place(2), 4);
+    Ok(())
+}
+
+/// The edit with number 7, and what is to come of it.
+fn step_by_7<'a>(
+    (at, removed, piece): (usize, usize, &'a str),
+    (scanned, count): (usize, usize),
+    (from, to, kinds): (usize, usize, &'a [Kind]),
+) -> Step<'a> {
+    Step {
+        at,
+        removed,
+        piece,
+        number: 7,
+        scanned,
+        count,
+        from,
+        to,
+        kinds,
+    }
+}
+
+#[test]
+fn rescans_sums(rt: HostRuntime) -> Result<(), Fail> {
+    let alloc = rt.alloc();
+    let sums = load(alloc, SUMS)?;
+    let rows = [
+        ("1+2", step_by_7((1, 0, " "), (2, 4), (0, 0, &[]))),
+        (
+            "1+ 2",
+            step_by_7((3, 0, "3+"), (3, 6), (2, 2, &[NUM, PLUS])),
+        ),
+        ("1+2+3", step_by_7((0, 0, ")"), (1, 6), (0, 0, &[RP]))),
+        (")1+2+3", step_by_7((0, 1, ""), (0, 5), (0, 1, &[]))),
+        ("(1)", step_by_7((2, 1, ""), (1, 2), (1, 3, &[NUM]))),
+        ("1+2+3", step_by_7((5, 0, "4"), (1, 5), (4, 4, &[]))),
+        (
+            "1+2+3",
+            step_by_7((5, 0, "+4"), (3, 7), (4, 5, &[NUM, PLUS, NUM])),
+        ),
+        ("1+2+3", step_by_7((0, 0, "9"), (1, 5), (0, 0, &[]))),
+        ("1+2+3", step_by_7((4, 1, ""), (1, 4), (3, 5, &[PLUS]))),
+    ];
+    for (open, step) in rows {
+        check(&rt, alloc, &sums, open, &step)?;
+    }
+    Ok(())
+}
+
+#[test]
+fn rescans_by_reach(rt: HostRuntime) -> Result<(), Fail> {
+    let alloc = rt.alloc();
+    let letters = load(alloc, LETTERS)?;
+    let edit = step_by_7((2, 1, "c"), (1, 1), (0, 3, &[Kind::Rule(0)]));
+    check(&rt, alloc, &letters, "abd", &edit)
+}
+
+#[test]
+fn rescans_what_was_rescanned(rt: HostRuntime) -> Result<(), Fail> {
+    let alloc = rt.alloc();
+    let lists = load(alloc, LISTS)?;
+    let mut text = Text::open(alloc, "ab cd")?;
+    let mut tokens = scan(alloc, &lists, &text)?;
+    let words = [Kind::Invalid, Kind::Rule(1), Kind::Rule(1)];
+    let first = step_by_7((0, 0, "\""), (1, 4), (0, 0, &[Kind::Invalid]));
+    check_step(&rt, alloc, &lists, &mut text, &mut tokens, &first)?;
+    let mut second = step_by_7((6, 0, "\""), (1, 1), (0, 3, &[Kind::Rule(0)]));
+    second.number = 8;
+    check_step(&rt, alloc, &lists, &mut text, &mut tokens, &second)?;
+    let mut third = step_by_7((6, 1, ""), (4, 4), (0, 1, &words));
+    third.number = 9;
+    check_step(&rt, alloc, &lists, &mut text, &mut tokens, &third)?;
+    Ok(())
+}
+
+#[test]
+fn reads_few_characters(rt: HostRuntime) -> Result<(), Fail> {
+    let alloc = rt.alloc();
+    let sums = load(alloc, SUMS)?;
+    let mut open = String::new(alloc);
+    for _ in 0..50_000 {
+        open.push_str("1+")?;
+    }
+    let mut text = Text::open(alloc, &open)?;
+    let mut tokens = scan(alloc, &sums, &text)?;
+    let edit = step_by_7((50_000, 0, "9"), (2, 100_000), (49_999, 49_999, &[]));
+    let reads = check_step(&rt, alloc, &sums, &mut text, &mut tokens, &edit)?;
+    assert!(rt; 0 < reads && reads < 100);
+    Ok(())
+}
