@@ -1,5 +1,5 @@
 -- Every prefix with an item has a state, whose moves decide what its items call for.
-use Rattle.std.proofs.Common.{◌≡◌, ◌⊎◌, ◌+◌, ◌<◌, ◌≤◌, ℕ, List, [], ◌∷◌, ◌++◌, Option, Some, None, slice_index_or, subst, inl, inr, ⊎_elim, arith}
+use Rattle.std.proofs.Common.{◌≡◌, ◌⊎◌, ◌+◌, ◌<◌, ℕ, List, [], ◌∷◌, ◌++◌, Option, Some, None, slice_index_or, subst, inl, inr, ⊎_elim, arith}
 use Rattle.std.proofs.lemmas.Bool.{cases_lt}
 use Rattle.definitions.specs.declared.Kind.{Kind}
 use Rattle.definitions.specs.declared.Kind.TheVariants.{Rule as Token, Invalid}
@@ -18,8 +18,8 @@ use Rattle.tables.specs.Decidable.{AreMovesDecided}
 use Rattle.tables.specs.Input.{Shape, IsKnown}
 use Rattle.tables.specs.Rows.{look_in}
 use Rattle.tables.specs.States.{HasKernel}
-use Rattle.tables.specs.Symbols.{number, symbol_of}
-use Rattle.tables.specs.Tables.{Sets, IsStateOf, AreTables}
+use Rattle.tables.specs.Symbols.{number}
+use Rattle.tables.specs.Tables.{IsStateOf, AreTables}
 use Rattle.tables.proofs.Answering.{seen, move_in_row, no_rule}
 use Rattle.tables.proofs.Called.{look_in-rule, look_in-end}
 use Rattle.tables.proofs.Complete.{Stands, next_known}
