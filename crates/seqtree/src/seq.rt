@@ -115,11 +115,8 @@ impl<T: Measured> Slots<T> {
     pub fn make(alloc: Global, mut items: Vec<T>) -> Result<Slots<T>, AllocError>
         ensures { IfOk result (λ s. s ≡ items.items) }
     {
-        let mut root = None;
-        while let Some(item) = items.pop() {
-            let node = tree::single(alloc, item)?;
-            root = Some(tree::join(None, node, root));
-        }
+        let count = items.len();
+        let root = tree::last(alloc, &mut items, count)?;
         Ok(Slots { root })
     }
 

@@ -285,6 +285,29 @@ pub fn single<T: Measured>(alloc: Global, item: T) -> Result<Box<Node<T>>, Alloc
     Ok(Box::new(alloc, node)?)
 }
 
+/// Takes the last items off a vector, so many, and makes a tree of them. Refuses for memory alone.
+pub fn last<T: Measured>(
+    alloc: Global,
+    items: &mut Vec<T>,
+    count: usize,
+) -> Result<Tree<T>, AllocError>
+    requires { count ≤ length items.old.items }
+    ensures list { IfOk result (λ t. items.new.items ++ items_of t ≡ items.old.items) }
+    ensures count { IfOk result (λ t. length (items_of t) ≡ count) }
+{
+    if count == 0 {
+        return Ok(None);
+    }
+    let after = count / 2;
+    let right = last(alloc, items, after)?;
+    let Some(item) = items.pop() else {
+        unreachable!()
+    };
+    let root = single(alloc, item)?;
+    let left = last(alloc, items, count - 1 - after)?;
+    Ok(Some(join(left, root, right)))
+}
+
 /// How many items go before the one at which the sum reaches the goal, and their sum.
 pub fn locate<T: Measured, G: Goal<T::Sum>>(tree: &Tree<T>, goal: &G) -> (usize, T::Sum)
     ensures { IsLeast T.Sum.empty T.Sum.op T.measure (G.reaches goal.now) T.Sum.empty (items_of tree.now) result.0 result.1 }
