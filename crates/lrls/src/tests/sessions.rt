@@ -21,11 +21,11 @@ const EXIT: &str = "{\"jsonrpc\":\"2.0\",\"method\":\"exit\"}";
 const ASK_TEXT: &str =
     "{\"jsonrpc\":\"2.0\",\"id\":2,\"method\":\"lr/text\",\"params\":{\"textDocument\":{\"uri\":\"a:x\"}}}";
 
-const ASK_TOKENS: &str =
-    "{\"jsonrpc\":\"2.0\",\"id\":4,\"method\":\"lr/tokens\",\"params\":{\"textDocument\":{\"uri\":\"a:x\"}}}";
-
 const ASK_TREE: &str =
     "{\"jsonrpc\":\"2.0\",\"id\":5,\"method\":\"lr/tree\",\"params\":{\"textDocument\":{\"uri\":\"a:x\"}}}";
+
+const TREE: &str =
+    "{\"id\":5,\"jsonrpc\":\"2.0\",\"result\":\"(Sum (Sum (Atom NUM)) PLUS (Atom NUM))\"}";
 
 const NOT_OPEN: &str =
     "{\"error\":{\"code\":-32602,\"message\":\"document not open\"},\"id\":2,\"jsonrpc\":\"2.0\"}";
@@ -370,36 +370,12 @@ fn trees_are_told(rt: HostRuntime) -> Result<(), Fail> {
 }
 
 #[test]
-fn answers_follow_the_edits(rt: HostRuntime) -> Result<(), Fail> {
+fn a_tree_follows_the_edits(rt: HostRuntime) -> Result<(), Fail> {
     let alloc = rt.alloc();
-    let opened = opening(alloc, "a:x", "\u{1F600}1")?;
-    let changed = change(alloc, (0, 0), (0, 2), "5+")?;
-    let told_tokens =
-        "{\"id\":4,\"jsonrpc\":\"2.0\",\"result\":[[\"NUM\",0,0,0,1],[\"PLUS\",0,1,0,2],[\"NUM\",0,2,0,3]]}";
-    let told_tree =
-        "{\"id\":5,\"jsonrpc\":\"2.0\",\"result\":\"(Sum (Sum (Atom NUM)) PLUS (Atom NUM))\"}";
-    converses(
-        &rt,
-        alloc,
-        &[
-            INITIALIZE,
-            opened.as_str(),
-            changed.as_str(),
-            ASK_TOKENS,
-            ASK_TREE,
-        ],
-        &[CAPABILITIES, told_tokens, told_tree],
-        Ok(1),
-    )?;
-    let not_open =
-        "{\"error\":{\"code\":-32602,\"message\":\"document not open\"},\"id\":4,\"jsonrpc\":\"2.0\"}";
-    converses(
-        &rt,
-        alloc,
-        &[INITIALIZE, ASK_TOKENS],
-        &[CAPABILITIES, not_open],
-        Ok(1),
-    )
+    let opened = opening(alloc, "a:x", "1 2")?;
+    let changed = change(alloc, (0, 1), (0, 2), "+")?;
+    let contents = vec![in alloc; INITIALIZE, opened.as_str(), changed.as_str(), ASK_TREE]?;
+    converses(&rt, alloc, &contents, &[CAPABILITIES, TREE], Ok(1))
 }
 
 #[test]
