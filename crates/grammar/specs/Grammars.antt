@@ -1,5 +1,5 @@
 -- What a grammar file defines.
-use Rattle.std.specs.Prelude.{◌≡◌, ℕ, ◌<◌, ◌≤◌, Bool, false, List, [], All, length, slice_index_or}
+use Rattle.std.specs.Prelude.{◌≡◌, ℕ, ◌<◌, ◌≤◌, Bool, false, List, [], All, length, map, slice_index_or}
 use Rattle.definitions.specs.declared.Symbol.{Symbol}
 use Rattle.definitions.specs.declared.Symbol.TheVariants.{Rule as Terminal, Nonterminal}
 use Rattle.definitions.specs.declared.expression.Expression.{Expression}
@@ -54,3 +54,7 @@ left_of g p = (production_of g p).left
 
 abbrev pub right_of : Grammar → ℕ → List Symbol
 right_of g p = (production_of g p).right
+
+-- the left sides of the productions, in file order
+abbrev pub lefts : FileGrammar → List ℕ
+lefts f = map (λ p. p.left) f.grammar.productions

@@ -14,7 +14,7 @@ use Rattle.definitions.specs.Sentences.{Verdict, HasTree, FaultAt, FaultAtEnd, I
 use Rattle.definitions.specs.Text.{IsText, changed}
 use Rattle.definitions.specs.Tokens.{Token, AreTokens, placed, kinds}
 use Rattle.definitions.specs.declared.Unit.TheVariants.{Utf16}
-use Rattle.grammar.specs.Grammars.{FileGrammar}
+use Rattle.grammar.specs.Grammars.{FileGrammar, lefts}
 use Rattle.rpc.specs.declared.reply.Refusal.{Refusal}
 use Rattle.rpc.specs.declared.reply.Refusal.TheVariants.{ParseError, InvalidRequest, MethodNotFound, InvalidParams, DocumentNotOpen, NotInitialized}
 use Rattle.rpc.specs.Messages.{Ident, Asked, initialize, shutdown, text_of, tokens_of, tree_of, Told, initialized, exit, open_text, change_text, malformed, request, notice, ignored, invalid, unknown, params, ChangeSaid, Heard, unread, refused, said}
@@ -87,10 +87,6 @@ rows file text tokens = map (λ r. (encode_utf8_all r.0, r.1)) (token_rows Utf16
 abbrev pub TokensAnswer : FileGrammar → Ident → Option OpenDocument → Answer → Type 0
 TokensAnswer file id None answer = answer ≡ told_error (Some id) DocumentNotOpen
 TokensAnswer file id (Some d) answer = IsText d.text → (tokens : List Token) × AreTokens file.patterns d.text tokens × (answer ≡ told_tokens id (rows file d.text tokens))
-
--- the left sides of the productions
-abbrev pub lefts : FileGrammar → List ℕ
-lefts file = map (λ p. p.left) file.grammar.productions
 
 -- the text of the tree, in UTF-8, or that there is none
 abbrev pub tree_answer : FileGrammar → Ident → Verdict → Answer

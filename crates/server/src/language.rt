@@ -98,7 +98,7 @@ impl Language {
     }
 
     /// The tokens of a text. Refuses for memory alone.
-    pub fn scan(&self, alloc: Global, text: &Text) -> Result<Tokens, AllocError>
+    pub(crate) fn scan(&self, alloc: Global, text: &Text) -> Result<Tokens, AllocError>
         ensures { IfOk result (λ tokens. AreTokensOf self.now.patterns self.now.skips text.now tokens.items) }
     {
         let _length = text.len();
@@ -106,7 +106,7 @@ impl Language {
     }
 
     /// The parse of these kinds, with its nodes in the store. Refuses for memory alone.
-    pub fn parse(
+    pub(crate) fn parse(
         &self,
         alloc: Global,
         store: &mut Store,
@@ -118,7 +118,7 @@ impl Language {
     }
 
     /// Each text has tokens, and each list of kinds a verdict.
-    pub fn always_answers(&self)
+    pub(crate) fn always_answers(&self)
         ensures { AlwaysAnswers self.now }
     {
         each_text_has_tokens();

@@ -1,10 +1,11 @@
 //! One step: phases and documents.
 
-ghost use Rattle.std.specs.Prelude.{◌≡◌, [], ◌∷◌, None, false, true, map, option_map, IfOk, IfSome, OnOk, OnErr, IsErr, string_bytes, encode_utf8_all};
+ghost use Rattle.std.specs.Prelude.{◌≡◌, [], ◌∷◌, Some, None, false, true, map, option_map, IfOk, IfSome, OnOk, OnErr, IsErr, string_bytes, encode_utf8_all};
 ghost use Rattle.std.specs.Str.{chars};
 ghost use Rattle.std.specs.FinMap.{get, insert};
 ghost use Rattle.rpc.specs.Messages.{id_view, call_view, note_view, change_view, heard_of};
-ghost use Rattle.rpc.specs.Replies.{row_view, reply_view};
+ghost use Rattle.rpc.specs.declared.reply.Refusal.TheVariants.{DocumentNotOpen};
+ghost use Rattle.rpc.specs.Replies.{row_view, reply_view, told_error};
 ghost use Rattle.lexer.specs.Tokens.{plain};
 ghost use Rattle.server.specs.Documents.{open_document, IsCurrent};
 ghost use Rattle.server.specs.Steps.{state_view, file_of, first_state, edited, text_answer, rows, TokensAnswer, TreeAnswer, opened, changed_document, exit_status, unknown_in, params_in, Asks, Tells, StepOn, Ignores};
@@ -93,6 +94,16 @@ fn one_reply(alloc: Global, reply: Reply) -> Result<Out, AllocError>
     })
 }
 
+/// The reply to a question about a document that is not open.
+fn not_open(id: Id) -> Reply
+    ensures { reply_view result ≡ told_error (Some (id_view id)) DocumentNotOpen }
+{
+    Reply::Error {
+        id: Some(id),
+        refusal: Refusal::DocumentNotOpen,
+    }
+}
+
 fn text_answer(alloc: Global, id: Id, document: Option<&Document>) -> Result<Reply, AllocError>
     ensures { IfOk result (λ reply. reply_view reply ≡ text_answer (id_view id) (option_map (λ d. open_document d.now) document.entry)) }
 {
@@ -102,10 +113,7 @@ fn text_answer(alloc: Global, id: Id, document: Option<&Document>) -> Result<Rep
             version: document.version,
             text: document.text.to_string(alloc)?,
         }),
-        None => Ok(Reply::Error {
-            id: Some(id),
-            refusal: Refusal::DocumentNotOpen,
-        }),
+        None => Ok(not_open(id)),
     }
 }
 
@@ -138,10 +146,7 @@ fn tokens_answer(
             id,
             rows: rows(alloc, language, document)?,
         }),
-        None => Ok(Reply::Error {
-            id: Some(id),
-            refusal: Refusal::DocumentNotOpen,
-        }),
+        None => Ok(not_open(id)),
     }
 }
 
@@ -175,10 +180,7 @@ fn tree_answer(
 {
     match document {
         Some(document) => tree_of(alloc, language, id, document),
-        None => Ok(Reply::Error {
-            id: Some(id),
-            refusal: Refusal::DocumentNotOpen,
-        }),
+        None => Ok(not_open(id)),
     }
 }
 

@@ -22,3 +22,4 @@ pub mod Answering
 pub mod FromFile
 pub mod Expecting
 pub mod Deciding
+pub mod Follows

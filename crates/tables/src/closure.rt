@@ -2,6 +2,7 @@
 ghost use Rattle.std.specs.Prelude.{◌≡◌, ◌<◌, ◌≤◌, ◌+◌, ◌∷◌, ◌++◌, ◌↔◌, ℕ, Bool, true, false, List, [], ◌⊎◌, slice_index_or, slice_set, Option, Some, None, length, drop, All, Contains, IfOk, OnOk, IfSome};
 ghost use Rattle.definitions.specs.declared.Symbol.{Symbol};
 ghost use Rattle.definitions.specs.declared.Symbol.TheVariants.{Nonterminal};
+ghost use Rattle.definitions.specs.Trees.{Grammar};
 ghost use Rattle.tables.specs.declared.input.Item.{Item};
 ghost use Rattle.definitions.specs.Sentences.{AllProductive};
 ghost use Rattle.tables.specs.States.{HasKernel, HasSet};
@@ -44,6 +45,37 @@ pub fn look_of(place: usize) -> Option<usize>
     ensures { result ≡ look_of place }
 {
     if place == 0 { None } else { Some(place - 1) }
+}
+
+/// The place of a lookahead, where it is one of the grammar's.
+fn place_in(input: &Input, look: Option<usize>) -> Option<usize>
+    ensures within { IfSome result (λ k. k < input.now.grammar.rules + 1) }
+    ensures is { IfSome result (λ k. look_of k ≡ look) }
+    ensures found { (k : ℕ) → k < input.now.grammar.rules + 1 → look_of k ≡ look → result ≡ Some k }
+{
+    match look {
+        None => Some(0),
+        Some(a) => {
+            if a < input.rules() {
+                Some(a + 1)
+            } else {
+                None
+            }
+        }
+    }
+}
+
+/// The only lookahead that may follow these symbols, where they are none or begin with a token rule.
+fn only_look(symbols: &[Symbol], look: Option<usize>) -> Option<Option<usize>>
+    ensures { IfSome result (λ a. (g : Grammar) (b : Option ℕ) → MayFollow g symbols.now look b ↔ (b ≡ a)) }
+{
+    if symbols.is_empty() {
+        return Some(look);
+    }
+    match symbols[0] {
+        Symbol::Rule(a) => Some(Some(a)),
+        Symbol::Nonterminal(_) => None,
+    }
 }
 
 impl Wanted {
@@ -112,8 +144,8 @@ impl Wanted {
         Ok(())
     }
 
-    /// Wants a nonterminal that stands before these symbols.
-    fn want_before(
+    /// Wants a nonterminal that stands before these symbols, with each lookahead that may follow them.
+    fn want_each(
         &mut self,
         input: &Input,
         first: &First,
@@ -135,6 +167,52 @@ impl Wanted {
             if first.sees(input, after, look, look_of(place)) {
                 self.want(input, nonterminal, place)?;
             }
+        }
+        Ok(())
+    }
+
+    /// Wants a nonterminal with this lookahead, where it is one of the grammar's.
+    fn want_with(
+        &mut self,
+        input: &Input,
+        nonterminal: usize,
+        look: Option<usize>,
+    ) -> Result<(), AllocError>
+        requires wants { AreWants input.now self.old }
+        requires nonterminal { nonterminal < input.now.nonterminals }
+        ensures wants { OnOk result (AreWants input.now self.new) }
+        ensures grows { OnOk result (Grows self.old self.new) }
+        ensures done { OnOk result ((k : ℕ) → k < input.now.grammar.rules + 1 → look_of k ≡ look → marked self.new.rows nonterminal k ≡ true) }
+        ensures only { OnOk result ((n k : ℕ) → marked self.new.rows n k ≡ true → (marked self.old.rows n k ≡ true) ⊎ ((n ≡ nonterminal) × (look_of k ≡ look))) }
+    {
+        match place_in(input, look) {
+            Some(place) => self.want(input, nonterminal, place),
+            None => Ok(()),
+        }
+    }
+
+    /// Wants a nonterminal that stands before these symbols.
+    fn want_before(
+        &mut self,
+        input: &Input,
+        first: &First,
+        nonterminal: usize,
+        after: &[Symbol],
+        look: Option<usize>,
+    ) -> Result<(), AllocError>
+        requires sound { IsSound input.now }
+        requires first { AreFirst input.now first.now }
+        requires wants { AreWants input.now self.old }
+        requires nonterminal { nonterminal < input.now.nonterminals }
+        requires known { All (IsKnown input.now) after.now }
+        ensures wants { OnOk result (AreWants input.now self.new) }
+        ensures grows { OnOk result (Grows self.old self.new) }
+        ensures asked { OnOk result ((k : ℕ) → k < input.now.grammar.rules + 1 → MayFollow input.now.grammar after.now look (look_of k) → marked self.new.rows nonterminal k ≡ true) }
+        ensures only { OnOk result ((n k : ℕ) → marked self.new.rows n k ≡ true → (marked self.old.rows n k ≡ true) ⊎ ((n ≡ nonterminal) × MayFollow input.now.grammar after.now look (look_of k))) }
+    {
+        match only_look(after, look) {
+            Some(only) => self.want_with(input, nonterminal, only)?,
+            None => self.want_each(input, first, nonterminal, after, look)?,
         }
         Ok(())
     }

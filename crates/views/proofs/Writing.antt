@@ -10,12 +10,12 @@ use Rattle.std.proofs.lemmas.List.Elements.{All-nil, All-cons, All-append}
 use Rattle.std.proofs.lemmas.Str.{chars-append, chars-nil}
 use Rattle.definitions.specs.DocumentNodes.{tree_texts}
 use Rattle.definitions.specs.TreeEdits.{Stamped, StampedBranch, StampedForest, plain, plain_all}
-use Rattle.grammar.specs.Grammars.{FileGrammar}
+use Rattle.grammar.specs.Grammars.{FileGrammar, lefts}
 use Rattle.trees.specs.declared.store.NodeId.{NodeId}
 use Rattle.trees.specs.declared.store.Child.{Child}
 use Rattle.trees.specs.declared.store.Child.TheVariants.{Node}
 use Rattle.trees.specs.Cells.{Cell, tree, tree_of, trees_from, forest_of, IsBelow, AreBelow}
-use Rattle.views.specs.Views.{lefts, text_of, rest_text, IsBegun}
+use Rattle.views.specs.Views.{text_of, rest_text, IsBegun}
 
 -- the text of a child
 abbrev pub child_text : FileGrammar → List Cell → Child → List ℕ

@@ -8,7 +8,7 @@ use Rattle.definitions.specs.DocumentNodes.{tree_text}
 use Rattle.definitions.specs.Tokens.{placed}
 use Rattle.definitions.specs.Trees.{Tree}
 use Rattle.definitions.specs.TreeEdits.{plain}
-use Rattle.grammar.specs.Grammars.{FileGrammar}
+use Rattle.grammar.specs.Grammars.{FileGrammar, lefts}
 use Rattle.lexer.specs.declared.sums.Token.{Token}
 use Rattle.lexer.specs.Tokens as of
 use Rattle.trees.specs.declared.store.NodeId.{NodeId}
@@ -36,10 +36,6 @@ rows_from f t o items = token_rows Utf16 f.names t (placed o (map of.plain items
 -- the rows of all tokens of a text
 abbrev pub rows_of : FileGrammar → List ℕ → List Token → List (List ℕ × Range)
 rows_of f t items = rows_from f t 0 items
-
--- the left sides of the productions
-abbrev pub lefts : FileGrammar → List ℕ
-lefts f = map (λ p. p.left) f.grammar.productions
 
 -- the text of a tree
 abbrev pub text_of : FileGrammar → Tree → List ℕ

@@ -5,7 +5,8 @@ ghost use Rattle.std.specs.Str.{chars};
 ghost use Rattle.definitions.specs.TreeEdits.{plain};
 ghost use Rattle.trees.specs.declared.store.Child.{Child};
 ghost use Rattle.trees.specs.Cells.{tree};
-ghost use Rattle.views.specs.Views.{lefts, text_of, IsBegun};
+ghost use Rattle.grammar.specs.Grammars.{lefts};
+ghost use Rattle.views.specs.Views.{text_of, IsBegun};
 
 use grammar::Grammar;
 use std::alloc::{AllocError, Global};

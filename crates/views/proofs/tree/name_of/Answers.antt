@@ -3,8 +3,7 @@ use Rattle.std.proofs.Math.ListN.{get_or-map}
 use Rattle.std.proofs.lemmas.List.{get_or_past}
 use Rattle.std.proofs.lemmas.Str.{chars-nil}
 use Rattle.definitions.specs.Trees.{Production}
-use Rattle.grammar.specs.Grammars.{FileGrammar, left_of}
-use Rattle.views.specs.Views.{lefts}
+use Rattle.grammar.specs.Grammars.{FileGrammar, left_of, lefts}
 use Rattle.views.proofs.tree.name_of.Goals as goal
 use Rattle.views.proofs.tree.name_of.Goals.{then-production-productions, else-production-productions}
 

@@ -1,7 +1,7 @@
 use Rattle.std.proofs.Common.{◌≡◌, ◌<◌, ◌⊎◌, ℕ, true}
 use Rattle.theory.specs.First.{MayFollow}
 use Rattle.tables.specs.Sets.{AreWants, Grows, marked, look_of}
-use Rattle.tables.proofs.closure.Wanted.want_before.Given as goal
+use Rattle.tables.proofs.closure.Wanted.want_each.Given as goal
 
 abbrev pub invariant-looks : goal.invariant-looks
 invariant-looks l = record {
