@@ -23,3 +23,4 @@ pub mod FromFile
 pub mod Expecting
 pub mod Deciding
 pub mod Follows
+pub mod Lefts

@@ -252,15 +252,14 @@ impl Wanted {
         requires sound { IsSound input.now }
         requires first { AreFirst input.now first.now }
         requires wants { AreWants input.now self.old }
+        requires want { want.nonterminal < input.now.nonterminals }
         ensures wants { OnOk result (AreWants input.now self.new) }
         ensures grows { OnOk result (Grows self.old self.new) }
         ensures expands { OnOk result (Expands input.now self.new.rows want.nonterminal want.place) }
         ensures only { OnOk result ((n k : ℕ) → marked self.new.rows n k ≡ true → (marked self.old.rows n k ≡ true) ⊎ IsExpanded input.now.grammar want.nonterminal want.place n k) }
     {
-        'productions: for p in 0..input.len() {
-            if input.left(p) == want.nonterminal {
-                self.ask(input, first, input.right(p), look_of(want.place))?;
-            }
+        'productions: for p in input.of_left(want.nonterminal) {
+            self.ask(input, first, input.right(*p), look_of(want.place))?;
         }
         Ok(())
     }

@@ -1,9 +1,9 @@
 // The grammar, its items, and what stands behind an item's place.
-ghost use Rattle.std.specs.Prelude.{◌≡◌, ◌<◌, IfOk, length};
+ghost use Rattle.std.specs.Prelude.{◌≡◌, ◌<◌, ℕ, [], ◌∷◌, ◌++◌, IfOk, OnOk, All, Contains, length, slice_index_or};
 ghost use Rattle.definitions.specs.Derivations.{first};
 ghost use Rattle.definitions.specs.Sentences.{AllProductive};
 ghost use Rattle.definitions.specs.Trees.{HasDistinctProductions};
-ghost use Rattle.tables.specs.Input.{IsSound, left_of, right_of};
+ghost use Rattle.tables.specs.Input.{IsSound, AreByLeft, production_in, left_of, right_of};
 ghost use Rattle.tables.specs.Sets.{IsItem, behind};
 
 use definitions::Symbol;
@@ -26,21 +26,39 @@ impl Model for Production {
     ghost view = { λ a. record { left = a.left; right = a.right.items } };
 }
 
-/// A grammar: its start nonterminal, the number of its rules and of its nonterminals, and its productions in file order.
+/// The numbers of some productions.
+#[derive(Drop)]
+pub struct Numbers {
+    list: Vec<usize>,
+}
+
+impl Model for Numbers {
+    ghost use Rattle.std.specs.Prelude.{List, ℕ};
+
+    ghost Value = { List ℕ };
+
+    ghost view = { λ a. a.list.items };
+}
+
+/// A grammar: its start nonterminal, the number of its rules and of its nonterminals, and its productions in file order;
+/// and for each nonterminal, the numbers of those that have it on the left.
 #[derive(Drop)]
 pub struct Input {
     start: usize,
     rules: usize,
     nonterminals: usize,
     productions: Vec<Production>,
+    by_left: Vec<Numbers>,
 }
 
 impl Model for Input {
-    ghost use Rattle.tables.specs.Input.{Shape};
+    ghost use Rattle.tables.specs.Input.{Shape, AreByLeft};
 
     ghost Value = { Shape };
 
     ghost view = { λ a. record { grammar = record { start = a.start; rules = a.rules; productions = a.productions.items }; nonterminals = a.nonterminals } };
+
+    ghost invariant = { λ a. AreByLeft a.productions.items a.nonterminals a.by_left.items };
 }
 
 /// An item: its production, the place in the right side, and its lookahead. None is the added start production, and the end.
@@ -60,6 +78,59 @@ impl Production {
     }
 }
 
+impl Numbers {
+    fn new(alloc: Global) -> Numbers
+        ensures { result ≡ [] }
+    {
+        Numbers {
+            list: Vec::new(alloc),
+        }
+    }
+
+    fn add(&mut self, p: usize) -> Result<(), AllocError>
+        ensures { OnOk result (self.new ≡ self.old ++ p ∷ []) }
+    {
+        self.list.push(p)?;
+        Ok(())
+    }
+
+    fn list(&self) -> &[usize]
+        ensures { result.now ≡ self.now }
+    {
+        &self.list
+    }
+}
+
+/// No numbers for each nonterminal.
+fn no_numbers(alloc: Global, nonterminals: usize) -> Result<Vec<Numbers>, AllocError>
+    ensures wide { IfOk result (λ rows. length rows.items ≡ nonterminals) }
+    ensures none { IfOk result (λ rows. (n : ℕ) → slice_index_or rows.items n [] ≡ []) }
+{
+    let mut rows = Vec::new(alloc);
+    'rows: for _n in 0..nonterminals {
+        rows.push(Numbers::new(alloc))?;
+    }
+    Ok(rows)
+}
+
+/// For each nonterminal, the numbers of the productions that have it on the left.
+fn by_left(
+    alloc: Global,
+    nonterminals: usize,
+    productions: &[Production],
+) -> Result<Vec<Numbers>, AllocError>
+    requires { (p : ℕ) → p < length productions.now → (production_in productions.now p).left < nonterminals }
+    ensures { IfOk result (λ rows. AreByLeft productions.now nonterminals rows.items) }
+{
+    let mut rows = no_numbers(alloc, nonterminals)?;
+    'productions: for p in 0..productions.len() {
+        let production = &productions[p];
+        let row = &mut rows[production.left];
+        row.add(p)?;
+    }
+    Ok(rows)
+}
+
 impl Input {
     /// A copy of what a grammar file says of nonterminals and productions.
     pub fn of(alloc: Global, grammar: &Grammar) -> Result<Input, AllocError>
@@ -74,11 +145,13 @@ impl Input {
             let right = Vec::from_slice(alloc, grammar.right(p))?;
             productions.push(Production::new(grammar.left(p), right))?;
         }
+        let by_left = by_left(alloc, grammar.nonterminals(), &productions)?;
         Ok(Input {
             start,
             rules: grammar.rules(),
             nonterminals: grammar.nonterminals(),
             productions,
+            by_left,
         })
     }
 
@@ -119,6 +192,15 @@ impl Input {
         ensures { result.now ≡ right_of self.now.grammar p }
     {
         &self.productions[p].right
+    }
+
+    /// The numbers of the productions of a nonterminal.
+    pub fn of_left(&self, nonterminal: usize) -> &[usize]
+        requires { nonterminal < self.now.nonterminals }
+        ensures theirs { All (λ p. (p < length self.now.grammar.productions) × (left_of self.now.grammar p ≡ nonterminal)) result.now }
+        ensures all { (p : ℕ) → p < length self.now.grammar.productions → left_of self.now.grammar p ≡ nonterminal → Contains result.now p }
+    {
+        self.by_left[nonterminal].list()
     }
 
     /// The symbol behind the item's place.

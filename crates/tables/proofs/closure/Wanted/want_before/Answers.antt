@@ -1,4 +1,4 @@
-use Rattle.std.proofs.Common.{◌≡◌, ◌⊎◌, inl, inr, ⊎_elim}
+use Rattle.std.proofs.Common.{inl, inr, ⊎_elim}
 use Rattle.tables.specs.Sets.{look_of}
 use Rattle.tables.proofs.closure.Wanted.want_before.Goals as goal
 
