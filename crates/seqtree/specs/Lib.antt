@@ -1,5 +1,6 @@
 pub mod Monoid
 pub mod Tree
+pub mod Parts
 pub mod Falls
 pub mod Goal
 pub mod Saturated

@@ -5,12 +5,15 @@ ghost use Rattle.std.specs.Prelude.{◌≡◌, Bool};
 ghost use Rattle.seqtree.specs.Monoid.{MonoidLaws};
 ghost use Rattle.seqtree.specs.Goal.{StaysReached};
 
+mod iter;
 mod seq;
+mod stack;
 #[cfg(test)]
 mod tests;
 mod tree;
 
-pub use seq::{Iter, Seq, Slots};
+pub use iter::Iter;
+pub use seq::{Seq, Slots};
 
 /// A type with an associative operation and its unit.
 pub trait Monoid: Drop {

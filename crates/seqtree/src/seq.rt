@@ -1,11 +1,10 @@
 //! A list of measured items, and the parts that go into one.
 ghost use Rattle.std.specs.Prelude.{◌≡◌, ℕ, IsTrue, false, ◌+◌, ◌-◌, ◌*◌, ◌^◌, ◌<◌, ◌≤◌, ◌++◌, [], length, take, drop, slice_get, option_copied, IfOk};
-ghost use Rattle.std.specs.Iterator.{at_most, YieldsFirstRef};
 ghost use Rattle.seqtree.specs.Monoid.{total};
 ghost use Rattle.seqtree.specs.Tree.{digits};
 
 use crate::tree::{self, Node, Tree};
-use crate::{Goal, Measured};
+use crate::{Goal, Iter, Measured};
 use std::alloc::{AllocError, Global};
 use std::marker::Model;
 
@@ -81,7 +80,7 @@ impl<T: Measured> Seq<T> {
     pub fn iter_from(&self, i: usize) -> Iter<'_, T>
         ensures { result ≡ drop i self.now }
     {
-        Iter { list: self, at: i }
+        Iter::new(&self.root, i)
     }
 
     /// The least `i` such that the sum of the first `i + 1` items reaches the goal, and the sum of the items before
@@ -125,38 +124,5 @@ impl<T: Measured> Slots<T> {
         ensures { result ≡ length self.now }
     {
         tree::count(&self.root)
-    }
-}
-
-/// The items of a list from one place on.
-#[derive(Drop)]
-pub struct Iter<'a, T: Measured> {
-    list: &'a Seq<T>,
-    at: usize,
-}
-
-impl<'a, T: Measured> Model for Iter<'a, T> {
-    ghost use Rattle.std.specs.Prelude.{List, drop};
-
-    ghost Value = { List T };
-
-    ghost view = { λ a. drop a.at a.list.now };
-}
-
-impl<'a, T: Measured> Iterator for Iter<'a, T> {
-    type Item = &'a T;
-
-    ghost next_gives = { YieldsFirstRef (λ s. s) };
-
-    ghost remaining = { λ s. at_most (length s) };
-
-    fn next(&mut self) -> Option<&'a T> {
-        let list = self.list;
-        if self.at >= list.len() {
-            return None;
-        }
-        let item = list.get(self.at);
-        self.at += 1;
-        item
     }
 }

@@ -121,6 +121,27 @@ fn each_call_answers(rt: HostRuntime) -> Result<(), Fail> {
     Ok(())
 }
 
+#[test]
+fn a_walk_from_each_place_meets_each_item(rt: HostRuntime) -> Result<(), Fail> {
+    let alloc = rt.alloc();
+    let mut seq = Seq::new();
+    let mut state = 1;
+    for i in 0..100 {
+        state = random(state);
+        let at = (state >> 33) as usize % (i as usize + 1);
+        put(&rt, &mut seq, at, at, slots_of(alloc, &[i])?);
+    }
+    for from in 0..102 {
+        let mut at = from;
+        for number in seq.iter_from(from) {
+            assert_eq!(rt; Some(number), seq.get(at));
+            at = at.saturating_add(1);
+        }
+        assert_eq!(rt; at, from.max(100));
+    }
+    Ok(())
+}
+
 /// The next number of a simple generator.
 fn random(state: u64) -> u64 {
     state

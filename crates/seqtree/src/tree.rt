@@ -14,12 +14,12 @@ pub type Tree<T> = Option<Box<Node<T>>>;
 /// A node with one item between the items of its sides.
 #[derive(Drop)]
 pub struct Node<T: Measured> {
-    left: Tree<T>,
-    item: T,
+    pub left: Tree<T>,
+    pub item: T,
     len: usize,
     tall: u8,
     all: T::Sum,
-    right: Tree<T>,
+    pub right: Tree<T>,
 }
 
 impl<T: Measured> Model for Node<T> {
