@@ -8,7 +8,7 @@ use Rattle.std.specs.Cmp.Lexicographic.{pointwise, bytes_decides}
 use Rattle.std.proofs.lemmas.List.Folds.{list_any-append}
 use Rattle.std.proofs.lemmas.List.{map-append}
 use Rattle.grammar.specs.Words.{Word}
-use Rattle.grammar.specs.Contents.{RuleLine, is_among, with_name}
+use Rattle.grammar.specs.Contents.{RuleLine, is_among}
 use Rattle.grammar.specs.Faults.{is_production, is_skip_rule, has_production}
 use Rattle.grammar.specs.Said.{texts, are_among, with_names, with_rule, with_skip, with_sides}
 use Rattle.grammar.specs.Statements.{Line, Nothing, Production, Rule, Start, Fold, Bad, Statement, at}

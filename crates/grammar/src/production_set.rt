@@ -46,12 +46,7 @@ impl<'a> ProductionSet<'a> {
     }
 
     /// Adds a production unless it is there.
-    pub fn add(
-        &mut self,
-        alloc: Global,
-        left: &'a str,
-        right: &[&'a str],
-    ) -> Result<(), AllocError>
+    pub fn add(&mut self, alloc: Global, left: &'a str, right: &[&'a str]) -> Result<(), AllocError>
         ensures { OnOk result (self.new ≡ with_names self.old (left.now ∷ texts right.now)) }
     {
         let sides = sides_of(alloc, left, right)?;
@@ -63,11 +58,7 @@ impl<'a> ProductionSet<'a> {
 }
 
 /// The left side, and behind it the right side.
-fn sides_of<'a>(
-    alloc: Global,
-    left: &'a str,
-    right: &[&'a str],
-) -> Result<Vec<&'a str>, AllocError>
+fn sides_of<'a>(alloc: Global, left: &'a str, right: &[&'a str]) -> Result<Vec<&'a str>, AllocError>
     ensures { IfOk result (λ sides. texts sides.items ≡ left.now ∷ texts right.now) }
 {
     let mut sides = Vec::new(alloc);

@@ -124,11 +124,7 @@ impl<'a> File<'a> {
     }
 
     /// A fault that is told before the pattern is read.
-    fn early_fault(
-        &self,
-        alloc: Global,
-        line: &Line<'a>,
-    ) -> Result<Option<Cause<'a>>, AllocError>
+    fn early_fault(&self, alloc: Global, line: &Line<'a>) -> Result<Option<Cause<'a>>, AllocError>
         requires { AreNames self.now.names (all_said self.now.statements.items) }
         ensures { IfOk result (λ fault. option_map cause_of fault ≡ early_fault (all_said self.now.statements.items) (said line.now)) }
     {
