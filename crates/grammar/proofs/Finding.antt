@@ -15,7 +15,7 @@ use Rattle.grammar.specs.Said.{texts}
 use Rattle.grammar.specs.Numbers.{AreNumbers}
 use Rattle.grammar.proofs.Splits.{length-texts}
 
-turned : (a b : Word) → bytes_eq a b ≡ bytes_eq b a
+pub turned : (a b : Word) → bytes_eq a b ≡ bytes_eq b a
 turned a b = nat_list_eq_equiv.symm a b
 
 -- the first answer, or the second where there is none

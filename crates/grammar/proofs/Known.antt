@@ -16,7 +16,7 @@ use Rattle.grammar.specs.Statements.{Statement, Line, Nothing, Production, Rule,
 use Rattle.grammar.specs.Contents.{as_rule, as_production, rules, productions, nonterminals, rule_names, is_among, with_name, defines, defined_behind, defined}
 use Rattle.grammar.specs.Grammars.{IsKnown}
 use Rattle.grammar.specs.Meaning.{file_grammar}
-use Rattle.grammar.specs.Said.{said, statement_of, all_said, AreNames, with_rule, with_left, with_production, with_start}
+use Rattle.grammar.specs.Said.{said, statement_of, all_said, AreNames, with_rule, with_skip, with_left, with_sides, with_production, with_start}
 use Rattle.grammar.proofs.Lines.{rules-step, nonterminals-step, names-step}
 use Rattle.grammar.proofs.Splits.{cons_option-append, said_more, said_split}
 
@@ -31,9 +31,9 @@ behind_more before (t ∷ ss) s =
 pub defined_more : (ns : List Numbered) (i : ℕ) (x : Numbered) → i < length ns → x ≡ get_or ns i x → defined (all_said (take (i + 1) ns)) ≡ defined (all_said (take i ns)) ++ cons_option (defines (all_said (take i ns)) (statement_of x).says) []
 defined_more ns i x within is = ap defined (said_more ns i x within is) ∙ behind_more [] (all_said (take i ns)) (statement_of x)
 
-pub names_more : (names names' : Names) (ns : List Numbered) (i : ℕ) (x : Numbered) → i < length ns → x ≡ get_or ns i x → AreNames names (all_said (take i ns)) → names'.rules ≡ with_rule names.rules (said x.line) → names'.nonterminals ≡ with_left names.nonterminals (said x.line) → names'.productions ≡ with_production names.productions (said x.line) → names'.started ≡ with_start names.started (said x.line) → AreNames names' (all_said (take (i + 1) ns))
-names_more names names' ns i x within is are rs ls ps st =
-    subst (λ (ss : List Statement). AreNames names' ss) (sym (said_more ns i x within is)) (names-step names names' (all_said (take i ns)) x.number (said x.line) are rs ls ps st)
+pub names_more : (names names' : Names) (ns : List Numbered) (i : ℕ) (x : Numbered) → i < length ns → x ≡ get_or ns i x → AreNames names (all_said (take i ns)) → names'.rules ≡ with_rule names.rules (said x.line) → names'.skips ≡ with_skip names.skips (said x.line) → names'.nonterminals ≡ with_left names.nonterminals (said x.line) → names'.sides ≡ with_sides names.sides (said x.line) → names'.productions ≡ with_production names.productions (said x.line) → names'.started ≡ with_start names.started (said x.line) → AreNames names' (all_said (take (i + 1) ns))
+names_more names names' ns i x within is are rs ks ls bs ps st =
+    subst (λ (ss : List Statement). AreNames names' ss) (sym (said_more ns i x within is)) (names-step names names' (all_said (take i ns)) x.number (said x.line) are rs ks ls bs ps st)
 
 -- the lines in front have no more productions than all of them
 pub fewer_productions : (ns : List Numbered) (i : ℕ) (x : Numbered) → i < length ns → x ≡ get_or ns i x → length (productions (all_said (take i ns))) ≤ length (productions (all_said ns))

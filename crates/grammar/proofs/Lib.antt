@@ -1,5 +1,6 @@
 pub mod Mapped
 pub mod Finding
+pub mod Sets
 pub mod Blanks
 pub mod Pushed
 pub mod Lines

@@ -1,7 +1,7 @@
 -- What one more line makes of the contents.
 use Rattle.std.proofs.Common.{◌≡◌, ℕ, ◌≤◌, ◌<◌, Bool, true, false, if◌then◌else◌, List, [], ◌∷◌, ◌++◌, refl, ap, ◌∙◌, sym, length, arith, subst, length-append, inr, take, append-nil}
 use Rattle.std.specs.Prelude.{Option, Some, None, map, nat_lt, not, slice_get, ◌&&◌}
-use Rattle.std.specs.List.{fold, cons_option}
+use Rattle.std.specs.List.{fold, cons_option, list_any}
 use Rattle.std.specs.Str.{chars}
 use Rattle.std.proofs.lemmas.Grind.{common_steps}
 use Rattle.std.proofs.lemmas.Bool.{ltb-true}
@@ -12,12 +12,13 @@ use Rattle.std.proofs.lemmas.Option.{slice_get_within}
 use Rattle.definitions.specs.Spelling.{IsPattern}
 use Rattle.grammar.specs.declared.names.Names.{Names}
 use Rattle.grammar.proofs.Pushed.{push_at, take-all}
+use Rattle.grammar.proofs.Sets.{skips-step, sides-step}
 use Rattle.std.proofs.lemmas.List.Elements.{filter_map-append}
 use Rattle.definitions.specs.declared.expression.Expression.{Expression}
 use Rattle.grammar.specs.Statements.{Line, Nothing, Production, Rule, Start, Fold, Bad, Statement, at}
 use Rattle.grammar.specs.Contents as of
-use Rattle.grammar.specs.Faults.{Cause, HasPattern, early_fault, late_fault, told, or_else, IsFaultless, AreFaultless, IsLineFault}
-use Rattle.grammar.specs.Said.{with_rule, with_left, with_production, with_start, AreNames, ArePatterns, IsPatternOf, with_pattern, AreFew, IsRead, all_said}
+use Rattle.grammar.specs.Faults.{Cause, is_skip_rule, HasPattern, early_fault, late_fault, told, or_else, IsFaultless, AreFaultless, IsLineFault}
+use Rattle.grammar.specs.Said.{are_among, with_rule, with_skip, with_left, with_sides, with_production, with_start, AreNames, ArePatterns, IsPatternOf, with_pattern, AreFew, IsRead, all_said}
 
 pub has_pattern : (l : Line) (p : Option Expression) → IsPatternOf l p → HasPattern l
 has_pattern Nothing p h = tt
@@ -39,15 +40,15 @@ rules-step ss n (Start name) = filter_map-append (λ s. of.as_rule s.says) ss (a
 rules-step ss n (Fold name) = filter_map-append (λ s. of.as_rule s.says) ss (at n (Fold name) ∷ []) ∙ append-nil (of.rules ss)
 rules-step ss n Bad = filter_map-append (λ s. of.as_rule s.says) ss (at n Bad ∷ []) ∙ append-nil (of.rules ss)
 
-abbrev pub with_sides : List of.ProductionLine → Line → List of.ProductionLine
-with_sides ps Nothing = ps
-with_sides ps (Production left right) = ps ++ record { left = left; right = right } ∷ []
-with_sides ps (Rule skip name pattern) = ps
-with_sides ps (Start name) = ps
-with_sides ps (Fold name) = ps
-with_sides ps Bad = ps
+abbrev pub with_line : List of.ProductionLine → Line → List of.ProductionLine
+with_line ps Nothing = ps
+with_line ps (Production left right) = ps ++ record { left = left; right = right } ∷ []
+with_line ps (Rule skip name pattern) = ps
+with_line ps (Start name) = ps
+with_line ps (Fold name) = ps
+with_line ps Bad = ps
 
-pub productions-step : (ss : List Statement) (n : ℕ) (l : Line) → of.productions (ss ++ at n l ∷ []) ≡ with_sides (of.productions ss) l
+pub productions-step : (ss : List Statement) (n : ℕ) (l : Line) → of.productions (ss ++ at n l ∷ []) ≡ with_line (of.productions ss) l
 productions-step ss n Nothing = filter_map-append (λ s. of.as_production s.says) ss (at n Nothing ∷ []) ∙ append-nil (of.productions ss)
 productions-step ss n (Production left right) = filter_map-append (λ s. of.as_production s.says) ss (at n (Production left right) ∷ [])
 productions-step ss n (Rule skip name pattern) = filter_map-append (λ s. of.as_production s.says) ss (at n (Rule skip name pattern) ∷ []) ∙ append-nil (of.productions ss)
@@ -59,7 +60,7 @@ productions-step ss n Bad = filter_map-append (λ s. of.as_production s.says) ss
 abbrev pub lefts : List of.ProductionLine → List (List ℕ)
 lefts ps = fold of.with_name [] (map (λ p. p.left) ps)
 
-lefts-step : (ps : List of.ProductionLine) (l : Line) → lefts (with_sides ps l) ≡ with_left (lefts ps) l
+lefts-step : (ps : List of.ProductionLine) (l : Line) → lefts (with_line ps l) ≡ with_left (lefts ps) l
 lefts-step ps Nothing = refl
 lefts-step ps (Production left right) =
     ap (λ ws. fold of.with_name [] ws) (map-append (λ p. p.left) ps (record { left = left; right = right } ∷ []))
@@ -72,7 +73,7 @@ lefts-step ps Bad = refl
 pub nonterminals-step : (ss : List Statement) (n : ℕ) (l : Line) → of.nonterminals (ss ++ at n l ∷ []) ≡ with_left (of.nonterminals ss) l
 nonterminals-step ss n l = ap lefts (productions-step ss n l) ∙ lefts-step (of.productions ss) l
 
-counts-step : (ps : List of.ProductionLine) (l : Line) → length (with_sides ps l) ≡ with_production (length ps) l
+counts-step : (ps : List of.ProductionLine) (l : Line) → length (with_line ps l) ≡ with_production (length ps) l
 counts-step ps Nothing = refl
 counts-step ps (Production left right) = length-append ps _
 counts-step ps (Rule skip name pattern) = refl
@@ -99,10 +100,12 @@ start-step ss n (Start name) = ap (λ ws. nat_lt 0 (length ws)) (filter_map-appe
 start-step ss n (Fold name) = starts_with_none ss n (Fold name) refl
 start-step ss n Bad = starts_with_none ss n Bad refl
 
-pub names-step : (names names' : Names) (ss : List Statement) (n : ℕ) (l : Line) → AreNames names ss → names'.rules ≡ with_rule names.rules l → names'.nonterminals ≡ with_left names.nonterminals l → names'.productions ≡ with_production names.productions l → names'.started ≡ with_start names.started l → AreNames names' (ss ++ at n l ∷ [])
-names-step names names' ss n l are rs ns ps st = record {
+pub names-step : (names names' : Names) (ss : List Statement) (n : ℕ) (l : Line) → AreNames names ss → names'.rules ≡ with_rule names.rules l → names'.skips ≡ with_skip names.skips l → names'.nonterminals ≡ with_left names.nonterminals l → names'.sides ≡ with_sides names.sides l → names'.productions ≡ with_production names.productions l → names'.started ≡ with_start names.started l → AreNames names' (ss ++ at n l ∷ [])
+names-step names names' ss n l are rs ks ns bs ps st = record {
   rules = rs ∙ ap (λ x. with_rule x l) are.rules ∙ sym (rules-step ss n l);
+  skips = λ w. ap (of.is_among w) ks ∙ skips-step names.skips (of.rules ss) l are.skips w ∙ ap (list_any (is_skip_rule w)) (sym (rules-step ss n l));
   nonterminals = ns ∙ ap (λ x. with_left x l) are.nonterminals ∙ sym (nonterminals-step ss n l);
+  sides = λ left right. ap (are_among (left ∷ right)) bs ∙ sides-step names.sides ss n l are.sides left right;
   productions = ps ∙ ap (λ x. with_production x l) are.productions ∙ sym (count-step ss n l);
   started = st ∙ ap (λ x. with_start x l) are.started ∙ sym (start-step ss n l);
 }
@@ -188,7 +191,7 @@ few_productions-step ss Bad few late = few
 abbrev pub AreShort : List of.ProductionLine → Type 0
 AreShort ps = (k : ℕ) (p : of.ProductionLine) → slice_get ps k ≡ Some p → length p.right ≤ 16
 
-short-step : (ss : List Statement) (ps : List of.ProductionLine) (l : Line) → AreShort ps → late_fault ss l ≡ None → AreShort (with_sides ps l)
+short-step : (ss : List Statement) (ps : List of.ProductionLine) (l : Line) → AreShort ps → late_fault ss l ≡ None → AreShort (with_line ps l)
 short-step ss ps Nothing short late = short
 short-step ss ps (Production left right) short late = push_at (λ k p. length p.right ≤ 16) ps (record { left = left; right = right }) short (production_late ss left right late).0
 short-step ss ps (Rule skip name pattern) short late = short

@@ -1,7 +1,9 @@
 -- What the code keeps of the lines, in the words of the definitions.
-use Rattle.std.specs.Prelude.{◌≡◌, ℕ, ◌+◌, ◌≤◌, Bool, true, nat_lt, Option, Some, None, slice_get, IsSomeAnd, List, [], ◌∷◌, ◌++◌, length, map}
+use Rattle.std.specs.Prelude.{◌≡◌, ℕ, ◌+◌, ◌≤◌, Bool, true, if◌then◌else◌, nat_lt, Option, Some, None, slice_get, IsSomeAnd, List, [], ◌∷◌, ◌++◌, length, map}
 use Rattle.std.specs.Borrow.{Bor}
-use Rattle.std.specs.Str.{chars}
+use Rattle.std.specs.Str.{bytes_eq, chars}
+use Rattle.std.specs.List.{list_any}
+use Rattle.std.specs.Cmp.Lexicographic.{pointwise}
 use Rattle.definitions.specs.declared.expression.Expression.{Expression}
 use Rattle.definitions.specs.Spelling.{IsPattern}
 use Rattle.grammar.specs.declared.line.Line.{Line as Kept}
@@ -12,8 +14,8 @@ use Rattle.grammar.specs.declared.statements.Numbered.{Numbered}
 use Rattle.grammar.specs.declared.statements.File.{File}
 use Rattle.grammar.specs.Words.{Word}
 use Rattle.grammar.specs.Statements.{Line, Nothing, Production, Rule, Start, Fold, Bad, Statement}
-use Rattle.grammar.specs.Contents.{RuleLine, ProductionLine, rules, productions, starts, nonterminals, with_name}
-use Rattle.grammar.specs.Faults.{AreFaultless}
+use Rattle.grammar.specs.Contents.{RuleLine, ProductionLine, rules, productions, starts, nonterminals, is_among, with_name}
+use Rattle.grammar.specs.Faults.{AreFaultless, is_skip_rule, has_production}
 
 -- what these point to
 abbrev pub texts : List (Bor (List ℕ)) → List Word
@@ -36,10 +38,20 @@ all_said ns = map statement_of ns
 abbrev pub rule_line : RuleName → RuleLine
 rule_line r = record { skip = r.skip; name = r.name.now; pattern = r.pattern.now }
 
+-- these names, in this order, are one of the lists
+abbrev pub are_among : List Word → List (List Word) → Bool
+are_among ws all = list_any (λ vs. pointwise bytes_eq vs ws) all
+
+-- the lists with these names behind them, unless they are one of them
+abbrev pub with_names : List (List Word) → List Word → List (List Word)
+with_names all ws = if are_among ws all then all else all ++ ws ∷ []
+
 -- the names are those that the statements define
 pub record AreNames (names : Names) (ss : List Statement) : Type 0 where
+  pub skips : (w : Word) → is_among w names.skips ≡ list_any (is_skip_rule w) (rules ss)
   pub rules : names.rules ≡ rules ss
   pub nonterminals : names.nonterminals ≡ nonterminals ss
+  pub sides : (left : Word) (right : List Word) → are_among (left ∷ right) names.sides ≡ has_production ss left right
   pub productions : names.productions ≡ length (productions ss)
   pub started : names.started ≡ nat_lt 0 (length (starts ss))
 
@@ -52,6 +64,14 @@ with_rule rules (Start name) = rules
 with_rule rules (Fold name) = rules
 with_rule rules Bad = rules
 
+abbrev pub with_skip : List Word → Line → List Word
+with_skip names Nothing = names
+with_skip names (Production left right) = names
+with_skip names (Rule skip name pattern) = if skip then with_name names name else names
+with_skip names (Start name) = names
+with_skip names (Fold name) = names
+with_skip names Bad = names
+
 abbrev pub with_left : List Word → Line → List Word
 with_left names Nothing = names
 with_left names (Production left right) = with_name names left
@@ -59,6 +79,14 @@ with_left names (Rule skip name pattern) = names
 with_left names (Start name) = names
 with_left names (Fold name) = names
 with_left names Bad = names
+
+abbrev pub with_sides : List (List Word) → Line → List (List Word)
+with_sides all Nothing = all
+with_sides all (Production left right) = with_names all (left ∷ right)
+with_sides all (Rule skip name pattern) = all
+with_sides all (Start name) = all
+with_sides all (Fold name) = all
+with_sides all Bad = all
 
 abbrev pub with_production : ℕ → Line → ℕ
 with_production n Nothing = n

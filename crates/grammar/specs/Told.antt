@@ -1,5 +1,7 @@
 -- The causes that the code tells, in the words of the definitions.
-use Rattle.std.specs.Prelude.{◌≡◌, ℕ, Option, Some, None, string_bytes}
+use Rattle.std.specs.Prelude.{◌≡◌, ℕ, List, Option, Some, None, codes, string_bytes}
+use Rattle.definitions.specs.declared.expression.PatternCause.{PatternCause}
+use Rattle.definitions.specs.declared.expression.PatternCause.TheVariants.{Syntax, EmptyClass, ReversedRange, EmptyLiteral, MatchesEmpty, Memory as NoMemory}
 use Rattle.grammar.specs.declared.fault.Cause.{Cause as Borrowed}
 use Rattle.grammar.specs.declared.fault.Cause.TheVariants as b
 use Rattle.grammar.specs.declared.fault.GrammarCause.{GrammarCause}
@@ -37,6 +39,15 @@ public_cause (p.Unproductive w) = Some (Unproductive (string_bytes w))
 public_cause (p.SkipInProduction w) = Some (SkipInProduction (string_bytes w))
 public_cause (p.Limit l) = Some (Passed l)
 public_cause p.Memory = None
+
+-- under which code the fault of a pattern is printed
+abbrev pub pattern_code : PatternCause → List ℕ
+pattern_code Syntax = codes "P1"
+pattern_code EmptyClass = codes "P2"
+pattern_code ReversedRange = codes "P3"
+pattern_code EmptyLiteral = codes "P4"
+pattern_code MatchesEmpty = codes "P5"
+pattern_code NoMemory = codes "P6"
 
 -- a refusal for another cause than memory tells this
 abbrev pub Tells : Refusal → (ℕ → Cause → Type 0) → Type 0

@@ -20,7 +20,7 @@ pub fn defined(alloc: Global, statements: &[Numbered<'_>]) -> Result<Vec<Symbol>
     for statement in statements {
         let symbol = names.defined_by(&statement.line);
         push(&mut symbols, symbol)?;
-        names.note(&statement.line)?;
+        names.note(alloc, &statement.line)?;
     }
     Ok(symbols)
 }

@@ -1,7 +1,7 @@
 //! Why a text is no grammar file.
 
 ghost use Rattle.std.specs.Prelude.{◌≡◌, IfOk};
-ghost use Rattle.grammar.specs.Told.{cause_of, public_cause, TellsCause, IsFor};
+ghost use Rattle.grammar.specs.Told.{cause_of, public_cause, pattern_code, TellsCause, IsFor};
 
 use definitions::{PatternCause, PatternFault};
 use std::alloc::{AllocError, Global};
@@ -82,7 +82,9 @@ pub enum GrammarCause {
 }
 
 /// The code under which the fault of a pattern is printed.
-fn pattern_cause(cause: PatternCause) -> &'static str {
+fn pattern_cause(cause: PatternCause) -> &'static str
+    ensures { result.now ≡ pattern_code cause }
+{
     match cause {
         PatternCause::Syntax => "P1",
         PatternCause::EmptyClass => "P2",
@@ -127,7 +129,7 @@ impl From<AllocError> for Refusal<'_> {
     }
 }
 
-impl Cause<'_> {
+impl<'a> Cause<'a> {
     /// The cause with a name of its own.
     fn public(self, alloc: Global) -> Result<GrammarCause, AllocError>
         ensures { IfOk result (λ cause. public_cause cause ≡ Some (cause_of self.entry)) }
@@ -153,7 +155,7 @@ impl Cause<'_> {
     }
 }
 
-impl Refusal<'_> {
+impl<'a> Refusal<'a> {
     /// The fault with a name of its own.
     pub fn public(self, alloc: Global) -> GrammarFault
         ensures { TellsCause (public_cause result.cause) (λ c. IsFor self.entry result.line c) }

@@ -10,6 +10,7 @@ mod name_set;
 mod names;
 mod notes;
 mod numbers;
+mod production_set;
 mod productive;
 mod read;
 mod references;

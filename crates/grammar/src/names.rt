@@ -4,10 +4,11 @@ ghost use Rattle.std.specs.Prelude.{◌≡◌, ◌+◌, ◌<◌, ◌≤◌, ◌^
 ghost use Rattle.definitions.specs.declared.Symbol.TheVariants.{Nonterminal};
 ghost use Rattle.grammar.specs.Statements.{Statement};
 ghost use Rattle.grammar.specs.Contents.{defines, is_among};
-ghost use Rattle.grammar.specs.Said.{said, rule_line, texts, AreNames, with_rule, with_left, with_production, with_start};
+ghost use Rattle.grammar.specs.Said.{said, rule_line, texts, AreNames, with_rule, with_skip, with_left, with_sides, with_production, with_start};
 
 use crate::line::Line;
 use crate::name_set::NameSet;
+use crate::production_set::ProductionSet;
 use crate::rules::{RuleName, Rules};
 use definitions::Symbol;
 use std::alloc::{AllocError, Global};
@@ -17,8 +18,12 @@ use std::alloc::{AllocError, Global};
 pub struct Names<'a> {
     /// The rules, in file order.
     pub rules: Rules<'a>,
+    /// The names of the `skip` rules.
+    pub skips: NameSet<'a>,
     /// The nonterminals, in the order of their first productions.
     pub nonterminals: NameSet<'a>,
+    /// The productions.
+    pub sides: ProductionSet<'a>,
     /// How many productions there are.
     pub productions: usize,
     /// Whether there is a start.
@@ -32,17 +37,21 @@ impl<'a> Names<'a> {
     {
         Names {
             rules: Rules::new(alloc),
+            skips: NameSet::new(alloc),
             nonterminals: NameSet::new(alloc),
+            sides: ProductionSet::new(alloc),
             productions: 0,
             started: false,
         }
     }
 
     /// Adds what a line defines.
-    pub fn note(&mut self, line: &Line<'a>) -> Result<(), AllocError>
+    pub fn note(&mut self, alloc: Global, line: &Line<'a>) -> Result<(), AllocError>
         requires { self.old.productions < 2 ^ 32 }
         ensures rules { OnOk result (self.new.rules ≡ with_rule self.old.rules (said line.now)) }
+        ensures skips { OnOk result (self.new.skips ≡ with_skip self.old.skips (said line.now)) }
         ensures nonterminals { OnOk result (self.new.nonterminals ≡ with_left self.old.nonterminals (said line.now)) }
+        ensures sides { OnOk result (self.new.sides ≡ with_sides self.old.sides (said line.now)) }
         ensures productions { OnOk result (self.new.productions ≡ with_production self.old.productions (said line.now)) }
         ensures started { OnOk result (self.new.started ≡ with_start self.old.started (said line.now)) }
     {
@@ -52,14 +61,18 @@ impl<'a> Names<'a> {
                 name,
                 pattern,
             } => {
+                if *skip {
+                    self.skips.add(name)?;
+                }
                 self.rules.add(RuleName {
                     skip: *skip,
                     name,
                     pattern,
                 })?;
             }
-            Line::Production { left, .. } => {
+            Line::Production { left, right } => {
                 self.nonterminals.add(left)?;
+                self.sides.add(alloc, left, right)?;
                 self.productions += 1;
             }
             Line::Start(_) => self.started = true,

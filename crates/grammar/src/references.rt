@@ -68,7 +68,7 @@ fn symbol_fault<'a>(names: &Names<'a>, name: &'a str) -> Option<Cause<'a>>
 {
     if names.nonterminals.contains(name) {
         None
-    } else if names.rules.contains_skip(name) {
+    } else if names.skips.contains(name) {
         Some(Cause::SkipInProduction(name))
     } else if names.rules.contains(name) {
         None

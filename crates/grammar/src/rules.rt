@@ -4,7 +4,6 @@ ghost use Rattle.std.specs.Prelude.{◌≡◌, ◌++◌, ◌∷◌, [], List, le
 ghost use Rattle.std.specs.Str.{bytes_eq};
 ghost use Rattle.std.specs.List.{list_any};
 ghost use Rattle.grammar.specs.Contents.{number_of};
-ghost use Rattle.grammar.specs.Faults.{is_skip_rule};
 ghost use Rattle.grammar.specs.Numbers.{AreNumbers};
 ghost use Rattle.grammar.specs.Said.{rule_line};
 ghost use Rattle.grammar.specs.Words.{Word};
@@ -78,13 +77,6 @@ impl<'a> Rules<'a> {
         ensures { result ≡ list_any (λ r. bytes_eq r.name name.now) self.now }
     {
         self.numbers.contains_key(name)
-    }
-
-    /// Whether a skip rule has this name.
-    pub fn contains_skip(&self, name: &str) -> bool
-        ensures { result ≡ list_any (is_skip_rule name.now) self.now }
-    {
-        self.rules.iter().any(|rule| rule.skip && rule.name == name)
     }
 
     /// Adds a rule at the end.

@@ -1,18 +1,17 @@
 //! The statements of a file, line by line.
 
-ghost use Rattle.std.specs.Prelude.{◌≡◌, ◌≢◌, ◌+◌, ◌<◌, ◌≤◌, ◌^◌, ◌++◌, ◌∷◌, [], ℕ, Bool, List, None, Some, length, map, not, nat_lt, option_map, IfOk, IfErr, OnOk, MatchOption};
-ghost use Rattle.std.specs.List.{list_any, cons_option};
-ghost use Rattle.std.specs.Str.{bytes_eq, chars};
-ghost use Rattle.std.specs.Cmp.Lexicographic.{pointwise};
+ghost use Rattle.std.specs.Prelude.{◌≡◌, ◌≢◌, ◌+◌, ◌<◌, ◌≤◌, ◌^◌, ◌++◌, ◌∷◌, ◌||◌, [], ℕ, Bool, List, None, Some, length, map, not, nat_lt, option_map, IfOk, IfErr, OnOk, MatchOption};
+ghost use Rattle.std.specs.List.{cons_option};
+ghost use Rattle.std.specs.Str.{chars};
 ghost use Rattle.definitions.specs.declared.expression.PatternFault.{PatternFault};
 ghost use Rattle.definitions.specs.PatternFaults.{IsFault as IsPatternFault};
 ghost use Rattle.definitions.specs.Spelling.{IsPattern};
 ghost use Rattle.grammar.specs.Statements.{line_of, Statement, numbered, statements_in, Nothing, at};
 ghost use Rattle.grammar.specs.Statements;
 ghost use Rattle.grammar.specs.Contents.{rules, starts};
-ghost use Rattle.grammar.specs.Faults.{reserved, told, is_production, has_production, early_fault, late_fault, IsFaultless, IsLineFault, IsFirstLineFault, HasPattern, HasPatternFault, BadPattern, Passed};
+ghost use Rattle.grammar.specs.Faults.{reserved, told, has_rule, has_production, early_fault, late_fault, IsFaultless, IsLineFault, IsFirstLineFault, HasPattern, HasPatternFault, BadPattern, Passed};
 ghost use Rattle.grammar.specs.Faults;
-ghost use Rattle.grammar.specs.Said.{said, statement_of, all_said, texts, AreNames, IsRead, IsPatternOf, with_pattern};
+ghost use Rattle.grammar.specs.Said.{said, all_said, texts, AreNames, IsRead, IsPatternOf, with_pattern};
 ghost use Rattle.grammar.specs.Told.{cause_of, Tells};
 
 use crate::fault::{Cause, Limit, Refusal};
@@ -97,7 +96,7 @@ impl<'a> File<'a> {
     {
         let pattern = self.tested(alloc, number, &line)?;
         add_pattern(&mut self.patterns, pattern)?;
-        self.names.note(&line)?;
+        self.names.note(alloc, &line)?;
         add_line(&mut self.statements, number, line)?;
         Ok(())
     }
@@ -114,7 +113,7 @@ impl<'a> File<'a> {
         ensures pattern { IfOk result (λ p. IsPatternOf (said line.now) p) }
         ensures fault { IfErr result (λ r. Tells r (λ n c. (n ≡ number) × IsLineFault (all_said self.now.statements.items) (said line.now) c)) }
     {
-        if let Some(cause) = self.early_fault(line) {
+        if let Some(cause) = self.early_fault(alloc, line)? {
             return Err(Refusal::Fault(number, cause));
         }
         let pattern = pattern_of(alloc, number, line)?;
@@ -125,33 +124,54 @@ impl<'a> File<'a> {
     }
 
     /// A fault that is told before the pattern is read.
-    fn early_fault(&self, line: &Line<'a>) -> Option<Cause<'a>>
+    fn early_fault(&self, alloc: Global, line: &Line<'a>) -> Result<Option<Cause<'a>>, AllocError>
         requires { AreNames self.now.names (all_said self.now.statements.items) }
-        ensures { option_map cause_of result ≡ early_fault (all_said self.now.statements.items) (said line.now) }
+        ensures { IfOk result (λ fault. option_map cause_of fault ≡ early_fault (all_said self.now.statements.items) (said line.now)) }
     {
         match line {
-            Line::Nothing => None,
-            Line::Production { left, right } => self.production_fault(left, right),
-            Line::Rule { name, .. } => self.rule_fault(name),
-            Line::Start(name) | Line::Fold(name) => reserved(name),
-            Line::Bad => Some(Cause::BadLine),
+            Line::Nothing => Ok(None),
+            Line::Production { left, right } => self.production_fault(alloc, left, right),
+            Line::Rule { name, .. } => Ok(self.rule_fault(name)),
+            Line::Start(name) | Line::Fold(name) => Ok(reserved(name)),
+            Line::Bad => Ok(Some(Cause::BadLine)),
         }
     }
 
-    fn production_fault(&self, left: &'a str, right: &[&'a str]) -> Option<Cause<'a>>
+    fn production_fault(
+        &self,
+        alloc: Global,
+        left: &'a str,
+        right: &[&'a str],
+    ) -> Result<Option<Cause<'a>>, AllocError>
         requires { AreNames self.now.names (all_said self.now.statements.items) }
-        ensures { option_map cause_of result ≡ early_fault (all_said self.now.statements.items) (Statements.Production left.now (texts right.now)) }
+        ensures { IfOk result (λ fault. option_map cause_of fault ≡ early_fault (all_said self.now.statements.items) (Statements.Production left.now (texts right.now))) }
     {
         if is_reserved(left) {
-            return Some(Cause::Reserved(left));
+            return Ok(Some(Cause::Reserved(left)));
         }
         if let Some(cause) = first_reserved(right) {
-            return Some(cause);
+            return Ok(Some(cause));
         }
-        if self.names.rules.contains(left) || self.has_production(left, right) {
-            return Some(Cause::DefinedTwice(left));
+        if self.is_defined(alloc, left, right)? {
+            return Ok(Some(Cause::DefinedTwice(left)));
         }
-        None
+        Ok(None)
+    }
+
+    /// Whether the left side is a rule's name, or the production is there.
+    fn is_defined(
+        &self,
+        alloc: Global,
+        left: &'a str,
+        right: &[&'a str],
+    ) -> Result<bool, AllocError>
+        requires { AreNames self.now.names (all_said self.now.statements.items) }
+        ensures { IfOk result (λ is. is ≡ (has_rule (all_said self.now.statements.items) left.now || has_production (all_said self.now.statements.items) left.now (texts right.now))) }
+    {
+        if self.names.rules.contains(left) {
+            return Ok(true);
+        }
+        self.names.sides.contains(alloc, left, right)
     }
 
     fn rule_fault(&self, name: &'a str) -> Option<Cause<'a>>
@@ -165,14 +185,6 @@ impl<'a> File<'a> {
             return Some(Cause::DefinedTwice(name));
         }
         None
-    }
-
-    fn has_production(&self, left: &str, right: &[&str]) -> bool
-        ensures { result ≡ has_production (all_said self.now.statements.items) left.now (texts right.now) }
-    {
-        self.statements
-            .iter()
-            .any(|statement| is_production(left, right, &statement.line))
     }
 
     /// A fault that is told behind the pattern's.
@@ -250,25 +262,6 @@ fn add_line<'a>(
 {
     statements.push(Numbered { number, line })?;
     Ok(())
-}
-
-/// Whether the line is a production with these sides.
-fn is_production(left: &str, right: &[&str], line: &Line<'_>) -> bool
-    ensures { result ≡ is_production left.now (texts right.now) (said line.now) }
-{
-    match line {
-        Line::Production {
-            left: other,
-            right: others,
-        } => *other == left && are_same(others, right),
-        _ => false,
-    }
-}
-
-fn are_same(words: &[&str], others: &[&str]) -> bool
-    ensures { result ≡ pointwise bytes_eq (texts words.now) (texts others.now) }
-{
-    words == others
 }
 
 fn reserved<'a>(name: &'a str) -> Option<Cause<'a>>

@@ -20,5 +20,5 @@ loop-statement-preserved c =
           ∙ ap (λ xs. xs ++ cons_option c.defined_by-symbol.result []) c.loop-statement.invariant.symbols
           ∙ ap (λ o. defined (all_said (take i ns)) ++ cons_option o []) (c.defined_by-symbol.ensures (all_said (take i ns)) c.loop-statement.invariant.names)
           ∙ sym (defined_more ns i c.statement-item.result c.loop-statement-test.true c.statement-item.is);
-      names = names_more c.loop-statement.names c.note.new.self ns i c.statement-item.result c.loop-statement-test.true c.statement-item.is c.loop-statement.invariant.names c.in_ok-note.ensures.rules c.in_ok-note.ensures.nonterminals c.in_ok-note.ensures.productions c.in_ok-note.ensures.started;
+      names = names_more c.loop-statement.names c.note.new.self ns i c.statement-item.result c.loop-statement-test.true c.statement-item.is c.loop-statement.invariant.names c.in_ok-note.ensures.rules c.in_ok-note.ensures.skips c.in_ok-note.ensures.nonterminals c.in_ok-note.ensures.sides c.in_ok-note.ensures.productions c.in_ok-note.ensures.started;
     }

@@ -1,7 +1,7 @@
-use Rattle.std.proofs.Common.{◌∙◌, ap}
-use Rattle.grammar.specs.Statements.{statements_in}
+use Rattle.std.proofs.Common.{◌∙◌, ap, List, subst}
+use Rattle.grammar.specs.Statements.{Statement, statements_in}
 use Rattle.grammar.specs.Faults.{too_large, first_line}
-use Rattle.grammar.specs.Said.{texts, all_said}
+use Rattle.grammar.specs.Said.{texts, all_said, IsRead}
 use Rattle.grammar.proofs.Files.{headed_is, statements_are, line_fault, no_start_fault, is_whole, reference_fault}
 use Rattle.grammar.proofs.file.read_file.Goals as goal
 
@@ -33,6 +33,12 @@ returns-in-Ok-test_references-clause-whole c =
     (headed_is c.deref.result.now c.in_ok-lines.lines.items c.args.text.now c.is_headed.result c.is_headed.ensures c.deref.ensures.value c.in_ok-lines.ensures ∙ c.if-not-is_headed.false)
     (ap (λ ls. statements_in (texts ls)) c.behind_first.ensures ∙ statements_are c.deref-2.result.now c.in_ok-lines.lines.items c.args.text.now c.deref-2.ensures.value c.in_ok-lines.ensures)
     c.in-Ok.ensures.read c.if-not-file.false
+
+pub returns-in-Ok-test_references-clause-read : goal.returns-in-Ok-test_references-clause-read
+returns-in-Ok-test_references-clause-read c =
+    subst (λ (ss : List Statement). IsRead c.in-Ok.file ss)
+    (ap (λ ls. statements_in (texts ls)) c.behind_first.ensures ∙ statements_are c.deref-2.result.now c.in_ok-lines.lines.items c.args.text.now c.deref-2.ensures.value c.in_ok-lines.ensures)
+    c.in-Ok.ensures.read
 
 pub returns-clause-fault : goal.returns-clause-fault
 returns-clause-fault c =

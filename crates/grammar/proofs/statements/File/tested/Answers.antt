@@ -1,8 +1,10 @@
-use Rattle.std.proofs.Common.{refl, sym}
+use Rattle.std.proofs.Common.{refl, sym, ap, ◌∙◌}
+use Rattle.std.specs.Prelude.{option_map}
 use Rattle.grammar.specs.Said.{said, all_said}
+use Rattle.grammar.specs.Told.{cause_of}
 use Rattle.grammar.proofs.Lines.{late_line_fault}
 use Rattle.grammar.proofs.statements.File.tested.Goals as goal
 
 pub returns-in-Some-late_fault-clause-fault : goal.returns-in-Some-late_fault-clause-fault
 returns-in-Some-late_fault-clause-fault c =
-    (refl, late_line_fault (all_said c.args.self.now.statements.items) (said c.args.line.now) _ _ (sym c.in_default.ensures) c.in_ok-pattern.ensures.pattern (sym c.in-Some-late_fault.ensures))
+    (refl, late_line_fault (all_said c.args.self.now.statements.items) (said c.args.line.now) _ _ (sym c.in_ok-cause.ensures ∙ ap (option_map cause_of) c.in_default.is) c.in_ok-pattern.ensures.pattern (sym c.in-Some-late_fault.ensures))
