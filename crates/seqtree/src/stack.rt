@@ -3,13 +3,10 @@ ghost use Rattle.std.specs.Prelude.{◌≡◌, ◌<◌, ◌++◌, ◌∷◌, [],
 
 use std::marker::Model;
 
-/// As many as a tree is high at most.
-const ROOM: usize = 128;
-
-/// Up to 128 elements, the last one on top. Takes no memory.
+/// Up to 128 elements, the last one on top: as many as the nodes on the longest way down a tree. Takes no memory.
 #[derive(Drop)]
 pub struct Stack<E: Copy> {
-    places: [E; ROOM],
+    places: [E; 128],
     len: usize,
 }
 
@@ -29,7 +26,7 @@ impl<E: Copy> Stack<E> {
         ensures { result ≡ [] }
     {
         Stack {
-            places: [any; ROOM],
+            places: [any; 128],
             len: 0,
         }
     }
