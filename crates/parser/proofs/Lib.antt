@@ -5,3 +5,7 @@ pub mod Stops
 pub mod Expecting
 pub mod Total
 pub mod Counts
+pub mod Lists
+pub mod Inputs
+pub mod Front
+pub mod Reusing
