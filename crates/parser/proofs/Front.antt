@@ -30,7 +30,7 @@ weight ts = all_branches ts + length (all_kinds ts)
 abbrev pub Step : Grammar → List Tree → List Kind → ℕ → List Tree → List Tree → Type 0
 Step g stack kinds read new old = ((ss : List Symbol) × HaveRoots g new ss) × (all_kinds (before_leaves new kinds read) ≡ drop read kinds) × Offers g stack (before_leaves new kinds read) (before_leaves old kinds read) × (weight new < weight old)
 
-after_drop : (xs ys zs : List Kind) (n : ℕ) → xs ++ ys ≡ drop n zs → ys ≡ drop (n + length xs) zs
+pub after_drop : (xs ys zs : List Kind) (n : ℕ) → xs ++ ys ≡ drop n zs → ys ≡ drop (n + length xs) zs
 after_drop xs ys zs zero e = let h : length xs ≡ 0 + length xs = omega arith in sym (drop_past xs ys) ∙ ap (drop (length xs)) e ∙ ap (λ k. drop k zs) h
   where
     drop_past : (xs ys : List Kind) → drop (length xs) (xs ++ ys) ≡ ys
@@ -66,7 +66,7 @@ module _ (g : Grammar) (stack : List Tree) (kinds : List Kind) (read : ℕ) wher
         omega (arith, branches-append (trees us) ts, branches-trees us, ap length (kinds-append (trees us) ts), ap length (kinds-trees us), length-append (all_kinds (trees us)) (all_kinds ts), length-append (yields us) (all_kinds ts)),
       )
 
-  tail_roots : (t : Tree) (ts : List Tree) (ss : List Symbol) → HaveRoots g (t ∷ ts) ss → (rs : List Symbol) × HaveRoots g ts rs
+  pub tail_roots : (t : Tree) (ts : List Tree) (ss : List Symbol) → HaveRoots g (t ∷ ts) ss → (rs : List Symbol) × HaveRoots g ts rs
   tail_roots t ts [] h = absurd h
   tail_roots t ts (s ∷ ss) h = (ss, h.1)
 

@@ -9,3 +9,4 @@ pub mod Lists
 pub mod Inputs
 pub mod Front
 pub mod Reusing
+pub mod Running

@@ -29,5 +29,7 @@ pub record SoFar (t : Sets) (whole : List Tree) (kinds : List Kind) (before : �
   pub now : List Tree
   pub left : all_kinds now ≡ drop read kinds
   pub offers : (s : List Tree) → Offers t.grammar s (input_of cells rest kinds read) now
-  pub run : Goes_on t.grammar [] whole (plain_of cells stack) now
+  pub top : List Tree
+  pub top_is : plain_of cells stack ≡ top
+  pub run : Goes_on t.grammar [] whole top now
   pub count : length cells ≡ before + makes t.grammar run
