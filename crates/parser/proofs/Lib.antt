@@ -10,3 +10,4 @@ pub mod Inputs
 pub mod Front
 pub mod Reusing
 pub mod Running
+pub mod Stamping

@@ -1,18 +1,19 @@
 -- What a move of the machine makes of how far the run has come.
-use Rattle.std.proofs.Common.{◌≡◌, ◌⊎◌, ℕ, ◌+◌, ◌-◌, ◌<◌, ◌≤◌, zero, suc, List, [], ◌∷◌, ◌++◌, length, take, drop, slice_get, Option, Some, None, MatchOption, refl, sym, ap, ◌∙◌, subst, arith, length-append, take-append-drop, get_or}
+use Rattle.std.proofs.Common.{◌≡◌, ◌↔◌, ◌⊎◌, inl, ⊎_elim, ℕ, ◌+◌, ◌-◌, ◌<◌, ◌≤◌, zero, suc, List, [], ◌∷◌, ◌++◌, length, take, drop, slice_get, Option, Some, None, MatchOption, refl, sym, ap, ◌∙◌, subst, arith, length-append, take-append-drop, get_or}
 use Rattle.std.proofs.lemmas.List.{append-nil, append_cancel_right}
 use mathlib.Core.List.{head-eq_of_cons-eq}
 use Rattle.definitions.specs.declared.Kind.{Kind}
 use Rattle.definitions.specs.declared.Kind.TheVariants.{Rule as Token}
 use Rattle.definitions.specs.declared.Symbol.{Symbol}
 use Rattle.definitions.specs.declared.Symbol.TheVariants.{Rule as Terminal, Nonterminal}
-use Rattle.definitions.specs.Trees.{Grammar, Tree, Leaf, HaveRoots, yield, all_kinds}
-use Rattle.definitions.specs.TreeEdits.{plain}
+use Rattle.definitions.specs.Trees.{Grammar, Tree, Leaf, Branch, HaveRoots, yield, all_kinds}
+use Rattle.definitions.specs.TreeEdits.{StampedBranch, plain, plain_all}
 use Rattle.definitions.specs.Sentences.{AllProductive}
 use Rattle.definitions.specs.Items.{HasMove, Shift, Reduce}
 use Rattle.theory.specs.Machine.{look_at, Reduces, Shifts, Run, IsStackAfter}
-use Rattle.theory.specs.Reuse.{Front, Take, AtToken, AtEnd, IsNoTree, CanReuse, Tries, Nothing_left, Passed, At_token, Goes_on, Ends, Reuses, Takes_token, Makes}
+use Rattle.theory.specs.Reuse.{Front, Take, AtToken, AtEnd, IsNoTree, CanReuse, Tries, Nothing_left, Passed, At_token, Goes_on, Ends, Reuses, Takes_token, Makes, MakesAt}
 use Rattle.theory.proofs.Incremental.{goes_on_passes}
+use Rattle.theory.proofs.Lists.{ends_equal}
 use Rattle.theory.proofs.Made.{goes_on_join}
 use Rattle.theory.proofs.Simulation.{roots-append}
 use Rattle.theory.proofs.Theorems.{last_of}
@@ -20,18 +21,19 @@ use Rattle.theory.proofs.Unique.{run_split}
 use Rattle.trees.specs.declared.store.NodeId.{NodeId}
 use Rattle.trees.specs.declared.store.Child.{Child}
 use Rattle.trees.specs.declared.store.Child.TheVariants.{Token as TokenChild, Node}
-use Rattle.trees.specs.Cells.{Cell, AreBelow, tree}
+use Rattle.trees.specs.Cells.{Cell, AreBelow, all_trees, forest_in, tree, trees_from}
 use Rattle.trees.proofs.Cells.{all_below-more}
 use Rattle.tables.specs.Tables.{Sets, IsStateOf}
 use Rattle.parser.specs.Machine.{plain_of, HasStates, HasMade}
 use Rattle.parser.specs.Input.{leaves, input_of, IsInput, Skips}
 use Rattle.parser.specs.Front.{Offers, IsReusable, BeginsWithNoNode}
-use Rattle.parser.specs.Run.{makes, SoFar}
+use Rattle.parser.specs.Run.{makes, AreStampedBy, NoneIsMadeBy, SoFar}
 use Rattle.parser.proofs.Front.{after_drop, dropped, first_fits, tail_roots}
 use Rattle.parser.proofs.Moves.{Reached, states_push}
-use Rattle.parser.proofs.Reductions.{plain-append, plain-stay, below-append}
+use Rattle.parser.proofs.Reductions.{plain-append, plain-stay, below-append, below-front, made_trees}
 use Rattle.parser.proofs.Reusing.{look_drop}
-use Rattle.parser.proofs.Stamps.{below_on, grown_by_one}
+use Rattle.parser.proofs.Stamping.{none_behind, none_first, nowhere_stamped, stamped-children, stamps_made, stamps_taken, stamps_token, trees_of-append}
+use Rattle.parser.proofs.Stamps.{below_on, grown_by_one, made_stamped, trees-stay}
 
 pub kinds_leaves : (ks : List Kind) → all_kinds (leaves ks) ≡ ks
 kinds_leaves [] = refl
@@ -96,6 +98,7 @@ module _ (g : Grammar) where
     pub below : AreBelow (length cells) rest
     pub symbols : List Symbol
     pub roots : HaveRoots g (plain_of cells rest) symbols
+    pub older : (n : ℕ) → NoneIsMadeBy n (all_trees cells now) → NoneIsMadeBy n (all_trees cells rest)
 
   behind_leaves : (cells : List Cell) (kinds : List Kind) (read : ℕ) (k : Kind) → slice_get kinds read ≡ Some k → Behind cells kinds read [] [] k
   behind_leaves cells kinds read k is =
@@ -106,6 +109,7 @@ module _ (g : Grammar) where
         below = tt;
         symbols = [];
         roots = tt;
+        older = λ n o. o;
       }
 
   behind_child : (cells : List Cell) (kinds : List Kind) (read : ℕ) (c : Child) (rest : List Child) (k : Kind) → BeginsWithNoNode (c ∷ rest) → IsInput g cells (c ∷ rest) kinds read → slice_get kinds read ≡ Some k → Behind cells kinds read (c ∷ rest) rest k
@@ -120,6 +124,7 @@ module _ (g : Grammar) where
         below = h.below.1;
         symbols = tail.0;
         roots = tail.1;
+        older = λ n o. none_behind n (tree cells (TokenChild j)) (all_trees cells rest) o;
       }
 
   pub behind_first : (cells : List Cell) (kinds : List Kind) (read : ℕ) (now rest : List Child) (r : Option Child) (k : Kind) → BeginsWithNoNode now → IsInput g cells now kinds read → slice_get kinds read ≡ Some k → MatchOption r ((now ≡ []) × (rest ≡ [])) (λ c. now ≡ c ∷ rest) → Behind cells kinds read now rest k
@@ -132,14 +137,14 @@ module _ (g : Grammar) where
   pub covers_on : (cells : List Cell) (kinds : List Kind) (read : ℕ) (now rest : List Child) (u : Tree) (behind : List Tree) → input_of cells now kinds read ≡ u ∷ behind → all_kinds (input_of cells now kinds read) ≡ drop read kinds → all_kinds behind ≡ drop (read + length (yield u)) kinds
   covers_on cells kinds read now rest u behind shape covers = after_drop (yield u) (all_kinds behind) kinds read (sym (ap all_kinds shape) ∙ covers)
 
-module _ (t : Sets) (whole : List Tree) (kinds : List Kind) (before : ℕ) (cells : List Cell) (stack : List Child) (states : List ℕ) (read : ℕ) (rest : List Child) (h : SoFar t whole kinds before cells stack states read rest) where
+module _ (t : Sets) (whole : List Tree) (kinds : List Kind) (before number : ℕ) (cells : List Cell) (stack : List Child) (states : List ℕ) (read : ℕ) (rest : List Child) (h : SoFar t whole kinds before number cells stack states read rest) where
   -- what the input offers above the stack, the run's input does
   offered : (now : List Child) → Offers t.grammar (plain_of cells stack) (input_of cells now kinds read) (input_of cells rest kinds read) → (f : Front) → Tries t.grammar (plain_of cells stack) (input_of cells now kinds read) f → Tries t.grammar h.top h.now f
   offered now offers f d = subst (λ s. Tries t.grammar s h.now f) h.top_is (h.offers (plain_of cells stack) f (offers f d))
 
   -- a tree is taken over
-  pub taken_on : (now' rest' : List Child) (id : NodeId) (next : ℕ) → now' ≡ Node id ∷ rest' → IsInput t.grammar cells now' kinds read → Offers t.grammar (plain_of cells stack) (input_of cells now' kinds read) (input_of cells rest kinds read) → IsReusable t cells (plain_of cells stack) kinds read id next → SoFar t whole kinds before cells (stack ++ (Node id ∷ [])) (states ++ (next ∷ [])) (read + length (yield (plain (tree cells (Node id))))) rest'
-  taken_on now' rest' id next now_is input' offers r =
+  pub taken_on : (now' rest' : List Child) (id : NodeId) (next : ℕ) → now' ≡ Node id ∷ rest' → IsInput t.grammar cells now' kinds read → Offers t.grammar (plain_of cells stack) (input_of cells now' kinds read) (input_of cells rest kinds read) → NoneIsMadeBy number (all_trees cells now') → IsReusable t cells (plain_of cells stack) kinds read id next → SoFar t whole kinds before number cells (stack ++ (Node id ∷ [])) (states ++ (next ∷ [])) (read + length (yield (plain (tree cells (Node id))))) rest'
+  taken_on now' rest' id next now_is input' offers older' r =
       let g = t.grammar in
       let u = plain (tree cells (Node id)) in
       let on = Node id ∷ rest' in
@@ -153,7 +158,12 @@ module _ (t : Sets) (whole : List Tree) (kinds : List Kind) (before : ℕ) (cell
       let covers : all_kinds ts ≡ drop (read + length (yield u)) kinds = covers_on g cells kinds read on rest' u ts shape input.covers in
       let can : CanReuse g trees u (all_kinds ts) = subst (CanReuse g trees u) (sym covers) r.can in
       let tries : Tries g trees (input_of cells now' kinds read) (Take u ts) = subst (λ l. Tries g trees (input_of cells l kinds read) (Take u ts)) (sym now_is) (subst (λ l. Tries g trees l (Take u ts)) (sym shape) (Passed can)) in
-      let step : Goes_on g h.top h.now (h.top ++ (u ∷ [])) ts = Reuses u ts (offered now' offers (Take u ts) tries) (subst (λ s. CanReuse g s u (all_kinds ts)) h.top_is can) Ends in
+      let tries' = offered now' offers (Take u ts) tries in
+      let can' = subst (λ s. CanReuse g s u (all_kinds ts)) h.top_is can in
+      let step : Goes_on g h.top h.now (h.top ++ (u ∷ [])) ts = Reuses u ts tries' can' Ends in
+      let older : NoneIsMadeBy number (all_trees cells on) = subst (λ l. NoneIsMadeBy number (all_trees cells l)) now_is older' in
+      let first = none_first number (tree cells (Node id)) (all_trees cells rest') older in
+      let stamps = stamps_taken g h.run u ts tries' can' number (all_trees cells stack) (tree cells (Node id)) h.top_is refl first h.stamps in
       let tail = tail_roots g [] kinds read u (plain_of cells rest') input.symbols input.roots in
       record {
         has_states = states_push t trees (plain_of cells (stack ++ (Node id ∷ []))) states h.has_states (Nonterminal r.left) next (subst (λ l. HaveRoots g l (symbols ++ (Nonterminal r.left ∷ []))) (sym trees') roots) (r.goes symbols h.has_states.roots);
@@ -168,11 +178,13 @@ module _ (t : Sets) (whole : List Tree) (kinds : List Kind) (before : ℕ) (cell
         top_is = trees' ∙ ap (λ l. l ++ (u ∷ [])) h.top_is;
         run = goes_on_join g h.run step;
         count = omega (arith, h.count, makes_join g h.run step);
+        stamps = subst (AreStampedBy g (goes_on_join g h.run step) number) (sym (trees_of-append (trees_from [] cells) stack (Node id ∷ []))) stamps;
+        older = none_behind number (tree cells (Node id)) (all_trees cells rest') older;
       }
 
   -- a token comes onto the stack
-  pub shifted_on : (now' rest' : List Child) (k : Kind) (a next : ℕ) → Behind t.grammar cells kinds read now' rest' k → IsInput t.grammar cells now' kinds read → Offers t.grammar (plain_of cells stack) (input_of cells now' kinds read) (input_of cells rest kinds read) → k ≡ Token a → read < length kinds → HasMove t.grammar h.has_states.symbols (Some k) Shift → IsStateOf t (h.has_states.symbols ++ (Terminal a ∷ [])) next → SoFar t whole kinds before cells (stack ++ (TokenChild k ∷ [])) (states ++ (next ∷ [])) (read + 1) rest'
-  shifted_on now' rest' k a next behind input offers rule within called there =
+  pub shifted_on : (now' rest' : List Child) (k : Kind) (a next : ℕ) → Behind t.grammar cells kinds read now' rest' k → IsInput t.grammar cells now' kinds read → Offers t.grammar (plain_of cells stack) (input_of cells now' kinds read) (input_of cells rest kinds read) → NoneIsMadeBy number (all_trees cells now') → k ≡ Token a → read < length kinds → HasMove t.grammar h.has_states.symbols (Some k) Shift → IsStateOf t (h.has_states.symbols ++ (Terminal a ∷ [])) next → SoFar t whole kinds before number cells (stack ++ (TokenChild k ∷ [])) (states ++ (next ∷ [])) (read + 1) rest'
+  shifted_on now' rest' k a next behind input offers older' rule within called there =
       let g = t.grammar in
       let trees = plain_of cells stack in
       let trees' : plain_of cells (stack ++ (TokenChild k ∷ [])) ≡ trees ++ (Leaf k ∷ []) = plain-append cells stack (TokenChild k ∷ []) in
@@ -197,11 +209,13 @@ module _ (t : Sets) (whole : List Tree) (kinds : List Kind) (before : ℕ) (cell
         top_is = trees' ∙ ap (λ l. l ++ (Leaf k ∷ [])) h.top_is;
         run = goes_on_join g h.run step;
         count = omega (arith, h.count, makes_join g h.run step);
+        stamps = subst (AreStampedBy g (goes_on_join g h.run step) number) (sym (trees_of-append (trees_from [] cells) stack (TokenChild k ∷ []))) (stamps_token g h.run step (λ below x m. m) number (all_trees cells stack) k h.stamps);
+        older = behind.older number older';
       }
 
   -- a branch is made
-  pub reduced_on : (now' : List Child) → BeginsWithNoNode now' → Offers t.grammar (plain_of cells stack) (input_of cells now' kinds read) (input_of cells rest kinds read) → (p number : ℕ) (new : List Cell) (stack' : List Child) (states' : List ℕ) → HasMade cells stack p number new stack' → Reduces t.grammar (plain_of cells stack) (slice_get kinds read) (plain_of new stack') → HasStates t (plain_of new stack') states' → (rest' : List Child) → IsInput t.grammar cells rest' kinds read → ((s : List Tree) → Offers t.grammar s (input_of cells rest' kinds read) (input_of cells rest kinds read)) → SoFar t whole kinds before new stack' states' read rest'
-  reduced_on now' begins offers p number new stack' states' made r has_states' rest' input' offers' =
+  pub reduced_on : (now' : List Child) → BeginsWithNoNode now' → Offers t.grammar (plain_of cells stack) (input_of cells now' kinds read) (input_of cells rest kinds read) → (p : ℕ) (new : List Cell) (stack' : List Child) (states' : List ℕ) → HasMade cells stack p number new stack' → Reduces t.grammar (plain_of cells stack) (slice_get kinds read) (plain_of new stack') → HasStates t (plain_of new stack') states' → (rest' : List Child) → IsInput t.grammar cells rest' kinds read → ((s : List Tree) → Offers t.grammar s (input_of cells rest' kinds read) (input_of cells rest kinds read)) → NoneIsMadeBy number (all_trees cells rest') → SoFar t whole kinds before number new stack' states' read rest'
+  reduced_on now' begins offers p new stack' states' made r has_states' rest' input' offers' older' =
       let g = t.grammar in
       let trees = plain_of cells stack in
       let top' = plain_of new stack' in
@@ -209,6 +223,19 @@ module _ (t : Sets) (whole : List Tree) (kinds : List Kind) (before : ℕ) (cell
       let look : slice_get kinds read ≡ look_at (all_kinds h.now) None = look_drop kinds read ∙ ap (λ l. look_at l None) (sym h.left) in
       let r' : Reduces g h.top (look_at (all_kinds h.now) None) top' = record { symbols = r.symbols; roots = subst (λ l. HaveRoots g l r.symbols) h.top_is r.roots; number = r.number; called = subst (λ l. HasMove g r.symbols l (Reduce r.number)) look r.called; below = r.below; ts = r.ts; left = r.left; right = r.right; production = r.production; size = r.size; from_is = sym h.top_is ∙ r.from_is; to_is = r.to_is } in
       let step : Goes_on g h.top h.now top' h.now = Makes top' front.0 (offered now' offers front.0 front.1) front.2 r' Ends in
+      let under = made.under in
+      let f = forest_in cells made.kids in
+      let under_below : AreBelow (length cells) under = below-front (length cells) under made.kids (subst (AreBelow (length cells)) made.stack_is h.below) in
+      let same_end = ends_equal r.below (plain_of cells under) (Branch r.number r.ts ∷ []) (Branch p (plain_all f) ∷ []) refl (sym r.to_is ∙ ap (plain_of new) made.stack_is' ∙ made_trees cells new p number under made.kids made.id made.grown under_below) in
+      let node : Branch r.number r.ts ≡ Branch p (plain_all f) = head-eq_of_cons-eq same_end.1 in
+      let makes_it : (below : List Tree) (w : Tree) → MakesAt g step below w ↔ ((plain_of cells under ≡ below) × (Branch p (plain_all f) ≡ w)) = λ below w. (
+        (λ m. ⊎_elim (λ a. (sym same_end.0 ∙ a.0, sym node ∙ a.1)) (λ b. absurd b) m),
+        (λ a. inl (same_end.0 ∙ a.0, node ∙ a.1)),
+      ) in
+      let parts : all_trees cells stack ≡ all_trees cells under ++ all_trees cells made.kids = ap (all_trees cells) made.stack_is ∙ trees_of-append (trees_from [] cells) under made.kids in
+      let stamps = stamps_made g h.run step number p (all_trees cells under) (all_trees cells made.kids) f (stamped-children (trees_from [] cells) made.kids) makes_it (subst (AreStampedBy g h.run number) parts h.stamps) in
+      let now_stamped : all_trees new stack' ≡ all_trees cells under ++ (StampedBranch p number f ∷ []) = ap (all_trees new) made.stack_is' ∙ made_stamped cells new p number under made.kids made.id made.grown under_below in
+      let same_rest : all_trees new rest' ≡ all_trees cells rest' = ap (λ l. all_trees l rest') made.grown.cells_are ∙ trees-stay cells made.grown.cell rest' input'.below in
       let long = grown_by_one cells stack p number new stack' made in
       let stays : plain_of new rest' ≡ plain_of cells rest' = ap (λ l. plain_of l rest') made.grown.cells_are ∙ plain-stay cells made.grown.cell rest' input'.below in
       let same : input_of new rest' kinds read ≡ input_of cells rest' kinds read = ap (λ l. l ++ leaves (drop (read + length (all_kinds l)) kinds)) stays in
@@ -225,6 +252,8 @@ module _ (t : Sets) (whole : List Tree) (kinds : List Kind) (before : ℕ) (cell
         top_is = refl;
         run = goes_on_join g h.run step;
         count = omega (arith, h.count, makes_join g h.run step, long);
+        stamps = subst (AreStampedBy g (goes_on_join g h.run step) number) (sym now_stamped) stamps;
+        older = subst (NoneIsMadeBy number) (sym same_rest) older';
       }
 
   -- it is a run of the plain machine
@@ -247,8 +276,8 @@ module _ (t : Sets) (whole : List Tree) (kinds : List Kind) (before : ℕ) (cell
           (s.0 ++ (Leaf last.1 ∷ []), (last.0, last.1, s.0, last.2, s.1, s.2, refl), s.3)
 
 -- a machine that has read nothing
-pub begun : (t : Sets) (kinds : List Kind) (cells : List Cell) (start : ℕ) (input : List Child) → IsStateOf t [] start → IsInput t.grammar cells input kinds 0 → SoFar t (input_of cells input kinds 0) kinds (length cells) cells [] (start ∷ []) 0 input
-begun t kinds cells start input there h = record {
+pub begun : (t : Sets) (kinds : List Kind) (number : ℕ) (cells : List Cell) (start : ℕ) (input : List Child) → IsStateOf t [] start → IsInput t.grammar cells input kinds 0 → NoneIsMadeBy number (all_trees cells input) → SoFar t (input_of cells input kinds 0) kinds (length cells) number cells [] (start ∷ []) 0 input
+begun t kinds number cells start input there h older = record {
   has_states = record { symbols = []; roots = tt; long = omega arith; each = first };
   below = tt;
   within = omega arith;
@@ -261,6 +290,8 @@ begun t kinds cells start input there h = record {
   top_is = refl;
   run = Ends;
   count = omega arith;
+  stamps = λ lefts p born us w. absurd (nowhere_stamped w refl);
+  older = older;
 }
   where
     first : (i : ℕ) → i < length (start ∷ []) → IsStateOf t (take i []) (get_or (start ∷ []) i 0)

@@ -9,14 +9,14 @@ ghost use Rattle.definitions.specs.Trees.{Tree, HaveRoots, IsTree, yield};
 ghost use Rattle.definitions.specs.TreeEdits.{plain};
 ghost use Rattle.definitions.specs.Items.{HasMove, Reduce as ReduceMove};
 ghost use Rattle.trees.specs.declared.store.Child.{Child};
-ghost use Rattle.trees.specs.Cells.{AreBelow, tree};
+ghost use Rattle.trees.specs.Cells.{AreBelow, all_trees, tree};
 ghost use Rattle.theory.specs.Machine.{Reduces};
 ghost use Rattle.theory.specs.Reuse.{CanReuse};
 ghost use Rattle.tables.specs.Tables.{IsAccepted, IsStateOf};
 ghost use Rattle.parser.specs.Machine.{plain_of, HasStates, HasMade};
 ghost use Rattle.parser.specs.Input.{input_of, IsFull, IsInput, IsOpened};
 ghost use Rattle.parser.specs.Front.{Offers, IsReusable, IsOffer};
-ghost use Rattle.parser.specs.Run.{SoFar};
+ghost use Rattle.parser.specs.Run.{NoneIsMadeBy, SoFar};
 ghost use Rattle.parser.specs.Parses.{IsStoppedAt};
 
 use crate::Verdict;
@@ -121,6 +121,7 @@ impl Machine {
         ensures input { IfOk result (λ _. IsInput tables.now.grammar store.now input.new (K.kinds kinds.now) self.now.read) }
         ensures opened { IfOk result (λ _. IsOpened input.old input.new) }
         ensures offers { IfOk result (λ _. Offers tables.now.grammar (plain_of store.now self.now.stack.items) (input_of store.now input.new (K.kinds kinds.now) self.now.read) (input_of store.now input.old (K.kinds kinds.now) self.now.read)) }
+        ensures older { IfOk result (λ _. (number : ℕ) → NoneIsMadeBy number (all_trees store.now input.old) → NoneIsMadeBy number (all_trees store.now input.new)) }
         ensures offer { IfOk result (λ f. IsOffer tables.now store.now (plain_of store.now self.now.stack.items) (K.kinds kinds.now) self.now.read input.new f) }
     {
         'edge: while let Some(child) = input.first() {
@@ -185,9 +186,9 @@ impl Machine {
         number: u64,
     ) -> Result<Verdict, AllocError>
         requires accepted { IsAccepted tables.now.grammar }
-        requires so_far { SoFar tables.now (input_of store.old input (K.kinds kinds.now) 0) (K.kinds kinds.now) (length store.old) store.old self.old.stack.items self.old.states.items self.old.read input }
+        requires so_far { SoFar tables.now (input_of store.old input (K.kinds kinds.now) 0) (K.kinds kinds.now) (length store.old) number store.old self.old.stack.items self.old.states.items self.old.read input }
         ensures stops { IfOk result (λ v. IsStoppedAt tables.now (K.kinds kinds.now) store.new v self.new.stack.items self.new.states.items) }
-        ensures so_far { IfOk result (λ _. (rest : List Child) × SoFar tables.now (input_of store.old input (K.kinds kinds.now) 0) (K.kinds kinds.now) (length store.old) store.new self.new.stack.items self.new.states.items self.new.read rest) }
+        ensures so_far { IfOk result (λ _. (rest : List Child) × SoFar tables.now (input_of store.old input (K.kinds kinds.now) 0) (K.kinds kinds.now) (length store.old) number store.new self.new.stack.items self.new.states.items self.new.read rest) }
         ensures grown { take (length store.old) store.new ≡ store.old }
     {
         let count = kinds.len();

@@ -2,7 +2,7 @@ use Rattle.std.proofs.Common.{◌≡◌, ◌+◌, ◌≤◌, ◌<◌, ◌∷◌,
 use Rattle.definitions.specs.Trees.{all_kinds, yield}
 use Rattle.definitions.specs.TreeEdits.{plain}
 use Rattle.trees.specs.declared.store.Child.TheVariants.{Node}
-use Rattle.trees.specs.Cells.{tree}
+use Rattle.trees.specs.Cells.{all_trees, tree}
 use Rattle.trees.proofs.Cells.{all_below-more}
 use Rattle.theory.specs.Reuse.{Tries}
 use Rattle.parser.specs.Machine.{plain_of}
@@ -10,6 +10,9 @@ use Rattle.parser.specs.Input.{input_of, IsInput}
 use Rattle.parser.proofs.Front.{weight, opened, dropped}
 use Rattle.parser.proofs.Inputs.{IsOpening, taken, no_kinds, none_counted, kids_kinds, opening_begins, opening_on, opening_ends}
 use Rattle.parser.proofs.Reductions.{below-append}
+use Rattle.parser.specs.Run.{NoneIsMadeBy}
+use Rattle.parser.proofs.Stamping.{none_behind}
+use Rattle.parser.proofs.Stamps.{opened_older}
 use Rattle.parser.proofs.machine.Machine.front.Goals as goal
 
 pub edge-preserved-in-Continue-1 : goal.edge-preserved-in-Continue-1
@@ -34,6 +37,7 @@ edge-preserved-in-Continue-1 g c =
     record {
       input = subst (λ l. IsInput gr cells l kinds read) (sym new) made;
       offers = (λ f d. c.edge.invariant.offers f (subst (λ l. Tries gr stack (input_of cells l kinds read) f) (sym old) (step.2 f (subst (λ l. Tries gr stack (input_of cells l kinds read) f) new d))));
+      older = λ n h. subst (λ l. NoneIsMadeBy n (all_trees cells l)) (sym new) (opened_older n cells kids rest id c.children.ensures.tree.0 c.children.ensures.tree.1 c.children.ensures.tree.2 (subst (λ l. NoneIsMadeBy n (all_trees cells l)) old (c.edge.invariant.older n h)));
       opening = subst (IsOpening cells c.args.input.now) (sym new) (opening_on cells c.args.input.now c.edge.input rest kids (Node id) c.requires.full c.edge.invariant.opening old same);
     }
 
@@ -72,8 +76,9 @@ edge-preserved g c =
     record {
       input = record { below = inp.below.1; symbols = step.0.0; roots = step.0.1; covers = step.1 };
       offers = (λ f d. c.edge.invariant.offers f (subst (λ l. Tries gr stack (input_of cells l kinds read) f) (sym old) (step.2 f d)));
+      older = λ n h. none_behind n (tree cells (Node id)) (all_trees cells rest) (subst (λ l. NoneIsMadeBy n (all_trees cells l)) old (c.edge.invariant.older n h));
       opening = opening_on cells c.args.input.now c.edge.input rest [] (Node id) c.requires.full c.edge.invariant.opening old (sym (no_kinds (yield (plain (tree cells (Node id)))) empty));
     }
 
 pub edge-init : goal.edge-init
-edge-init g c = record { input = c.requires.input; offers = λ f d. d; opening = opening_begins c.args.store.now c.args.input.now }
+edge-init g c = record { input = c.requires.input; offers = λ f d. d; older = λ n h. h; opening = opening_begins c.args.store.now c.args.input.now }

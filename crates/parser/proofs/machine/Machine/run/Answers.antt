@@ -18,7 +18,7 @@ use Rattle.parser.proofs.Inputs.{taken}
 use Rattle.parser.proofs.Moves.{top_stands}
 use Rattle.parser.proofs.Reusing.{counted}
 use Rattle.parser.proofs.Running.{behind_first, reached, reduced_on, shifted_on, skipped_on, taken_on}
-use Rattle.parser.proofs.Stamps.{front_stays}
+use Rattle.parser.proofs.Stamps.{front_stays, skipped_older}
 use Rattle.parser.proofs.Stops.{IsStuck, at_fault, at_end, at_tree, one_on_stack}
 use Rattle.parser.proofs.machine.Machine.run.Goals.{then-self-count, else-self-count}
 use Rattle.parser.proofs.machine.Machine.run.Goals as goal
@@ -40,16 +40,17 @@ moves-preserved-in-Tree g c =
     let now = c.front.new.input in
     let offers : Offers t.grammar trees (input_of cells now kinds m.read) (input_of cells c.moves.input kinds m.read) = λ f d. on.1 trees f (c.in_ok-id.ensures.offers f d) in
     let id = c.in-Tree.id in
+    let older = c.in_ok-id.ensures.older c.args.number (skipped_older c.args.number cells c.moves.input c.skip_empty.new.self c.skip_empty.ensures.skips h.older) in
     let offer = subst (IsOffer t cells trees kinds m.read now) c.in-Tree.is c.in_ok-id.ensures.offer in
     let rest = c.take.new.self in
     let now_is = taken c.take.result now rest offer.0.0 (Node id) c.take.ensures offer.0.1 in
-    let next = taken_on t whole kinds before cells m.stack.items m.states.items m.read c.moves.input h now rest id c.in-Tree.next now_is c.in_ok-id.ensures.input offers offer.1 in
+    let next = taken_on t whole kinds before c.args.number cells m.stack.items m.states.items m.read c.moves.input h now rest id c.in-Tree.next now_is c.in_ok-id.ensures.input offers older offer.1 in
     let n = length (yield (plain_tree (tree cells (Node id)))) in
     let count : c.tokens.result ≡ n = c.tokens.ensures.is ∙ counted n (omega (arith, next.within, c.len-count.ensures, c.len-count.type_inv)) in
     let push = c.in_ok-push-in-Tree.ensures in
     let read : m.read + n ≡ c.push.new.self.read + c.tokens.result = omega (arith, push.read, count) in
     record {
-      so_far = subst (λ s. SoFar t whole kinds before cells s c.push.new.self.states.items (c.push.new.self.read + c.tokens.result) rest) (sym push.stack) (subst (λ s. SoFar t whole kinds before cells (m.stack.items ++ (Node id ∷ [])) s (c.push.new.self.read + c.tokens.result) rest) (sym push.states) (subst (λ r. SoFar t whole kinds before cells (m.stack.items ++ (Node id ∷ [])) (m.states.items ++ (c.in-Tree.next ∷ [])) r rest) read next));
+      so_far = subst (λ s. SoFar t whole kinds before c.args.number cells s c.push.new.self.states.items (c.push.new.self.read + c.tokens.result) rest) (sym push.stack) (subst (λ s. SoFar t whole kinds before c.args.number cells (m.stack.items ++ (Node id ∷ [])) s (c.push.new.self.read + c.tokens.result) rest) (sym push.states) (subst (λ r. SoFar t whole kinds before c.args.number cells (m.stack.items ++ (Node id ∷ [])) (m.states.items ++ (c.in-Tree.next ∷ [])) r rest) read next));
       grown = c.moves.invariant.grown;
     }
 
@@ -85,6 +86,7 @@ moves-preserved-in-Some-Shift g c =
     let now = c.front.new.input in
     let offers : Offers t.grammar trees (input_of cells now kinds m.read) (input_of cells c.moves.input kinds m.read) = λ f d. on.1 trees f (c.in_ok-id.ensures.offers f d) in
     let offer = subst (IsOffer t cells trees kinds m.read now) c.in-Next.is c.in_ok-id.ensures.offer in
+    let older = c.in_ok-id.ensures.older c.args.number (skipped_older c.args.number cells c.moves.input c.skip_empty.new.self c.skip_empty.ensures.skips h.older) in
     let k = c.in-Some.kind in
     let is : slice_get kinds m.read ≡ Some k = sym offer.0 ∙ c.in-Some.is in
     let rest = c.take-in-Some-Shift.new.self in
@@ -96,11 +98,11 @@ moves-preserved-in-Some-Shift g c =
     let a = called.calls.0 in
     let rule : k ≡ Token a = let same : Some k ≡ Some (Token a) = called.calls.3 in cc same in
     let goes = c.in-Some-Shift.ensures.shifts symbols a next there (c.in-Some.is ∙ ap Some rule) (ap Some c.in-Some-Shift.field-0-is) in
-    let one = shifted_on t whole kinds before cells m.stack.items m.states.items m.read c.moves.input h now rest k a next behind c.in_ok-id.ensures.input offers rule (slice_get_within kinds m.read k is) called goes in
+    let one = shifted_on t whole kinds before c.args.number cells m.stack.items m.states.items m.read c.moves.input h now rest k a next behind c.in_ok-id.ensures.input offers older rule (slice_get_within kinds m.read k is) called goes in
     let push = c.in_ok-push-in-Some-Shift.ensures in
     let m' = c.push-in-Some-Shift.new.self in
     record {
-      so_far = subst (λ s. SoFar t whole kinds before cells s m'.states.items (m'.read + 1) rest) (sym push.stack) (subst (λ s. SoFar t whole kinds before cells (m.stack.items ++ (TokenChild k ∷ [])) s (m'.read + 1) rest) (sym push.states) (subst (λ r. SoFar t whole kinds before cells (m.stack.items ++ (TokenChild k ∷ [])) (m.states.items ++ (next ∷ [])) (r + 1) rest) (sym push.read) one));
+      so_far = subst (λ s. SoFar t whole kinds before c.args.number cells s m'.states.items (m'.read + 1) rest) (sym push.stack) (subst (λ s. SoFar t whole kinds before c.args.number cells (m.stack.items ++ (TokenChild k ∷ [])) s (m'.read + 1) rest) (sym push.states) (subst (λ r. SoFar t whole kinds before c.args.number cells (m.stack.items ++ (TokenChild k ∷ [])) (m.states.items ++ (next ∷ [])) (r + 1) rest) (sym push.read) one));
       grown = c.moves.invariant.grown;
     }
 
@@ -128,9 +130,9 @@ moves-preserved g c =
     let done = c.in_ok-reduce-in-Some-Reduce.ensures in
     let reduces = subst (λ l. Reduces t.grammar trees l (plain_of new m'.stack.items)) offer.0 (done.reduced c.in-Next.look symbols h.has_states.roots called) in
     let closed = c.in_ok-close-in-Some-Reduce.ensures full c.in_ok-id.ensures.opened c.len-trees.ensures c.first-first.ensures in
-    let one = reduced_on t whole kinds before cells m.stack.items m.states.items m.read c.moves.input h now offer.1 offers p c.args.number new m'.stack.items m'.states.items done.made reduces done.states full on.0 on.1 in
+    let one = reduced_on t whole kinds before c.args.number cells m.stack.items m.states.items m.read c.moves.input h now offer.1 offers p new m'.stack.items m'.states.items done.made reduces done.states full on.0 on.1 (skipped_older c.args.number cells c.moves.input full c.skip_empty.ensures.skips h.older) in
     record {
-      so_far = subst (λ r. SoFar t whole kinds before new m'.stack.items m'.states.items r c.close.new.self) (sym done.read) (subst (SoFar t whole kinds before new m'.stack.items m'.states.items m.read) (sym closed) one);
+      so_far = subst (λ r. SoFar t whole kinds before c.args.number new m'.stack.items m'.states.items r c.close.new.self) (sym done.read) (subst (SoFar t whole kinds before c.args.number new m'.stack.items m'.states.items m.read) (sym closed) one);
       grown = front_stays c.args.store.now cells new c.moves.invariant.grown done.grown;
     }
 
@@ -144,7 +146,7 @@ returns-in-Node-clause-stops g c =
     let whole = input_of c.args.store.now c.args.input kinds 0 in
     let trees = plain_of cells m.stack.items in
     let offer = subst (IsOffer t cells trees kinds m.read c.front.new.input) c.in-Next.is c.in_ok-id.ensures.offer in
-    let here = reached t whole kinds (length c.args.store.now) cells m.stack.items m.states.items m.read c.moves.input h c.requires.accepted.productive in
+    let here = reached t whole kinds (length c.args.store.now) c.args.number cells m.stack.items m.states.items m.read c.moves.input h c.requires.accepted.productive in
     let symbols = here.has_states.symbols in
     let there = subst (IsStateOf t symbols) (sym c.state.ensures) (top_stands t trees m.states.items here.has_states) in
     let called : HasMove t.grammar symbols (slice_get kinds m.read) Accept = subst (λ l. HasMove t.grammar symbols l Accept) offer.0 (subst (λ move. HasMove t.grammar symbols c.in-Next.look (plain move)) c.in-Some-Accept.field-0-is (c.in-Some-Accept.ensures.is symbols there)) in
@@ -162,7 +164,7 @@ returns-in-None-clause-stops g c =
     let whole = input_of c.args.store.now c.args.input kinds 0 in
     let trees = plain_of cells m.stack.items in
     let offer = subst (IsOffer t cells trees kinds m.read c.front.new.input) c.in-Next.is c.in_ok-id.ensures.offer in
-    let here = reached t whole kinds (length c.args.store.now) cells m.stack.items m.states.items m.read c.moves.input h c.requires.accepted.productive in
+    let here = reached t whole kinds (length c.args.store.now) c.args.number cells m.stack.items m.states.items m.read c.moves.input h c.requires.accepted.productive in
     let symbols = here.has_states.symbols in
     let there = subst (IsStateOf t symbols) (sym c.state.ensures) (top_stands t trees m.states.items here.has_states) in
     let stuck : IsStuck t c.requires.accepted kinds cells m.stack.items m.states.items m.read here = λ move called. c.in-None.ensures.is symbols there move (subst (λ l. HasMove t.grammar symbols l move) (sym offer.0) called) in

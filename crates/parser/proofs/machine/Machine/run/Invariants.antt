@@ -5,7 +5,7 @@ use Rattle.parser.proofs.machine.Machine.run.Given as goal
 
 abbrev pub invariant-moves : goal.invariant-moves
 invariant-moves g l = record {
-  so_far : SoFar l.tables (input_of l.fn.store l.fn.input (g.K.Kinds.kinds l.kinds) 0) (g.K.Kinds.kinds l.kinds) (length l.fn.store) l.store l.self.stack.items l.self.states.items l.self.read l.input;
+  so_far : SoFar l.tables (input_of l.fn.store l.fn.input (g.K.Kinds.kinds l.kinds) 0) (g.K.Kinds.kinds l.kinds) (length l.fn.store) l.number l.store l.self.stack.items l.self.states.items l.self.read l.input;
   grown : take (length l.fn.store) l.store ≡ l.fn.store;
 }
 
