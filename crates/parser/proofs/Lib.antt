@@ -11,3 +11,4 @@ pub mod Front
 pub mod Reusing
 pub mod Running
 pub mod Stamping
+pub mod Plain

@@ -297,3 +297,7 @@ begun t kinds number cells start input there h older = record {
     first : (i : ℕ) → i < length (start ∷ []) → IsStateOf t (take i []) (get_or (start ∷ []) i 0)
     first zero l = there
     first (suc i) l = absurd (omega (arith, l))
+
+-- the list of no trees, with all kinds behind it
+pub no_input : (g : Grammar) (cells : List Cell) (kinds : List Kind) → IsInput g cells [] kinds 0
+no_input g cells kinds = record { below = tt; symbols = []; roots = tt; covers = kinds_leaves (drop 0 kinds) }

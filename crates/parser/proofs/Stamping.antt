@@ -37,6 +37,9 @@ nowhere_stamped StampedTop e = cc e
 nowhere_stamped (StampedBelow w) e = cc e
 nowhere_stamped (StampedPast w) e = cc e
 
+pub none_in_nothing : (n : ℕ) → NoneIsMadeBy n []
+none_in_nothing n lefts p born us w = absurd (nowhere_stamped w refl)
+
 leaf_is_branch : (k : Kind) (p born : ℕ) (us : StampedForest) → StampedBranch p born us ≡ StampedLeaf k → ⊥
 leaf_is_branch k p born us e = cc e
 
