@@ -5,3 +5,10 @@ pub mod Stops
 pub mod Expecting
 pub mod Total
 pub mod Counts
+pub mod Lists
+pub mod Inputs
+pub mod Front
+pub mod Reusing
+pub mod Running
+pub mod Stamping
+pub mod Plain

@@ -1,43 +1,40 @@
--- Where branches are made by one edit, so is the branch over them; and a reduction leaves nodes of the store.
+-- The stamped trees of children, where the input is opened and where the store grows.
 use Rattle.std.proofs.Common.{◌≡◌, ℕ, ◌+◌, ◌<◌, ◌≤◌, zero, suc, List, [], ◌∷◌, ◌++◌, length, take, refl, sym, ap, ◌∙◌, subst, arith, length-append}
-use Rattle.definitions.specs.TreeEdits.{Stamped}
+use Rattle.definitions.specs.TreeEdits.{StampedBranch}
 use Rattle.trees.specs.declared.store.Child.{Child}
 use Rattle.trees.specs.declared.store.Child.TheVariants.{Node}
-use Rattle.trees.specs.Cells.{Cell, AreBelow, KeepsTrees, tree, trees_from, forest_of, forest_in, branch_of}
-use Rattle.trees.proofs.Cells.{grown-new, grown-trees, forest-more, from-length, all_below-more, take-tree}
-use Rattle.parser.specs.Machine.{HasMade, IsMadeBy, AreMadeBy}
+use Rattle.trees.specs.Cells.{Cell, AreBelow, IsGrown, KeepsTrees, tree, trees_from, all_trees, forest_of, forest_in}
+use Rattle.trees.specs.declared.store.NodeId.{NodeId}
+use Rattle.trees.proofs.Cells.{grown-new, grown-tree, all_below-more, take-tree}
+use Rattle.parser.specs.Input.{Skips}
+use Rattle.parser.specs.Machine.{HasMade}
+use Rattle.parser.specs.Run.{NoneIsMadeBy}
+use Rattle.parser.proofs.Stamping.{none_gone, none_opened, stamped-children, trees_of-append}
 use Rattle.parser.proofs.Reductions.{below-append, below-front}
 
-pub made-append : (n : ℕ) (ts : List Stamped) (xs ys : List Child) → AreMadeBy n (forest_of ts xs) → AreMadeBy n (forest_of ts ys) → AreMadeBy n (forest_of ts (xs ++ ys))
-made-append n ts [] ys h k = k
-made-append n ts (x ∷ xs) ys h k = (h.0, made-append n ts xs ys h.1 k)
+-- where the store grows, the trees of children stay
+pub trees-stay : (cells : List Cell) (c : Cell) (cs : List Child) → AreBelow (length cells) cs → all_trees (cells ++ (c ∷ [])) cs ≡ all_trees cells cs
+trees-stay cells c [] h = refl
+trees-stay cells c (x ∷ cs) h = λ i. grown-tree cells c x h.0 i ∷ trees-stay cells c cs h.1 i
 
-made-front : (n : ℕ) (ts : List Stamped) (xs ys : List Child) → AreMadeBy n (forest_of ts (xs ++ ys)) → AreMadeBy n (forest_of ts xs)
-made-front n ts [] ys h = tt
-made-front n ts (x ∷ xs) ys h = (h.0, made-front n ts xs ys h.1)
+-- the new branch stands in the place of its children
+pub made_stamped : (cells new : List Cell) (p number : ℕ) (under kids : List Child) (id : NodeId) → IsGrown cells p kids number new id → AreBelow (length cells) under → all_trees new (under ++ (Node id ∷ [])) ≡ all_trees cells under ++ (StampedBranch p number (forest_in cells kids) ∷ [])
+made_stamped cells new p number under kids id h b =
+    let one = trees_of-append (trees_from [] new) under (Node id ∷ []) in
+    let two : all_trees new under ≡ all_trees cells under = ap (λ l. all_trees l under) h.cells_are ∙ trees-stay cells h.cell under b in
+    let three : tree new (Node id) ≡ StampedBranch p number (forest_in cells kids) = ap (λ l. tree l (Node id)) h.cells_are ∙ grown-new cells h.cell id h.id_is ∙ (λ j. StampedBranch (h.production_is j) (h.born_is j) (forest_of (trees_from [] cells) (h.children_are j))) in
+    one ∙ (λ j. two j ++ (three j ∷ []))
 
-made-back : (n : ℕ) (ts : List Stamped) (xs ys : List Child) → AreMadeBy n (forest_of ts (xs ++ ys)) → AreMadeBy n (forest_of ts ys)
-made-back n ts [] ys h = h
-made-back n ts (x ∷ xs) ys h = made-back n ts xs ys h.1
-
-forest-stay : (cells : List Cell) (c : Cell) (cs : List Child) → AreBelow (length cells) cs → forest_in (cells ++ (c ∷ [])) cs ≡ forest_in cells cs
-forest-stay cells c cs h =
+pub opened_older : (n : ℕ) (cells : List Cell) (kids rest : List Child) (id : NodeId) (p b : ℕ) → tree cells (Node id) ≡ StampedBranch p b (forest_of (trees_from [] cells) kids) → NoneIsMadeBy n (all_trees cells (Node id ∷ rest)) → NoneIsMadeBy n (all_trees cells (kids ++ rest))
+opened_older n cells kids rest id p b e h =
     let ts = trees_from [] cells in
-    let inside = all_below-more (length cells) (length ts) (omega (arith, from-length [] cells)) cs h in
-    ap (λ l. forest_of l cs) (grown-trees cells c) ∙ forest-more ts (branch_of ts c ∷ []) cs inside
+    let one = none_opened n p b (forest_of ts kids) (all_trees cells rest) (subst (λ s. NoneIsMadeBy n (s ∷ all_trees cells rest)) e h) in
+    subst (NoneIsMadeBy n) (ap (λ l. l ++ all_trees cells rest) (stamped-children ts kids) ∙ sym (trees_of-append ts kids rest)) one
 
-pub stamped_on : (cells : List Cell) (stack : List Child) (p n : ℕ) (new : List Cell) (stack' : List Child) (m : HasMade cells stack p n new stack') → AreBelow (length cells) stack → AreMadeBy n (forest_in cells stack) → AreMadeBy n (forest_in new stack')
-stamped_on cells stack p n new stack' m below made =
-    let ts = trees_from [] cells in
-    let all : AreMadeBy n (forest_in cells (m.under ++ m.kids)) = subst (λ l. AreMadeBy n (forest_in cells l)) m.stack_is made in
-    let under_below = below-front (length cells) m.under m.kids (subst (AreBelow (length cells)) m.stack_is below) in
-    let stays : forest_in new m.under ≡ forest_in cells m.under = ap (λ l. forest_in l m.under) m.grown.cells_are ∙ forest-stay cells m.grown.cell m.under under_below in
-    let under : AreMadeBy n (forest_in new m.under) = subst (AreMadeBy n) (sym stays) (made-front n ts m.under m.kids all) in
-    let node : tree new (Node m.id) ≡ branch_of ts m.grown.cell = ap (λ l. tree l (Node m.id)) m.grown.cells_are ∙ grown-new cells m.grown.cell m.id m.grown.id_is in
-    let kids : AreMadeBy n (forest_of ts m.grown.cell.children) = subst (λ l. AreMadeBy n (forest_of ts l)) (sym m.grown.children_are) (made-back n ts m.under m.kids all) in
-    let branch : IsMadeBy n (branch_of ts m.grown.cell) = (m.grown.born_is, kids) in
-    let last : AreMadeBy n (forest_in new (Node m.id ∷ [])) = (subst (IsMadeBy n) (sym node) branch, tt) in
-    subst (λ l. AreMadeBy n (forest_in new l)) (sym m.stack_is') (made-append n (trees_from [] new) m.under (Node m.id ∷ []) under last)
+pub skipped_older : (n : ℕ) (cells : List Cell) (rest rest' : List Child) → Skips cells rest rest' → NoneIsMadeBy n (all_trees cells rest) → NoneIsMadeBy n (all_trees cells rest')
+skipped_older n cells rest rest' k h =
+    let parts : all_trees cells rest ≡ all_trees cells k.0 ++ all_trees cells rest' = ap (all_trees cells) k.1 ∙ trees_of-append (trees_from [] cells) k.0 rest' in
+    none_gone n (all_trees cells k.0) (all_trees cells rest') (subst (NoneIsMadeBy n) parts h)
 
 -- the store has one node more
 pub grown_by_one : (cells : List Cell) (stack : List Child) (p n : ℕ) (new : List Cell) (stack' : List Child) → HasMade cells stack p n new stack' → length new ≡ length cells + 1

@@ -21,9 +21,9 @@ use Rattle.trees.specs.declared.store.Child.TheVariants.{Token, Node}
 use Rattle.trees.specs.Cells.{Cell, tree}
 use Rattle.tables.specs.Tables.{Sets, IsAccepted}
 use Rattle.parser.specs.declared.parse.Verdict.TheVariants.{Tree as TreeAt, FaultAt as StopsAt, FaultAtEnd as StopsAtEnd}
-use Rattle.parser.specs.Machine.{plain_of, SoFar}
+use Rattle.parser.specs.Machine.{plain_of}
 use Rattle.parser.specs.Parses.{IsStoppedAt, last_leaf}
-use Rattle.parser.proofs.Moves.{top_stands, run_on}
+use Rattle.parser.proofs.Moves.{Reached, top_stands, run_on}
 
 last-append : (before : List Kind) (last : Kind) → last_leaf (before ++ (last ∷ [])) ≡ Leaf last ∷ []
 last-append [] last = refl
@@ -73,7 +73,7 @@ module _ (g : Grammar) where
   one_node cells (Node id ∷ []) t n e h = (id, refl)
   one_node cells (c ∷ d ∷ stack) t n e h = absurd (cc e)
 
-module _ (t : Sets) (accepted : IsAccepted t.grammar) (kinds : List Kind) (cells : List Cell) (stack : List Child) (states : List ℕ) (read : ℕ) (h : SoFar t kinds cells stack states read) where
+module _ (t : Sets) (accepted : IsAccepted t.grammar) (kinds : List Kind) (cells : List Cell) (stack : List Child) (states : List ℕ) (read : ℕ) (h : Reached t kinds cells stack states read) where
   pub some_state : 0 < length states
   some_state = omega (arith, h.has_states.long)
 

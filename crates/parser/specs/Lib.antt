@@ -1,2 +1,5 @@
+pub mod Front
+pub mod Input
 pub mod Machine
 pub mod Parses
+pub mod Run

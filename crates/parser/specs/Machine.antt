@@ -1,5 +1,5 @@
 -- How far the machine has come.
-use Rattle.std.specs.Prelude.{◌≡◌, ℕ, ◌+◌, ◌<◌, ◌≤◌, List, [], ◌∷◌, ◌++◌, length, take, slice_get, slice_index_or}
+use Rattle.std.specs.Prelude.{◌≡◌, ℕ, ◌+◌, ◌<◌, List, [], ◌∷◌, ◌++◌, length, take, slice_index_or}
 use Rattle.definitions.specs.declared.Kind.{Kind}
 use Rattle.definitions.specs.declared.Symbol.{Symbol}
 use Rattle.definitions.specs.Trees.{Tree, HaveRoots}
@@ -8,7 +8,6 @@ use Rattle.trees.specs.declared.store.NodeId.{NodeId}
 use Rattle.trees.specs.declared.store.Child.{Child}
 use Rattle.trees.specs.declared.store.Child.TheVariants.{Node}
 use Rattle.trees.specs.Cells.{Cell, AreBelow, IsGrown, all_trees}
-use Rattle.theory.specs.Machine.{Run, IsStackAfter}
 use Rattle.tables.specs.Tables.{Sets, IsStateOf}
 
 -- the trees of children, without their stamps
@@ -21,15 +20,6 @@ pub record HasStates (t : Sets) (stack : List Tree) (states : List ℕ) : Type 0
   pub roots : HaveRoots t.grammar stack symbols
   pub long : length states ≡ length symbols + 1
   pub each : (i : ℕ) → i < length states → IsStateOf t (take i symbols) (slice_index_or states i 0)
-
--- the machine has put as many kinds onto the stack as it has read, and has come to this stack on the next kind
-pub record SoFar (t : Sets) (kinds : List Kind) (cells : List Cell) (stack : List Child) (states : List ℕ) (read : ℕ) : Type 0 where
-  pub has_states : HasStates t (plain_of cells stack) states
-  pub below : AreBelow (length cells) stack
-  pub within : read ≤ length kinds
-  pub shifted : List Tree
-  pub after : IsStackAfter t.grammar (take read kinds) shifted
-  pub run : Run t.grammar (slice_get kinds read) shifted [] (plain_of cells stack)
 
 -- every branch of the tree was made by this edit
 abbrev mutual

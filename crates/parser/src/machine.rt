@@ -1,22 +1,39 @@
-//! The LR(1) machine, which makes trees of what it reads.
+//! The LR(1) machine, which makes trees of what it reads, and takes over whole trees of its input where it can.
 
-ghost use Rattle.std.specs.Prelude.{◌≡◌, ℕ, ◌+◌, ◌-◌, ◌^◌, ◌<◌, ◌≤◌, List, [], ◌∷◌, ◌++◌, length, take, slice_index_or, Option, IfOk};
+ghost use Rattle.std.specs.Prelude.{◌≡◌, ℕ, ◌+◌, ◌-◌, ◌^◌, ◌<◌, ◌≤◌, List, [], ◌∷◌, ◌++◌, length, take, drop, slice_index_or, Option, IfOk, MatchOption};
 ghost use Rattle.definitions.specs.declared.Kind.{Kind as TokenKind};
 ghost use Rattle.definitions.specs.declared.Symbol.{Symbol};
+ghost use Rattle.definitions.specs.declared.Symbol.TheVariants.{Nonterminal};
 ghost use Rattle.definitions.specs.Nodes.{all_branches};
-ghost use Rattle.definitions.specs.Trees.{HaveRoots};
+ghost use Rattle.definitions.specs.Trees.{Tree, HaveRoots, IsTree, yield};
+ghost use Rattle.definitions.specs.TreeEdits.{plain};
 ghost use Rattle.definitions.specs.Items.{HasMove, Reduce as ReduceMove};
 ghost use Rattle.trees.specs.declared.store.Child.{Child};
-ghost use Rattle.trees.specs.Cells.{AreBelow, forest_in};
+ghost use Rattle.trees.specs.Cells.{AreBelow, all_trees, tree};
 ghost use Rattle.theory.specs.Machine.{Reduces};
+ghost use Rattle.theory.specs.Reuse.{CanReuse};
 ghost use Rattle.tables.specs.Tables.{IsAccepted, IsStateOf};
-ghost use Rattle.parser.specs.Machine.{plain_of, HasStates, HasMade, SoFar, AreMadeBy};
+ghost use Rattle.parser.specs.Machine.{plain_of, HasStates, HasMade};
+ghost use Rattle.parser.specs.Input.{input_of, IsFull, IsInput, IsOpened};
+ghost use Rattle.parser.specs.Front.{Offers, IsReusable, IsOffer};
+ghost use Rattle.parser.specs.Run.{NoneIsMadeBy, SoFar};
 ghost use Rattle.parser.specs.Parses.{IsStoppedAt};
 
 use crate::Verdict;
+use crate::input::Input;
+use definitions::Kind;
 use std::alloc::{AllocError, Global};
 use tables::{Move, Tables};
-use trees::{Child, Kinds, Store};
+use trees::{Child, Kinds, NodeId, Store};
+
+/// What stands at the front of the input.
+#[derive(Clone, Copy)]
+pub enum Front {
+    /// A tree to take over, and the state behind it.
+    Tree(NodeId, usize),
+    /// A token of this kind, or the end.
+    Next(Option<Kind>),
+}
 
 /// The trees on the stack, the states below and above them, and the count of tokens read.
 #[derive(Drop)]
@@ -62,6 +79,70 @@ impl Machine {
         Ok(())
     }
 
+    /// The state behind a node, where the tables have a move there on what follows the node.
+    fn passes<K: Kinds>(
+        &self,
+        tables: &Tables,
+        store: &Store,
+        kinds: &K,
+        id: NodeId,
+    ) -> Option<usize>
+        requires states { HasStates tables.now (plain_of store.now self.now.stack.items) self.now.states.items }
+        requires inside { id.index < length store.now }
+        requires root { (left : ℕ) × IsTree tables.now.grammar (plain (tree store.now (Child.Node id))) (Nonterminal left) }
+        requires not_empty { 0 < length (yield (plain (tree store.now (Child.Node id)))) }
+        requires fits { self.now.read + length (yield (plain (tree store.now (Child.Node id)))) ≤ length (K.kinds kinds.now) }
+        ensures { MatchOption result (CanReuse tables.now.grammar (plain_of store.now self.now.stack.items) (plain (tree store.now (Child.Node id))) (drop (self.now.read + length (yield (plain (tree store.now (Child.Node id))))) (K.kinds kinds.now)) → ⊥) (λ next. IsReusable tables.now store.now (plain_of store.now self.now.stack.items) (K.kinds kinds.now) self.now.read id next) }
+    {
+        let _count = kinds.len();
+        let (left, _) = tables.production(store.production(id));
+        let Some(next) = tables.goto(self.state(), left) else {
+            return None;
+        };
+        let look = kinds.kind(self.read + store.tokens(id) as usize);
+        if tables.action(next, look).is_some() {
+            Some(next)
+        } else {
+            None
+        }
+    }
+
+    /// Tries the nodes on the left edge of the input, from the top down. Those that fail are opened.
+    fn front<K: Kinds>(
+        &self,
+        tables: &Tables,
+        store: &Store,
+        kinds: &K,
+        input: &mut Input,
+    ) -> Result<Front, AllocError>
+        requires states { HasStates tables.now (plain_of store.now self.now.stack.items) self.now.states.items }
+        requires input { IsInput tables.now.grammar store.now input.old (K.kinds kinds.now) self.now.read }
+        requires full { IsFull store.now input.old }
+        ensures input { IfOk result (λ _. IsInput tables.now.grammar store.now input.new (K.kinds kinds.now) self.now.read) }
+        ensures opened { IfOk result (λ _. IsOpened input.old input.new) }
+        ensures offers { IfOk result (λ _. Offers tables.now.grammar (plain_of store.now self.now.stack.items) (input_of store.now input.new (K.kinds kinds.now) self.now.read) (input_of store.now input.old (K.kinds kinds.now) self.now.read)) }
+        ensures older { IfOk result (λ _. (number : ℕ) → NoneIsMadeBy number (all_trees store.now input.old) → NoneIsMadeBy number (all_trees store.now input.new)) }
+        ensures offer { IfOk result (λ f. IsOffer tables.now store.now (plain_of store.now self.now.stack.items) (K.kinds kinds.now) self.now.read input.new f) }
+    {
+        'edge: while let Some(child) = input.first() {
+            match child {
+                Child::Token(_) => break,
+                Child::Node(id) => {
+                    if store.tokens(id) > 0 {
+                        if let Some(next) = self.passes(tables, store, kinds, id) {
+                            return Ok(Front::Tree(id, next));
+                        }
+                        input.take();
+                        input.put_all(store.children(id))?;
+                    } else {
+                        input.take();
+                    }
+                }
+            }
+        }
+        Ok(Front::Next(kinds.kind(self.read)))
+    }
+
     /// Puts a branch in the place of the last trees, as many as its production's right side has symbols.
     fn reduce(
         &mut self,
@@ -93,35 +174,49 @@ impl Machine {
         Ok(())
     }
 
-    /// Runs to the tree or to the fault, and stamps what it makes with the number.
+    /// Runs over the trees of the input, and the kinds that they don't cover, to the tree or to the fault. It stamps what it
+    /// makes with the number.
     pub fn run<K: Kinds>(
         &mut self,
         alloc: Global,
         tables: &Tables,
         store: &mut Store,
         kinds: &K,
+        mut input: Input,
         number: u64,
     ) -> Result<Verdict, AllocError>
         requires accepted { IsAccepted tables.now.grammar }
-        requires so_far { SoFar tables.now (K.kinds kinds.now) store.old self.old.stack.items self.old.states.items self.old.read }
-        requires stamps { AreMadeBy number (forest_in store.old self.old.stack.items) }
+        requires so_far { SoFar tables.now (input_of store.old input (K.kinds kinds.now) 0) (K.kinds kinds.now) (length store.old) number store.old self.old.stack.items self.old.states.items self.old.read input }
         ensures stops { IfOk result (λ v. IsStoppedAt tables.now (K.kinds kinds.now) store.new v self.new.stack.items self.new.states.items) }
-        ensures stamps { IfOk result (λ _. AreMadeBy number (forest_in store.new self.new.stack.items)) }
+        ensures so_far { IfOk result (λ _. (rest : List Child) × SoFar tables.now (input_of store.old input (K.kinds kinds.now) 0) (K.kinds kinds.now) (length store.old) number store.new self.new.stack.items self.new.states.items self.new.read rest) }
         ensures grown { take (length store.old) store.new ≡ store.old }
-        ensures count { IfOk result (λ _. length store.new + all_branches (plain_of store.old self.old.stack.items) ≡ length store.old + all_branches (plain_of store.new self.new.stack.items)) }
     {
         let count = kinds.len();
         'moves: loop {
-            let look = kinds.kind(self.read);
+            input.skip_empty(store);
+            let first = input.first();
+            let trees = input.len();
+            let look = match self.front(tables, store, kinds, &mut input)? {
+                Front::Tree(id, next) => {
+                    input.take();
+                    self.push(Child::Node(id), next)?;
+                    self.read += store.tokens(id) as usize;
+                    continue 'moves;
+                }
+                Front::Next(look) => look,
+            };
             match tables.action(self.state(), look) {
                 Some(Move::Shift(next)) => {
                     let Some(kind) = look else {
                         unreachable!();
                     };
+                    input.take();
                     self.push(Child::Token(kind), next)?;
                     self.read += 1;
                 }
                 Some(Move::Reduce(production)) => {
+                    // a node that fails the test on this stack may pass it on the next one
+                    input.close(first, trees)?;
                     self.reduce(alloc, tables, store, production, number)?;
                 }
                 Some(Move::Accept) => match self.stack[0] {

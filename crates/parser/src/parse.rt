@@ -8,6 +8,7 @@ ghost use Rattle.tables.specs.Tables.{Sets};
 ghost use Rattle.parser.specs.Machine.{plain_of, AreMadeBy};
 ghost use Rattle.parser.specs.Parses.{IsParseOf, MayFollow, verdict_in};
 
+use crate::input::Input;
 use crate::machine::Machine;
 use std::alloc::{AllocError, Global};
 use std::marker::Model;
@@ -56,7 +57,7 @@ fn parsed<K: Kinds>(
     ensures count { IfOk result (λ p. length store.new ≡ length store.old + all_branches (plain_of store.new p.stack)) }
 {
     let mut machine = Machine::new(alloc, tables)?;
-    let verdict = machine.run(alloc, tables, store, kinds, number)?;
+    let verdict = machine.run(alloc, tables, store, kinds, Input::new(alloc), number)?;
     let state = machine.state();
     Ok(Parse {
         verdict,

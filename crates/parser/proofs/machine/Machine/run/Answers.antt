@@ -1,18 +1,76 @@
-use Rattle.std.proofs.Common.{◌≡◌, ◌<◌, ◌≤◌, ◌+◌, ◌∷◌, ◌++◌, [], length, get_or, slice_get, Some, sym, ap, ◌∙◌, subst, arith}
+use Rattle.std.proofs.Common.{◌≡◌, ◌<◌, ◌≤◌, ◌+◌, ◌^◌, ◌∷◌, ◌++◌, [], length, get_or, slice_get, Some, sym, ap, ◌∙◌, subst, arith}
+use Rattle.std.proofs.lemmas.Option.{slice_get_within}
 use Rattle.definitions.specs.Items.{HasMove, Shift, Reduce, Accept}
-use Rattle.definitions.specs.Nodes.{all_branches}
-use Rattle.trees.specs.Cells.{forest_in, trees_from}
-use Rattle.trees.specs.declared.store.Child.TheVariants.{Token as TokenChild, Node}
+use Rattle.definitions.specs.Trees.{yield}
+use Rattle.definitions.specs.TreeEdits.{plain as plain_tree}
 use Rattle.definitions.specs.declared.Kind.TheVariants.{Rule as Token}
+use Rattle.trees.specs.Cells.{tree}
+use Rattle.trees.specs.declared.store.Child.TheVariants.{Token as TokenChild, Node}
 use Rattle.theory.specs.Machine.{Reduces}
 use Rattle.tables.specs.Actions.{plain}
 use Rattle.tables.specs.Tables.{IsStateOf}
-use Rattle.parser.specs.Machine.{SoFar, AreMadeBy, plain_of}
-use Rattle.parser.proofs.Moves.{top_stands, shifted_on, reduced_on}
-use Rattle.parser.proofs.Stamps.{made-append, stamped_on, below_on, front_stays, grown_by_one}
-use Rattle.parser.proofs.Counts.{shift_count, reduce_count}
-use Rattle.parser.proofs.Stops.{at_fault, at_end, at_tree, one_on_stack}
+use Rattle.parser.specs.Front.{Offers, IsOffer}
+use Rattle.parser.specs.Input.{input_of}
+use Rattle.parser.specs.Machine.{plain_of}
+use Rattle.parser.specs.Parses.{IsStoppedAt}
+use Rattle.parser.specs.Run.{SoFar}
+use Rattle.parser.proofs.Inputs.{taken}
+use Rattle.parser.proofs.Moves.{top_stands}
+use Rattle.parser.proofs.Reusing.{counted}
+use Rattle.parser.proofs.Running.{behind_first, reached, reduced_on, shifted_on, skipped_on, taken_on}
+use Rattle.parser.proofs.Stamps.{front_stays, skipped_older}
+use Rattle.parser.proofs.Stops.{IsStuck, at_fault, at_end, at_tree, one_on_stack}
+use Rattle.parser.proofs.machine.Machine.run.Goals.{then-self-count, else-self-count}
 use Rattle.parser.proofs.machine.Machine.run.Goals as goal
+
+pub front-requires-clause-input : goal.front-requires-clause-input
+front-requires-clause-input g c = (skipped_on c.args.tables.now.grammar c.moves.store (g.K.Kinds.kinds c.args.kinds.now) c.moves.self.read c.moves.input c.skip_empty.new.self c.skip_empty.ensures.skips c.moves.invariant.so_far.input).0
+
+pub moves-preserved-in-Tree : goal.moves-preserved-in-Tree
+moves-preserved-in-Tree g c =
+    let t = c.args.tables.now in
+    let kinds = g.K.Kinds.kinds c.args.kinds.now in
+    let cells = c.moves.store in
+    let m = c.moves.self in
+    let h = c.moves.invariant.so_far in
+    let whole = input_of c.args.store.now c.args.input kinds 0 in
+    let before = length c.args.store.now in
+    let trees = plain_of cells m.stack.items in
+    let on = skipped_on t.grammar cells kinds m.read c.moves.input c.skip_empty.new.self c.skip_empty.ensures.skips h.input in
+    let now = c.front.new.input in
+    let offers : Offers t.grammar trees (input_of cells now kinds m.read) (input_of cells c.moves.input kinds m.read) = λ f d. on.1 trees f (c.in_ok-id.ensures.offers f d) in
+    let id = c.in-Tree.id in
+    let older = c.in_ok-id.ensures.older c.args.number (skipped_older c.args.number cells c.moves.input c.skip_empty.new.self c.skip_empty.ensures.skips h.older) in
+    let offer = subst (IsOffer t cells trees kinds m.read now) c.in-Tree.is c.in_ok-id.ensures.offer in
+    let rest = c.take.new.self in
+    let now_is = taken c.take.result now rest offer.0.0 (Node id) c.take.ensures offer.0.1 in
+    let next = taken_on t whole kinds before c.args.number cells m.stack.items m.states.items m.read c.moves.input h now rest id c.in-Tree.next now_is c.in_ok-id.ensures.input offers older offer.1 in
+    let n = length (yield (plain_tree (tree cells (Node id)))) in
+    let count : c.tokens.result ≡ n = c.tokens.ensures.is ∙ counted n (omega (arith, next.within, c.len-count.ensures, c.len-count.type_inv)) in
+    let push = c.in_ok-push-in-Tree.ensures in
+    let read : m.read + n ≡ c.push.new.self.read + c.tokens.result = omega (arith, push.read, count) in
+    record {
+      so_far = subst (λ s. SoFar t whole kinds before c.args.number cells s c.push.new.self.states.items (c.push.new.self.read + c.tokens.result) rest) (sym push.stack) (subst (λ s. SoFar t whole kinds before c.args.number cells (m.stack.items ++ (Node id ∷ [])) s (c.push.new.self.read + c.tokens.result) rest) (sym push.states) (subst (λ r. SoFar t whole kinds before c.args.number cells (m.stack.items ++ (Node id ∷ [])) (m.states.items ++ (c.in-Tree.next ∷ [])) r rest) read next));
+      grown = c.moves.invariant.grown;
+    }
+
+pub overflow_add-self-in-Some-Shift : goal.overflow_add-self-in-Some-Shift
+overflow_add-self-in-Some-Shift g c =
+    let kinds = g.K.Kinds.kinds c.args.kinds.now in
+    let m = c.moves.self in
+    let trees = plain_of c.moves.store m.stack.items in
+    let offer = subst (IsOffer c.args.tables.now c.moves.store trees kinds m.read c.front.new.input) c.in-Next.is c.in_ok-id.ensures.offer in
+    let lt : m.read < length kinds = slice_get_within kinds m.read c.in-Some.kind (sym offer.0 ∙ c.in-Some.is) in
+    omega (arith, lt, c.len-count.ensures, c.len-count.type_inv, c.in_ok-push-in-Some-Shift.ensures.read)
+
+pub moves-smaller-in-Some-Shift : goal.moves-smaller-in-Some-Shift
+moves-smaller-in-Some-Shift g c =
+    let kinds = g.K.Kinds.kinds c.args.kinds.now in
+    let m = c.moves.self in
+    let trees = plain_of c.moves.store m.stack.items in
+    let offer = subst (IsOffer c.args.tables.now c.moves.store trees kinds m.read c.front.new.input) c.in-Next.is c.in_ok-id.ensures.offer in
+    let lt : m.read < length kinds = slice_get_within kinds m.read c.in-Some.kind (sym offer.0 ∙ c.in-Some.is) in
+    omega (arith, lt, c.in_ok-push-in-Some-Shift.ensures.read)
 
 pub moves-preserved-in-Some-Shift : goal.moves-preserved-in-Some-Shift
 moves-preserved-in-Some-Shift g c =
@@ -21,23 +79,31 @@ moves-preserved-in-Some-Shift g c =
     let cells = c.moves.store in
     let m = c.moves.self in
     let h = c.moves.invariant.so_far in
-    let symbols = h.has_states.symbols in
-    let there = subst (IsStateOf t symbols) (sym c.state.ensures) (top_stands t (plain_of cells m.stack.items) m.states.items h.has_states) in
+    let whole = input_of c.args.store.now c.args.input kinds 0 in
+    let before = length c.args.store.now in
+    let trees = plain_of cells m.stack.items in
+    let on = skipped_on t.grammar cells kinds m.read c.moves.input c.skip_empty.new.self c.skip_empty.ensures.skips h.input in
+    let now = c.front.new.input in
+    let offers : Offers t.grammar trees (input_of cells now kinds m.read) (input_of cells c.moves.input kinds m.read) = λ f d. on.1 trees f (c.in_ok-id.ensures.offers f d) in
+    let offer = subst (IsOffer t cells trees kinds m.read now) c.in-Next.is c.in_ok-id.ensures.offer in
+    let older = c.in_ok-id.ensures.older c.args.number (skipped_older c.args.number cells c.moves.input c.skip_empty.new.self c.skip_empty.ensures.skips h.older) in
     let k = c.in-Some.kind in
+    let is : slice_get kinds m.read ≡ Some k = sym offer.0 ∙ c.in-Some.is in
+    let rest = c.take-in-Some-Shift.new.self in
+    let behind = behind_first t.grammar cells kinds m.read now rest c.take-in-Some-Shift.result k offer.1 c.in_ok-id.ensures.input is c.take-in-Some-Shift.ensures in
+    let symbols = h.has_states.symbols in
+    let there = subst (IsStateOf t symbols) (sym c.state.ensures) (top_stands t trees m.states.items h.has_states) in
     let next = c.in-Some-Shift.next in
-    let look : c.kind-look.result ≡ Some k = c.in-Some.is in
-    let called : HasMove t.grammar symbols (Some k) Shift = subst (λ l. HasMove t.grammar symbols l Shift) look (subst (λ move. HasMove t.grammar symbols c.kind-look.result (plain move)) c.in-Some-Shift.field-0-is (c.in-Some-Shift.ensures.is symbols there)) in
+    let called : HasMove t.grammar symbols (Some k) Shift = subst (λ l. HasMove t.grammar symbols l Shift) c.in-Some.is (subst (λ move. HasMove t.grammar symbols c.in-Next.look (plain move)) c.in-Some-Shift.field-0-is (c.in-Some-Shift.ensures.is symbols there)) in
     let a = called.calls.0 in
     let rule : k ≡ Token a = let same : Some k ≡ Some (Token a) = called.calls.3 in cc same in
-    let goes = c.in-Some-Shift.ensures.shifts symbols a next there (look ∙ ap Some rule) (ap Some c.in-Some-Shift.field-0-is) in
-    let on = shifted_on t kinds cells m.stack.items m.states.items m.read h k a next (sym c.kind-look.ensures ∙ look) rule called goes in
+    let goes = c.in-Some-Shift.ensures.shifts symbols a next there (c.in-Some.is ∙ ap Some rule) (ap Some c.in-Some-Shift.field-0-is) in
+    let one = shifted_on t whole kinds before c.args.number cells m.stack.items m.states.items m.read c.moves.input h now rest k a next behind c.in_ok-id.ensures.input offers older rule (slice_get_within kinds m.read k is) called goes in
     let push = c.in_ok-push-in-Some-Shift.ensures in
-    let so_far = subst (λ s. SoFar t kinds cells s c.push.new.self.states.items (c.push.new.self.read + 1)) (sym push.stack) (subst (λ s. SoFar t kinds cells (m.stack.items ++ (TokenChild k ∷ [])) s (c.push.new.self.read + 1)) (sym push.states) (subst (λ r. SoFar t kinds cells (m.stack.items ++ (TokenChild k ∷ [])) (m.states.items ++ (next ∷ [])) (r + 1)) (sym push.read) on)) in
+    let m' = c.push-in-Some-Shift.new.self in
     record {
-      so_far = so_far;
-      stamps = subst (λ s. AreMadeBy c.args.number (forest_in cells s)) (sym push.stack) (made-append c.args.number (trees_from [] cells) m.stack.items (TokenChild k ∷ []) c.moves.invariant.stamps (tt, tt));
+      so_far = subst (λ s. SoFar t whole kinds before c.args.number cells s m'.states.items (m'.read + 1) rest) (sym push.stack) (subst (λ s. SoFar t whole kinds before c.args.number cells (m.stack.items ++ (TokenChild k ∷ [])) s (m'.read + 1) rest) (sym push.states) (subst (λ r. SoFar t whole kinds before c.args.number cells (m.stack.items ++ (TokenChild k ∷ [])) (m.states.items ++ (next ∷ [])) (r + 1) rest) (sym push.read) one));
       grown = c.moves.invariant.grown;
-      count = c.moves.invariant.count ∙ ap (λ n. length c.args.store.now + n) (sym (subst (λ s. all_branches (plain_of cells s) ≡ all_branches (plain_of cells m.stack.items)) (sym push.stack) (shift_count cells m.stack.items k)));
     }
 
 pub moves-preserved : goal.moves-preserved
@@ -47,48 +113,28 @@ moves-preserved g c =
     let cells = c.moves.store in
     let m = c.moves.self in
     let h = c.moves.invariant.so_far in
+    let whole = input_of c.args.store.now c.args.input kinds 0 in
+    let before = length c.args.store.now in
+    let trees = plain_of cells m.stack.items in
+    let full = c.skip_empty.new.self in
+    let on = skipped_on t.grammar cells kinds m.read c.moves.input full c.skip_empty.ensures.skips h.input in
+    let now = c.front.new.input in
+    let offers : Offers t.grammar trees (input_of cells now kinds m.read) (input_of cells c.moves.input kinds m.read) = λ f d. on.1 trees f (c.in_ok-id.ensures.offers f d) in
+    let offer = subst (IsOffer t cells trees kinds m.read now) c.in-Next.is c.in_ok-id.ensures.offer in
     let symbols = h.has_states.symbols in
-    let there = subst (IsStateOf t symbols) (sym c.state.ensures) (top_stands t (plain_of cells m.stack.items) m.states.items h.has_states) in
+    let there = subst (IsStateOf t symbols) (sym c.state.ensures) (top_stands t trees m.states.items h.has_states) in
     let p = c.in-Some-Reduce.production in
     let new = c.reduce.new.store in
     let m' = c.reduce.new.self in
-    let called : HasMove t.grammar symbols c.kind-look.result (Reduce p) = subst (λ move. HasMove t.grammar symbols c.kind-look.result (plain move)) c.in-Some-Reduce.field-0-is (c.in-Some-Reduce.ensures.is symbols there) in
+    let called : HasMove t.grammar symbols c.in-Next.look (Reduce p) = subst (λ move. HasMove t.grammar symbols c.in-Next.look (plain move)) c.in-Some-Reduce.field-0-is (c.in-Some-Reduce.ensures.is symbols there) in
     let done = c.in_ok-reduce-in-Some-Reduce.ensures in
-    let reduces = subst (λ l. Reduces t.grammar (plain_of cells m.stack.items) l (plain_of new m'.stack.items)) c.kind-look.ensures (done.reduced c.kind-look.result symbols h.has_states.roots called) in
-    let below = below_on cells m.stack.items p c.args.number new m'.stack.items done.made h.below in
-    let on = reduced_on t kinds cells m.stack.items m.states.items m.read h new m'.stack.items m'.states.items reduces done.states below in
+    let reduces = subst (λ l. Reduces t.grammar trees l (plain_of new m'.stack.items)) offer.0 (done.reduced c.in-Next.look symbols h.has_states.roots called) in
+    let closed = c.in_ok-close-in-Some-Reduce.ensures full c.in_ok-id.ensures.opened c.len-trees.ensures c.first-first.ensures in
+    let one = reduced_on t whole kinds before c.args.number cells m.stack.items m.states.items m.read c.moves.input h now offer.1 offers p new m'.stack.items m'.states.items done.made reduces done.states full on.0 on.1 (skipped_older c.args.number cells c.moves.input full c.skip_empty.ensures.skips h.older) in
     record {
-      so_far = subst (SoFar t kinds new m'.stack.items m'.states.items) (sym done.read) on;
-      stamps = stamped_on cells m.stack.items p c.args.number new m'.stack.items done.made h.below c.moves.invariant.stamps;
+      so_far = subst (λ r. SoFar t whole kinds before c.args.number new m'.stack.items m'.states.items r c.close.new.self) (sym done.read) (subst (SoFar t whole kinds before c.args.number new m'.stack.items m'.states.items m.read) (sym closed) one);
       grown = front_stays c.args.store.now cells new c.moves.invariant.grown done.grown;
-      count = omega (arith, c.moves.invariant.count, grown_by_one cells m.stack.items p c.args.number new m'.stack.items done.made, reduce_count t.grammar (plain_of cells m.stack.items) (slice_get kinds m.read) (plain_of new m'.stack.items) reduces);
     }
-
-pub returns-then-self-count-clause-stops : goal.returns-then-self-count-clause-stops
-returns-then-self-count-clause-stops g c =
-    let t = c.args.tables.now in
-    let kinds = g.K.Kinds.kinds c.args.kinds.now in
-    let cells = c.moves.store in
-    let m = c.moves.self in
-    let h = c.moves.invariant.so_far in
-    let symbols = h.has_states.symbols in
-    let there = subst (IsStateOf t symbols) (sym c.state.ensures) (top_stands t (plain_of cells m.stack.items) m.states.items h.has_states) in
-    let stuck = c.in-None.ensures.is symbols there in
-    let lt : m.read < length kinds = omega (arith, c.if-self-count.true, c.len-count.ensures) in
-    at_fault t c.requires.accepted kinds cells m.stack.items m.states.items m.read h (λ move called. stuck move (subst (λ l. HasMove t.grammar symbols l move) (sym c.kind-look.ensures) called)) lt
-
-pub returns-else-self-count-clause-stops : goal.returns-else-self-count-clause-stops
-returns-else-self-count-clause-stops g c =
-    let t = c.args.tables.now in
-    let kinds = g.K.Kinds.kinds c.args.kinds.now in
-    let cells = c.moves.store in
-    let m = c.moves.self in
-    let h = c.moves.invariant.so_far in
-    let symbols = h.has_states.symbols in
-    let there = subst (IsStateOf t symbols) (sym c.state.ensures) (top_stands t (plain_of cells m.stack.items) m.states.items h.has_states) in
-    let stuck = c.in-None.ensures.is symbols there in
-    let le : length kinds ≤ m.read = omega (arith, c.if-self-count.false, c.len-count.ensures) in
-    at_end t c.requires.accepted kinds cells m.stack.items m.states.items m.read h (λ move called. stuck move (subst (λ l. HasMove t.grammar symbols l move) (sym c.kind-look.ensures) called)) le
 
 pub returns-in-Node-clause-stops : goal.returns-in-Node-clause-stops
 returns-in-Node-clause-stops g c =
@@ -97,9 +143,32 @@ returns-in-Node-clause-stops g c =
     let cells = c.moves.store in
     let m = c.moves.self in
     let h = c.moves.invariant.so_far in
-    let symbols = h.has_states.symbols in
-    let there = subst (IsStateOf t symbols) (sym c.state.ensures) (top_stands t (plain_of cells m.stack.items) m.states.items h.has_states) in
-    let called : HasMove t.grammar symbols (slice_get kinds m.read) Accept = subst (λ l. HasMove t.grammar symbols l Accept) c.kind-look.ensures (subst (λ move. HasMove t.grammar symbols c.kind-look.result (plain move)) c.in-Some-Accept.field-0-is (c.in-Some-Accept.ensures.is symbols there)) in
-    let one = one_on_stack t c.requires.accepted kinds cells m.stack.items m.states.items m.read h called in
+    let whole = input_of c.args.store.now c.args.input kinds 0 in
+    let trees = plain_of cells m.stack.items in
+    let offer = subst (IsOffer t cells trees kinds m.read c.front.new.input) c.in-Next.is c.in_ok-id.ensures.offer in
+    let here = reached t whole kinds (length c.args.store.now) c.args.number cells m.stack.items m.states.items m.read c.moves.input h c.requires.accepted.productive in
+    let symbols = here.has_states.symbols in
+    let there = subst (IsStateOf t symbols) (sym c.state.ensures) (top_stands t trees m.states.items here.has_states) in
+    let called : HasMove t.grammar symbols (slice_get kinds m.read) Accept = subst (λ l. HasMove t.grammar symbols l Accept) offer.0 (subst (λ move. HasMove t.grammar symbols c.in-Next.look (plain move)) c.in-Some-Accept.field-0-is (c.in-Some-Accept.ensures.is symbols there)) in
+    let one = one_on_stack t c.requires.accepted kinds cells m.stack.items m.states.items m.read here called in
     let first : Node c.in-Node.id ≡ Node one.0 = sym c.in-Node.is ∙ c.index.ensures ∙ ap (λ l. get_or l 0 c.index.result.now) one.1 in
-    at_tree t c.requires.accepted kinds cells m.stack.items m.states.items m.read h called c.in-Node.id (one.1 ∙ ap (λ n. n ∷ []) (sym first))
+    at_tree t c.requires.accepted kinds cells m.stack.items m.states.items m.read here called c.in-Node.id (one.1 ∙ ap (λ n. n ∷ []) (sym first))
+
+pub returns-in-None-clause-stops : goal.returns-in-None-clause-stops
+returns-in-None-clause-stops g c =
+    let t = c.args.tables.now in
+    let kinds = g.K.Kinds.kinds c.args.kinds.now in
+    let cells = c.moves.store in
+    let m = c.moves.self in
+    let h = c.moves.invariant.so_far in
+    let whole = input_of c.args.store.now c.args.input kinds 0 in
+    let trees = plain_of cells m.stack.items in
+    let offer = subst (IsOffer t cells trees kinds m.read c.front.new.input) c.in-Next.is c.in_ok-id.ensures.offer in
+    let here = reached t whole kinds (length c.args.store.now) c.args.number cells m.stack.items m.states.items m.read c.moves.input h c.requires.accepted.productive in
+    let symbols = here.has_states.symbols in
+    let there = subst (IsStateOf t symbols) (sym c.state.ensures) (top_stands t trees m.states.items here.has_states) in
+    let stuck : IsStuck t c.requires.accepted kinds cells m.stack.items m.states.items m.read here = λ move called. c.in-None.ensures.is symbols there move (subst (λ l. HasMove t.grammar symbols l move) (sym offer.0) called) in
+    elim c.if-self-count.branch
+    [ then-self-count w ↦ subst (λ v. IsStoppedAt t kinds cells v m.stack.items m.states.items) (sym w.result-is) (at_fault t c.requires.accepted kinds cells m.stack.items m.states.items m.read here stuck (omega (arith, w.if-self-count.true, c.len-count.ensures)))
+    | else-self-count w ↦ subst (λ v. IsStoppedAt t kinds cells v m.stack.items m.states.items) (sym w.result-is) (at_end t c.requires.accepted kinds cells m.stack.items m.states.items m.read here stuck (omega (arith, w.if-self-count.false, c.len-count.ensures)))
+    ]

@@ -1,0 +1,104 @@
+-- The left edge of the input, opened step by step.
+use mathlib.Core.List.{head-eq_of_cons-eq}
+use Rattle.std.proofs.Common.{Option, Some, None, MatchOption, ◌≡◌, ℕ, ◌+◌, ◌-◌, ◌<◌, ◌≤◌, zero, suc, min, ◌^◌, List, [], ◌∷◌, ◌++◌, length, drop, refl, sym, ap, ◌∙◌, subst, arith, append_assoc, length-append, length-drop}
+use Rattle.definitions.specs.declared.Kind.{Kind}
+use Rattle.definitions.specs.declared.Kind.TheVariants.{Rule as Token', Invalid}
+use Rattle.definitions.specs.declared.Symbol.{Symbol}
+use Rattle.definitions.specs.declared.Symbol.TheVariants.{Rule as Terminal, Nonterminal}
+use Rattle.definitions.specs.Trees.{Grammar, Tree, Leaf, Branch, Forest, trees, IsTree, HaveRoots, yield, yields, all_kinds}
+use Rattle.definitions.specs.Nodes.{branches, all_branches}
+use Rattle.definitions.specs.TreeEdits.{Stamped, StampedBranch, StampedForest, plain, plain_all, plain_trees}
+use Rattle.theory.proofs.Sound.{kinds-append, kinds-trees}
+use Rattle.theory.proofs.Simulation.{roots-append, roots-trees}
+use Rattle.theory.proofs.Reused.{branches-append, branches-trees}
+use Rattle.theory.specs.Reuse.{CanReuse, Front, Tries, Dropped, Opened}
+use Rattle.trees.specs.declared.store.Child.{Child}
+use Rattle.trees.specs.declared.store.NodeId.{NodeId}
+use Rattle.trees.specs.declared.store.Child.TheVariants.{Token, Node}
+use Rattle.trees.specs.Cells.{Cell, most, IsBelow, AreBelow, tree, tree_of, trees_of, trees_from, forest_of}
+use Rattle.parser.specs.Machine.{plain_of}
+use Rattle.parser.specs.Input.{leaves, before_leaves}
+use Rattle.parser.specs.Front.{Offers}
+use Rattle.parser.proofs.Inputs.{no_kinds}
+use Rattle.parser.proofs.Reductions.{plain-append, plain-children}
+
+-- how much there is to open or to drop
+abbrev pub weight : List Tree → ℕ
+weight ts = all_branches ts + length (all_kinds ts)
+
+-- one step to the left edge
+abbrev pub Step : Grammar → List Tree → List Kind → ℕ → List Tree → List Tree → Type 0
+Step g stack kinds read new old = ((ss : List Symbol) × HaveRoots g new ss) × (all_kinds (before_leaves new kinds read) ≡ drop read kinds) × Offers g stack (before_leaves new kinds read) (before_leaves old kinds read) × (weight new < weight old)
+
+pub after_drop : (xs ys zs : List Kind) (n : ℕ) → xs ++ ys ≡ drop n zs → ys ≡ drop (n + length xs) zs
+after_drop xs ys zs zero e = let h : length xs ≡ 0 + length xs = omega arith in sym (drop_past xs ys) ∙ ap (drop (length xs)) e ∙ ap (λ k. drop k zs) h
+  where
+    drop_past : (xs ys : List Kind) → drop (length xs) (xs ++ ys) ≡ ys
+    drop_past [] ys = refl
+    drop_past (x ∷ xs) ys = drop_past xs ys
+after_drop [] ys [] (suc n) e = e ∙ ap (λ k. drop k []) (let h : suc n ≡ suc n + 0 = omega arith in h)
+after_drop (x ∷ xs) ys [] (suc n) e = absurd (cc e)
+after_drop xs ys (z ∷ zs) (suc n) e = let h : suc (n + length xs) ≡ suc n + length xs = omega arith in after_drop xs ys zs n e ∙ ap (λ k. drop k (z ∷ zs)) h
+
+empty_branch : (t : Tree) → length (yield t) ≡ 0 → 0 < branches t
+empty_branch (Leaf k) e = absurd (omega (arith, e))
+empty_branch (Branch p us) e = omega arith
+
+module _ (g : Grammar) (stack : List Tree) (kinds : List Kind) (read : ℕ) where
+  seen_open : (us : Forest) (ts : List Tree) → before_leaves (trees us ++ ts) kinds read ≡ trees us ++ (ts ++ leaves (drop (read + length (yields us ++ all_kinds ts)) kinds))
+  seen_open us ts =
+      let e : all_kinds (trees us ++ ts) ≡ yields us ++ all_kinds ts = kinds-append (trees us) ts ∙ ap (λ l. l ++ all_kinds ts) (kinds-trees us) in
+      append_assoc (trees us) ts (leaves (drop (read + length (all_kinds (trees us ++ ts))) kinds)) ∙ ap (λ l. trees us ++ (ts ++ leaves (drop (read + length l) kinds))) e
+
+  open_roots : (p : ℕ) (us : Forest) (ts : List Tree) (ss : List Symbol) → HaveRoots g (Branch p us ∷ ts) ss → (rs : List Symbol) × HaveRoots g (trees us ++ ts) rs
+  open_roots p us ts [] h = absurd h
+  open_roots p us ts (Terminal a ∷ ss) h = absurd h.0
+  open_roots p us ts (Nonterminal n ∷ ss) h = (h.0.0 ++ ss, roots-append g (trees us) ts h.0.0 ss (roots-trees g us h.0.0 h.0.2) h.1)
+
+  open_step : (p : ℕ) (us : Forest) (ts : List Tree) (ss : List Symbol) → HaveRoots g (Branch p us ∷ ts) ss → all_kinds (before_leaves (Branch p us ∷ ts) kinds read) ≡ drop read kinds → (CanReuse g stack (Branch p us) (drop (read + length (yields us)) kinds) → ⊥) → Step g stack kinds read (trees us ++ ts) (Branch p us ∷ ts)
+  open_step p us ts ss roots covers fails =
+      let rest = ts ++ leaves (drop (read + length (yields us ++ all_kinds ts)) kinds) in
+      let behind : all_kinds rest ≡ drop (read + length (yields us)) kinds = after_drop (yields us) (all_kinds rest) kinds read covers in
+      let shape = seen_open us ts in (
+        open_roots p us ts ss roots,
+        ap all_kinds shape ∙ kinds-append (trees us) rest ∙ ap (λ l. l ++ all_kinds rest) (kinds-trees us) ∙ covers,
+        (λ f d. Opened (subst (λ l. CanReuse g stack (Branch p us) l → ⊥) (sym behind) fails) (subst (λ l. Tries g stack l f) shape d)),
+        omega (arith, branches-append (trees us) ts, branches-trees us, ap length (kinds-append (trees us) ts), ap length (kinds-trees us), length-append (all_kinds (trees us)) (all_kinds ts), length-append (yields us) (all_kinds ts)),
+      )
+
+  pub tail_roots : (t : Tree) (ts : List Tree) (ss : List Symbol) → HaveRoots g (t ∷ ts) ss → (rs : List Symbol) × HaveRoots g ts rs
+  tail_roots t ts [] h = absurd h
+  tail_roots t ts (s ∷ ss) h = (ss, h.1)
+
+  drop_step : (t : Tree) (ts : List Tree) (ss : List Symbol) → HaveRoots g (t ∷ ts) ss → all_kinds (before_leaves (t ∷ ts) kinds read) ≡ drop read kinds → length (yield t) ≡ 0 → Step g stack kinds read ts (t ∷ ts)
+  drop_step t ts ss roots covers empty =
+      let none = no_kinds (yield t) empty in
+      let shape : before_leaves (t ∷ ts) kinds read ≡ t ∷ before_leaves ts kinds read = ap (λ y. t ∷ (ts ++ leaves (drop (read + length (y ++ all_kinds ts)) kinds))) none in (
+        tail_roots t ts ss roots,
+        sym (ap all_kinds shape ∙ ap (λ l. l ++ all_kinds (before_leaves ts kinds read)) none) ∙ covers,
+        (λ f d. subst (λ l. Tries g stack l f) (sym shape) (Dropped none d)),
+        omega (arith, empty_branch t empty, empty, length-append (yield t) (all_kinds ts)),
+      )
+
+  -- the first tree's kinds are among those that are left
+  pub first_fits : (t : Tree) (ts : List Tree) → all_kinds (before_leaves (t ∷ ts) kinds read) ≡ drop read kinds → 0 < length (yield t) → read + length (yield t) ≤ length kinds
+  first_fits t ts covers n =
+      let rest = ts ++ leaves (drop (read + length (yield t ++ all_kinds ts)) kinds) in
+      omega (arith, n, ap length covers, length-append (yield t) (all_kinds rest), length-drop read kinds)
+
+  pub first_root : (p : ℕ) (us : Forest) (t : Tree) (ts : List Tree) (ss : List Symbol) → t ≡ Branch p us → HaveRoots g (t ∷ ts) ss → (left : ℕ) × IsTree g t (Nonterminal left)
+  first_root p us t ts [] e h = absurd h
+  first_root p us t ts (Terminal a ∷ ss) e h = absurd (subst (λ u. IsTree g u (Terminal a)) e h.0)
+  first_root p us t ts (Nonterminal n ∷ ss) e h = (n, h.0)
+
+pub opened : (g : Grammar) (cells : List Cell) (stack : List Tree) (kinds : List Kind) (read : ℕ) (id : NodeId) (rest kids : List Child) (p b : ℕ) → tree cells (Node id) ≡ StampedBranch p b (forest_of (trees_from [] cells) kids) → (ss : List Symbol) → HaveRoots g (plain_of cells (Node id ∷ rest)) ss → all_kinds (before_leaves (plain_of cells (Node id ∷ rest)) kinds read) ≡ drop read kinds → (CanReuse g stack (plain (tree cells (Node id))) (drop (read + length (yield (plain (tree cells (Node id))))) kinds) → ⊥) → Step g stack kinds read (plain_of cells (kids ++ rest)) (plain_of cells (Node id ∷ rest))
+opened g cells stack kinds read id rest kids p b e ss roots covers fails =
+    let us = plain_all (forest_of (trees_from [] cells) kids) in
+    let ts = plain_of cells rest in
+    let is : Branch p us ≡ plain (tree cells (Node id)) = sym (ap plain e) in
+    let new : trees us ++ ts ≡ plain_of cells (kids ++ rest) = ap (λ l. l ++ ts) (sym (plain-children (trees_from [] cells) kids)) ∙ sym (plain-append cells kids rest) in
+    let step = subst (λ t. HaveRoots g (t ∷ ts) ss → all_kinds (before_leaves (t ∷ ts) kinds read) ≡ drop read kinds → (CanReuse g stack t (drop (read + length (yield t)) kinds) → ⊥) → Step g stack kinds read (trees us ++ ts) (t ∷ ts)) is (open_step g stack kinds read p us ts ss) in
+    subst (λ l. Step g stack kinds read l (plain_of cells (Node id ∷ rest))) new (step roots covers fails)
+
+pub dropped : (g : Grammar) (cells : List Cell) (stack : List Tree) (kinds : List Kind) (read : ℕ) (c : Child) (rest : List Child) (ss : List Symbol) → HaveRoots g (plain_of cells (c ∷ rest)) ss → all_kinds (before_leaves (plain_of cells (c ∷ rest)) kinds read) ≡ drop read kinds → length (yield (plain (tree cells c))) ≡ 0 → Step g stack kinds read (plain_of cells rest) (plain_of cells (c ∷ rest))
+dropped g cells stack kinds read c rest ss roots covers empty = drop_step g stack kinds read (plain (tree cells c)) (plain_of cells rest) ss roots covers empty

@@ -1,0 +1,103 @@
+-- What is taken from the front of the input, and put back there.
+use Rattle.std.proofs.Common.{◌≡◌, ℕ, ◌+◌, ◌-◌, ◌<◌, ◌≤◌, zero, suc, min, ◌^◌, List, [], ◌∷◌, ◌++◌, length, drop, Option, Some, None, MatchOption, refl, sym, ap, ◌∙◌, subst, arith, length-append, append_assoc}
+use mathlib.Core.List.{tail-eq_of_cons-eq, head-eq_of_cons-eq}
+use Rattle.std.proofs.Math.Seq.{drop-append_seam}
+use Rattle.std.proofs.lemmas.List.{append-nil}
+use Rattle.definitions.specs.declared.Kind.{Kind}
+use Rattle.definitions.specs.Trees.{all_kinds, yield}
+use Rattle.definitions.specs.TreeEdits.{StampedBranch, plain, plain_all}
+use Rattle.theory.proofs.Sound.{kinds-append, kinds-trees}
+use Rattle.trees.specs.declared.store.Child.{Child}
+use Rattle.trees.specs.declared.store.Child.TheVariants.{Node}
+use Rattle.trees.specs.declared.store.NodeId.{NodeId}
+use Rattle.trees.specs.Cells.{Cell, AreBelow, most, tree, trees_from, forest_of}
+use Rattle.parser.specs.Input.{BeginsWith, IsFull, IsOpened, Skips}
+use Rattle.parser.specs.Machine.{plain_of}
+use Rattle.parser.proofs.Reductions.{plain-append, plain-children}
+
+pub taken : (r : Option Child) (old new rest : List Child) (c : Child) → MatchOption r ((old ≡ []) × (new ≡ [])) (λ x. old ≡ x ∷ new) → old ≡ c ∷ rest → old ≡ c ∷ new
+taken None old new rest c h e = absurd (let k : [] ≡ c ∷ rest = sym h.0 ∙ e in cc k)
+taken (Some x) old new rest c h e = h ∙ ap (λ y. y ∷ new) (head-eq_of_cons-eq (sym h ∙ e))
+
+-- what stands behind the opened child is what stood behind it before
+pub behind_opened : (before now rest : List Child) (c : Child) → before ≡ c ∷ rest → IsOpened before now → drop (length now - (length before - 1)) now ≡ rest
+behind_opened [] now rest c e h = absurd (cc e)
+behind_opened (d ∷ ds) now rest c e h =
+    let back : ds ≡ rest = tail-eq_of_cons-eq e in
+    let n : length now - (length (d ∷ ds) - 1) ≡ length h.0 = omega (arith, ap length h.1, length-append h.0 ds) in
+    (λ i. drop (n i) (h.1 i)) ∙ drop-append_seam h.0 ds ∙ back
+
+pub opened_fits : (before now : List Child) → IsOpened before now → length before - 1 ≤ length now
+opened_fits [] now h = omega arith
+opened_fits (d ∷ ds) now h = omega (arith, ap length h.1, length-append h.0 ds)
+
+pub begins_none : (cs : List Child) → BeginsWith cs None → cs ≡ []
+begins_none cs h = h
+
+pub begins_some : (cs : List Child) (c : Child) → BeginsWith cs (Some c) → (rest : List Child) × (cs ≡ c ∷ rest)
+begins_some cs c h = h
+
+-- a list that begins with nothing is not opened
+pub still_empty : (before now : List Child) → before ≡ [] → IsOpened before now → now ≡ before
+still_empty [] now e h = h
+still_empty (d ∷ ds) now e h = absurd (cc e)
+
+pub no_kinds : (x : List Kind) → length x ≡ 0 → x ≡ []
+no_kinds [] e = refl
+no_kinds (k ∷ x) e = absurd (omega (arith, e))
+
+pub none_counted : (n : ℕ) → min most n ≡ 0 → n ≡ 0
+none_counted n h = grind (arith, h)
+
+pub some_counted : (n : ℕ) → 0 < min most n → 0 < n
+some_counted n h = grind (arith, h)
+
+pub skips_none : (cells : List Cell) (l : List Child) → Skips cells l l
+skips_none cells l = ([], refl, refl)
+
+pub skips_one : (cells : List Cell) (old now new : List Child) (c : Child) → Skips cells old now → now ≡ c ∷ new → length (yield (plain (tree cells c))) ≡ 0 → Skips cells old new
+skips_one cells old now new c h e empty = (h.0 ++ (c ∷ []), h.1 ∙ ap (λ l. h.0 ++ l) e ∙ sym (moved h.0), none h.0 ∙ h.2)
+  where
+    moved : (gone : List Child) → (gone ++ (c ∷ [])) ++ new ≡ gone ++ (c ∷ new)
+    moved [] = refl
+    moved (d ∷ gone) = ap (λ l. d ∷ l) (moved gone)
+
+    none : (gone : List Child) → all_kinds (plain_of cells (gone ++ (c ∷ []))) ≡ all_kinds (plain_of cells gone)
+    none [] = ap (λ l. l ++ []) (no_kinds (yield (plain (tree cells c))) empty)
+    none (d ∷ gone) = ap (λ l. yield (plain (tree cells d)) ++ l) (none gone)
+
+pub below-gone : (n : ℕ) (gone new : List Child) → AreBelow n (gone ++ new) → AreBelow n new
+below-gone n [] new h = h
+below-gone n (c ∷ gone) new h = below-gone n gone new h.1
+
+-- the first child is opened, and its kinds are still in front of the others
+abbrev pub IsOpening : List Cell → List Child → List Child → Type 0
+IsOpening cells [] now = now ≡ []
+IsOpening cells (c ∷ rest) now = (opened : List Child) × (now ≡ opened ++ rest) × (all_kinds (plain_of cells opened) ≡ yield (plain (tree cells c)))
+
+pub opening_begins : (cells : List Cell) (cs : List Child) → IsOpening cells cs cs
+opening_begins cells [] = refl
+opening_begins cells (c ∷ rest) = (c ∷ [], refl, append-nil (yield (plain (tree cells c))))
+
+pub opening_ends : (cells : List Cell) (before now : List Child) → IsOpening cells before now → IsOpened before now
+opening_ends cells [] now h = h
+opening_ends cells (c ∷ rest) now h = (h.0, h.1)
+
+-- other children of the same kinds in the place of the first
+pub opening_on : (cells : List Cell) (before now rest kids : List Child) (c : Child) → IsFull cells before → IsOpening cells before now → now ≡ c ∷ rest → all_kinds (plain_of cells kids) ≡ yield (plain (tree cells c)) → IsOpening cells before (kids ++ rest)
+opening_on cells [] now rest kids c full h e same = absurd (let k : [] ≡ c ∷ rest = sym h ∙ e in cc k)
+opening_on cells (b ∷ bs) now rest kids c full h e same = go h.0 (sym h.1 ∙ e) h.2
+  where
+    go : (opened : List Child) → opened ++ bs ≡ c ∷ rest → all_kinds (plain_of cells opened) ≡ yield (plain (tree cells b)) → IsOpening cells (b ∷ bs) (kids ++ rest)
+    go [] e' k = absurd (omega (arith, full, ap length k))
+    go (o ∷ os) e' k =
+        let one : o ≡ c = head-eq_of_cons-eq e' in
+        let two : os ++ bs ≡ rest = tail-eq_of_cons-eq e' in
+        (
+          kids ++ os,
+          ap (λ l. kids ++ l) (sym two) ∙ sym (append_assoc kids os bs),
+          ap all_kinds (plain-append cells kids os) ∙ kinds-append (plain_of cells kids) (plain_of cells os) ∙ ap (λ l. l ++ all_kinds (plain_of cells os)) (same ∙ ap (λ d. yield (plain (tree cells d))) (sym one)) ∙ k,
+        )
+
+pub kids_kinds : (cells : List Cell) (kids : List Child) (id : NodeId) (p b : ℕ) → tree cells (Node id) ≡ StampedBranch p b (forest_of (trees_from [] cells) kids) → all_kinds (plain_of cells kids) ≡ yield (plain (tree cells (Node id)))
+kids_kinds cells kids id p b e = ap all_kinds (plain-children (trees_from [] cells) kids) ∙ kinds-trees (plain_all (forest_of (trees_from [] cells) kids)) ∙ sym (ap (λ s. yield (plain s)) e)

@@ -1,0 +1,9 @@
+use Rattle.std.proofs.Common.{length}
+use Rattle.parser.specs.Input.{Skips}
+use Rattle.parser.proofs.input.Input.skip_empty.Given as goal
+
+abbrev pub invariant-empty : goal.invariant-empty
+invariant-empty l = Skips l.store l.fn.self l.self
+
+abbrev pub decreases-empty : goal.decreases-empty
+decreases-empty l = length l.self

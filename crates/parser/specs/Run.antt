@@ -1,0 +1,45 @@
+-- How far a run of the machine over an input of trees has come.
+use Rattle.std.specs.Prelude.{◌≡◌, ◌≢◌, ◌↔◌, ℕ, ◌+◌, ◌≤◌, List, [], ◌∷◌, ◌++◌, length, drop}
+use Rattle.definitions.specs.declared.Kind.{Kind}
+use Rattle.definitions.specs.Trees.{Grammar, Tree, Branch, all_kinds}
+use Rattle.definitions.specs.TreeEdits.{Stamped, StampedForest, StampedIn, plain_all}
+use Rattle.trees.specs.declared.store.Child.{Child}
+use Rattle.trees.specs.Cells.{Cell, AreBelow, all_trees}
+use Rattle.theory.specs.Reuse.{Goes_on, Ends, Reuses, Takes_token, Makes, MakesAt}
+use Rattle.tables.specs.Tables.{Sets}
+use Rattle.parser.specs.Machine.{plain_of, HasStates}
+use Rattle.parser.specs.Input.{input_of, IsInput}
+use Rattle.parser.specs.Front.{Offers}
+
+-- how many branches a run makes
+abbrev pub makes : (g : Grammar) {s i s' i' : List Tree} → Goes_on g s i s' i' → ℕ
+makes g Ends = 0
+makes g (Reuses t ts f c more) = makes g more
+makes g (Takes_token k ts f m more) = makes g more
+makes g (Makes s1 f t n r more) = 1 + makes g more
+
+-- of these trees' branches, those that the run makes carry the number, and no others
+abbrev pub AreStampedBy : (g : Grammar) {s i s' i' : List Tree} → Goes_on g s i s' i' → ℕ → List Stamped → Type 0
+AreStampedBy g run number ts = (lefts : List Tree) (p born : ℕ) (us : StampedForest) → StampedIn ts lefts p born us → (born ≡ number) ↔ MakesAt g run lefts (Branch p (plain_all us))
+
+-- none of these trees' branches carries the number
+abbrev pub NoneIsMadeBy : ℕ → List Stamped → Type 0
+NoneIsMadeBy number ts = (lefts : List Tree) (p born : ℕ) (us : StampedForest) → StampedIn ts lefts p born us → born ≢ number
+
+-- the machine has come from the whole input, whose kinds these are, to this stack and to what is left of the input. The store
+-- had as many nodes before, and has one more for each branch that was made; these carry the number
+pub record SoFar (t : Sets) (whole : List Tree) (kinds : List Kind) (before number : ℕ) (cells : List Cell) (stack : List Child) (states : List ℕ) (read : ℕ) (rest : List Child) : Type 0 where
+  pub has_states : HasStates t (plain_of cells stack) states
+  pub below : AreBelow (length cells) stack
+  pub within : read ≤ length kinds
+  pub whole_is : all_kinds whole ≡ kinds
+  pub input : IsInput t.grammar cells rest kinds read
+  pub now : List Tree
+  pub left : all_kinds now ≡ drop read kinds
+  pub offers : (s : List Tree) → Offers t.grammar s (input_of cells rest kinds read) now
+  pub top : List Tree
+  pub top_is : plain_of cells stack ≡ top
+  pub run : Goes_on t.grammar [] whole top now
+  pub count : length cells ≡ before + makes t.grammar run
+  pub stamps : AreStampedBy t.grammar run number (all_trees cells stack)
+  pub older : NoneIsMadeBy number (all_trees cells rest)

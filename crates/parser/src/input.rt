@@ -1,0 +1,117 @@
+//! The trees that are still to be read.
+
+ghost use Rattle.std.specs.Prelude.{◌≡◌, ℕ, ◌-◌, ◌≤◌, ◌<◌, List, [], ◌∷◌, ◌++◌, length, drop, IfOk, MatchOption};
+ghost use Rattle.definitions.specs.Trees.{yield};
+ghost use Rattle.definitions.specs.TreeEdits.{plain};
+ghost use Rattle.trees.specs.declared.store.Child.{Child};
+ghost use Rattle.trees.specs.Cells.{AreBelow, tree};
+ghost use Rattle.parser.specs.Input.{BeginsWith, IsFull, IsOpened, Skips};
+
+use std::alloc::{AllocError, Global};
+use std::marker::Model;
+use trees::{Child, Store};
+
+/// A list of trees of a store. The first one stands last in the vector.
+#[derive(Drop)]
+pub struct Input {
+    items: Vec<Child>,
+}
+
+impl Model for Input {
+    ghost use Rattle.std.specs.Prelude.{List};
+    ghost use Rattle.trees.specs.declared.store.Child.{Child};
+    ghost use Rattle.parser.specs.Input.{backwards};
+
+    ghost Value = { List Child };
+
+    ghost view = { λ a. backwards a.items.items };
+}
+
+impl Input {
+    /// The list of no trees.
+    pub fn new(alloc: Global) -> Input
+        ensures { result ≡ [] }
+    {
+        Input {
+            items: Vec::new(alloc),
+        }
+    }
+
+    /// How many trees there are.
+    pub fn len(&self) -> usize
+        ensures { result ≡ length self.now }
+    {
+        self.items.len()
+    }
+
+    /// The first tree, where there is one.
+    pub fn first(&self) -> Option<Child>
+        ensures { BeginsWith self.now result }
+    {
+        let n = self.items.len();
+        if n == 0 {
+            None
+        } else {
+            Some(self.items[n - 1])
+        }
+    }
+
+    /// Takes the first tree away.
+    pub fn take(&mut self) -> Option<Child>
+        ensures { MatchOption result ((self.old ≡ []) × (self.new ≡ [])) (λ c. self.old ≡ c ∷ self.new) }
+    {
+        self.items.pop()
+    }
+
+    /// Puts a tree in front.
+    pub fn put(&mut self, child: Child) -> Result<(), AllocError>
+        ensures { IfOk result (λ _. self.new ≡ child ∷ self.old) }
+    {
+        self.items.push(child)?;
+        Ok(())
+    }
+
+    /// Puts a list in front.
+    pub fn put_all(&mut self, children: &[Child]) -> Result<(), AllocError>
+        ensures { IfOk result (λ _. self.new ≡ children.now ++ self.old) }
+    {
+        'children: for i in 0..children.len() {
+            self.put(children[children.len() - 1 - i])?;
+        }
+        Ok(())
+    }
+
+    /// Keeps the last `n` trees.
+    pub fn keep(&mut self, n: usize)
+        requires { n ≤ length self.old }
+        ensures { self.new ≡ drop (length self.old - n) self.old }
+    {
+        self.items.truncate(n);
+    }
+
+    /// Takes the trees of no tokens away from the front.
+    pub fn skip_empty(&mut self, store: &Store)
+        requires { AreBelow (length store.now) self.old }
+        ensures skips { Skips store.now self.old self.new }
+        ensures full { IsFull store.now self.new }
+    {
+        'empty: while let Some(child) = self.first() {
+            if store.tokens_of(child) > 0 {
+                break;
+            }
+            self.take();
+        }
+    }
+
+    /// Puts the list back of which the first tree was opened: that tree, where there was one, and the list's length are given.
+    pub fn close(&mut self, first: Option<Child>, len: usize) -> Result<(), AllocError>
+        requires { (before : List Child) × IsOpened before self.old × (len ≡ length before) × BeginsWith before first }
+        ensures { (before : List Child) → IsOpened before self.old → len ≡ length before → BeginsWith before first → IfOk result (λ _. self.new ≡ before) }
+    {
+        if let Some(child) = first {
+            self.keep(len - 1);
+            self.put(child)?;
+        }
+        Ok(())
+    }
+}
