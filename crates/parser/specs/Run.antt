@@ -1,5 +1,5 @@
 -- How far a run of the machine over an input of trees has come.
-use Rattle.std.specs.Prelude.{◌≡◌, ◌≢◌, ◌↔◌, ℕ, ◌+◌, ◌≤◌, List, [], ◌∷◌, ◌++◌, length, drop}
+use Rattle.std.specs.Prelude.{◌≡◌, ◌≢◌, ◌↔◌, ℕ, ◌+◌, ◌≤◌, List, [], length, drop}
 use Rattle.definitions.specs.declared.Kind.{Kind}
 use Rattle.definitions.specs.Trees.{Grammar, Tree, Branch, all_kinds}
 use Rattle.definitions.specs.TreeEdits.{Stamped, StampedForest, StampedIn, plain_all}
