@@ -17,7 +17,7 @@ use Rattle.trees.specs.Cells.{Cell, forest_in, trees_from}
 use Rattle.tables.specs.Tables.{Sets}
 use Rattle.parser.specs.Input.{leaves}
 use Rattle.parser.specs.Machine.{plain_of, AreMadeBy}
-use Rattle.parser.specs.Run.{makes, SoFar}
+use Rattle.parser.specs.Run.{makes, IsMadeByRun, SoFar}
 use Rattle.parser.proofs.Counts.{reduce_count}
 use Rattle.parser.proofs.Stamping.{made_forest, stamped-children}
 
@@ -68,7 +68,10 @@ module _ (g : Grammar) where
       (λ b. ⊎_elim (λ t. absurd (nothing_taken run ks e below (Branch p us) t)) (λ m. m) b)
       (made_or_taken g run below p us w)
 
-module _ (t : Sets) (ks kinds : List Kind) (before number : ℕ) (cells : List Cell) (stack : List Child) (states : List ℕ) (read : ℕ) (rest : List Child) (h : SoFar t (leaves ks) kinds before number cells stack states read rest) where
+module _ (t : Sets) (ks kinds : List Kind) (before number : ℕ) (cells : List Cell) (stack : List Child) (r : IsMadeByRun t (leaves ks) kinds before number cells stack) where
+  abbrev h : SoFar t (leaves ks) kinds before number cells stack r.states r.read r.rest
+  h = r.so_far
+
   -- all branches on the stack carry the number
   pub plain_stamps : AreMadeBy number (forest_in cells stack)
   plain_stamps =

@@ -43,3 +43,10 @@ pub record SoFar (t : Sets) (whole : List Tree) (kinds : List Kind) (before numb
   pub count : length cells ≡ before + makes t.grammar run
   pub stamps : AreStampedBy t.grammar run number (all_trees cells stack)
   pub older : NoneIsMadeBy number (all_trees cells rest)
+
+-- a run over the whole input has come to this stack
+pub record IsMadeByRun (t : Sets) (whole : List Tree) (kinds : List Kind) (before number : ℕ) (cells : List Cell) (stack : List Child) : Type 0 where
+  pub states : List ℕ
+  pub read : ℕ
+  pub rest : List Child
+  pub so_far : SoFar t whole kinds before number cells stack states read rest
