@@ -75,7 +75,13 @@ fn node(index: usize) -> Child {
 }
 
 /// Edit 0 has made this node, of this production and over these children.
-fn assert_node(rt: &impl Abort, store: &Store, index: usize, production: usize, children: &[Child]) {
+fn assert_node(
+    rt: &impl Abort,
+    store: &Store,
+    index: usize,
+    production: usize,
+    children: &[Child],
+) {
     let id = NodeId { index };
     assert!(rt; index < store.len());
     assert_eq!(rt; store.production(id), production);
@@ -156,7 +162,14 @@ fn older_nodes_stay(rt: HostRuntime) -> Result<(), Fail> {
 fn a_fault_at_the_first_token_that_fits_no_sentence(rt: HostRuntime) -> Result<(), Fail> {
     let stack = [Child::Token(NUM)];
     let looks = [Some(1), None];
-    assert_stops(&rt, rt.alloc(), &[NUM, NUM], Verdict::FaultAt(1), &stack, &looks)
+    assert_stops(
+        &rt,
+        rt.alloc(),
+        &[NUM, NUM],
+        Verdict::FaultAt(1),
+        &stack,
+        &looks,
+    )
 }
 
 #[test]
@@ -177,7 +190,14 @@ fn nothing_ends_too_early(rt: HostRuntime) -> Result<(), Fail> {
 fn an_open_parenthesis_expects_no_end(rt: HostRuntime) -> Result<(), Fail> {
     let stack = [Child::Token(LP), Child::Token(NUM)];
     let looks = [Some(1), Some(3)];
-    assert_stops(&rt, rt.alloc(), &[LP, NUM], Verdict::FaultAtEnd, &stack, &looks)
+    assert_stops(
+        &rt,
+        rt.alloc(),
+        &[LP, NUM],
+        Verdict::FaultAtEnd,
+        &stack,
+        &looks,
+    )
 }
 
 #[test]

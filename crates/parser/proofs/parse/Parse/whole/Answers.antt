@@ -1,4 +1,4 @@
-use Rattle.std.proofs.Common.{[], ◌+◌, drop, length, subst, sym}
+use Rattle.std.proofs.Common.{◌+◌, drop, length, subst, sym}
 use Rattle.trees.specs.Cells.{all_trees}
 use Rattle.parser.specs.Input.{input_of, IsInput}
 use Rattle.parser.specs.Run.{IsMadeByRun, NoneIsMadeBy}
