@@ -1,21 +1,19 @@
 -- The left edge of the input, opened step by step.
-use mathlib.Core.List.{head-eq_of_cons-eq}
-use Rattle.std.proofs.Common.{Option, Some, None, MatchOption, ◌≡◌, ℕ, ◌+◌, ◌-◌, ◌<◌, ◌≤◌, zero, suc, min, ◌^◌, List, [], ◌∷◌, ◌++◌, length, drop, refl, sym, ap, ◌∙◌, subst, arith, append_assoc, length-append, length-drop}
+use Rattle.std.proofs.Common.{◌≡◌, ℕ, ◌+◌, ◌<◌, ◌≤◌, zero, suc, List, [], ◌∷◌, ◌++◌, length, drop, refl, sym, ap, ◌∙◌, subst, arith, append_assoc, length-append, length-drop}
 use Rattle.definitions.specs.declared.Kind.{Kind}
-use Rattle.definitions.specs.declared.Kind.TheVariants.{Rule as Token', Invalid}
 use Rattle.definitions.specs.declared.Symbol.{Symbol}
 use Rattle.definitions.specs.declared.Symbol.TheVariants.{Rule as Terminal, Nonterminal}
 use Rattle.definitions.specs.Trees.{Grammar, Tree, Leaf, Branch, Forest, trees, IsTree, HaveRoots, yield, yields, all_kinds}
 use Rattle.definitions.specs.Nodes.{branches, all_branches}
-use Rattle.definitions.specs.TreeEdits.{Stamped, StampedBranch, StampedForest, plain, plain_all, plain_trees}
+use Rattle.definitions.specs.TreeEdits.{StampedBranch, plain, plain_all}
 use Rattle.theory.proofs.Sound.{kinds-append, kinds-trees}
 use Rattle.theory.proofs.Simulation.{roots-append, roots-trees}
 use Rattle.theory.proofs.Reused.{branches-append, branches-trees}
-use Rattle.theory.specs.Reuse.{CanReuse, Front, Tries, Dropped, Opened}
+use Rattle.theory.specs.Reuse.{CanReuse, Tries, Dropped, Opened}
 use Rattle.trees.specs.declared.store.Child.{Child}
 use Rattle.trees.specs.declared.store.NodeId.{NodeId}
-use Rattle.trees.specs.declared.store.Child.TheVariants.{Token, Node}
-use Rattle.trees.specs.Cells.{Cell, most, IsBelow, AreBelow, tree, tree_of, trees_of, trees_from, forest_of}
+use Rattle.trees.specs.declared.store.Child.TheVariants.{Node}
+use Rattle.trees.specs.Cells.{Cell, tree, trees_from, forest_of}
 use Rattle.parser.specs.Machine.{plain_of}
 use Rattle.parser.specs.Input.{leaves, before_leaves}
 use Rattle.parser.specs.Front.{Offers}

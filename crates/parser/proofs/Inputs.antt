@@ -1,5 +1,5 @@
 -- What is taken from the front of the input, and put back there.
-use Rattle.std.proofs.Common.{◌≡◌, ℕ, ◌+◌, ◌-◌, ◌<◌, ◌≤◌, zero, suc, min, ◌^◌, List, [], ◌∷◌, ◌++◌, length, drop, Option, Some, None, MatchOption, refl, sym, ap, ◌∙◌, subst, arith, length-append, append_assoc}
+use Rattle.std.proofs.Common.{◌≡◌, ℕ, ◌-◌, ◌<◌, ◌≤◌, min, List, [], ◌∷◌, ◌++◌, length, drop, Option, Some, None, MatchOption, refl, sym, ap, ◌∙◌, arith, length-append, append_assoc}
 use mathlib.Core.List.{tail-eq_of_cons-eq, head-eq_of_cons-eq}
 use Rattle.std.proofs.Math.Seq.{drop-append_seam}
 use Rattle.std.proofs.lemmas.List.{append-nil}
@@ -92,8 +92,7 @@ opening_on cells (b ∷ bs) now rest kids c full h e same = go h.0 (sym h.1 ∙ 
     go [] e' k = absurd (omega (arith, full, ap length k))
     go (o ∷ os) e' k =
         let one : o ≡ c = head-eq_of_cons-eq e' in
-        let two : os ++ bs ≡ rest = tail-eq_of_cons-eq e' in
-        (
+        let two : os ++ bs ≡ rest = tail-eq_of_cons-eq e' in (
           kids ++ os,
           ap (λ l. kids ++ l) (sym two) ∙ sym (append_assoc kids os bs),
           ap all_kinds (plain-append cells kids os) ∙ kinds-append (plain_of cells kids) (plain_of cells os) ∙ ap (λ l. l ++ all_kinds (plain_of cells os)) (same ∙ ap (λ d. yield (plain (tree cells d))) (sym one)) ∙ k,

@@ -1,5 +1,5 @@
 -- A list read from its end.
-use Rattle.std.proofs.Common.{◌≡◌, ◌↔◌, ⊎_elim, IsSome, Option, Some, None, MatchOption, option_to_list, ℕ, ◌+◌, ◌-◌, ◌<◌, ◌≤◌, zero, suc, List, [], ◌∷◌, ◌++◌, length, take, drop, get_or, refl, sym, ap, ◌∙◌, subst, arith, append_assoc, length-append, take-append-drop, length-take, length-drop}
+use Rattle.std.proofs.Common.{◌≡◌, ◌↔◌, ⊎_elim, IsSome, Option, Some, None, MatchOption, option_to_list, ℕ, ◌-◌, ◌<◌, ◌≤◌, suc, List, [], ◌∷◌, ◌++◌, length, take, drop, get_or, refl, sym, ap, ◌∙◌, arith, append_assoc, length-append, take-append-drop, length-drop}
 use Rattle.std.proofs.lemmas.List.{append-nil}
 use Rattle.std.proofs.Math.Seq.{drop-append_seam}
 use Rattle.std.proofs.lemmas.Bool.{cases_lt}
@@ -33,11 +33,6 @@ last-split (y ∷ z ∷ xs) x l e =
 
 pub backwards-last : {A : Type 0} → (xs : List A) (x : A) → 0 < length xs → x ≡ get_or xs (length xs - 1) x → backwards xs ≡ x ∷ backwards (take (length xs - 1) xs)
 backwards-last xs x l e = ap backwards (last-split xs x l e) ∙ backwards-push (take (length xs - 1) xs) x
-
-pub drop-at : {A : Type 0} → (i : ℕ) (xs : List A) (x : A) → i < length xs → x ≡ get_or xs i x → drop i xs ≡ x ∷ drop (suc i) xs
-drop-at i [] x l e = absurd (omega (arith, l))
-drop-at zero (y ∷ xs) x l e = ap (λ z. z ∷ xs) (sym e)
-drop-at (suc i) (y ∷ xs) x l e = drop-at i xs x (omega (arith, l)) e
 
 is_empty : {A : Type 0} → (xs : List A) → length xs ≡ 0 → xs ≡ []
 is_empty [] e = refl

@@ -1,23 +1,17 @@
 -- What a move of the machine makes of how far it has come.
-use Rattle.std.proofs.Common.{◌≡◌, ℕ, ◌+◌, ◌-◌, ◌<◌, ◌≤◌, zero, suc, List, [], ◌∷◌, ◌++◌, length, take, get_or, slice_get, Option, Some, refl, sym, ap, ◌∙◌, subst, arith, length-append, ⊎_elim}
+use Rattle.std.proofs.Common.{◌≡◌, ℕ, ◌-◌, ◌<◌, ◌≤◌, List, [], ◌∷◌, ◌++◌, length, take, get_or, slice_get, Option, sym, ap, ◌∙◌, subst, arith, length-append, ⊎_elim}
 use Rattle.std.proofs.lemmas.Bool.{cases_lt}
 use Rattle.std.proofs.lemmas.List.{append-nil, take-append-le, get_or_append_left, take_all}
-use Rattle.std.proofs.lemmas.Option.{slice_get_within}
 use Rattle.std.proofs.Math.Seq.{get_or-append_seam}
 use Rattle.definitions.specs.declared.Kind.{Kind}
-use Rattle.definitions.specs.declared.Kind.TheVariants.{Rule as Token}
 use Rattle.definitions.specs.declared.Symbol.{Symbol}
-use Rattle.definitions.specs.declared.Symbol.TheVariants.{Rule as Terminal}
 use Rattle.definitions.specs.Trees.{Grammar, Tree, Leaf, HaveRoots}
-use Rattle.definitions.specs.Items.{HasMove, Shift}
-use Rattle.theory.specs.Machine.{Reduces, Shifts, Run, Stay, Reduced, Shifted, IsStackAfter}
-use Rattle.theory.proofs.Simulation.{roots-append, run_join}
+use Rattle.theory.specs.Machine.{Run, Stay, Shifted, IsStackAfter}
+use Rattle.theory.proofs.Simulation.{run_join}
 use Rattle.trees.specs.declared.store.Child.{Child}
-use Rattle.trees.specs.declared.store.Child.TheVariants.{Token as TokenChild}
 use Rattle.trees.specs.Cells.{Cell, AreBelow}
 use Rattle.tables.specs.Tables.{Sets, IsStateOf}
 use Rattle.parser.specs.Machine.{plain_of, HasStates}
-use Rattle.parser.proofs.Reductions.{plain-append, below-append}
 
 -- the state on top stands for the whole stack
 pub top_stands : (t : Sets) (stack : List Tree) (states : List ℕ) (h : HasStates t stack states) → IsStateOf t h.symbols (get_or states (length states - 1) 0)

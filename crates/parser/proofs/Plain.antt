@@ -1,23 +1,23 @@
 -- A run on kinds alone takes nothing over: it makes each branch of its stack.
-use Rattle.std.proofs.Common.{◌≡◌, ◌⊎◌, ℕ, ◌+◌, List, [], ◌∷◌, ◌++◌, refl, sym, ap, ◌∙◌, subst, inl, inr, ⊎_elim, arith, length, None}
+use Rattle.std.proofs.Common.{◌≡◌, ℕ, ◌+◌, List, [], ◌∷◌, refl, sym, ap, ◌∙◌, subst, ⊎_elim, arith, length, None}
 use mathlib.Core.List.{head-eq_of_cons-eq, tail-eq_of_cons-eq}
 use Rattle.definitions.specs.declared.Kind.{Kind}
 use Rattle.definitions.specs.declared.Kind.TheVariants.{Rule as Token, Invalid}
 use Rattle.definitions.specs.declared.Symbol.TheVariants.{Nonterminal}
 use Rattle.definitions.specs.Trees.{Grammar, Tree, Leaf, Branch, Forest, IsTree, yield, all_kinds}
-use Rattle.definitions.specs.TreeEdits.{StampedForest, StampedIn, plain_all}
+use Rattle.definitions.specs.TreeEdits.{StampedIn, plain_all}
 use Rattle.definitions.specs.Nodes.{StandsIn, all_branches}
-use Rattle.theory.specs.Reuse.{Front, Take, AtToken, AtEnd, CanReuse, Tries, Nothing_left, Dropped, Passed, Opened, At_token, Goes_on, Ends, Reuses, Takes_token, Makes, MakesAt}
+use Rattle.theory.specs.Reuse.{Front, Take, AtToken, AtEnd, Tries, Nothing_left, Dropped, Passed, Opened, At_token, Goes_on, Ends, Reuses, Takes_token, Makes, MakesAt}
 use Rattle.theory.specs.Machine.{look_at}
 use Rattle.theory.proofs.Made.{made_or_taken, stamped_stands}
 use Rattle.theory.proofs.Reused.{TakesOver, branches-append}
 use Rattle.theory.proofs.Stack.{nowhere}
 use Rattle.trees.specs.declared.store.Child.{Child}
-use Rattle.trees.specs.Cells.{Cell, all_trees, forest_in, trees_from}
+use Rattle.trees.specs.Cells.{Cell, forest_in, trees_from}
 use Rattle.tables.specs.Tables.{Sets}
-use Rattle.parser.specs.Input.{leaves, input_of}
+use Rattle.parser.specs.Input.{leaves}
 use Rattle.parser.specs.Machine.{plain_of, AreMadeBy}
-use Rattle.parser.specs.Run.{makes, SoFar}
+use Rattle.parser.specs.Run.{makes, IsMadeByRun, SoFar}
 use Rattle.parser.proofs.Counts.{reduce_count}
 use Rattle.parser.proofs.Stamping.{made_forest, stamped-children}
 
@@ -68,7 +68,10 @@ module _ (g : Grammar) where
       (λ b. ⊎_elim (λ t. absurd (nothing_taken run ks e below (Branch p us) t)) (λ m. m) b)
       (made_or_taken g run below p us w)
 
-module _ (t : Sets) (ks kinds : List Kind) (before number : ℕ) (cells : List Cell) (stack : List Child) (states : List ℕ) (read : ℕ) (rest : List Child) (h : SoFar t (leaves ks) kinds before number cells stack states read rest) where
+module _ (t : Sets) (ks kinds : List Kind) (before number : ℕ) (cells : List Cell) (stack : List Child) (r : IsMadeByRun t (leaves ks) kinds before number cells stack) where
+  abbrev h : SoFar t (leaves ks) kinds before number cells stack r.states r.read r.rest
+  h = r.so_far
+
   -- all branches on the stack carry the number
   pub plain_stamps : AreMadeBy number (forest_in cells stack)
   plain_stamps =

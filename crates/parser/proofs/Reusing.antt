@@ -1,12 +1,12 @@
 -- What the answers of the tables tell of the test that a tree is taken over by.
 use Rattle.std.specs.Option.{is_some}
-use Rattle.std.proofs.Common.{◌^◌, min, true, false, ◌≡◌, ℕ, ◌+◌, ◌-◌, ◌<◌, ◌≤◌, List, [], ◌∷◌, ◌++◌, length, drop, get_or, slice_get, zero, suc, Option, Some, None, refl, sym, ap, ◌∙◌, subst, arith}
+use Rattle.std.proofs.Common.{◌^◌, min, true, false, ◌≡◌, ℕ, ◌-◌, ◌<◌, List, [], ◌∷◌, ◌++◌, length, drop, get_or, slice_get, zero, suc, Option, Some, None, refl, sym, ap, ◌∙◌, subst, arith}
 use Rattle.definitions.specs.declared.Kind.{Kind}
 use Rattle.definitions.specs.declared.Symbol.{Symbol}
 use Rattle.definitions.specs.declared.Symbol.TheVariants.{Nonterminal}
-use Rattle.definitions.specs.Trees.{Grammar, Tree, Branch, HaveRoots, HasProduction, IsTree, AreTrees, yield}
+use Rattle.definitions.specs.Trees.{Grammar, Tree, HaveRoots, HasProduction, IsTree, AreTrees, yield}
 use Rattle.definitions.specs.TreeEdits.{Stamped, StampedBranch, StampedForest, plain, plain_all}
-use Rattle.definitions.specs.Items.{Move, HasMove, HasItem}
+use Rattle.definitions.specs.Items.{HasMove, HasItem}
 use Rattle.theory.specs.Machine.{look_at}
 use Rattle.theory.specs.Reuse.{CanReuse}
 use Rattle.theory.proofs.Unique.{roots_unique, root_unique, production_unique}

@@ -1,18 +1,16 @@
 -- The stamps that a run leaves: of the branches on its stack, those that it has made carry its number.
-use Rattle.std.proofs.Common.{◌≡◌, ◌≢◌, ◌↔◌, ◌⊎◌, ℕ, ◌+◌, ◌<◌, ◌≤◌, List, [], ◌∷◌, ◌++◌, length, Option, refl, sym, ap, ◌∙◌, subst, inl, inr, ⊎_elim, arith}
+use Rattle.std.proofs.Common.{◌≡◌, ◌↔◌, ◌⊎◌, ℕ, List, [], ◌∷◌, ◌++◌, refl, sym, ap, ◌∙◌, subst, inl, inr, ⊎_elim, arith}
 use Rattle.std.proofs.lemmas.List.{append-nil}
 use mathlib.Core.List.{head-eq_of_cons-eq, tail-eq_of_cons-eq}
 use Rattle.definitions.specs.declared.Kind.{Kind}
-use Rattle.definitions.specs.Trees.{Grammar, Tree, Leaf, Branch, trees, all_kinds}
-use Rattle.definitions.specs.Nodes.{StandsIn, branches, branches_of, all_branches}
+use Rattle.definitions.specs.Trees.{Grammar, Tree, Branch, trees, all_kinds}
+use Rattle.definitions.specs.Nodes.{StandsIn, branches, all_branches}
 use Rattle.definitions.specs.TreeEdits.{Stamped, StampedLeaf, StampedBranch, StampedForest, StampedNil, StampedCons, plain, plain_all, stamped_trees, plain_trees, StampedIn, StampedTop, StampedBelow, StampedPast}
-use Rattle.theory.specs.Machine.{Reduces}
 use Rattle.theory.specs.Reuse.{Take, CanReuse, Tries, Goes_on, Ends, Reuses, Takes_token, Makes, MakesAt}
-use Rattle.theory.proofs.Lists.{ends_equal}
 use Rattle.theory.proofs.Made.{goes_on_join, join_makes, join_takes, not_both, stamped_stands}
-use Rattle.theory.proofs.Reused.{TakesOver, stands_branches, branches-append, branches-trees}
+use Rattle.theory.proofs.Reused.{stands_branches, branches-trees}
 use Rattle.trees.specs.declared.store.Child.{Child}
-use Rattle.trees.specs.Cells.{tree_of, trees_of, forest_of, trees_from, all_trees}
+use Rattle.trees.specs.Cells.{tree_of, trees_of, forest_of}
 use Rattle.parser.specs.Machine.{IsMadeBy, AreMadeBy}
 use Rattle.parser.specs.Run.{AreStampedBy, NoneIsMadeBy}
 
@@ -162,8 +160,7 @@ mutual
 
   pub made_forest : (n : ℕ) (ts : StampedForest) → ((lefts : List Tree) (p born : ℕ) (us : StampedForest) → StampedIn (stamped_trees ts) lefts p born us → born ≡ n) → AreMadeBy n ts
   made_forest n StampedNil h = tt
-  made_forest n (StampedCons s ts) h =
-      (
-        made_tree n s (λ lefts p born us w. h lefts p born us (stamped_in_front (stamped_trees ts) w)),
-        made_forest n ts (λ lefts p born us w. h (plain s ∷ lefts) p born us (StampedPast w)),
-      )
+  made_forest n (StampedCons s ts) h = (
+    made_tree n s (λ lefts p born us w. h lefts p born us (stamped_in_front (stamped_trees ts) w)),
+    made_forest n ts (λ lefts p born us w. h (plain s ∷ lefts) p born us (StampedPast w)),
+  )

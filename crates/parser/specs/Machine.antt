@@ -1,13 +1,12 @@
 -- How far the machine has come.
 use Rattle.std.specs.Prelude.{◌≡◌, ℕ, ◌+◌, ◌<◌, List, [], ◌∷◌, ◌++◌, length, take, slice_index_or}
-use Rattle.definitions.specs.declared.Kind.{Kind}
 use Rattle.definitions.specs.declared.Symbol.{Symbol}
 use Rattle.definitions.specs.Trees.{Tree, HaveRoots}
 use Rattle.definitions.specs.TreeEdits.{Stamped, StampedLeaf, StampedBranch, StampedForest, StampedNil, StampedCons, plain_trees}
 use Rattle.trees.specs.declared.store.NodeId.{NodeId}
 use Rattle.trees.specs.declared.store.Child.{Child}
 use Rattle.trees.specs.declared.store.Child.TheVariants.{Node}
-use Rattle.trees.specs.Cells.{Cell, AreBelow, IsGrown, all_trees}
+use Rattle.trees.specs.Cells.{Cell, IsGrown, all_trees}
 use Rattle.tables.specs.Tables.{Sets, IsStateOf}
 
 -- the trees of children, without their stamps

@@ -1,5 +1,5 @@
 -- How far a run of the machine over an input of trees has come.
-use Rattle.std.specs.Prelude.{◌≡◌, ◌≢◌, ◌↔◌, ℕ, ◌+◌, ◌≤◌, List, [], ◌∷◌, ◌++◌, length, drop}
+use Rattle.std.specs.Prelude.{◌≡◌, ◌≢◌, ◌↔◌, ℕ, ◌+◌, ◌≤◌, List, [], length, drop}
 use Rattle.definitions.specs.declared.Kind.{Kind}
 use Rattle.definitions.specs.Trees.{Grammar, Tree, Branch, all_kinds}
 use Rattle.definitions.specs.TreeEdits.{Stamped, StampedForest, StampedIn, plain_all}
@@ -43,3 +43,10 @@ pub record SoFar (t : Sets) (whole : List Tree) (kinds : List Kind) (before numb
   pub count : length cells ≡ before + makes t.grammar run
   pub stamps : AreStampedBy t.grammar run number (all_trees cells stack)
   pub older : NoneIsMadeBy number (all_trees cells rest)
+
+-- a run over the whole input has come to this stack
+pub record IsMadeByRun (t : Sets) (whole : List Tree) (kinds : List Kind) (before number : ℕ) (cells : List Cell) (stack : List Child) : Type 0 where
+  pub states : List ℕ
+  pub read : ℕ
+  pub rest : List Child
+  pub so_far : SoFar t whole kinds before number cells stack states read rest

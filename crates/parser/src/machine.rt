@@ -95,8 +95,8 @@ impl Machine {
         ensures { MatchOption result (CanReuse tables.now.grammar (plain_of store.now self.now.stack.items) (plain (tree store.now (Child.Node id))) (drop (self.now.read + length (yield (plain (tree store.now (Child.Node id))))) (K.kinds kinds.now)) → ⊥) (λ next. IsReusable tables.now store.now (plain_of store.now self.now.stack.items) (K.kinds kinds.now) self.now.read id next) }
     {
         let _count = kinds.len();
-        let (left, _) = tables.production(store.production(id));
-        let Some(next) = tables.goto(self.state(), left) else {
+        let (root, _) = tables.production(store.production(id));
+        let Some(next) = tables.goto(self.state(), root) else {
             return None;
         };
         let look = kinds.kind(self.read + store.tokens(id) as usize);

@@ -3,9 +3,11 @@
 ghost use Rattle.std.specs.Prelude.{◌≡◌, ◌↔◌, ◌+◌, ℕ, List, length, take, true, IfOk, OnErr};
 ghost use Rattle.definitions.specs.declared.Kind.{Kind};
 ghost use Rattle.definitions.specs.Nodes.{all_branches};
-ghost use Rattle.trees.specs.Cells.{Cell, KeepsTrees, forest_in};
+ghost use Rattle.trees.specs.Cells.{Cell, KeepsTrees, all_trees, forest_in};
 ghost use Rattle.tables.specs.Tables.{Sets};
 ghost use Rattle.parser.specs.Machine.{plain_of, AreMadeBy};
+ghost use Rattle.parser.specs.Input.{input_of, IsInput};
+ghost use Rattle.parser.specs.Run.{IsMadeByRun, NoneIsMadeBy};
 ghost use Rattle.parser.specs.Parses.{IsParseOf, MayFollow, verdict_in};
 
 use crate::input::Input;
@@ -36,6 +38,8 @@ pub struct Parse {
 }
 
 impl Model for Parse {
+    ghost use Rattle.parser.specs.Input.{input_of, IsInput};
+    ghost use Rattle.parser.specs.Run.{IsMadeByRun, NoneIsMadeBy};
     ghost use Rattle.parser.specs.Parses.{Stop};
 
     ghost Value = { Stop };
@@ -43,21 +47,24 @@ impl Model for Parse {
     ghost view = { λ p. record { verdict = p.verdict; stack = p.stack.items; state = p.state } };
 }
 
-/// The parse of the kinds, whose new nodes have this number. Where memory is refused, some nodes may stay.
+/// The parse of the kinds, over trees that begin at the first of them. Its new nodes have this number. Where memory is
+/// refused, some nodes may stay.
 fn parsed<K: Kinds>(
     alloc: Global,
     tables: &Tables,
     store: &mut Store,
     kinds: &K,
+    input: Input,
     number: u64,
 ) -> Result<Parse, AllocError>
+    requires input { IsInput tables.now.grammar store.old input (K.kinds kinds.now) 0 }
+    requires older { NoneIsMadeBy number (all_trees store.old input) }
     ensures parse { IfOk result (λ p. IsParseOf tables.now (K.kinds kinds.now) store.new p) }
-    ensures stamps { IfOk result (λ p. AreMadeBy number (forest_in store.new p.stack)) }
+    ensures run { IfOk result (λ p. IsMadeByRun tables.now (input_of store.old input (K.kinds kinds.now) 0) (K.kinds kinds.now) (length store.old) number store.new p.stack) }
     ensures grown { take (length store.old) store.new ≡ store.old }
-    ensures count { IfOk result (λ p. length store.new ≡ length store.old + all_branches (plain_of store.new p.stack)) }
 {
     let mut machine = Machine::new(alloc, tables)?;
-    let verdict = machine.run(alloc, tables, store, kinds, Input::new(alloc), number)?;
+    let verdict = machine.run(alloc, tables, store, kinds, input, number)?;
     let state = machine.state();
     Ok(Parse {
         verdict,
@@ -84,7 +91,7 @@ impl Parse {
         ensures refused { OnErr result (store.new ≡ store.old) }
     {
         let before = store.len();
-        match parsed(alloc, tables, store, kinds, 0) {
+        match parsed(alloc, tables, store, kinds, Input::new(alloc), 0) {
             Ok(parse) => Ok(parse),
             Err(refusal) => {
                 store.truncate(before);

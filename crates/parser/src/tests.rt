@@ -69,17 +69,24 @@ fn tables(alloc: Global, text: &str) -> Result<Tables, Fail> {
     Ok(Tables::build(alloc, &grammar)?)
 }
 
-/// The node of a child that is one, which edit 0 has made of this production.
-fn node(rt: &impl Abort, store: &Store, child: Option<Child>, production: usize) -> NodeId
-    ensures { result.index < length store.now }
-{
-    let Some(Child::Node(id)) = child else {
-        panic!(rt; "no node");
-    };
-    assert!(rt; id.index < store.len());
+/// The first nodes of a store, by their numbers.
+fn node(index: usize) -> Child {
+    Child::Node(NodeId { index })
+}
+
+/// Edit 0 has made this node, of this production and over these children.
+fn assert_node(
+    rt: &impl Abort,
+    store: &Store,
+    index: usize,
+    production: usize,
+    children: &[Child],
+) {
+    let id = NodeId { index };
+    assert!(rt; index < store.len());
     assert_eq!(rt; store.production(id), production);
     assert_eq!(rt; store.born(id), 0);
-    id
+    assert!(rt; store.children(id) == children);
 }
 
 /// Which of the five token rules, and whether the end, may stand at the fault.
@@ -98,27 +105,43 @@ fn expected(alloc: Global, tables: &Tables, parse: &Parse) -> Result<Vec<Option<
     Ok(looks)
 }
 
+/// The parse of these kinds of sums stops so, and these are the rules that may follow.
+fn assert_stops(
+    rt: &impl Abort,
+    alloc: Global,
+    kinds: &[Kind],
+    verdict: Verdict,
+    stack: &[Child],
+    looks: &[Option<usize>],
+) -> Result<(), Fail> {
+    let tables = tables(alloc, SUMS)?;
+    let mut store = Store::new(alloc);
+    let parse = Parse::whole(alloc, &tables, &mut store, &Listed { kinds })?;
+    assert_eq!(rt; parse.verdict(), verdict);
+    assert!(rt; parse.stack() == stack);
+    assert!(rt; expected(alloc, &tables, &parse)?.as_slice() == looks);
+    Ok(())
+}
+
 #[test]
 fn one_tree_of_a_sum(rt: HostRuntime) -> Result<(), Fail> {
+    let tree = Verdict::Tree(NodeId { index: 3 });
+    assert_stops(&rt, rt.alloc(), &[NUM, PLUS, NUM], tree, &[node(3)], &[])
+}
+
+#[test]
+fn the_nodes_of_a_sum(rt: HostRuntime) -> Result<(), Fail> {
     let alloc = rt.alloc();
     let tables = tables(alloc, SUMS)?;
     let mut store = Store::new(alloc);
     let kinds = Listed {
         kinds: &[NUM, PLUS, NUM],
     };
-    let parse = Parse::whole(alloc, &tables, &mut store, &kinds)?;
-    let Verdict::Tree(id) = parse.verdict() else {
-        panic!(rt; "no tree");
-    };
-    assert!(rt; parse.stack() == [Child::Node(id)].as_slice());
-    let sum = node(&rt, &store, Some(Child::Node(id)), 0);
-    let left = node(&rt, &store, store.child(sum, 0), 1);
-    let first = node(&rt, &store, store.child(left, 0), 2);
-    let second = node(&rt, &store, store.child(sum, 2), 2);
-    assert!(rt; store.child(sum, 1) == Some(Child::Token(PLUS)));
-    assert!(rt; store.children(first) == [Child::Token(NUM)].as_slice());
-    assert!(rt; store.children(second) == [Child::Token(NUM)].as_slice());
-    assert!(rt; !parse.expects(&tables, Some(1)) && !parse.expects(&tables, None));
+    let _parse = Parse::whole(alloc, &tables, &mut store, &kinds)?;
+    assert_node(&rt, &store, 0, 2, &[Child::Token(NUM)]);
+    assert_node(&rt, &store, 1, 1, &[node(0)]);
+    assert_node(&rt, &store, 2, 2, &[Child::Token(NUM)]);
+    assert_node(&rt, &store, 3, 0, &[node(1), Child::Token(PLUS), node(2)]);
     Ok(())
 }
 
@@ -137,68 +160,44 @@ fn older_nodes_stay(rt: HostRuntime) -> Result<(), Fail> {
 
 #[test]
 fn a_fault_at_the_first_token_that_fits_no_sentence(rt: HostRuntime) -> Result<(), Fail> {
-    let alloc = rt.alloc();
-    let tables = tables(alloc, SUMS)?;
-    let mut store = Store::new(alloc);
-    let kinds = Listed { kinds: &[NUM, NUM] };
-    let parse = Parse::whole(alloc, &tables, &mut store, &kinds)?;
-    assert_eq!(rt; parse.verdict(), Verdict::FaultAt(1));
-    assert!(rt; parse.stack() == [Child::Token(NUM)].as_slice());
-    assert_eq!(rt;
-        expected(alloc, &tables, &parse)?.as_slice(),
-        [Some(1), None].as_slice()
-    );
-    Ok(())
+    let stack = [Child::Token(NUM)];
+    let looks = [Some(1), None];
+    assert_stops(
+        &rt,
+        rt.alloc(),
+        &[NUM, NUM],
+        Verdict::FaultAt(1),
+        &stack,
+        &looks,
+    )
 }
 
 #[test]
 fn an_invalid_token_is_a_fault(rt: HostRuntime) -> Result<(), Fail> {
-    let alloc = rt.alloc();
-    let tables = tables(alloc, SUMS)?;
-    let mut store = Store::new(alloc);
-    let kinds = Listed {
-        kinds: &[NUM, PLUS, Kind::Invalid, PLUS],
-    };
-    let parse = Parse::whole(alloc, &tables, &mut store, &kinds)?;
-    assert_eq!(rt; parse.verdict(), Verdict::FaultAt(2));
-    assert_eq!(rt; parse.stack().len(), 2);
-    assert!(rt; parse.stack()[1] == Child::Token(PLUS));
-    assert_eq!(rt;
-        expected(alloc, &tables, &parse)?.as_slice(),
-        [Some(0), Some(2)].as_slice()
-    );
-    Ok(())
+    let kinds = [NUM, PLUS, Kind::Invalid, PLUS];
+    let stack = [node(1), Child::Token(PLUS)];
+    let looks = [Some(0), Some(2)];
+    assert_stops(&rt, rt.alloc(), &kinds, Verdict::FaultAt(2), &stack, &looks)
 }
 
 #[test]
 fn nothing_ends_too_early(rt: HostRuntime) -> Result<(), Fail> {
-    let alloc = rt.alloc();
-    let tables = tables(alloc, SUMS)?;
-    let mut store = Store::new(alloc);
-    let parse = Parse::whole(alloc, &tables, &mut store, &Listed { kinds: &[] })?;
-    assert_eq!(rt; parse.verdict(), Verdict::FaultAtEnd);
-    assert_eq!(rt; parse.stack().len(), 0);
-    assert_eq!(rt;
-        expected(alloc, &tables, &parse)?.as_slice(),
-        [Some(0), Some(2)].as_slice()
-    );
-    Ok(())
+    let looks = [Some(0), Some(2)];
+    assert_stops(&rt, rt.alloc(), &[], Verdict::FaultAtEnd, &[], &looks)
 }
 
 #[test]
 fn an_open_parenthesis_expects_no_end(rt: HostRuntime) -> Result<(), Fail> {
-    let alloc = rt.alloc();
-    let tables = tables(alloc, SUMS)?;
-    let mut store = Store::new(alloc);
-    let parse = Parse::whole(alloc, &tables, &mut store, &Listed { kinds: &[LP, NUM] })?;
-    assert_eq!(rt; parse.verdict(), Verdict::FaultAtEnd);
-    let want = [Child::Token(LP), Child::Token(NUM)];
-    assert!(rt; parse.stack() == want.as_slice());
-    assert_eq!(rt;
-        expected(alloc, &tables, &parse)?.as_slice(),
-        [Some(1), Some(3)].as_slice()
-    );
-    Ok(())
+    let stack = [Child::Token(LP), Child::Token(NUM)];
+    let looks = [Some(1), Some(3)];
+    assert_stops(
+        &rt,
+        rt.alloc(),
+        &[LP, NUM],
+        Verdict::FaultAtEnd,
+        &stack,
+        &looks,
+    )
 }
 
 #[test]
@@ -207,11 +206,8 @@ fn a_list_of_no_items_is_a_branch(rt: HostRuntime) -> Result<(), Fail> {
     let tables = tables(alloc, LISTS)?;
     let mut store = Store::new(alloc);
     let parse = Parse::whole(alloc, &tables, &mut store, &Listed { kinds: &[] })?;
-    let Verdict::Tree(id) = parse.verdict() else {
-        panic!(rt; "no tree");
-    };
-    let list = node(&rt, &store, Some(Child::Node(id)), 0);
-    assert_eq!(rt; store.children(list).len(), 0);
+    assert_eq!(rt; parse.verdict(), Verdict::Tree(NodeId { index: 0 }));
+    assert_node(&rt, &store, 0, 0, &[]);
     Ok(())
 }
 

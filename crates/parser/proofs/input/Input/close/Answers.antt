@@ -1,4 +1,4 @@
-use Rattle.std.proofs.Common.{◌≡◌, ◌∷◌, ap, sym, ◌∙◌, subst}
+use Rattle.std.proofs.Common.{subst}
 use Rattle.parser.specs.Input.{BeginsWith}
 use Rattle.parser.proofs.Inputs.{begins_none, still_empty}
 use Rattle.parser.proofs.input.Input.close.Goals as goal

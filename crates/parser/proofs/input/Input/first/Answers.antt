@@ -1,5 +1,4 @@
-use Rattle.std.proofs.Common.{◌≡◌, ◌∷◌, ◌<◌, ◌-◌, List, length, take, get_or, sym, ◌∙◌, rules, arith}
-use Rattle.trees.specs.declared.store.Child.{Child}
+use Rattle.std.proofs.Common.{◌≡◌, ◌<◌, ◌-◌, length, take, get_or, sym, ◌∙◌, rules}
 use Rattle.parser.specs.Input.{backwards}
 use Rattle.parser.proofs.Lists.{backwards-last}
 use Rattle.parser.proofs.input.Input.first.Goals as goal

@@ -1,7 +1,4 @@
-use Rattle.std.proofs.Common.{◌≡◌, ◌↔◌, IsSome, vec_len, ◌∷◌, ◌-◌, ◌<◌, ◌++◌, [], length, take, get_or, Option, Some, None, MatchOption, option_to_list, ap, sym, ◌∙◌, rules, arith, subst}
-use Rattle.std.proofs.lemmas.List.{append-nil}
-use Rattle.trees.specs.declared.store.Child.{Child}
-use Rattle.parser.specs.Input.{backwards}
+use Rattle.std.proofs.Common.{◌≡◌, ◌↔◌, IsSome, vec_len, ◌<◌, length, rules, subst}
 use Rattle.parser.proofs.Lists.{popped}
 use Rattle.parser.proofs.input.Input.take.Goals as goal
 

@@ -1,4 +1,4 @@
-use Rattle.std.proofs.Common.{◌≡◌, ◌+◌, ◌≤◌, ◌<◌, ◌∷◌, ◌++◌, [], length, refl, sym, ap, ◌∙◌, subst, rules, arith}
+use Rattle.std.proofs.Common.{◌≡◌, ◌<◌, ◌∷◌, ◌++◌, [], length, sym, ap, ◌∙◌, subst, arith}
 use Rattle.definitions.specs.Trees.{all_kinds, yield}
 use Rattle.definitions.specs.TreeEdits.{plain}
 use Rattle.trees.specs.declared.store.Child.TheVariants.{Node}
@@ -8,7 +8,7 @@ use Rattle.theory.specs.Reuse.{Tries}
 use Rattle.parser.specs.Machine.{plain_of}
 use Rattle.parser.specs.Input.{input_of, IsInput}
 use Rattle.parser.proofs.Front.{weight, opened, dropped}
-use Rattle.parser.proofs.Inputs.{IsOpening, taken, no_kinds, none_counted, kids_kinds, opening_begins, opening_on, opening_ends}
+use Rattle.parser.proofs.Inputs.{IsOpening, taken, no_kinds, none_counted, kids_kinds, opening_begins, opening_on}
 use Rattle.parser.proofs.Reductions.{below-append}
 use Rattle.parser.specs.Run.{NoneIsMadeBy}
 use Rattle.parser.proofs.Stamping.{none_behind}

@@ -1,4 +1,4 @@
-use Rattle.std.proofs.Common.{◌≡◌, ◌+◌, ℕ, length}
+use Rattle.std.proofs.Common.{ℕ}
 use Rattle.parser.specs.Machine.{plain_of}
 use Rattle.parser.specs.Input.{input_of, IsInput}
 use Rattle.parser.specs.Front.{Offers}

@@ -1,7 +1,6 @@
-use Rattle.std.proofs.Common.{◌≡◌, ◌+◌, ◌-◌, ◌<◌, ◌^◌, ◌∷◌, ◌++◌, [], length, drop, slice_get, get_or, Option, Some, None, true, false, refl, sym, ap, ◌∙◌, subst, rules, arith}
-use Rattle.std.specs.Option.{is_some}
+use Rattle.std.proofs.Common.{◌≡◌, ◌+◌, ◌∷◌, ◌++◌, [], length, drop, slice_get, None, refl, sym, ap, ◌∙◌, subst, arith}
 use Rattle.definitions.specs.declared.Symbol.TheVariants.{Nonterminal}
-use Rattle.definitions.specs.Trees.{yield, IsTree}
+use Rattle.definitions.specs.Trees.{yield}
 use Rattle.definitions.specs.TreeEdits.{plain}
 use Rattle.trees.specs.declared.store.Child.TheVariants.{Node}
 use Rattle.trees.specs.Cells.{tree}
@@ -20,9 +19,9 @@ returns-in_default g c =
     let states = c.args.self.now.states.items in
     let s = tree c.args.store.now (Node c.args.id) in
     let u = plain s in
-    let sized = c.production-left.ensures in
-    let is = tree_left gr u s c.production.result c.production.ensures.tree.0 c.production.ensures.tree.1 refl c.production.ensures.tree.2 c.requires.root.0 c.requires.root.1 c.production-left.result.0 sized.0 sized.1 in
-    no_goto t stack states c.requires.states u c.production-left.result.0 is _ (λ prefix k i. c.in_default.ensures prefix (subst (IsStateOf t prefix) (sym c.state.ensures) k) i)
+    let sized = c.production-root.ensures in
+    let is = tree_left gr u s c.production.result c.production.ensures.tree.0 c.production.ensures.tree.1 refl c.production.ensures.tree.2 c.requires.root.0 c.requires.root.1 c.production-root.result.0 sized.0 sized.1 in
+    no_goto t stack states c.requires.states u c.production-root.result.0 is _ (λ prefix k i. c.in_default.ensures prefix (subst (IsStateOf t prefix) (sym c.state.ensures) k) i)
 
 pub returns-then-is_some : goal.returns-then-is_some
 returns-then-is_some g c =
@@ -35,8 +34,8 @@ returns-then-is_some g c =
     let h = c.requires.states in
     let s = tree c.args.store.now (Node c.args.id) in
     let u = plain s in
-    let left = c.production-left.result.0 in
-    let sized = c.production-left.ensures in
+    let left = c.production-root.result.0 in
+    let sized = c.production-root.ensures in
     let is = tree_left gr u s c.production.result c.production.ensures.tree.0 c.production.ensures.tree.1 refl c.production.ensures.tree.2 c.requires.root.0 c.requires.root.1 left sized.0 sized.1 in
     let there = c.in-Some.ensures h.symbols (subst (IsStateOf t h.symbols) (sym c.state.ensures) (top_stands t stack states h)) in
     let n : c.tokens.result ≡ length (yield u) = c.tokens.ensures.is ∙ counted (length (yield u)) (omega (arith, c.requires.fits, c.len-count.ensures, c.len-count.type_inv)) in
@@ -61,8 +60,8 @@ returns-else-is_some g c =
     let h = c.requires.states in
     let s = tree c.args.store.now (Node c.args.id) in
     let u = plain s in
-    let left = c.production-left.result.0 in
-    let sized = c.production-left.ensures in
+    let left = c.production-root.result.0 in
+    let sized = c.production-root.ensures in
     let is = tree_left gr u s c.production.result c.production.ensures.tree.0 c.production.ensures.tree.1 refl c.production.ensures.tree.2 c.requires.root.0 c.requires.root.1 left sized.0 sized.1 in
     let there = c.in-Some.ensures h.symbols (subst (IsStateOf t h.symbols) (sym c.state.ensures) (top_stands t stack states h)) in
     let n : c.tokens.result ≡ length (yield u) = c.tokens.ensures.is ∙ counted (length (yield u)) (omega (arith, c.requires.fits, c.len-count.ensures, c.len-count.type_inv)) in

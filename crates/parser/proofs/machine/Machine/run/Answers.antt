@@ -1,4 +1,4 @@
-use Rattle.std.proofs.Common.{◌≡◌, ◌<◌, ◌≤◌, ◌+◌, ◌^◌, ◌∷◌, ◌++◌, [], length, get_or, slice_get, Some, sym, ap, ◌∙◌, subst, arith}
+use Rattle.std.proofs.Common.{◌≡◌, ◌<◌, ◌+◌, ◌∷◌, ◌++◌, [], length, get_or, slice_get, Some, sym, ap, ◌∙◌, subst, arith}
 use Rattle.std.proofs.lemmas.Option.{slice_get_within}
 use Rattle.definitions.specs.Items.{HasMove, Shift, Reduce, Accept}
 use Rattle.definitions.specs.Trees.{yield}
@@ -168,7 +168,7 @@ returns-in-None-clause-stops g c =
     let symbols = here.has_states.symbols in
     let there = subst (IsStateOf t symbols) (sym c.state.ensures) (top_stands t trees m.states.items here.has_states) in
     let stuck : IsStuck t c.requires.accepted kinds cells m.stack.items m.states.items m.read here = λ move called. c.in-None.ensures.is symbols there move (subst (λ l. HasMove t.grammar symbols l move) (sym offer.0) called) in
-    elim c.if-self-count.branch
-    [ then-self-count w ↦ subst (λ v. IsStoppedAt t kinds cells v m.stack.items m.states.items) (sym w.result-is) (at_fault t c.requires.accepted kinds cells m.stack.items m.states.items m.read here stuck (omega (arith, w.if-self-count.true, c.len-count.ensures)))
-    | else-self-count w ↦ subst (λ v. IsStoppedAt t kinds cells v m.stack.items m.states.items) (sym w.result-is) (at_end t c.requires.accepted kinds cells m.stack.items m.states.items m.read here stuck (omega (arith, w.if-self-count.false, c.len-count.ensures)))
+    elim c.if-self-count.branch [
+      | then-self-count w ↦ subst (λ v. IsStoppedAt t kinds cells v m.stack.items m.states.items) (sym w.result-is) (at_fault t c.requires.accepted kinds cells m.stack.items m.states.items m.read here stuck (omega (arith, w.if-self-count.true, c.len-count.ensures)))
+      | else-self-count w ↦ subst (λ v. IsStoppedAt t kinds cells v m.stack.items m.states.items) (sym w.result-is) (at_end t c.requires.accepted kinds cells m.stack.items m.states.items m.read here stuck (omega (arith, w.if-self-count.false, c.len-count.ensures)))
     ]

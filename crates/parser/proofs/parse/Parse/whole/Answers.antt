@@ -1,5 +1,40 @@
+use Rattle.std.proofs.Common.{◌+◌, drop, length, subst, sym}
+use Rattle.trees.specs.Cells.{all_trees}
+use Rattle.parser.specs.Input.{input_of, IsInput}
+use Rattle.parser.specs.Run.{IsMadeByRun, NoneIsMadeBy}
+use Rattle.parser.proofs.Plain.{plain_count, plain_stamps}
+use Rattle.parser.proofs.Running.{no_input}
+use Rattle.parser.proofs.Stamping.{none_in_nothing}
 use Rattle.parser.proofs.Stamps.{trees_stay}
 use Rattle.parser.proofs.parse.Parse.whole.Goals as goal
+
+pub parsed-requires-clause-input : goal.parsed-requires-clause-input
+parsed-requires-clause-input g c =
+    let kinds = g.K.Kinds.kinds c.args.kinds.now in
+    subst (λ l. IsInput c.args.tables.now.grammar c.args.store.now l kinds 0) (sym c.new.ensures) (no_input c.args.tables.now.grammar c.args.store.now kinds)
+
+pub parsed-requires-clause-older : goal.parsed-requires-clause-older
+parsed-requires-clause-older g c = subst (λ l. NoneIsMadeBy 0 (all_trees c.args.store.now l)) (sym c.new.ensures) (none_in_nothing 0)
+
+pub returns-in-Ok-clause-stamps : goal.returns-in-Ok-clause-stamps
+returns-in-Ok-clause-stamps g c =
+    let t = c.args.tables.now in
+    let kinds = g.K.Kinds.kinds c.args.kinds.now in
+    let cells = c.args.store.now in
+    let new = c.parsed.new.store in
+    let stack = c.in-Ok.parse.stack in
+    let run = subst (λ l. IsMadeByRun t (input_of cells l kinds 0) kinds (length cells) 0 new stack) c.new.ensures c.in-Ok.ensures.run in
+    plain_stamps t (drop (0 + 0) kinds) kinds (length cells) 0 new stack run
+
+pub returns-in-Ok-clause-count : goal.returns-in-Ok-clause-count
+returns-in-Ok-clause-count g c =
+    let t = c.args.tables.now in
+    let kinds = g.K.Kinds.kinds c.args.kinds.now in
+    let cells = c.args.store.now in
+    let new = c.parsed.new.store in
+    let stack = c.in-Ok.parse.stack in
+    let run = subst (λ l. IsMadeByRun t (input_of cells l kinds 0) kinds (length cells) 0 new stack) c.new.ensures c.in-Ok.ensures.run in
+    plain_count t (drop (0 + 0) kinds) kinds (length cells) 0 new stack run
 
 pub returns-in-Ok-clause-kept : goal.returns-in-Ok-clause-kept
 returns-in-Ok-clause-kept g c = trees_stay c.args.store.now c.parsed.new.store c.parsed.ensures.grown
