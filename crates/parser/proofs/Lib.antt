@@ -12,3 +12,4 @@ pub mod Reusing
 pub mod Running
 pub mod Stamping
 pub mod Plain
+pub mod Again

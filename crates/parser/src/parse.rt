@@ -49,7 +49,7 @@ impl Model for Parse {
 
 /// The parse of the kinds, over trees that begin at the first of them. Its new nodes have this number. Where memory is
 /// refused, some nodes may stay.
-fn parsed<K: Kinds>(
+pub(crate) fn parsed<K: Kinds>(
     alloc: Global,
     tables: &Tables,
     store: &mut Store,

@@ -5,6 +5,8 @@ ghost use Rattle.definitions.specs.declared.Kind.{Kind as TokenKind};
 ghost use Rattle.trees.specs.Cells.{Cell};
 ghost use Rattle.parser.specs.Parses.{IsParseOf};
 
+use crate::input::Input;
+use crate::parse::parsed;
 use crate::{Parse, Verdict};
 use definitions::Kind;
 use grammar::Grammar;
@@ -142,6 +144,26 @@ fn the_nodes_of_a_sum(rt: HostRuntime) -> Result<(), Fail> {
     assert_node(&rt, &store, 1, 1, &[node(0)]);
     assert_node(&rt, &store, 2, 2, &[Child::Token(NUM)]);
     assert_node(&rt, &store, 3, 0, &[node(1), Child::Token(PLUS), node(2)]);
+    Ok(())
+}
+
+#[test]
+fn a_tree_is_taken_over_whole(rt: HostRuntime) -> Result<(), Fail> {
+    let alloc = rt.alloc();
+    let tables = tables(alloc, SUMS)?;
+    let mut store = Store::new(alloc);
+    let kinds = Listed {
+        kinds: &[NUM, PLUS, NUM],
+    };
+    let parse = Parse::whole(alloc, &tables, &mut store, &kinds)?;
+    let Verdict::Tree(id) = parse.verdict() else {
+        panic!(rt; "no tree");
+    };
+    let mut input = Input::new(alloc);
+    input.put(Child::Node(id))?;
+    let again = parsed(alloc, &tables, &mut store, &kinds, input, 1)?;
+    assert_eq!(rt; store.len(), 4);
+    assert_eq!(rt; again.verdict(), Verdict::Tree(id));
     Ok(())
 }
 
