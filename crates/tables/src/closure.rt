@@ -55,13 +55,7 @@ fn place_in(input: &Input, look: Option<usize>) -> Option<usize>
 {
     match look {
         None => Some(0),
-        Some(a) => {
-            if a < input.rules() {
-                Some(a + 1)
-            } else {
-                None
-            }
-        }
+        Some(a) => { if a < input.rules() { Some(a + 1) } else { None } }
     }
 }
 

@@ -17,7 +17,7 @@ pub returns-clause-theirs : goal.returns-clause-theirs
 returns-clause-theirs c =
     let n = c.args.nonterminal in
     subst (λ qs. All (λ p. (p < length qs) × ((production_in qs p).left ≡ n)) c.list.result.now) (same_productions c)
-        (subst (All (λ p. (p < length c.self.inside.productions.items) × ((production_in c.self.inside.productions.items p).left ≡ n))) (sym (row_is c)) (c.self.invariant.theirs n))
+    (subst (All (λ p. (p < length c.self.inside.productions.items) × ((production_in c.self.inside.productions.items p).left ≡ n))) (sym (row_is c)) (c.self.invariant.theirs n))
 
 pub returns-clause-all : goal.returns-clause-all
 returns-clause-all c = λ p l e.
