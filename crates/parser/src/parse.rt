@@ -38,8 +38,6 @@ pub struct Parse {
 }
 
 impl Model for Parse {
-    ghost use Rattle.parser.specs.Input.{input_of, IsInput};
-    ghost use Rattle.parser.specs.Run.{IsMadeByRun, NoneIsMadeBy};
     ghost use Rattle.parser.specs.Parses.{Stop};
 
     ghost Value = { Stop };
