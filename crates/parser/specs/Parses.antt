@@ -19,11 +19,14 @@ use Rattle.parser.specs.declared.parse.Verdict.{Verdict}
 use Rattle.parser.specs.declared.parse.Verdict.TheVariants.{Tree as TreeAt, FaultAt as StopsAt, FaultAtEnd as StopsAtEnd}
 use Rattle.parser.specs.Machine.{plain_of}
 
--- what callers see of a parse: the verdict, and the trees and the state in which the machine stopped
+-- what callers see of a parse: the verdict, the trees and the state in which the machine stopped, how many branches these
+-- trees have, and how many of them the last edit built
 pub record Stop : Type 0 where
   pub verdict : Verdict
   pub stack : List Child
   pub state : ℕ
+  pub branches : ℕ
+  pub built : ℕ
 
 -- the verdict that a program's answer means
 abbrev pub verdict_in : List Cell → Verdict → Answer
@@ -54,19 +57,24 @@ IsAlone (TreeAt id) stack = stack ≡ Node id ∷ []
 IsAlone (StopsAt k) stack = Unit {0}
 IsAlone StopsAtEnd stack = Unit {0}
 
--- the parse of these kinds by these tables: the verdict on the kinds, and what is on the stack, whose nodes are in the store
-pub record IsParseOf (t : Sets) (kinds : List Kind) (cells : List Cell) (parse : Stop) : Type 0 where
-  pub below : AreBelow (length cells) parse.stack
-  pub verdict : IsVerdict t.grammar kinds (verdict_in cells parse.verdict)
-  pub stack : AreStacked t.grammar kinds (verdict_in cells parse.verdict) (plain_of cells parse.stack)
-  pub alone : IsAlone parse.verdict parse.stack
+-- the machine stops on these kinds as it should: with the verdict on them, with what belongs on the stack, whose nodes are
+-- in the store, and in the state above that
+pub record IsStop (t : Sets) (kinds : List Kind) (cells : List Cell) (v : Verdict) (children : List Child) (top : ℕ) : Type 0 where
+  pub below : AreBelow (length cells) children
+  pub verdict : IsVerdict t.grammar kinds (verdict_in cells v)
+  pub stack : AreStacked t.grammar kinds (verdict_in cells v) (plain_of cells children)
+  pub alone : IsAlone v children
   pub roots : List Symbol
-  pub are_roots : HaveRoots t.grammar (plain_of cells parse.stack) roots
-  pub state : IsStateOf t roots parse.state
+  pub are_roots : HaveRoots t.grammar (plain_of cells children) roots
+  pub state : IsStateOf t roots top
+
+-- the parse of these kinds by these tables, with its nodes in these cells
+abbrev pub IsParseOf : Sets → List Kind → List Cell → Stop → Type 0
+IsParseOf t kinds cells parse = IsStop t kinds cells parse.verdict parse.stack parse.state
 
 -- the machine has stopped with this stack, under the last of these states
 abbrev pub IsStoppedAt : Sets → List Kind → List Cell → Verdict → List Child → List ℕ → Type 0
-IsStoppedAt t kinds cells v stack states = (0 < length states) × IsParseOf t kinds cells (record { verdict = v; stack = stack; state = slice_index_or states (length states - 1) 0 })
+IsStoppedAt t kinds cells v stack states = (0 < length states) × IsStop t kinds cells v stack (slice_index_or states (length states - 1) 0)
 
 -- some sentence goes on behind x with this token rule, or ends there
 abbrev pub GoesOnWith : Grammar → List Kind → Option ℕ → Type 0

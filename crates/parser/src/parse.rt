@@ -1,9 +1,9 @@
 //! The parse of a list of kinds.
 
-ghost use Rattle.std.specs.Prelude.{◌≡◌, ◌↔◌, ◌+◌, ℕ, List, length, take, true, IfOk, OnErr};
+ghost use Rattle.std.specs.Prelude.{◌≡◌, ◌↔◌, ◌+◌, ◌^◌, ◌<◌, ℕ, List, length, min, take, true, IfOk, OnErr};
 ghost use Rattle.definitions.specs.declared.Kind.{Kind};
 ghost use Rattle.definitions.specs.Nodes.{all_branches};
-ghost use Rattle.trees.specs.Cells.{Cell, KeepsTrees, all_trees, forest_in};
+ghost use Rattle.trees.specs.Cells.{AreBelow, Cell, KeepsTrees, all_trees, forest_in, most};
 ghost use Rattle.tables.specs.Tables.{Sets};
 ghost use Rattle.parser.specs.Machine.{plain_of, AreMadeBy};
 ghost use Rattle.parser.specs.Input.{input_of, IsInput};
@@ -35,6 +35,8 @@ pub struct Parse {
     verdict: Verdict,
     stack: Vec<Child>,
     state: usize,
+    branches: usize,
+    built: usize,
 }
 
 impl Model for Parse {
@@ -42,7 +44,19 @@ impl Model for Parse {
 
     ghost Value = { Stop };
 
-    ghost view = { λ p. record { verdict = p.verdict; stack = p.stack.items; state = p.state } };
+    ghost view = { λ p. record { verdict = p.verdict; stack = p.stack.items; state = p.state; branches = p.branches; built = p.built } };
+}
+
+/// How many branches the trees of the children have, or 18,446,744,073,709,551,615 where they have more.
+fn branches_of(store: &Store, children: &[Child]) -> u64
+    requires { AreBelow (length store.now) children.now }
+    ensures { result ≡ min most (all_branches (plain_of store.now children.now)) }
+{
+    let mut branches = 0u64;
+    for child in children {
+        branches = branches.saturating_add(store.size_of(*child));
+    }
+    branches
 }
 
 /// The parse of the kinds, over trees that begin at the first of them. Its new nodes have this number. Where memory is
@@ -60,14 +74,21 @@ pub(crate) fn parsed<K: Kinds>(
     ensures parse { IfOk result (λ p. IsParseOf tables.now (K.kinds kinds.now) store.new p) }
     ensures run { IfOk result (λ p. IsMadeByRun tables.now (input_of store.old input (K.kinds kinds.now) 0) (K.kinds kinds.now) (length store.old) number store.new p.stack) }
     ensures grown { take (length store.old) store.new ≡ store.old }
+    ensures branches { IfOk result (λ p. p.branches ≡ min most (all_branches (plain_of store.new p.stack))) }
+    ensures built { IfOk result (λ p. length store.new ≡ length store.old + p.built) }
+    ensures room { IfOk result (λ _. length store.new < 2 ^ 64) }
 {
+    let before = store.len();
     let mut machine = Machine::new(alloc, tables)?;
     let verdict = machine.run(alloc, tables, store, kinds, input, number)?;
     let state = machine.state();
+    let branches = branches_of(store, &machine.stack) as usize;
     Ok(Parse {
         verdict,
         stack: machine.stack,
         state,
+        branches,
+        built: store.len() - before,
     })
 }
 
@@ -85,6 +106,8 @@ impl Parse {
         ensures stamps { IfOk result (λ p. AreMadeBy 0 (forest_in store.new p.stack)) }
         ensures grown { take (length store.old) store.new ≡ store.old }
         ensures count { IfOk result (λ p. length store.new ≡ length store.old + all_branches (plain_of store.new p.stack)) }
+        ensures branches { IfOk result (λ p. p.branches ≡ all_branches (plain_of store.new p.stack)) }
+        ensures built { IfOk result (λ p. p.built ≡ all_branches (plain_of store.new p.stack)) }
         ensures kept { KeepsTrees (length store.old) store.old store.new }
         ensures refused { OnErr result (store.new ≡ store.old) }
     {
@@ -111,6 +134,15 @@ impl Parse {
         ensures { result.now ≡ self.now.stack }
     {
         &self.stack
+    }
+
+    /// How many branches the trees of the stack have, and how many of these the last edit built. A whole parse builds all of
+    /// them.
+    pub fn counts(&self) -> (usize, usize)
+        ensures branches { result.0 ≡ self.now.branches }
+        ensures built { result.1 ≡ self.now.built }
+    {
+        (self.branches, self.built)
     }
 
     /// Whether this token rule, or where `look` is `None` the end, may stand at the fault, behind the tokens before it. Where

@@ -139,7 +139,8 @@ fn the_nodes_of_a_sum(rt: HostRuntime) -> Result<(), Fail> {
     let kinds = Listed {
         kinds: &[NUM, PLUS, NUM],
     };
-    let _parse = Parse::whole(alloc, &tables, &mut store, &kinds)?;
+    let parse = Parse::whole(alloc, &tables, &mut store, &kinds)?;
+    assert_eq!(rt; parse.counts(), (4, 4));
     assert_node(&rt, &store, 0, 2, &[Child::Token(NUM)]);
     assert_node(&rt, &store, 1, 1, &[node(0)]);
     assert_node(&rt, &store, 2, 2, &[Child::Token(NUM)]);
@@ -164,6 +165,7 @@ fn a_tree_is_taken_over_whole(rt: HostRuntime) -> Result<(), Fail> {
     let again = parsed(alloc, &tables, &mut store, &kinds, input, 1)?;
     assert_eq!(rt; store.len(), 4);
     assert_eq!(rt; again.verdict(), Verdict::Tree(id));
+    assert_eq!(rt; again.counts(), (4, 0));
     Ok(())
 }
 
@@ -173,8 +175,9 @@ fn older_nodes_stay(rt: HostRuntime) -> Result<(), Fail> {
     let tables = tables(alloc, SUMS)?;
     let mut store = Store::new(alloc);
     let older = store.branch(alloc, 7, &[], 9)?;
-    let _parse = Parse::whole(alloc, &tables, &mut store, &Listed { kinds: &[NUM] })?;
+    let parse = Parse::whole(alloc, &tables, &mut store, &Listed { kinds: &[NUM] })?;
     assert_eq!(rt; store.len(), 3);
+    assert_eq!(rt; parse.counts(), (2, 2));
     assert!(rt; older.index < store.len());
     assert_eq!(rt; store.born(older), 9);
     Ok(())

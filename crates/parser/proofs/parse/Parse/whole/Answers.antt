@@ -1,4 +1,4 @@
-use Rattle.std.proofs.Common.{◌+◌, drop, length, subst, sym}
+use Rattle.std.proofs.Common.{◌+◌, arith, drop, length, subst, sym}
 use Rattle.trees.specs.Cells.{all_trees}
 use Rattle.parser.specs.Input.{input_of, IsInput}
 use Rattle.parser.specs.Run.{IsMadeByRun, NoneIsMadeBy}
@@ -35,6 +35,16 @@ returns-in-Ok-clause-count g c =
     let stack = c.in-Ok.parse.stack in
     let run = subst (λ l. IsMadeByRun t (input_of cells l kinds 0) kinds (length cells) 0 new stack) c.new.ensures c.in-Ok.ensures.run in
     plain_count t (drop (0 + 0) kinds) kinds (length cells) 0 new stack run
+
+pub returns-in-Ok-clause-built : goal.returns-in-Ok-clause-built
+returns-in-Ok-clause-built g c =
+    let count = returns-in-Ok-clause-count g c in
+    omega (arith, c.in-Ok.ensures.built, count)
+
+pub returns-in-Ok-clause-branches : goal.returns-in-Ok-clause-branches
+returns-in-Ok-clause-branches g c =
+    let built = returns-in-Ok-clause-built g c in
+    omega (arith, c.in-Ok.ensures.branches, built, c.in-Ok.ensures.built, c.in-Ok.ensures.room)
 
 pub returns-in-Ok-clause-kept : goal.returns-in-Ok-clause-kept
 returns-in-Ok-clause-kept g c = trees_stay c.args.store.now c.parsed.new.store c.parsed.ensures.grown

@@ -1,0 +1,12 @@
+use Rattle.std.proofs.Common.{◌≡◌, ◌+◌, ◌≤◌, min, drop}
+use Rattle.definitions.specs.Nodes.{all_branches}
+use Rattle.trees.specs.Cells.{most}
+use Rattle.parser.specs.Machine.{plain_of}
+use Rattle.parser.proofs.parse.branches_of.Given as goal
+
+-- what is counted, with what is left to count, is the whole
+abbrev pub invariant-loop-child : goal.invariant-loop-child
+invariant-loop-child l = record {
+  left : min most (l.branches + all_branches (plain_of l.store (drop l.child-index l.children))) ≡ min most (all_branches (plain_of l.store l.children));
+  fit : l.branches ≤ most;
+}
