@@ -1,11 +1,11 @@
 -- What a rescan has made, at a place where no rejoining has been.
-use Rattle.definitions.proofs.TokensLead.{GoOn, before_rejoin, chars, chars-cons, chars_from, front_before, front_leads, leads_inside, leads_join, leads_more, leads_split, length-placed, placed_at}
+use Rattle.definitions.proofs.TokensLead.{GoOn, before_rejoin, chars, chars-cons, chars_from, front_before, front_leads, leads_inside, leads_join, leads_split, length-placed, placed_at}
 use Rattle.definitions.specs.Tokens.{Leads}
 use Rattle.definitions.proofs.TokensKept.{length-edit}
 use Rattle.std.specs.Prelude.{◌≡◌, ℕ, zero, suc, ◌+◌, ◌-◌, ◌<◌, ◌≤◌, ◌^◌, Bool, true, false, List, [], ◌∷◌, ◌++◌, length, take, drop, slice_get, slice_index_or, IsSomeAnd}
 use Rattle.std.proofs.Common.{arith, refl, sym, ap, subst, inl, inr, ◌∙◌, length-append, length-drop}
 use Rattle.std.proofs.lemmas.Bool.{cases_lt}
-use Rattle.std.proofs.lemmas.List.{map-append, drop-drop, take-take, length-take, take_all, take-append-le}
+use Rattle.std.proofs.lemmas.List.{map-append, take-take, length-take, take_all, take-append-le}
 use Rattle.std.proofs.lemmas.List.Sums.{prefix_len-le-length, sum_by-append}
 use Rattle.std.proofs.Math.Seq.{take-append-add}
 use Rattle.definitions.specs.declared.Edit.{Edit}
@@ -137,12 +137,6 @@ module _ (rules : List Expression) (skips : List Bool) (e : Edit) (items : List 
 
     pub needed : (i : ℕ) → front_end e items + characters made < length u → IsWithinReach rules u (front_end e items + characters made) i → IsNeeded rules e items u i
     needed i lt w = record { behind = omega (arith, w.behind); inside = w.inside; reached = reached_by i lt w }
-
--- one more token made
-pub lead_one : (rules : List Expression) (u : List ℕ) (from at : ℕ) (made : List Token) (x : Token) → at ≡ from + characters made → Leads rules (drop from u) (plain_all made) → IsToken rules (drop at u) (plain x) → Leads rules (drop from u) (plain_all (made ++ x ∷ []))
-lead_one rules u from at made x is l p =
-    let place : drop at u ≡ drop (chars (plain_all made)) (drop from u) = ap (λ n. drop n u) (is ∙ ap (λ n. from + n) (sym (chars-plain made))) ∙ sym (drop-drop (chars (plain_all made)) from u) in
-    subst (λ xs. Leads rules (drop from u) xs) (sym (map-append plain made (x ∷ []))) (leads_more rules (drop from u) (plain_all made) (plain x) l (subst (λ v. IsToken rules v (plain x)) place p))
 
 pub earlier_one : (e : Edit) (items : List Token) (from : ℕ) (made : List Token) (x : Token)
     → ((k : ℕ) → k < length made → is_rejoined e (plain_all items) (from + characters (take k made)) ≡ false)

@@ -1,64 +1,88 @@
 -- Tokens made one after another.
 use Rattle.std.specs.Prelude.{◌≡◌, ℕ, ◌+◌, ◌≤◌, Bool, List, [], ◌∷◌, ◌++◌, length, drop, map, All}
-use Rattle.std.proofs.Common.{refl, sym, ap, subst, ◌∙◌}
-use Rattle.std.proofs.lemmas.List.{append_assoc, drop-drop, drop_all}
-use Rattle.std.proofs.lemmas.List.Sums.{sum_by_push}
+use Rattle.std.proofs.Common.{arith, sym, ap, subst, ◌∙◌}
+use Rattle.std.proofs.lemmas.List.{append-nil, drop-drop, drop_all, map-append}
+use Rattle.std.proofs.lemmas.List.Sums.{sum_by-append, sum_by_push}
 use Rattle.std.proofs.lemmas.List.Elements.{All-nil, All-cons, All-append}
 use Rattle.definitions.specs.declared.expression.Expression.{Expression}
-use Rattle.definitions.specs.Tokens.{Token as PlainToken, IsToken, AreTokens, is_skipped}
+use Rattle.definitions.specs.Tokens.{IsToken, AreTokens, Leads, is_skipped}
+use Rattle.definitions.proofs.TokensLead.{chars, leads_join, leads_more, leads_tokens}
 use Rattle.lexer.specs.declared.sums.Token.{Token}
 use Rattle.lexer.specs.Tokens.{plain, characters}
+use Rattle.lexer.specs.Scans.{AreMade, AreNext}
+use Rattle.lexer.proofs.Remakes.{chars-plain}
+use Rattle.lexer.proofs.Totals.{length-le-characters}
 
--- Tokens that go on to the tokens of the text t: with those of what is left from offset o on, they are all of its tokens.
-abbrev pub GoesOn : List Expression → List ℕ → ℕ → List PlainToken → Type 0
-GoesOn rules t o xs = (rest : List PlainToken) → AreTokens rules (drop o t) rest → AreTokens rules t (xs ++ rest)
-
-pub goes_on_none : (rules : List Expression) (t : List ℕ) → GoesOn rules t 0 []
-goes_on_none rules t = λ rest h. h
-
-pub map-append : (f : Token → PlainToken) (xs ys : List Token) → map f (xs ++ ys) ≡ map f xs ++ map f ys
-map-append f [] ys = refl
-map-append f (x ∷ xs) ys = ap (λ r. f x ∷ r) (map-append f xs ys)
-
-pub goes_on_more : (rules : List Expression) (t : List ℕ) (o : ℕ) (xs : List Token) (x : Token) → GoesOn rules t o (map plain xs) → IsToken rules (drop o t) (plain x) → GoesOn rules t (o + x.length) (map plain (xs ++ x ∷ []))
-goes_on_more rules t o xs x h p = λ rest r.
-    let whole : AreTokens rules (drop o t) (plain x ∷ rest) = (p, subst (λ u. AreTokens rules u rest) (sym (drop-drop x.length o t)) r) in
-    let joined : map plain xs ++ plain x ∷ rest ≡ map plain (xs ++ x ∷ []) ++ rest = sym (ap (λ ys. ys ++ rest) (map-append plain xs (x ∷ [])) ∙ append_assoc (map plain xs) (plain x ∷ []) rest) in
-    subst (λ ys. AreTokens rules t ys) joined (h (plain x ∷ rest) whole)
-
-append_nil : (xs : List PlainToken) → xs ++ [] ≡ xs
-append_nil [] = refl
-append_nil (x ∷ xs) = ap (λ r. x ∷ r) (append_nil xs)
-
--- at the end they are all
-pub goes_on_end : (rules : List Expression) (t : List ℕ) (o : ℕ) (xs : List PlainToken) → GoesOn rules t o xs → length t ≤ o → AreTokens rules t xs
-goes_on_end rules t o xs h l = subst (λ ys. AreTokens rules t ys) (append_nil xs) (h [] (drop_all o t l))
-
--- what holds of the tokens made so far
-pub record AreMade (rules : List Expression) (skips : List Bool) (born : ℕ) (made : List Token) : Type 0 where
-  pub marked : All (λ x. x.skipped ≡ is_skipped skips x.kind) made
-  pub stamped : All (λ x. x.born ≡ born) made
-  pub nonempty : All (λ x. 1 ≤ x.length) made
-  pub near : All (λ x. x.reach ≤ 1048577) made
-
-pub made_none : (rules : List Expression) (skips : List Bool) (born : ℕ) → AreMade rules skips born []
-made_none rules skips born = record {
+pub made_none : (skips : List Bool) (born : ℕ) → AreMade skips born []
+made_none skips born = record {
   marked = All-nil (λ x. x.skipped ≡ is_skipped skips x.kind);
   stamped = All-nil (λ x. x.born ≡ born);
   nonempty = All-nil (λ x. 1 ≤ x.length);
   near = All-nil (λ x. x.reach ≤ 1048577);
 }
 
-one : (P : Token → Type 0) (xs : List Token) (x : Token) → All P xs → P x → All P (xs ++ x ∷ [])
-one P xs x h p = All-append P xs (x ∷ []) h (All-cons P x [] p (All-nil P))
-
-pub made_more : (rules : List Expression) (skips : List Bool) (born : ℕ) (xs : List Token) (x : Token) → AreMade rules skips born xs → x.skipped ≡ is_skipped skips x.kind → x.born ≡ born → 1 ≤ x.length → x.reach ≤ 1048577 → AreMade rules skips born (xs ++ x ∷ [])
-made_more rules skips born xs x h a b c d = record {
-  marked = one (λ x. x.skipped ≡ is_skipped skips x.kind) xs x h.marked a;
-  stamped = one (λ x. x.born ≡ born) xs x h.stamped b;
-  nonempty = one (λ x. 1 ≤ x.length) xs x h.nonempty c;
-  near = one (λ x. x.reach ≤ 1048577) xs x h.near d;
+pub made_join : (skips : List Bool) (born : ℕ) (xs ys : List Token) → AreMade skips born xs → AreMade skips born ys → AreMade skips born (xs ++ ys)
+made_join skips born xs ys h k = record {
+  marked = All-append (λ x. x.skipped ≡ is_skipped skips x.kind) xs ys h.marked k.marked;
+  stamped = All-append (λ x. x.born ≡ born) xs ys h.stamped k.stamped;
+  nonempty = All-append (λ x. 1 ≤ x.length) xs ys h.nonempty k.nonempty;
+  near = All-append (λ x. x.reach ≤ 1048577) xs ys h.near k.near;
 }
+
+one : (P : Token → Type 0) (x : Token) → P x → All P (x ∷ [])
+one P x p = All-cons P x [] p (All-nil P)
+
+pub made_more : (skips : List Bool) (born : ℕ) (xs : List Token) (x : Token) → AreMade skips born xs → x.skipped ≡ is_skipped skips x.kind → x.born ≡ born → 1 ≤ x.length → x.reach ≤ 1048577 → AreMade skips born (xs ++ x ∷ [])
+made_more skips born xs x h a b c d =
+    made_join skips born xs (x ∷ []) h
+    (record {
+      marked = one (λ x. x.skipped ≡ is_skipped skips x.kind) x a;
+      stamped = one (λ x. x.born ≡ born) x b;
+      nonempty = one (λ x. 1 ≤ x.length) x c;
+      near = one (λ x. x.reach ≤ 1048577) x d;
+    })
 
 pub characters-more : (xs : List Token) (x : Token) → characters (xs ++ x ∷ []) ≡ characters xs + x.length
 characters-more xs x = sum_by_push (λ x. x.length) xs x
+
+-- what is dropped where the tokens from an offset on end
+place : (t : List ℕ) (from at : ℕ) (xs : List Token) → at ≡ from + characters xs → drop at t ≡ drop (chars (map plain xs)) (drop from t)
+place t from at xs is = ap (λ n. drop n t) (is ∙ ap (λ n. from + n) (sym (chars-plain xs))) ∙ sym (drop-drop (chars (map plain xs)) from t)
+
+-- one more token made
+pub lead_one : (rules : List Expression) (t : List ℕ) (from at : ℕ) (made : List Token) (x : Token) → at ≡ from + characters made → Leads rules (drop from t) (map plain made) → IsToken rules (drop at t) (plain x) → Leads rules (drop from t) (map plain (made ++ x ∷ []))
+lead_one rules t from at made x is l p =
+    subst (λ xs. Leads rules (drop from t) xs) (sym (map-append plain made (x ∷ [])))
+    (leads_more rules (drop from t) (map plain made) (plain x) l (subst (λ v. IsToken rules v (plain x)) (place t from at made is) p))
+
+module _ (rules : List Expression) (skips : List Bool) (t : List ℕ) where
+  pub next_none : (from : ℕ) → from ≤ length t → AreNext rules skips t from [] from
+  next_none from l = record { leads = tt; made = made_none skips 0; end_is = omega arith; inside = l }
+
+  pub next_one : (from at : ℕ) (xs : List Token) (x : Token) → AreNext rules skips t from xs at → IsToken rules (drop at t) (plain x) → AreMade skips 0 (xs ++ x ∷ []) → at + x.length ≤ length t → AreNext rules skips t from (xs ++ x ∷ []) (at + x.length)
+  next_one from at xs x h p made l = record {
+    leads = lead_one rules t from at xs x h.end_is h.leads p;
+    made = made;
+    end_is = omega (arith, h.end_is, characters-more xs x);
+    inside = l;
+  }
+
+  pub next_join : (from at end : ℕ) (xs ys : List Token) → AreNext rules skips t from xs at → AreNext rules skips t at ys end → AreNext rules skips t from (xs ++ ys) end
+  next_join from at end xs ys h k = record {
+    leads =
+        subst (λ zs. Leads rules (drop from t) zs) (sym (map-append plain xs ys))
+        (leads_join rules (drop from t) (map plain xs) (map plain ys) h.leads (subst (λ v. Leads rules v (map plain ys)) (place t from at xs h.end_is) k.leads));
+    made = made_join skips 0 xs ys h.made k.made;
+    end_is = omega (arith, h.end_is, k.end_is, sum_by-append (λ x. x.length) xs ys);
+    inside = k.inside;
+  }
+
+  -- no more tokens than characters
+  pub next_few : (from at : ℕ) (xs : List Token) → AreNext rules skips t from xs at → from + length xs ≤ at
+  next_few from at xs h = omega (arith, h.end_is, length-le-characters xs h.made.nonempty)
+
+  -- up to the end of the text they are all of its tokens
+  pub next_all : (xs : List Token) → AreNext rules skips t 0 xs (length t) → AreTokens rules t (map plain xs)
+  next_all xs h =
+      let end : length t ≤ chars (map plain xs) = omega (arith, h.end_is, chars-plain xs) in
+      subst (λ ys. AreTokens rules t ys) (append-nil (map plain xs)) (leads_tokens rules t (map plain xs) [] h.leads (drop_all (chars (map plain xs)) t end))

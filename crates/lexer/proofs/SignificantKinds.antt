@@ -107,7 +107,7 @@ kinds_differ xs from count kinds within other =
     length-take count (drop from (significant_kinds xs)) ∙ omega (arith, within, length-kinds xs, length-drop from (significant_kinds xs)) in
     decided (same_kinds (take count (drop from (significant_kinds xs))) kinds) (λ e. other (sym long ∙ same-length (take count (drop from (significant_kinds xs))) kinds e))
 
-kinds_append : (xs ys : List Token) → significant_kinds (xs ++ ys) ≡ significant_kinds xs ++ significant_kinds ys
+pub kinds_append : (xs ys : List Token) → significant_kinds (xs ++ ys) ≡ significant_kinds xs ++ significant_kinds ys
 kinds_append xs ys = ap (map (λ (x : Token). x.kind)) (filter-append is_significant xs ys) ∙ map-append (λ (x : Token). x.kind) (filter is_significant xs) (filter is_significant ys)
 
 between : (xs : List Token) (a b : ℕ) → a ≤ b → take b xs ≡ take a xs ++ slice_range xs a b

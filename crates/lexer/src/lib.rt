@@ -2,6 +2,7 @@
 #![tactic(auto)]
 
 mod laws;
+mod scan;
 mod sums;
 mod tokens;
 mod whole;

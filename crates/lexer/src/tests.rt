@@ -259,6 +259,36 @@ fn scans_whole_texts(rt: HostRuntime) -> Result<(), Fail> {
     Ok(())
 }
 
+/// More tokens than are put into the list at once.
+#[test]
+fn scans_a_long_text_with_its_kinds(rt: HostRuntime) -> Result<(), Fail> {
+    let alloc = rt.alloc();
+    let sums = load(alloc, SUMS)?;
+    let mut written = String::new(alloc);
+    for _ in 0..1500 {
+        written.push_str("1 +")?;
+    }
+    let text = Text::open(alloc, written.as_str())?;
+    let _length = text.len();
+    let (tokens, kinds) = Tokens::scan_with_kinds(
+        alloc,
+        &sums.grammar,
+        &sums.automaton,
+        &Whole(&text),
+    )?;
+    assert_eq!(rt; tokens.count(), 4500);
+    for (i, token) in tokens.items().iter_from(0).enumerate() {
+        let name = ["NUM", "WS", "PLUS"][i % 3];
+        assert_eq!(rt; sums.grammar.kind_name(token.kind), name, "at {i}");
+    }
+    assert_eq!(rt; kinds.len(), 3000);
+    for (i, kind) in kinds.iter().enumerate() {
+        let name = ["NUM", "PLUS"][i % 2];
+        assert_eq!(rt; sums.grammar.kind_name(*kind), name, "at {i}");
+    }
+    Ok(())
+}
+
 #[test]
 fn tells_the_significant_tokens(rt: HostRuntime) -> Result<(), Fail> {
     let alloc = rt.alloc();

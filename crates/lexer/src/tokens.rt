@@ -10,6 +10,7 @@ ghost use Rattle.definitions.specs.declared.Kind.TheVariants.{Invalid};
 ghost use Rattle.lexer.specs.Tokens.{plain, is_significant, characters, Fits, AreTokensOf};
 ghost use Rattle.lexer.specs.Rescans.{plain_all, front_end, significant_kinds, IsEdited, IsNeeded, IsRemade, AreRescanned, plain_splice, change};
 
+use crate::scan::{add_kinds, scan_all, token_at};
 use crate::sums::{AfterCharacter, AfterCount, AfterSignificant, ReachesPast, Token};
 use definitions::{Edit, Kind, KindSplice};
 use dfa::{Automaton, Source};
@@ -35,47 +36,6 @@ impl Model for Tokens {
     ghost invariant = { λ a. Fits a.items };
 }
 
-/// The kind of a token that matches this rule, or none.
-fn kind_of(rule: Option<usize>) -> Kind
-    ensures { result ≡ kind_of rule }
-{
-    match rule {
-        Some(k) => Kind::Rule(k),
-        None => Kind::Invalid,
-    }
-}
-
-/// The token that starts at this offset.
-fn token_at<S: Source>(
-    grammar: &Grammar,
-    automaton: &Automaton,
-    source: &S,
-    at: usize,
-    born: u64,
-) -> Token
-    requires sound { IsAutomaton grammar.now.patterns automaton.now }
-    requires text { IsText (S.text source.now) }
-    requires small { length (S.text source.now) ≤ 1048576 }
-    requires within { at < length (S.text source.now) }
-    requires window { (i : ℕ) → IsWithinReach grammar.now.patterns (S.text source.now) at i → S.in_window source.now i }
-    ensures token { IsToken grammar.now.patterns (drop at (S.text source.now)) (plain result) }
-    ensures marked { result.skipped ≡ is_skipped grammar.now.skips result.kind }
-    ensures born { result.born ≡ born }
-    ensures inside { at + result.length ≤ length (S.text source.now) }
-    ensures nonempty { 1 ≤ result.length }
-    ensures near { result.reach ≤ 1048577 }
-{
-    let found = automaton.longest(source, at);
-    let kind = kind_of(found.rule);
-    Token {
-        kind,
-        length: found.length,
-        reach: found.reach,
-        skipped: grammar.is_skipped(kind),
-        born,
-    }
-}
-
 impl Tokens {
     /// All tokens of a text, made by edit 0.
     pub fn scan<S: Source>(
@@ -92,21 +52,30 @@ impl Tokens {
         ensures born { IfOk result (λ r. All (λ x. x.born ≡ 0) r.items) }
         ensures scanned { IfOk result (λ r. r.scanned ≡ length r.items) }
     {
-        let mut items = Vec::new(alloc);
-        let mut at = 0;
-        while at < source.len() {
-            let token = token_at(grammar, automaton, source, at, 0);
-            items.push(token)?;
-            at += token.length;
-        }
+        let (tokens, _kinds) = Tokens::scan_with_kinds(alloc, grammar, automaton, source)?;
+        Ok(tokens)
+    }
+
+    /// The same, with the kinds of the significant ones, in order. A parser reads them all, and a walk over the tokens would
+    /// cost it as much as the scan.
+    pub fn scan_with_kinds<S: Source>(
+        alloc: Global,
+        grammar: &Grammar,
+        automaton: &Automaton,
+        source: &S,
+    ) -> Result<(Tokens, Vec<Kind>), AllocError>
+        requires sound { IsAutomaton grammar.now.patterns automaton.now }
+        requires text { IsText (S.text source.now) }
+        requires small { length (S.text source.now) ≤ 1048576 }
+        requires window { (i : ℕ) → i < length (S.text source.now) → S.in_window source.now i }
+        ensures tokens { IfOk result (λ r. AreTokensOf grammar.now.patterns grammar.now.skips (S.text source.now) r.0.items) }
+        ensures born { IfOk result (λ r. All (λ x. x.born ≡ 0) r.0.items) }
+        ensures scanned { IfOk result (λ r. r.0.scanned ≡ length r.0.items) }
+        ensures kinds { IfOk result (λ r. r.1.items ≡ significant_kinds r.0.items) }
+    {
+        let (items, kinds) = scan_all(alloc, grammar, automaton, source)?;
         let scanned = items.len();
-        let slots = Slots::make(alloc, items)?;
-        let mut list = Seq::new();
-        list.replace(0, 0, slots);
-        Ok(Tokens {
-            items: list,
-            scanned,
-        })
+        Ok((Tokens { items, scanned }, kinds))
     }
 
     /// How many tokens there are.
@@ -272,11 +241,7 @@ fn kinds_of(alloc: Global, tokens: &[Token]) -> Result<Vec<Kind>, AllocError>
     ensures { IfOk result (λ v. v.items ≡ significant_kinds tokens.now) }
 {
     let mut kinds = Vec::new(alloc);
-    for token in tokens {
-        if !token.skipped {
-            kinds.push(token.kind)?;
-        }
-    }
+    add_kinds(&mut kinds, tokens)?;
     Ok(kinds)
 }
 

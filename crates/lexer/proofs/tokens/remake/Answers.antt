@@ -4,8 +4,8 @@ use Rattle.dfa.specs.Windows.{IsWithinReach}
 use Rattle.definitions.specs.TokenEdits.{is_rejoined}
 use Rattle.lexer.specs.Tokens.{characters}
 use Rattle.lexer.specs.Rescans.{plain_all, front_end}
-use Rattle.lexer.proofs.Scans.{made_none, made_more, characters-more}
-use Rattle.lexer.proofs.Remakes.{removed_fits, front_inside, end_rejoins, end_moved, needed, lead_one, earlier_one}
+use Rattle.lexer.proofs.Scans.{made_none, made_more, characters-more, lead_one}
+use Rattle.lexer.proofs.Remakes.{removed_fits, front_inside, end_rejoins, end_moved, needed, earlier_one}
 use Rattle.lexer.proofs.tokens.remake.Goals as goal
 
 pub rejoined-requires-clause-removed : goal.rejoined-requires-clause-removed
@@ -18,7 +18,7 @@ loop-at-init g c =
       inside = omega (arith, c.requires.front, inside);
       sum = omega arith;
       leads = tt;
-      made = made_none _ _ _;
+      made = made_none _ _;
       earlier = λ k l. absurd (omega arith);
     })
 
@@ -43,7 +43,7 @@ loop-at-preserved g c =
       inside = c.token_at-token.ensures.inside;
       sum = omega (arith, c.loop-at.invariant.sum, characters-more c.loop-at.made.items x);
       leads = lead_one c.args.grammar.now.patterns u c.args.from c.loop-at.at c.loop-at.made.items x c.loop-at.invariant.sum c.loop-at.invariant.leads c.token_at-token.ensures.token;
-      made = made_more _ _ _ _ _ c.loop-at.invariant.made c.token_at-token.ensures.marked c.token_at-token.ensures.born c.token_at-token.ensures.nonempty c.token_at-token.ensures.near;
+      made = made_more _ _ _ _ c.loop-at.invariant.made c.token_at-token.ensures.marked c.token_at-token.ensures.born c.token_at-token.ensures.nonempty c.token_at-token.ensures.near;
       earlier = earlier_one c.args.edit c.args.items.now c.args.from c.loop-at.made.items x c.loop-at.invariant.earlier (subst (λ n. is_rejoined c.args.edit (plain_all c.args.items.now) n ≡ false) c.loop-at.invariant.sum not_here);
     })
 

@@ -3,7 +3,7 @@ use Rattle.std.proofs.Common.{ℕ, ◌≡◌, ◌≤◌, ◌<◌, ◌+◌, ◌-�
 use Rattle.definitions.specs.TokenEdits.{is_rejoined}
 use Rattle.lexer.specs.Tokens.{characters}
 use Rattle.lexer.specs.Rescans.{plain_all}
-use Rattle.lexer.proofs.Scans.{AreMade}
+use Rattle.lexer.specs.Scans.{AreMade}
 use Rattle.lexer.proofs.tokens.remake.Given as goal
 
 abbrev pub invariant-loop-at : goal.invariant-loop-at
@@ -12,7 +12,7 @@ invariant-loop-at g l =
       inside : l.at ≤ length (g.S.Source.text l.source);
       sum : l.at ≡ l.from + characters l.made.items;
       leads : Leads l.grammar.patterns (drop l.from (g.S.Source.text l.source)) (plain_all l.made.items);
-      made : AreMade l.grammar.patterns l.grammar.skips l.edit.number l.made.items;
+      made : AreMade l.grammar.skips l.edit.number l.made.items;
       earlier : (k : ℕ) → k < length l.made.items → is_rejoined l.edit (plain_all l.items) (l.from + characters (take k l.made.items)) ≡ false;
     }
 

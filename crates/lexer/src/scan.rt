@@ -1,0 +1,135 @@
+//! The tokens of a whole text.
+ghost use Rattle.std.specs.Prelude.{◌≡◌, ℕ, ◌+◌, ◌<◌, ◌≤◌, ◌++◌, ◌^◌, length, drop, IfOk, OnOk};
+ghost use Rattle.definitions.specs.Text.{IsText};
+ghost use Rattle.definitions.specs.Tokens.{IsToken, is_skipped};
+ghost use Rattle.dfa.specs.Table.{IsAutomaton, kind_of};
+ghost use Rattle.dfa.specs.Windows.{IsWithinReach};
+ghost use Rattle.lexer.specs.Tokens.{plain};
+ghost use Rattle.lexer.specs.Scans.{AreNext};
+ghost use Rattle.lexer.specs.Rescans.{significant_kinds};
+
+use crate::sums::Token;
+use definitions::Kind;
+use dfa::{Automaton, Source};
+use grammar::Grammar;
+use seqtree::{Seq, Slots};
+use std::alloc::{AllocError, Global};
+
+/// How many tokens are scanned before they are put into the list, so that they are still in the processor's cache then.
+const PIECE_LEN: usize = 1024;
+
+/// The kind of a token that matches this rule, or none.
+fn kind_of(rule: Option<usize>) -> Kind
+    ensures { result ≡ kind_of rule }
+{
+    match rule {
+        Some(k) => Kind::Rule(k),
+        None => Kind::Invalid,
+    }
+}
+
+/// The token that starts at this offset.
+pub fn token_at<S: Source>(
+    grammar: &Grammar,
+    automaton: &Automaton,
+    source: &S,
+    at: usize,
+    born: u64,
+) -> Token
+    requires sound { IsAutomaton grammar.now.patterns automaton.now }
+    requires text { IsText (S.text source.now) }
+    requires small { length (S.text source.now) ≤ 1048576 }
+    requires within { at < length (S.text source.now) }
+    requires window { (i : ℕ) → IsWithinReach grammar.now.patterns (S.text source.now) at i → S.in_window source.now i }
+    ensures token { IsToken grammar.now.patterns (drop at (S.text source.now)) (plain result) }
+    ensures marked { result.skipped ≡ is_skipped grammar.now.skips result.kind }
+    ensures born { result.born ≡ born }
+    ensures inside { at + result.length ≤ length (S.text source.now) }
+    ensures nonempty { 1 ≤ result.length }
+    ensures near { result.reach ≤ 1048577 }
+{
+    let found = automaton.longest(source, at);
+    let kind = kind_of(found.rule);
+    Token {
+        kind,
+        length: found.length,
+        reach: found.reach,
+        skipped: grammar.is_skipped(kind),
+        born,
+    }
+}
+
+/// The next tokens from an offset on, as many as a piece takes, and the offset behind them.
+fn scan_piece<S: Source>(
+    alloc: Global,
+    grammar: &Grammar,
+    automaton: &Automaton,
+    source: &S,
+    from: usize,
+) -> Result<(Vec<Token>, usize), AllocError>
+    requires sound { IsAutomaton grammar.now.patterns automaton.now }
+    requires text { IsText (S.text source.now) }
+    requires small { length (S.text source.now) ≤ 1048576 }
+    requires within { from < length (S.text source.now) }
+    requires window { (i : ℕ) → i < length (S.text source.now) → S.in_window source.now i }
+    ensures next { IfOk result (λ r. AreNext grammar.now.patterns grammar.now.skips (S.text source.now) from r.0.items r.1) }
+    ensures some { IfOk result (λ r. from < r.1) }
+{
+    let mut made = Vec::with_capacity(alloc, PIECE_LEN)?;
+    let mut at = from;
+    while at < source.len() && made.len() < PIECE_LEN {
+        let token = token_at(grammar, automaton, source, at, 0);
+        made.push(token)?;
+        at += token.length;
+    }
+    Ok((made, at))
+}
+
+/// Adds the kinds of the significant ones of these tokens.
+pub fn add_kinds(kinds: &mut Vec<Kind>, tokens: &[Token]) -> Result<(), AllocError>
+    ensures { OnOk result (kinds.new.items ≡ kinds.old.items ++ significant_kinds tokens.now) }
+{
+    for token in tokens {
+        if !token.skipped {
+            kinds.push(token.kind)?;
+        }
+    }
+    Ok(())
+}
+
+/// Puts tokens behind those of a list.
+fn append(alloc: Global, list: &mut Seq<Token>, tokens: Vec<Token>) -> Result<(), AllocError>
+    requires { length list.old + length tokens.items < 2 ^ 64 }
+    ensures { OnOk result (list.new ≡ list.old ++ tokens.items) }
+{
+    let slots = Slots::make(alloc, tokens)?;
+    let end = list.len();
+    list.replace(end, end, slots);
+    Ok(())
+}
+
+/// The tokens of a text, and the kinds of the significant ones.
+pub fn scan_all<S: Source>(
+    alloc: Global,
+    grammar: &Grammar,
+    automaton: &Automaton,
+    source: &S,
+) -> Result<(Seq<Token>, Vec<Kind>), AllocError>
+    requires sound { IsAutomaton grammar.now.patterns automaton.now }
+    requires text { IsText (S.text source.now) }
+    requires small { length (S.text source.now) ≤ 1048576 }
+    requires window { (i : ℕ) → i < length (S.text source.now) → S.in_window source.now i }
+    ensures next { IfOk result (λ r. AreNext grammar.now.patterns grammar.now.skips (S.text source.now) 0 r.0 (length (S.text source.now))) }
+    ensures kinds { IfOk result (λ r. r.1.items ≡ significant_kinds r.0) }
+{
+    let mut list = Seq::new();
+    let mut kinds = Vec::new(alloc);
+    let mut at = 0;
+    while at < source.len() {
+        let (piece, end) = scan_piece(alloc, grammar, automaton, source, at)?;
+        add_kinds(&mut kinds, &piece)?;
+        append(alloc, &mut list, piece)?;
+        at = end;
+    }
+    Ok((list, kinds))
+}
