@@ -5,7 +5,6 @@ ghost use Rattle.std.specs.FinMap as map;
 ghost use Rattle.server.specs.Documents.{has_room, open_document, IsCurrent};
 
 use crate::language::Language;
-use crate::significant::Significant;
 use lexer::Tokens;
 use parser::Parse;
 use std::alloc::{AllocError, Global};
@@ -35,8 +34,7 @@ impl Document {
         ensures is { IfOk result (λ d. open_document d ≡ record { version = version; text = text }) }
         ensures current { IfOk result (IsCurrent language.now) }
     {
-        let tokens = language.scan(alloc, &text)?;
-        let kinds = Significant::of(alloc, &tokens)?;
+        let (tokens, kinds) = language.scan(alloc, &text)?;
         let mut store = Store::new(alloc);
         let parse = language.parse(alloc, &mut store, &kinds)?;
         Ok(Document {

@@ -2,6 +2,7 @@
 
 ghost use Rattle.std.specs.Prelude.{◌≡◌, IfOk, IfErr};
 ghost use Rattle.lexer.specs.Tokens.{AreTokensOf};
+ghost use Rattle.server.specs.Documents.{kinds_of};
 ghost use Rattle.server.specs.Languages.{IsLanguageOf, IsLoadFault, IsParsed, AlwaysAnswers};
 
 use crate::significant::Significant;
@@ -97,12 +98,19 @@ impl Language {
         &self.grammar
     }
 
-    /// The tokens of a text. Refuses for memory alone.
-    pub(crate) fn scan(&self, alloc: Global, text: &Text) -> Result<Tokens, AllocError>
-        ensures { IfOk result (λ tokens. AreTokensOf self.now.patterns self.now.skips text.now tokens.items) }
+    /// The tokens of a text, and the kinds of the significant ones. Refuses for memory alone.
+    pub(crate) fn scan(
+        &self,
+        alloc: Global,
+        text: &Text,
+    ) -> Result<(Tokens, Significant), AllocError>
+        ensures tokens { IfOk result (λ r. AreTokensOf self.now.patterns self.now.skips text.now r.0.items) }
+        ensures kinds { IfOk result (λ r. r.1.kinds.items ≡ kinds_of r.0.items) }
     {
         let _length = text.len();
-        Tokens::scan(alloc, &self.grammar, &self.automaton, &Whole(text))
+        let (tokens, kinds) =
+            Tokens::scan_with_kinds(alloc, &self.grammar, &self.automaton, &Whole(text))?;
+        Ok((tokens, Significant { kinds }))
     }
 
     /// The parse of these kinds, with its nodes in the store. Refuses for memory alone.
