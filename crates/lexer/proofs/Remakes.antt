@@ -39,7 +39,7 @@ tokens_length rules t xs p =
     sym (ap characters whole) ∙ sym (boundary_at xs (length xs) 0 (omega arith)) ∙ ap (λ n. slice_index_or (boundaries 0 (plain_all xs)) n 0) (sym (length-plain xs)) ∙ end ∙ omega arith
 
 module _ (rules : List Expression) (skips : List Bool) (e : Edit) (items : List Token) (u : List ℕ) (h : IsEdited rules skips e items u) where
-  pub removed_fits : Fits items → e.at + e.removed ≤ 2 ^ 32
+  pub removed_fits : Fits items → e.at + e.removed ≤ 2 ^ 30
   removed_fits f = omega (arith, tokens_length rules h.text items h.tokens.tokens, f.short, h.inside)
 
   front_all : Leads rules u (plain_all (take (front e (plain_all items)) items))

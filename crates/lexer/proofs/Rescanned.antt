@@ -153,7 +153,7 @@ module _ (rules : List Expression) (skips : List Bool) (e : Edit) (items : List 
         let P = λ (x : Token). 1 ≤ x.length in
         All-append P kept (made ++ drop to items) (All-take P (front e (plain_all items)) items f.nonempty) (All-append P made (drop to items) r.nonempty (All-drop P to items f.nonempty));
     near =
-        let P = λ (x : Token). x.reach ≤ 2 ^ 32 in
+        let P = λ (x : Token). x.reach ≤ 2 ^ 30 in
         All-append P kept (made ++ drop to items) (All-take P (front e (plain_all items)) items f.near) (All-append P made (drop to items) (λ k d m. let q : (slice_index_or made k d).reach ≤ 1048577 = r.near k d m in omega arith) (All-drop P to items f.near));
   }
 

@@ -60,7 +60,7 @@ length-le-characters (x ∷ xs) h =
     let rest : length xs ≤ characters xs = length-le-characters xs (All-tail (λ x. 1 ≤ x.length) x xs h) in
     omega (arith, characters-cons x xs)
 
-pub few : (xs : List Token) → Fits xs → length xs ≤ 2 ^ 32
+pub few : (xs : List Token) → Fits xs → length xs ≤ 2 ^ 30
 few xs f = let n : length xs ≤ characters xs = length-le-characters xs f.nonempty in omega (arith, f.short)
 
 length-take-le' : (n : ℕ) (xs : List Token) → length (take n xs) ≤ length xs
@@ -72,13 +72,13 @@ length-take-le' (suc n) (x ∷ xs) = let h : length (take n xs) ≤ length xs = 
 pub take_count : (n : ℕ) (xs : List Token) → Fits xs → n ≤ length xs → (tot (take n xs)).count ≡ length (take n xs)
 take_count n xs f l =
     let short : length (take n xs) ≤ length xs = length-take-le' n xs in
-    let all : length xs ≤ 2 ^ 32 = few xs f in
+    let all : length xs ≤ 2 ^ 30 = few xs f in
     total_count (take n xs) (omega arith)
 
 pub take_significant : (n : ℕ) (xs : List Token) → Fits xs → (tot (take n xs)).significant ≡ count_by is_significant (take n xs)
 take_significant n xs f =
     let short : length (take n xs) ≤ length xs = length-take-le' n xs in
-    let all : length xs ≤ 2 ^ 32 = few xs f in
+    let all : length xs ≤ 2 ^ 30 = few xs f in
     total_significant (take n xs) (omega arith)
 
 pub take_characters : (n : ℕ) (xs : List Token) → Fits xs → (tot (take n xs)).characters ≡ characters (take n xs)

@@ -27,6 +27,6 @@ characters items = sum_by (λ x. x.length) items
 
 -- sums of these tokens are exact
 pub record Fits (items : List Token) : Type 0 where
-  pub short : characters items ≤ 2 ^ 32
+  pub short : characters items ≤ 2 ^ 30
   pub nonempty : All (λ x. 1 ≤ x.length) items
-  pub near : All (λ x. x.reach ≤ 2 ^ 32) items
+  pub near : All (λ x. x.reach ≤ 2 ^ 30) items

@@ -51,11 +51,11 @@ pub fn token_at<S: Source>(
     let found = automaton.longest(source, at);
     let kind = kind_of(found.rule);
     Token {
-        kind,
-        length: found.length,
-        reach: found.reach,
-        skipped: grammar.is_skipped(kind),
         born,
+        kind,
+        length: found.length as u32,
+        reach: found.reach as u32,
+        skipped: grammar.is_skipped(kind),
     }
 }
 
@@ -80,7 +80,7 @@ fn scan_piece<S: Source>(
     while at < source.len() && made.len() < PIECE_LEN {
         let token = token_at(grammar, automaton, source, at, 0);
         made.push(token)?;
-        at += token.length;
+        at += token.length as usize;
     }
     Ok((made, at))
 }

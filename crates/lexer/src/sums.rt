@@ -2,25 +2,25 @@
 use definitions::Kind;
 use seqtree::{Goal, Measured, Monoid};
 
-/// A token: its kind, its length and its reach in characters, whether it is skipped, and the number of the edit that
-/// made it.
+/// A token: the number of the edit that made it, its kind, its length and its reach in characters, and whether it is
+/// skipped.
 #[derive(Clone, Copy, Debug, PartialEq, Eq)]
 pub struct Token {
-    pub kind: Kind,
-    pub length: usize,
-    pub reach: usize,
-    pub skipped: bool,
     pub born: u64,
+    pub kind: Kind,
+    pub length: u32,
+    pub reach: u32,
+    pub skipped: bool,
 }
 
 /// How many tokens there are, how many of them are significant, how many characters they have, and the greatest sum of
 /// a start and a reach, which is 0 for no token.
 #[derive(Clone, Copy, Debug, PartialEq, Eq)]
 pub struct Sums {
-    pub count: usize,
-    pub significant: usize,
-    pub characters: usize,
-    pub end: usize,
+    pub count: u32,
+    pub significant: u32,
+    pub characters: u32,
+    pub end: u32,
 }
 
 impl Monoid for Sums {
@@ -88,7 +88,7 @@ impl Goal<Sums> for AfterCount {
     ghost stays = { after_count_stays };
 
     fn reached(&self, sum: &Sums) -> bool {
-        self.count < sum.count
+        self.count < sum.count as usize
     }
 }
 
@@ -107,7 +107,7 @@ impl Goal<Sums> for AfterSignificant {
     ghost stays = { after_significant_stays };
 
     fn reached(&self, sum: &Sums) -> bool {
-        self.count < sum.significant
+        self.count < sum.significant as usize
     }
 }
 
@@ -126,7 +126,7 @@ impl Goal<Sums> for AfterCharacter {
     ghost stays = { after_character_stays };
 
     fn reached(&self, sum: &Sums) -> bool {
-        self.offset < sum.characters
+        self.offset < sum.characters as usize
     }
 }
 
@@ -145,6 +145,6 @@ impl Goal<Sums> for ReachesPast {
     ghost stays = { reaches_past_stays };
 
     fn reached(&self, sum: &Sums) -> bool {
-        self.offset < sum.end
+        self.offset < sum.end as usize
     }
 }

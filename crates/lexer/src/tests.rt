@@ -216,7 +216,7 @@ fn has_tokens(
     alloc: Global,
     language: &Language,
     text: &str,
-    rows: &[(&str, usize, usize, usize)],
+    rows: &[(&str, u32, u32, usize)],
 ) -> Result<bool, Fail>
     requires { IsAutomaton language.now.grammar.patterns language.now.automaton }
 {

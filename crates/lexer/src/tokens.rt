@@ -89,7 +89,7 @@ impl Tokens {
     pub fn significant(&self) -> usize
         ensures { result ≡ count_by is_significant self.now.items }
     {
-        self.items.total().significant
+        self.items.total().significant as usize
     }
 
     /// The token at this place among all.
@@ -105,7 +105,7 @@ impl Tokens {
         ensures { result ≡ characters (take i self.now.items) }
     {
         let (_, before) = self.items.locate(&AfterCount { count: i });
-        before.characters
+        before.characters as usize
     }
 
     /// The place among all of the k-th significant token.
@@ -174,7 +174,7 @@ fn kept_front(items: &Seq<Token>, edit: Edit) -> (usize, usize)
     ensures within { result.0 ≤ length items.now }
 {
     let (front, before) = items.locate(&ReachesPast { offset: edit.at });
-    (front, before.characters)
+    (front, before.characters as usize)
 }
 
 /// The old token that starts at this offset, or the count of tokens at the end of the text.
@@ -183,7 +183,7 @@ fn place_at(items: &Seq<Token>, offset: usize) -> Option<usize>
     ensures { MatchOption result ((j : ℕ) → j ≤ length items.now → characters (take j items.now) ≢ offset) (λ j. (j ≤ length items.now) × (characters (take j items.now) ≡ offset)) }
 {
     let (place, before) = items.locate(&AfterCharacter { offset });
-    if before.characters == offset {
+    if before.characters as usize == offset {
         Some(place)
     } else {
         None
@@ -194,7 +194,7 @@ fn place_at(items: &Seq<Token>, offset: usize) -> Option<usize>
 fn rejoined(items: &Seq<Token>, edit: Edit, at: usize) -> Option<usize>
     requires fits { Fits items.now }
     requires inserted { edit.inserted ≤ 1048576 }
-    requires removed { edit.at + edit.removed ≤ 2 ^ 32 }
+    requires removed { edit.at + edit.removed ≤ 2 ^ 30 }
     requires small { at ≤ 1048576 }
     ensures { MatchOption result (is_rejoined edit (plain_all items.now) at ≡ false) (λ j. (is_rejoined edit (plain_all items.now) at ≡ true) × (j ≤ length items.now) × (characters (take j items.now) + edit.inserted ≡ at + edit.removed)) }
 {
@@ -231,7 +231,7 @@ fn remake<S: Source>(
         }
         let token = token_at(grammar, automaton, source, at, edit.number);
         made.push(token)?;
-        at += token.length;
+        at += token.length as usize;
     }
     Ok((made, items.len()))
 }
@@ -252,7 +252,7 @@ fn significant_before(items: &Seq<Token>, place: usize) -> usize
     ensures { result ≡ count_by is_significant (take place items.now) }
 {
     let (_, before) = items.locate(&AfterCount { count: place });
-    before.significant
+    before.significant as usize
 }
 
 fn is_same(a: Kind, b: Kind) -> bool

@@ -47,7 +47,7 @@ struct Node {
     born: u64,
     tokens: u64,
     size: u64,
-    children: SmallVec<Child, 4>,
+    children: SmallVec<Child, 3>,
 }
 
 impl Model for Node {

@@ -64,7 +64,7 @@ replace-requires-clause-fits g c =
     let place : c.kept_front-front.result.0 ≡ front e (plain_all xs) = c.kept_front-front.ensures.front rules h.text h.tokens.tokens in
     let ordered : front e (plain_all xs) ≤ to = front_to rules skips e xs u h made to r c.self.invariant in
     let slots : c.in_ok-slots.slots ≡ made = c.in_ok-slots.ensures in
-    let n : length (take (front e (plain_all xs)) xs ++ (made ++ drop to xs)) ≤ 2 ^ 32 = few (take (front e (plain_all xs)) xs ++ (made ++ drop to xs)) (remade_fits rules skips e xs u h made to r c.self.invariant c.requires.small) in
+    let n : length (take (front e (plain_all xs)) xs ++ (made ++ drop to xs)) ≤ 2 ^ 30 = few (take (front e (plain_all xs)) xs ++ (made ++ drop to xs)) (remade_fits rules skips e xs u h made to r c.self.invariant c.requires.small) in
     omega (arith, n, place, ordered, r.within, ap length slots, length-append (take (front e (plain_all xs)) xs) (made ++ drop to xs), length-append made (drop to xs), length-take (front e (plain_all xs)) xs, length-drop to xs)
 
 pub invariant_of-self : goal.invariant_of-self
