@@ -82,6 +82,32 @@ pub fn sum_of<T: Measured>(tree: &Tree<T>) -> T::Sum
     }
 }
 
+/// The sum of the items of a left side and, behind them, of what has this sum.
+fn sum_with_left<T: Measured>(left: &Tree<T>, sum: T::Sum) -> T::Sum
+    ensures { result ≡ T.Sum.op (total T.Sum.empty T.Sum.op T.measure (items_of left.now)) sum }
+{
+    match left {
+        None => sum,
+        Some(node) => {
+            let node: &Node<T> = node;
+            node.all.join(&sum)
+        }
+    }
+}
+
+/// The sum of what has this sum and, behind it, of the items of a right side.
+fn sum_with_right<T: Measured>(sum: T::Sum, right: &Tree<T>) -> T::Sum
+    ensures { result ≡ T.Sum.op sum (total T.Sum.empty T.Sum.op T.measure (items_of right.now)) }
+{
+    match right {
+        None => sum,
+        Some(node) => {
+            let node: &Node<T> = node;
+            sum.join(&node.all)
+        }
+    }
+}
+
 /// Takes a tree apart: its left side, its root alone, and its right side.
 pub fn open<T: Measured>(mut tree: Box<Node<T>>) -> (Tree<T>, Box<Node<T>>, Tree<T>)
     ensures items { tree.value.0 ≡ items_of result.0 ++ result.1.value.0 ++ items_of result.2 }
@@ -110,7 +136,7 @@ pub fn fork<T: Measured>(left: Tree<T>, mut root: Box<Node<T>>, right: Tree<T>) 
     let node: &mut Node<T> = &mut root;
     node.len = count(&left) + 1 + count(&right);
     node.tall = height(&left).max(height(&right)) + 1;
-    node.all = sum_of(&left).join(&node.item.sum()).join(&sum_of(&right));
+    node.all = sum_with_right(sum_with_left(&left, node.item.sum()), &right);
     node.left = left;
     node.right = right;
     root
