@@ -11,6 +11,8 @@ use definitions::Symbol;
 use std::alloc::{AllocError, Global};
 
 /// All that the lines define, in file order: a rule, and a nonterminal at its first production.
+///
+/// At most 1,024 of the lines may be productions, as in each file that was read.
 pub fn defined(alloc: Global, statements: &[Numbered<'_>]) -> Result<Vec<Symbol>, AllocError>
     requires { length (productions (all_said statements.now)) ≤ 1024 }
     ensures { IfOk result (λ symbols. symbols.items ≡ defined (all_said statements.now)) }
