@@ -1,13 +1,5 @@
-pub mod Mapped
-pub mod Finding
-pub mod Sets
-pub mod Blanks
-pub mod Pushed
-pub mod Lines
-pub mod Splits
 pub mod Marking
 pub mod Lefts
-pub mod Files
 pub mod Numbered
 pub mod Known
 pub mod Ranges

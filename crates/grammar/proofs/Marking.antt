@@ -11,7 +11,7 @@ use Rattle.definitions.specs.declared.Symbol.TheVariants.{Rule as Terminal, Nont
 use Rattle.definitions.specs.Trees.{Grammar, Production, Tree, Forest, Leaf, Branch, Nil, Cons, IsTree, AreTrees}
 use Rattle.definitions.specs.Sentences.{IsProductive}
 use Rattle.grammar.specs.Marks.{is_marked, are_marked, is_ready, IsClosed, IsNext, AreBelow, AreSound, AreComplete, IsFirstUnmarked, IsUnproductiveIn}
-use Rattle.grammar.proofs.Pushed.{push_at}
+use Rattle.grammar_file.proofs.Pushed.{push_at}
 
 -- how many have no mark
 abbrev pub weight : Bool → ℕ

@@ -8,20 +8,26 @@ use Rattle.definitions.specs.declared.Symbol.{Symbol}
 use Rattle.definitions.specs.declared.Symbol.TheVariants.{Nonterminal}
 use Rattle.definitions.specs.Trees.{Production as Production'}
 use Rattle.definitions.specs.Sentences.{IsProductive}
-use Rattle.grammar.specs.declared.fault.Refusal.{Refusal}
-use Rattle.grammar.specs.declared.statements.Numbered.{Numbered}
-use Rattle.grammar.specs.declared.statements.File.{File}
-use Rattle.grammar.specs.Words.{Word}
-use Rattle.grammar.specs.Statements.{Statement, statements}
-use Rattle.grammar.specs.Contents.{productions, nonterminals, production_of, grammar_of}
-use Rattle.grammar.specs.Faults.{IsWhole, HaveReferents, Unproductive, IsFirstProduction, IsFault, unproductive}
+use Rattle.grammar_file.specs.declared.fault.Refusal.{Refusal}
+use Rattle.grammar_file.specs.declared.statements.Numbered.{Numbered}
+use Rattle.grammar_file.specs.declared.statements.File.{File}
+use Rattle.grammar_file.specs.Words.{Word}
+use Rattle.grammar_file.specs.Statements.{Statement, statements}
+use Rattle.grammar_file.specs.Contents.{productions, nonterminals}
+use Rattle.grammar.specs.Contents.{production_of, grammar_of}
+use Rattle.grammar_file.specs.Faults.{IsWhole, HaveReferents, IsFileFault, Unproductive}
+use Rattle.grammar.specs.Faults.{IsFirstProduction, IsFault, file_fault, unproductive}
 use Rattle.grammar.specs.Grammars.{FileGrammar, IsGrammar, IsUsable}
 use Rattle.grammar.specs.Marks.{AreBelow, AllProductiveIn, IsUnproductiveIn}
 use Rattle.grammar.specs.Meaning.{file_grammar, IsGrammarOf}
-use Rattle.grammar.specs.Said.{texts, all_said, IsRead}
-use Rattle.grammar.specs.Told.{Tells}
+use Rattle.grammar_file.specs.Said.{texts, all_said, IsRead}
+use Rattle.grammar_file.specs.Told.{Tells}
 use Rattle.grammar.proofs.Ranges.{lefts_below, is_grammar}
-use Rattle.grammar.proofs.Splits.{tells_map, length-texts}
+use Rattle.grammar_file.proofs.Splits.{tells_map, length-texts}
+
+-- what is told of the lines and names is told of the file
+pub told_of_file : (text : List ℕ) (r : Refusal) → Tells r (λ n c. IsFileFault text n c) → Tells r (λ n c. IsFault text n c)
+told_of_file text r tells = tells_map r (λ n c. IsFileFault text n c) (λ n c. IsFault text n c) (λ n c h. file_fault n c h) tells
 
 module _ (text : List ℕ) (file : File) (whole : IsWhole text) (read : IsRead file (statements text)) (refers : HaveReferents (statements text) (statements text)) where
   abbrev ss : List Statement

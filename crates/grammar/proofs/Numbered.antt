@@ -11,11 +11,12 @@ use Rattle.std.proofs.lemmas.List.Folds.{list_any_at}
 use Rattle.std.proofs.lemmas.Bool.{cases_lt}
 use Rattle.definitions.specs.declared.Symbol.TheVariants.{Rule as Terminal, Nonterminal}
 use Rattle.definitions.specs.Trees.{HasDistinctProductions}
-use Rattle.grammar.specs.Words.{Word}
+use Rattle.grammar_file.specs.Words.{Word}
 use Rattle.grammar.proofs.Lefts.{bytes_eq_same}
-use Rattle.grammar.specs.Statements.{Statement, Line, Nothing, Production, Rule, Start, Fold, Bad}
-use Rattle.grammar.specs.Contents.{ProductionLine, as_production, productions, nonterminals, rule_names, is_among, number_of, symbol_of, production_of, grammar_of}
-use Rattle.grammar.specs.Faults.{AreFaultless, early_fault, has_production, is_production, has_rule, or_else, told, reserved, Cause, DefinedTwice}
+use Rattle.grammar_file.specs.Statements.{Statement, Line, Nothing, Production, Rule, Start, Fold, Bad}
+use Rattle.grammar_file.specs.Contents.{ProductionLine, as_production, productions, nonterminals, is_among, number_of}
+use Rattle.grammar.specs.Contents.{rule_names, symbol_of, production_of, grammar_of}
+use Rattle.grammar_file.specs.Faults.{AreFaultless, early_fault, has_production, is_production, has_rule, or_else, told, reserved, Cause, DefinedTwice}
 
 same_bytes : (v w : Word) → bytes_eq v w ≡ true → v ≡ w
 same_bytes v w h = (bytes_eq-Decides v w).0 h

@@ -15,14 +15,15 @@ use Rattle.definitions.specs.Sentences.{IsProductive}
 use Rattle.grammar.specs.Grammars.{FileGrammar, IsUsable, IsGrammar}
 use Rattle.grammar.specs.Marks.{AreBelow}
 use Rattle.grammar.specs.Meaning.{file_grammar}
-use Rattle.grammar.specs.Said.{ArePatterns, AreFew}
-use Rattle.grammar.specs.Words.{Word}
-use Rattle.grammar.specs.Statements.{Statement, Line, Nothing, Production, Rule, Start, Fold, Bad}
-use Rattle.grammar.specs.Contents.{RuleLine, ProductionLine, as_production, as_start, rules, productions, starts, first_of, nonterminals, rule_names, with_name, is_among, number_of, symbol_of, production_of, is_fold, grammar_of}
-use Rattle.grammar.specs.Faults.{AreFaultless, HaveReferents, symbol_fault, right_fault, reference_fault, NotANonterminal, is_skip_rule, has_rule}
+use Rattle.grammar_file.specs.Said.{ArePatterns, AreFew}
+use Rattle.grammar_file.specs.Words.{Word}
+use Rattle.grammar_file.specs.Statements.{Statement, Line, Nothing, Production, Rule, Start, Fold, Bad}
+use Rattle.grammar_file.specs.Contents.{RuleLine, ProductionLine, as_production, as_start, rules, productions, starts, nonterminals, with_name, is_among, number_of}
+use Rattle.grammar.specs.Contents.{first_of, rule_names, symbol_of, production_of, is_fold, grammar_of}
+use Rattle.grammar_file.specs.Faults.{AreFaultless, HaveReferents, symbol_fault, right_fault, reference_fault, NotANonterminal, is_skip_rule, has_rule}
 use Rattle.grammar.proofs.Known.{known}
 use Rattle.grammar.proofs.Lefts.{bytes_eq_same}
-use Rattle.grammar.proofs.Mapped.{list_any-map}
+use Rattle.grammar_file.proofs.Mapped.{list_any-map}
 use Rattle.grammar.proofs.Numbered.{AllNamed, AreNamed, comes_from, says_production, neither, not_told, or_false, number_below, number_at, nonterminal_is, terminal_is, IsMadeFrom, made_from, distinct}
 
 kept : (w x : Word) (names : List Word) → is_among w names ≡ true → is_among w (with_name names x) ≡ true

@@ -5,14 +5,16 @@ use Rattle.std.specs.Str.{chars}
 use Rattle.std.proofs.lemmas.Option.{slice_get_within}
 use Rattle.definitions.specs.declared.expression.PatternFault.{PatternFault}
 use Rattle.patterns.proofs.Runs.{refused}
-use Rattle.grammar.specs.declared.fault.Refusal.{Refusal}
-use Rattle.grammar.specs.declared.fault.Refusal.TheVariants.{Fault, Memory}
-use Rattle.grammar.specs.Statements.{Statement, statements, Line, Nothing, Production, Rule, Start, Fold, Bad}
-use Rattle.grammar.specs.Contents.{nonterminals}
-use Rattle.grammar.specs.Faults.{Cause, HasPattern, HasPatternFault, IsFaultless, IsLineFault, IsFault, too_large, first_line, line, no_start, reference, unproductive, reference_fault}
+use Rattle.grammar_file.specs.declared.fault.Refusal.{Refusal}
+use Rattle.grammar_file.specs.declared.fault.Refusal.TheVariants.{Fault, Memory}
+use Rattle.grammar_file.specs.Statements.{Statement, statements, Line, Nothing, Production, Rule, Start, Fold, Bad}
+use Rattle.grammar_file.specs.Contents.{nonterminals}
+use Rattle.grammar_file.specs.Faults.{Cause, HasPattern, HasPatternFault, IsFaultless, IsLineFault, IsFileFault, too_large, first_line, line, no_start, reference, reference_fault}
+use Rattle.grammar.specs.Faults.{IsFault, file_fault, unproductive}
 use Rattle.grammar.specs.Grammars.{FileGrammar}
 use Rattle.grammar.specs.Meaning.{IsGrammarOf}
-use Rattle.grammar.specs.Told.{cause_of, Tells, TellsCause, IsFor}
+use Rattle.grammar_file.specs.Told.{cause_of, Tells}
+use Rattle.grammar.specs.Told.{TellsCause, IsFor}
 
 met : {X : Type 0} (xs : List X) (y : X) (ys : List X) → slice_get (xs ++ y ∷ ys) (length xs) ≡ Some y
 met [] y ys = refl
@@ -54,18 +56,21 @@ module _ (text : List ℕ) (g : FileGrammar) (of : IsGrammarOf text g) where
   referent_at : (before after : List Statement) (s : Statement) → ss ≡ before ++ s ∷ after → reference_fault ss s.says ≡ None
   referent_at before after s split = of.referents (length before) s (ap (λ xs. slice_get xs (length before)) split ∙ met before s after)
 
-  no_fault : (n : ℕ) (c : Cause) → IsFault text n c → ⊥
-  no_fault n c (too_large large) = omega (arith, large, of.whole.small)
-  no_fault n c (first_line small none) = untrue _ of.whole.headed none
-  no_fault n c (line m d small headed h) =
+  no_file_fault : (n : ℕ) (c : Cause) → IsFileFault text n c → ⊥
+  no_file_fault n c (too_large large) = omega (arith, large, of.whole.small)
+  no_file_fault n c (first_line small none) = untrue _ of.whole.headed none
+  no_file_fault n c (line m d small headed h) =
       let (before, after, more) = h in
       let (s, split, is, free, fault) = more in
       no_line_fault before s.says d (faultless_at before after s split) fault
-  no_fault n c (no_start small headed free none) = untrue _ of.whole.started none
-  no_fault n c (reference m d whole h) =
+  no_file_fault n c (no_start small headed free none) = untrue _ of.whole.started none
+  no_file_fault n c (reference m d whole h) =
       let (before, after, more) = h in
       let (s, split, is, fine, fault) = more in
       either _ d fault (referent_at before after s split)
+
+  no_fault : (n : ℕ) (c : Cause) → IsFault text n c → ⊥
+  no_fault n c (file_fault m d h) = no_file_fault m d h
   no_fault n c (unproductive m k w whole refers first there at) = first.unproductive (of.productive k (slice_get_within (nonterminals ss) k w there))
 
 -- the text that is refused for a cause is no grammar's file

@@ -10,7 +10,7 @@ use Rattle.definitions.specs.Sentences.{IsUsed, The_start, On_right}
 use Rattle.grammar.specs.Marks.{is_marked, are_marked}
 use Rattle.grammar.specs.Uses.{IsSpread, IsUnmarkedIn, IsReached, AreWithin, AreOnlyUsed, AreAllUsed}
 use Rattle.grammar.proofs.Marking.{and-left, and-right, same_or_not}
-use Rattle.grammar.proofs.Pushed.{push_at}
+use Rattle.grammar_file.proofs.Pushed.{push_at}
 
 all_push : (marks : List Bool) (xs : List Symbol) (s : Symbol) → are_marked marks xs ≡ true → is_marked marks s ≡ true → are_marked marks (xs ++ s ∷ []) ≡ true
 all_push marks [] s h e = ap (λ b. b && true) e

@@ -1,47 +1,13 @@
--- What the statements of a grammar file define.
-use Rattle.std.specs.Prelude.{ℕ, Bool, false, if◌then◌else◌, List, [], ◌∷◌, ◌++◌, length, map, Option, Some, None, unwrap_or}
-use Rattle.std.specs.List.{cons_option, filter_map, fold, list_any, position}
+-- The grammar that the statements of a file define, in numbers.
+use Rattle.std.specs.Prelude.{Bool, false, if◌then◌else◌, List, [], ◌∷◌, length, map}
+use Rattle.std.specs.List.{list_any}
 use Rattle.std.specs.Str.{bytes_eq}
 use Rattle.definitions.specs.declared.Symbol.{Symbol}
 use Rattle.definitions.specs.declared.Symbol.TheVariants.{Rule as Terminal, Nonterminal}
 use Rattle.definitions.specs.Trees.{Production as Production', Grammar}
-use Rattle.grammar.specs.Words.{Word}
-use Rattle.grammar.specs.Statements.{Line, Nothing, Production, Rule, Start, Fold, Bad, Statement}
-
--- a `token` or `skip` line
-pub record RuleLine : Type 0 where
-  pub skip : Bool
-  pub name : Word
-  pub pattern : Word
-
--- a production's line
-pub record ProductionLine : Type 0 where
-  pub left : Word
-  pub right : List Word
-
-abbrev pub as_rule : Line → Option RuleLine
-as_rule Nothing = None
-as_rule (Production left right) = None
-as_rule (Rule skip name pattern) = Some (record { skip = skip; name = name; pattern = pattern })
-as_rule (Start name) = None
-as_rule (Fold name) = None
-as_rule Bad = None
-
-abbrev pub as_production : Line → Option ProductionLine
-as_production Nothing = None
-as_production (Production left right) = Some (record { left = left; right = right })
-as_production (Rule skip name pattern) = None
-as_production (Start name) = None
-as_production (Fold name) = None
-as_production Bad = None
-
-abbrev pub as_start : Line → Option Word
-as_start Nothing = None
-as_start (Production left right) = None
-as_start (Rule skip name pattern) = None
-as_start (Start name) = Some name
-as_start (Fold name) = None
-as_start Bad = None
+use Rattle.grammar_file.specs.Words.{Word}
+use Rattle.grammar_file.specs.Statements.{Line, Nothing, Production, Rule, Start, Fold, Bad, Statement}
+use Rattle.grammar_file.specs.Contents.{ProductionLine, rules, productions, starts, nonterminals, is_among, number_of}
 
 -- whether the line is `fold` with this name
 abbrev pub folds_name : Word → Line → Bool
@@ -52,36 +18,11 @@ folds_name w (Start name) = false
 folds_name w (Fold name) = bytes_eq name w
 folds_name w Bad = false
 
--- the rules, the productions, and the names behind `start`, in file order
-abbrev pub rules : List Statement → List RuleLine
-rules ss = filter_map (λ s. as_rule s.says) ss
-
-abbrev pub productions : List Statement → List ProductionLine
-productions ss = filter_map (λ s. as_production s.says) ss
-
-abbrev pub starts : List Statement → List Word
-starts ss = filter_map (λ s. as_start s.says) ss
-
 abbrev pub is_fold : Word → List Statement → Bool
 is_fold w ss = list_any (λ s. folds_name w s.says) ss
 
-abbrev pub is_among : Word → List Word → Bool
-is_among w ws = list_any (λ v. bytes_eq v w) ws
-
--- the name behind these, unless it is one of them
-abbrev pub with_name : List Word → Word → List Word
-with_name names w = if is_among w names then names else names ++ w ∷ []
-
--- the nonterminals, in the order of their first productions
-abbrev pub nonterminals : List Statement → List Word
-nonterminals ss = fold with_name [] (map (λ p. p.left) (productions ss))
-
 abbrev pub rule_names : List Statement → List Word
 rule_names ss = map (λ r. r.name) (rules ss)
-
--- the place of a name; how many there are if it is none of them
-abbrev pub number_of : Word → List Word → ℕ
-number_of w names = unwrap_or (position (λ v. bytes_eq v w) names) (length names)
 
 -- the symbol of a name, where these name the nonterminals and the rules
 abbrev pub symbol_of : List Word → List Word → Word → Symbol
@@ -101,20 +42,3 @@ grammar_of ss = record {
   rules = length (rules ss);
   productions = map (production_of (nonterminals ss) (rule_names ss)) (productions ss);
 }
-
--- what a line defines behind these statements, if anything: a rule, or a nonterminal at its first production
-abbrev pub defines : List Statement → Line → Option Symbol
-defines ss Nothing = None
-defines ss (Production left right) = if is_among left (nonterminals ss) then None else Some (Nonterminal (length (nonterminals ss)))
-defines ss (Rule skip name pattern) = Some (Terminal (length (rules ss)))
-defines ss (Start name) = None
-defines ss (Fold name) = None
-defines ss Bad = None
-
--- what the statements define behind these, in file order
-abbrev pub defined_behind : List Statement → List Statement → List Symbol
-defined_behind before [] = []
-defined_behind before (s ∷ ss) = cons_option (defines before s.says) (defined_behind (before ++ s ∷ []) ss)
-
-abbrev pub defined : List Statement → List Symbol
-defined ss = defined_behind [] ss

@@ -1,154 +1,15 @@
 -- The first fault of a grammar file.
-use Rattle.std.specs.Prelude.{◌≡◌, ℕ, ◌<◌, ◌≤◌, ◌⊎◌, ◌&&◌, ◌||◌, Bool, not, nat_lt, true, false, if◌then◌else◌, List, [], ◌∷◌, ◌++◌, length, take, slice_get, Option, Some, None}
+use Rattle.std.specs.Prelude.{◌≡◌, ℕ, ◌<◌, Bool, true, false, List, ◌∷◌, ◌++◌, slice_get, Some}
 use Rattle.std.specs.List.{list_any}
-use Rattle.std.specs.Str.{bytes_eq, chars}
-use Rattle.std.specs.Str.Lines.{lines}
-use Rattle.std.specs.Cmp.Lexicographic.{pointwise}
+use Rattle.std.specs.Str.{bytes_eq}
 use Rattle.definitions.specs.declared.Symbol.TheVariants.{Nonterminal}
-use Rattle.definitions.specs.declared.expression.Expression.{Expression}
-use Rattle.definitions.specs.declared.expression.PatternFault.{PatternFault}
-use Rattle.definitions.specs.PatternFaults.{IsFault as IsPatternFault}
-use Rattle.definitions.specs.Spelling.{IsPattern}
 use Rattle.definitions.specs.Sentences.{IsProductive}
-use Rattle.grammar.specs.declared.fault.Limit.{Limit}
-use Rattle.grammar.specs.declared.fault.Limit.TheVariants.{File, Tokens, Nonterminals, Productions, Symbols}
-use Rattle.grammar.specs.Words.{Word, is_reserved}
-use Rattle.grammar.specs.Statements.{Line, Nothing, Production, Rule, Start, Fold, Bad, Statement, statements, is_headed}
-use Rattle.grammar.specs.Contents.{RuleLine, rules, productions, starts, nonterminals, is_among, grammar_of}
-
-pub data Cause : Type 0 where
-  FirstLine BadLine NoStart SecondStart : Cause
-  DefinedTwice Undefined Reserved NotANonterminal Unproductive SkipInProduction : (name : Word) → Cause
-  BadPattern : PatternFault → Cause
-  Passed : Limit → Cause
-
--- the one fault, or else the other
-abbrev pub or_else : Option Cause → Option Cause → Option Cause
-or_else None later = later
-or_else (Some c) later = Some c
-
-abbrev pub told : Bool → Cause → Option Cause
-told b c = if b then Some c else None
-
--- the leftmost reserved name
-abbrev pub reserved : List Word → Option Cause
-reserved [] = None
-reserved (w ∷ ws) = if is_reserved w then Some (Reserved w) else reserved ws
-
--- the line is a production with this left side and this right side
-abbrev pub is_production : Word → List Word → Line → Bool
-is_production left right Nothing = false
-is_production left right (Production other others) = bytes_eq other left && pointwise bytes_eq others right
-is_production left right (Rule skip name pattern) = false
-is_production left right (Start name) = false
-is_production left right (Fold name) = false
-is_production left right Bad = false
-
-abbrev pub has_production : List Statement → Word → List Word → Bool
-has_production ss left right = list_any (λ s. is_production left right s.says) ss
-
-abbrev pub has_rule : List Statement → Word → Bool
-has_rule ss w = list_any (λ r. bytes_eq r.name w) (rules ss)
-
--- The faults of a line behind the statements ss that are told before its pattern is read: it is none of the lines that
--- there are; a name is reserved; a name is defined twice.
-abbrev pub early_fault : List Statement → Line → Option Cause
-early_fault ss Nothing = None
-early_fault ss (Production left right) =
-    or_else (reserved (left ∷ right))
-    (told (has_rule ss left || has_production ss left right) (DefinedTwice left))
-early_fault ss (Rule skip name pattern) =
-    or_else (reserved (name ∷ []))
-    (told (has_rule ss name || is_among name (nonterminals ss)) (DefinedTwice name))
-early_fault ss (Start name) = reserved (name ∷ [])
-early_fault ss (Fold name) = reserved (name ∷ [])
-early_fault ss Bad = Some BadLine
-
--- And those that are told behind it: a second start, and the limits.
-abbrev pub late_fault : List Statement → Line → Option Cause
-late_fault ss Nothing = None
-late_fault ss (Production left right) =
-    or_else (told (nat_lt 16 (length right)) (Passed Symbols))
-    (or_else (told (not (is_among left (nonterminals ss)) && not (nat_lt (length (nonterminals ss)) 256)) (Passed Nonterminals))
-    (told (not (nat_lt (length (productions ss)) 1024)) (Passed Productions)))
-late_fault ss (Rule skip name pattern) = told (not (nat_lt (length (rules ss)) 256)) (Passed Tokens)
-late_fault ss (Start name) = told (nat_lt 0 (length (starts ss))) SecondStart
-late_fault ss (Fold name) = None
-late_fault ss Bad = None
-
--- the pattern of a rule is one
-abbrev pub HasPattern : Line → Type 0
-HasPattern Nothing = Unit {0}
-HasPattern (Production left right) = Unit {0}
-HasPattern (Rule skip name pattern) = (e : Expression) × IsPattern (chars pattern) e
-HasPattern (Start name) = Unit {0}
-HasPattern (Fold name) = Unit {0}
-HasPattern Bad = Unit {0}
-
--- the pattern of a rule is none, with this fault
-abbrev pub HasPatternFault : Line → PatternFault → Type 0
-HasPatternFault Nothing f = ⊥
-HasPatternFault (Production left right) f = ⊥
-HasPatternFault (Rule skip name pattern) f = IsPatternFault (chars pattern) f
-HasPatternFault (Start name) f = ⊥
-HasPatternFault (Fold name) f = ⊥
-HasPatternFault Bad f = ⊥
-
--- the line has no fault, behind these statements
-pub record IsFaultless (ss : List Statement) (l : Line) : Type 0 where
-  pub early : early_fault ss l ≡ None
-  pub pattern : HasPattern l
-  pub late : late_fault ss l ≡ None
-
--- its first fault has this cause
-abbrev pub IsLineFault : List Statement → Line → Cause → Type 0
-IsLineFault ss l c =
-    (early_fault ss l ≡ Some c)
-    ⊎ (early_fault ss l ≡ None) × ((f : PatternFault) × HasPatternFault l f × (c ≡ BadPattern f))
-    ⊎ (early_fault ss l ≡ None) × HasPattern l × (late_fault ss l ≡ Some c)
-
--- no line has a fault, behind those before it
-abbrev pub AreFaultless : List Statement → Type 0
-AreFaultless ss = (k : ℕ) (s : Statement) → slice_get ss k ≡ Some s → IsFaultless (take k ss) s.says
-
--- the first line that has a fault has this number, and its fault this cause
-abbrev pub IsFirstLineFault : List Statement → ℕ → Cause → Type 0
-IsFirstLineFault ss n c =
-    (before after : List Statement) × ((s : Statement) × (ss ≡ before ++ (s ∷ after)) × (n ≡ s.number) × AreFaultless before × IsLineFault before s.says c)
-
--- the rule of this name is a skip rule
-abbrev pub is_skip_rule : Word → RuleLine → Bool
-is_skip_rule w r = r.skip && bytes_eq r.name w
-
--- what is wrong with a name on a right side, in a file of these statements
-abbrev pub symbol_fault : List Statement → Word → Option Cause
-symbol_fault ss w =
-    if is_among w (nonterminals ss) then None
-    else if list_any (is_skip_rule w) (rules ss) then Some (SkipInProduction w)
-    else if has_rule ss w then None
-    else Some (Undefined w)
-
--- of several the leftmost
-abbrev pub right_fault : List Statement → List Word → Option Cause
-right_fault ss [] = None
-right_fault ss (w ∷ ws) = or_else (symbol_fault ss w) (right_fault ss ws)
-
--- what is wrong with the names that a line uses
-abbrev pub reference_fault : List Statement → Line → Option Cause
-reference_fault ss Nothing = None
-reference_fault ss (Production left right) = right_fault ss right
-reference_fault ss (Rule skip name pattern) = None
-reference_fault ss (Start name) = told (not (is_among name (nonterminals ss))) (NotANonterminal name)
-reference_fault ss (Fold name) = told (not (is_among name (nonterminals ss))) (NotANonterminal name)
-reference_fault ss Bad = None
-
-abbrev pub HaveReferents : List Statement → List Statement → Type 0
-HaveReferents ss some = (k : ℕ) (s : Statement) → slice_get some k ≡ Some s → reference_fault ss s.says ≡ None
-
--- the first line that uses a name wrongly has this number, and its fault this cause
-abbrev pub IsFirstReferenceFault : List Statement → ℕ → Cause → Type 0
-IsFirstReferenceFault ss n c =
-    (before after : List Statement) × ((s : Statement) × (ss ≡ before ++ (s ∷ after)) × (n ≡ s.number) × HaveReferents ss before × (reference_fault ss s.says ≡ Some c))
+use Rattle.grammar_file.specs.Words.{Word}
+use Rattle.grammar_file.specs.Statements.{Line, Nothing, Production, Rule, Start, Fold, Bad, Statement, statements}
+use Rattle.grammar_file.specs.Contents.{nonterminals}
+use Rattle.grammar_file.specs.Faults.{IsWhole, HaveReferents, IsFileFault}
+pub use Rattle.grammar_file.specs.Faults.{Cause, Unproductive}
+use Rattle.grammar.specs.Contents.{grammar_of}
 
 -- whether the line is a production of the nonterminal
 abbrev pub is_production_of : Word → Line → Bool
@@ -164,24 +25,13 @@ pub record IsFirstUnproductive (ss : List Statement) (n : ℕ) : Type 0 where
   pub unproductive : ¬ IsProductive (grammar_of ss) (Nonterminal n)
   pub before : (m : ℕ) → m < n → IsProductive (grammar_of ss) (Nonterminal m)
 
--- what the lines behind the first one say has no fault of its own, and there is a start
-pub record IsWhole (text : List ℕ) : Type 0 where
-  pub small : length text ≤ 65536
-  pub headed : is_headed (lines text) ≡ true
-  pub faultless : AreFaultless (statements text)
-  pub started : nat_lt 0 (length (starts (statements text))) ≡ true
-
 -- the first statement that is a production of w has this number
 abbrev pub IsFirstProduction : List Statement → Word → ℕ → Type 0
 IsFirstProduction ss w n =
     (before after : List Statement) × ((s : Statement) × (ss ≡ before ++ (s ∷ after)) × (n ≡ s.number) × (list_any (λ r. is_production_of w r.says) before ≡ false) × (is_production_of w s.says ≡ true))
 
--- The first fault of a file: its size; the first line; the first faulty line; no start; the first line that uses a name
--- wrongly; an unproductive nonterminal, at its first production.
+-- The first fault of a file: one of those that its lines and names tell; else an unproductive nonterminal, at its first
+-- production.
 pub data IsFault (text : List ℕ) : ℕ → Cause → Type 0 where
-  too_large : 65536 < length text → IsFault text 0 (Passed File)
-  first_line : length text ≤ 65536 → is_headed (lines text) ≡ false → IsFault text 1 FirstLine
-  line : (n : ℕ) (c : Cause) → length text ≤ 65536 → is_headed (lines text) ≡ true → IsFirstLineFault (statements text) n c → IsFault text n c
-  no_start : length text ≤ 65536 → is_headed (lines text) ≡ true → AreFaultless (statements text) → nat_lt 0 (length (starts (statements text))) ≡ false → IsFault text 0 NoStart
-  reference : (n : ℕ) (c : Cause) → IsWhole text → IsFirstReferenceFault (statements text) n c → IsFault text n c
+  file_fault : (n : ℕ) (c : Cause) → IsFileFault text n c → IsFault text n c
   unproductive : (n k : ℕ) (w : Word) → IsWhole text → HaveReferents (statements text) (statements text) → IsFirstUnproductive (statements text) k → slice_get (nonterminals (statements text)) k ≡ Some w → IsFirstProduction (statements text) w n → IsFault text n (Unproductive w)

@@ -1,12 +1,8 @@
-pub mod Words
-pub mod Statements
 pub mod Contents
 pub mod Faults
 pub mod Grammars
 pub mod Marks
 pub mod Told
-pub mod Numbers
-pub mod Said
 pub mod Meaning
 pub mod Uses
 pub mod Notes

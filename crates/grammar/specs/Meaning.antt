@@ -4,11 +4,12 @@ use Rattle.std.specs.Str.{chars}
 use Rattle.definitions.specs.declared.Symbol.TheVariants.{Nonterminal}
 use Rattle.definitions.specs.declared.expression.Expression.{Expression}
 use Rattle.definitions.specs.Sentences.{IsProductive}
-use Rattle.grammar.specs.Statements.{Statement, statements}
-use Rattle.grammar.specs.Contents.{rules, rule_names, nonterminals, is_fold, grammar_of, defined}
-use Rattle.grammar.specs.Faults.{IsWhole, HaveReferents}
+use Rattle.grammar_file.specs.Statements.{Statement, statements}
+use Rattle.grammar_file.specs.Contents.{rules, nonterminals, defined}
+use Rattle.grammar.specs.Contents.{rule_names, is_fold, grammar_of}
+use Rattle.grammar_file.specs.Faults.{IsWhole, HaveReferents}
 use Rattle.grammar.specs.Grammars.{FileGrammar}
-use Rattle.grammar.specs.Said.{ArePatterns}
+use Rattle.grammar_file.specs.Said.{ArePatterns}
 
 -- what the statements define, where these are the expressions of the rules
 abbrev pub file_grammar : List Statement → List Expression → FileGrammar

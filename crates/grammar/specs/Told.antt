@@ -1,28 +1,13 @@
--- The causes that the code tells, in the words of the definitions.
+-- The causes that callers are told, in the words of the definitions.
 use Rattle.std.specs.Prelude.{◌≡◌, ℕ, List, Option, Some, None, codes, string_bytes}
 use Rattle.definitions.specs.declared.expression.PatternCause.{PatternCause}
 use Rattle.definitions.specs.declared.expression.PatternCause.TheVariants.{Syntax, EmptyClass, ReversedRange, EmptyLiteral, MatchesEmpty, Memory as NoMemory}
-use Rattle.grammar.specs.declared.fault.Cause.{Cause as Borrowed}
-use Rattle.grammar.specs.declared.fault.Cause.TheVariants as b
+use Rattle.grammar_file.specs.declared.fault.Refusal.{Refusal}
+use Rattle.grammar_file.specs.declared.fault.Refusal.TheVariants.{Fault, Memory}
+use Rattle.grammar_file.specs.Faults.{Cause, FirstLine, BadLine, NoStart, SecondStart, DefinedTwice, Undefined, Reserved, NotANonterminal, Unproductive, SkipInProduction, BadPattern, Passed}
+use Rattle.grammar_file.specs.Told.{cause_of}
 use Rattle.grammar.specs.declared.fault.GrammarCause.{GrammarCause}
 use Rattle.grammar.specs.declared.fault.GrammarCause.TheVariants as p
-use Rattle.grammar.specs.declared.fault.Refusal.{Refusal}
-use Rattle.grammar.specs.declared.fault.Refusal.TheVariants.{Fault, Memory}
-use Rattle.grammar.specs.Faults.{Cause, FirstLine, BadLine, NoStart, SecondStart, DefinedTwice, Undefined, Reserved, NotANonterminal, Unproductive, SkipInProduction, BadPattern, Passed}
-
-abbrev pub cause_of : Borrowed → Cause
-cause_of b.FirstLine = FirstLine
-cause_of b.BadLine = BadLine
-cause_of (b.DefinedTwice w) = DefinedTwice w.now
-cause_of (b.Undefined w) = Undefined w.now
-cause_of (b.Reserved w) = Reserved w.now
-cause_of (b.BadPattern f) = BadPattern f
-cause_of b.NoStart = NoStart
-cause_of b.SecondStart = SecondStart
-cause_of (b.NotANonterminal w) = NotANonterminal w.now
-cause_of (b.Unproductive w) = Unproductive w.now
-cause_of (b.SkipInProduction w) = SkipInProduction w.now
-cause_of (b.Passed l) = Passed l
 
 -- want of memory is no fault of the file
 abbrev pub public_cause : GrammarCause → Option Cause
@@ -48,11 +33,6 @@ pattern_code ReversedRange = codes "P3"
 pattern_code EmptyLiteral = codes "P4"
 pattern_code MatchesEmpty = codes "P5"
 pattern_code NoMemory = codes "P6"
-
--- a refusal for another cause than memory tells this
-abbrev pub Tells : Refusal → (ℕ → Cause → Type 0) → Type 0
-Tells (Fault line c) P = P line (cause_of c)
-Tells Memory P = Unit {0}
 
 abbrev pub TellsCause : Option Cause → (Cause → Type 0) → Type 0
 TellsCause None P = Unit {0}

@@ -1,31 +1,13 @@
 //! Why a text is no grammar file.
 
 ghost use Rattle.std.specs.Prelude.{◌≡◌, IfOk};
-ghost use Rattle.grammar.specs.Told.{cause_of, public_cause, pattern_code, TellsCause, IsFor};
+ghost use Rattle.grammar_file.specs.Told.{cause_of};
+ghost use Rattle.grammar.specs.Told.{public_cause, pattern_code, TellsCause, IsFor};
 
 use definitions::{PatternCause, PatternFault};
+use grammar_file::{Cause, Limit, Refusal};
 use std::alloc::{AllocError, Global};
 use thiserror::Error;
-
-/// What a grammar file may have only so many of.
-#[derive(Clone, Copy, Debug, PartialEq, Eq, Error)]
-pub enum Limit {
-    /// 65,536 bytes.
-    #[error("file")]
-    File,
-    /// 256 `token` and `skip` rules together.
-    #[error("tokens")]
-    Tokens,
-    /// 256 nonterminals.
-    #[error("nonterminals")]
-    Nonterminals,
-    /// 1,024 productions.
-    #[error("productions")]
-    Productions,
-    /// 16 symbols on a right side.
-    #[error("symbols")]
-    Symbols,
-}
 
 /// The first fault of a grammar file: the number of its line, the first one's being 1, and the cause.
 ///
@@ -95,83 +77,45 @@ fn pattern_cause(cause: PatternCause) -> &'static str
     }
 }
 
-/// A cause that borrows its name from the file.
-#[derive(Clone, Copy, Debug, PartialEq, Eq)]
-pub enum Cause<'a> {
-    FirstLine,
-    BadLine,
-    DefinedTwice(&'a str),
-    Undefined(&'a str),
-    Reserved(&'a str),
-    BadPattern(PatternFault),
-    NoStart,
-    SecondStart,
-    NotANonterminal(&'a str),
-    Unproductive(&'a str),
-    SkipInProduction(&'a str),
-    Passed(Limit),
-}
-
-/// A fault at a line, or want of memory.
-#[derive(Clone, Copy)]
-pub enum Refusal<'a> {
-    Fault(usize, Cause<'a>),
-    Memory,
-}
-
-impl From<AllocError> for Refusal<'_> {
-    ghost use Rattle.grammar.specs.declared.fault.Refusal.TheVariants.{Memory};
-
-    ghost from_gives = { λ _ e. e ≡ Memory };
-
-    fn from(_: AllocError) -> Self {
-        Refusal::Memory
-    }
-}
-
-impl<'a> Cause<'a> {
-    /// The cause with a name of its own.
-    fn public(self, alloc: Global) -> Result<GrammarCause, AllocError>
-        ensures { IfOk result (λ cause. public_cause cause ≡ Some (cause_of self.entry)) }
-    {
-        Ok(match self {
-            Cause::FirstLine => GrammarCause::FirstLine,
-            Cause::BadLine => GrammarCause::BadLine,
-            Cause::DefinedTwice(name) => GrammarCause::DefinedTwice(String::from_str(alloc, name)?),
-            Cause::Undefined(name) => GrammarCause::Undefined(String::from_str(alloc, name)?),
-            Cause::Reserved(name) => GrammarCause::Reserved(String::from_str(alloc, name)?),
-            Cause::BadPattern(fault) => GrammarCause::BadPattern(fault),
-            Cause::NoStart => GrammarCause::NoStart,
-            Cause::SecondStart => GrammarCause::SecondStart,
-            Cause::NotANonterminal(name) => GrammarCause::NotANonterminal(String::from_str(
-                alloc, name,
-            )?),
-            Cause::Unproductive(name) => GrammarCause::Unproductive(String::from_str(alloc, name)?),
-            Cause::SkipInProduction(name) => GrammarCause::SkipInProduction(String::from_str(
-                alloc, name,
-            )?),
-            Cause::Passed(limit) => GrammarCause::Limit(limit),
-        })
-    }
-}
-
-impl<'a> Refusal<'a> {
-    /// The fault with a name of its own.
-    pub fn public(self, alloc: Global) -> GrammarFault
-        ensures { TellsCause (public_cause result.cause) (λ c. IsFor self.entry result.line c) }
-    {
-        let Refusal::Fault(line, cause) = self else {
-            return GrammarFault {
-                line: 0,
-                cause: GrammarCause::Memory,
-            };
-        };
-        match cause.public(alloc) {
-            Ok(cause) => GrammarFault { line, cause },
-            Err(AllocError) => GrammarFault {
-                line,
-                cause: GrammarCause::Memory,
-            },
+/// The cause with a name of its own.
+fn public_cause(alloc: Global, cause: Cause<'_>) -> Result<GrammarCause, AllocError>
+    ensures { IfOk result (λ told. public_cause told ≡ Some (cause_of cause.entry)) }
+{
+    Ok(match cause {
+        Cause::FirstLine => GrammarCause::FirstLine,
+        Cause::BadLine => GrammarCause::BadLine,
+        Cause::DefinedTwice(name) => GrammarCause::DefinedTwice(String::from_str(alloc, name)?),
+        Cause::Undefined(name) => GrammarCause::Undefined(String::from_str(alloc, name)?),
+        Cause::Reserved(name) => GrammarCause::Reserved(String::from_str(alloc, name)?),
+        Cause::BadPattern(fault) => GrammarCause::BadPattern(fault),
+        Cause::NoStart => GrammarCause::NoStart,
+        Cause::SecondStart => GrammarCause::SecondStart,
+        Cause::NotANonterminal(name) => {
+            GrammarCause::NotANonterminal(String::from_str(alloc, name)?)
         }
+        Cause::Unproductive(name) => GrammarCause::Unproductive(String::from_str(alloc, name)?),
+        Cause::SkipInProduction(name) => {
+            GrammarCause::SkipInProduction(String::from_str(alloc, name)?)
+        }
+        Cause::Passed(limit) => GrammarCause::Limit(limit),
+    })
+}
+
+/// The fault with a name of its own.
+pub fn public_fault(alloc: Global, refusal: Refusal<'_>) -> GrammarFault
+    ensures { TellsCause (public_cause result.cause) (λ c. IsFor refusal.entry result.line c) }
+{
+    let Refusal::Fault(line, cause) = refusal else {
+        return GrammarFault {
+            line: 0,
+            cause: GrammarCause::Memory,
+        };
+    };
+    match public_cause(alloc, cause) {
+        Ok(cause) => GrammarFault { line, cause },
+        Err(AllocError) => GrammarFault {
+            line,
+            cause: GrammarCause::Memory,
+        },
     }
 }

@@ -12,7 +12,7 @@ ghost use Rattle.grammar.specs.Meaning.{IsGrammarOf};
 ghost use Rattle.grammar.specs.Notes.{AreNotes, symbol_name};
 ghost use Rattle.grammar.specs.Told.{public_cause, TellsCause};
 
-use crate::fault::GrammarFault;
+use crate::fault::{GrammarFault, public_fault};
 use crate::read::read;
 use definitions::{Kind, Symbol};
 use patterns::Pattern;
@@ -95,7 +95,7 @@ impl Grammar {
     {
         match read(alloc, text) {
             Ok(grammar) => Ok(grammar),
-            Err(refusal) => Err(refusal.public(alloc)),
+            Err(refusal) => Err(public_fault(alloc, refusal)),
         }
     }
 

@@ -3,14 +3,13 @@
 ghost use Rattle.std.specs.Prelude.{◌≡◌, ◌++◌, [], IfOk, OnOk, map, option_map};
 ghost use Rattle.std.specs.Str.{chars};
 ghost use Rattle.std.specs.List.{cons_option};
-ghost use Rattle.grammar.specs.Contents.{number_of, symbol_of, production_of, as_production, productions, starts, first_of, folds_name, is_fold};
-ghost use Rattle.grammar.specs.Said.{said, all_said, texts};
+ghost use Rattle.grammar_file.specs.Contents.{number_of, as_production, productions, starts};
+ghost use Rattle.grammar.specs.Contents.{symbol_of, production_of, first_of, folds_name, is_fold};
+ghost use Rattle.grammar_file.specs.Said.{said, all_said, texts};
 
 use crate::grammar::{Name, Production};
-use crate::line::Line;
-use crate::names::Names;
-use crate::statements::Numbered;
 use definitions::Symbol;
+use grammar_file::{Line, Names, Numbered};
 use std::alloc::{AllocError, Global};
 
 /// The symbol of a name.

@@ -6,19 +6,15 @@ ghost use Rattle.grammar.specs.Contents.{grammar_of};
 ghost use Rattle.grammar.specs.Faults.{IsFault};
 ghost use Rattle.grammar.specs.Grammars.{IsGrammar};
 ghost use Rattle.grammar.specs.Meaning.{file_grammar, IsGrammarOf};
-ghost use Rattle.grammar.specs.Said.{rule_line, all_said, AreNames, AreFew};
-ghost use Rattle.grammar.specs.Told.{Tells};
+ghost use Rattle.grammar_file.specs.Said.{rule_line, all_said, AreNames, AreFew};
+ghost use Rattle.grammar_file.specs.Told.{Tells};
 
-use crate::defined::defined;
-use crate::fault::Refusal;
-use crate::file::read_file;
 use crate::grammar::{Grammar, Name, Production};
 use crate::notes::notes;
 use crate::numbers;
-use crate::rules::RuleName;
-use crate::statements::File;
 use crate::unproductive::test_productive;
 use crate::used::used;
+use grammar_file::{File, Refusal, RuleName, defined, read_file};
 use std::alloc::{AllocError, Global};
 
 /// The grammar of a file, or the first fault.

@@ -5,18 +5,17 @@ ghost use Rattle.std.specs.List.{list_any};
 ghost use Rattle.definitions.specs.declared.Symbol.TheVariants.{Nonterminal};
 ghost use Rattle.definitions.specs.Trees.{Grammar};
 ghost use Rattle.definitions.specs.Sentences.{IsProductive};
-ghost use Rattle.grammar.specs.Words.{Word};
-ghost use Rattle.grammar.specs.Contents.{nonterminals};
-ghost use Rattle.grammar.specs.Faults.{Unproductive, is_production_of, IsFirstProduction};
+ghost use Rattle.grammar_file.specs.Words.{Word};
+ghost use Rattle.grammar_file.specs.Contents.{nonterminals};
+ghost use Rattle.grammar_file.specs.Faults.{Unproductive};
+ghost use Rattle.grammar.specs.Faults.{is_production_of, IsFirstProduction};
 ghost use Rattle.grammar.specs.Marks.{AreBelow, IsFirstUnmarked, AllProductiveIn, IsUnproductiveIn};
-ghost use Rattle.grammar.specs.Said.{said, all_said, texts};
-ghost use Rattle.grammar.specs.Told.{Tells};
+ghost use Rattle.grammar_file.specs.Said.{said, all_said, texts};
+ghost use Rattle.grammar_file.specs.Told.{Tells};
 
-use crate::fault::{Cause, Refusal};
 use crate::grammar::Production;
-use crate::line::Line;
 use crate::productive::productive;
-use crate::statements::Numbered;
+use grammar_file::{Cause, Line, Numbered, Refusal};
 use std::alloc::Global;
 
 /// Tests that all nonterminals are productive.

@@ -1,7 +1,7 @@
 use Rattle.std.proofs.Common.{◌∙◌, ap, arith, take_all}
 use Rattle.std.specs.Prelude.{map}
 use Rattle.grammar.specs.Contents.{is_fold}
-use Rattle.grammar.specs.Said.{texts, all_said}
+use Rattle.grammar_file.specs.Said.{texts, all_said}
 use Rattle.grammar.proofs.numbers.folds.Goals as goal
 
 pub returns : goal.returns

@@ -1,9 +1,10 @@
 use Rattle.std.proofs.Common.{◌∙◌, ◌++◌, [], ap, sym, take}
 use Rattle.std.specs.Prelude.{map}
 use Rattle.std.specs.List.{cons_option}
-use Rattle.grammar.specs.Contents.{production_of, productions}
-use Rattle.grammar.specs.Said.{all_said}
-use Rattle.grammar.proofs.Splits.{productions_more}
+use Rattle.grammar_file.specs.Contents.{productions}
+use Rattle.grammar.specs.Contents.{production_of}
+use Rattle.grammar_file.specs.Said.{all_said}
+use Rattle.grammar_file.proofs.Splits.{productions_more}
 use Rattle.grammar.proofs.numbers.productions.Goals as goal
 
 pub loop-statement-preserved : goal.loop-statement-preserved

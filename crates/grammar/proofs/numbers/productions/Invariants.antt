@@ -1,7 +1,8 @@
 use Rattle.std.proofs.Common.{◌≡◌, take}
 use Rattle.std.specs.Prelude.{map}
-use Rattle.grammar.specs.Contents.{production_of, productions}
-use Rattle.grammar.specs.Said.{all_said}
+use Rattle.grammar_file.specs.Contents.{productions}
+use Rattle.grammar.specs.Contents.{production_of}
+use Rattle.grammar_file.specs.Said.{all_said}
 use Rattle.grammar.proofs.numbers.productions.Given as goal
 
 abbrev pub invariant-loop-statement : goal.invariant-loop-statement

@@ -2,8 +2,9 @@ use Rattle.std.proofs.Common.{◌≡◌, ◌∙◌, sym, ap, arith, length}
 use Rattle.std.proofs.lemmas.List.{length-map}
 use Rattle.std.specs.Prelude.{map}
 use Rattle.std.specs.Str.{chars}
-use Rattle.grammar.specs.Contents.{is_fold, number_of, first_of, starts, defined, nonterminals}
-use Rattle.grammar.specs.Said.{all_said}
+use Rattle.grammar_file.specs.Contents.{number_of, starts, defined, nonterminals}
+use Rattle.grammar.specs.Contents.{is_fold, first_of}
+use Rattle.grammar_file.specs.Said.{all_said}
 use Rattle.grammar.specs.Meaning.{file_grammar}
 use Rattle.grammar.proofs.Meant.{made, same_parts, start_within, all_within, are_notes}
 use Rattle.grammar.proofs.read.grammar_of.Goals as goal

@@ -1,8 +1,11 @@
 use Rattle.std.proofs.Common.{◌∙◌, ap, sym}
 use Rattle.grammar.specs.Contents.{grammar_of}
-use Rattle.grammar.specs.Said.{all_said}
-use Rattle.grammar.proofs.Meant.{productions_are, below, unproductive_fault, is_sound, is_meant}
+use Rattle.grammar_file.specs.Said.{all_said}
+use Rattle.grammar.proofs.Meant.{told_of_file, productions_are, below, unproductive_fault, is_sound, is_meant}
 use Rattle.grammar.proofs.read.read.Goals as goal
+
+pub returns-in-Err-clause-fault : goal.returns-in-Err-clause-fault
+returns-in-Err-clause-fault c = told_of_file c.args.text.now c.in-Err.refusal c.in-Err.ensures.fault
 
 pub test_productive-requires-clause-below : goal.test_productive-requires-clause-below
 test_productive-requires-clause-below c =

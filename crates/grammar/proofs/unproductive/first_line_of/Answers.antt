@@ -1,6 +1,6 @@
 use Rattle.std.proofs.Common.{refl, sym, take, drop, ◌+◌}
-use Rattle.grammar.specs.Said.{all_said, statement_of}
-use Rattle.grammar.proofs.Splits.{said_split}
+use Rattle.grammar_file.specs.Said.{all_said, statement_of}
+use Rattle.grammar_file.proofs.Splits.{said_split}
 use Rattle.grammar.proofs.unproductive.first_line_of.Goals as goal
 
 pub returns-then-is_production_of : goal.returns-then-is_production_of

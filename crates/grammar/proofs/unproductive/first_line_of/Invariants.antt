@@ -1,7 +1,7 @@
 use Rattle.std.proofs.Common.{◌≡◌, false, take}
 use Rattle.std.specs.List.{list_any}
 use Rattle.grammar.specs.Faults.{is_production_of}
-use Rattle.grammar.specs.Said.{all_said}
+use Rattle.grammar_file.specs.Said.{all_said}
 use Rattle.grammar.proofs.unproductive.first_line_of.Given as goal
 
 abbrev pub invariant-loop-statement : goal.invariant-loop-statement

@@ -1,6 +1,6 @@
 use Rattle.std.proofs.Common.{◌<◌, Bool, List, length, refl, subst, arith}
 use Rattle.grammar.specs.Marks.{IsFirstUnmarked}
-use Rattle.grammar.specs.Said.{all_said}
+use Rattle.grammar_file.specs.Said.{all_said}
 use Rattle.grammar.proofs.Lefts.{named_has_production, text_at}
 use Rattle.grammar.proofs.Marking.{first_unproductive}
 use Rattle.grammar.proofs.unproductive.test_productive.Goals as goal

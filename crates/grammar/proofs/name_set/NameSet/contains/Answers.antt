@@ -1,7 +1,0 @@
-use Rattle.std.proofs.Common.{◌∙◌, ap}
-use Rattle.grammar.specs.Contents.{is_among}
-use Rattle.grammar.proofs.Finding.{among-keys}
-use Rattle.grammar.proofs.name_set.NameSet.contains.Goals as goal
-
-pub returns : goal.returns
-returns c = c.contains.ensures ∙ among-keys c.args.name.now c.self.inside.names.keys ∙ ap (is_among c.args.name.now) c.self.view_is

@@ -1,7 +1,0 @@
-use Rattle.std.proofs.Common.{take}
-use Rattle.grammar.specs.Faults.{HaveReferents}
-use Rattle.grammar.specs.Said.{all_said}
-use Rattle.grammar.proofs.references.test_references.Given as goal
-
-abbrev pub invariant-loop-statement : goal.invariant-loop-statement
-invariant-loop-statement l = HaveReferents (all_said l.statements) (all_said (take l.statement-index l.statements))

@@ -1,7 +1,0 @@
-use Rattle.std.proofs.Common.{◌≡◌, drop}
-use Rattle.grammar.specs.Faults.{reserved}
-use Rattle.grammar.specs.Said.{texts}
-use Rattle.grammar.proofs.statements.first_reserved.Given as goal
-
-abbrev pub invariant-loop-name : goal.invariant-loop-name
-invariant-loop-name l = reserved (texts l.names) ≡ reserved (texts (drop l.name-index l.names))

@@ -1,0 +1,40 @@
+-- What a file's lines say, as a whole.
+use Rattle.std.proofs.Common.{◌≡◌, ℕ, ◌≤◌, Bool, true, false, List, [], ◌∷◌, refl, ap, sym, ◌∙◌, length, drop, subst, Bor}
+use Rattle.std.specs.Str.Lines.{lines}
+use Rattle.grammar_file.specs.declared.statements.File.{File}
+use Rattle.grammar_file.specs.declared.fault.Refusal.{Refusal}
+use Rattle.grammar_file.specs.Statements.{Statement, statements, statements_in, is_headed}
+use Rattle.grammar_file.specs.Faults.{NoStart, IsFileFault, line, no_start, reference, IsWhole, IsFirstLineFault, IsFirstReferenceFault}
+use Rattle.grammar_file.specs.Said.{texts, IsRead}
+use Rattle.grammar_file.specs.Told.{Tells}
+use Rattle.grammar_file.proofs.Splits.{tells_map}
+
+pub headed_is : (v xs : List (Bor (List ℕ))) (t : List ℕ) (b : Bool) → b ≡ is_headed (texts v) → v ≡ xs → texts xs ≡ lines t → is_headed (lines t) ≡ b
+headed_is v xs t b is same all = ap is_headed (sym all) ∙ ap (λ y. is_headed (texts y)) (sym same) ∙ sym is
+
+rest_texts : (v : List (Bor (List ℕ))) → texts (drop 1 v) ≡ drop 1 (texts v)
+rest_texts [] = refl
+rest_texts (w ∷ ws) = refl
+
+pub statements_are : (v xs : List (Bor (List ℕ))) (t : List ℕ) → v ≡ xs → texts xs ≡ lines t → statements_in (texts (drop 1 v)) ≡ statements t
+statements_are v xs t same all = ap statements_in (rest_texts v ∙ ap (λ y. drop 1 (texts y)) same ∙ ap (λ y. drop 1 y) all)
+
+pub line_fault : (t : List ℕ) (ss : List Statement) (r : Refusal) → length t ≤ 65536 → is_headed (lines t) ≡ true → ss ≡ statements t → Tells r (λ n c. IsFirstLineFault ss n c) → Tells r (λ n c. IsFileFault t n c)
+line_fault t ss r small headed same tells =
+    tells_map r (λ n c. IsFirstLineFault ss n c) (λ n c. IsFileFault t n c)
+    (λ n c h. line n c small headed (subst (λ (xs : List Statement). IsFirstLineFault xs n c) same h)) tells
+
+pub no_start_fault : (t : List ℕ) (ss : List Statement) (f : File) → length t ≤ 65536 → is_headed (lines t) ≡ true → ss ≡ statements t → IsRead f ss → f.names.started ≡ false → IsFileFault t 0 NoStart
+no_start_fault t ss f small headed same read none =
+    let whole = subst (λ (xs : List Statement). IsRead f xs) same read in
+    no_start small headed whole.faultless (sym whole.names.started ∙ none)
+
+pub is_whole : (t : List ℕ) (ss : List Statement) (f : File) → length t ≤ 65536 → is_headed (lines t) ≡ true → ss ≡ statements t → IsRead f ss → f.names.started ≡ true → IsWhole t
+is_whole t ss f small headed same read some =
+    let whole = subst (λ (xs : List Statement). IsRead f xs) same read in
+    record { small = small; headed = headed; faultless = whole.faultless; started = sym whole.names.started ∙ some }
+
+pub reference_fault : (t : List ℕ) (ss : List Statement) (all : List Statement) (r : Refusal) → IsWhole t → ss ≡ statements t → all ≡ ss → Tells r (λ n c. IsFirstReferenceFault all n c) → Tells r (λ n c. IsFileFault t n c)
+reference_fault t ss all r whole same told tells =
+    tells_map r (λ n c. IsFirstReferenceFault all n c) (λ n c. IsFileFault t n c)
+    (λ n c h. reference n c whole (subst (λ (xs : List Statement). IsFirstReferenceFault xs n c) (told ∙ same) h)) tells

@@ -1,0 +1,9 @@
+pub mod Mapped
+pub mod Finding
+pub mod Sets
+pub mod Blanks
+pub mod Pushed
+pub mod Lines
+pub mod Splits
+pub mod Defining
+pub mod Files

@@ -1,0 +1,97 @@
+-- Sets that are lists, each of whose items is there once.
+use Rattle.std.proofs.Common.{◌≡◌, ℕ, Bool, true, false, List, [], ◌∷◌, ◌++◌, refl, ap, sym, ◌∙◌, ◌||◌, ◌&&◌, if◌then◌else◌}
+use Rattle.std.specs.Prelude.{map}
+use Rattle.std.specs.Borrow.{Bor}
+use Rattle.std.specs.List.{list_any}
+use Rattle.std.specs.Str.{bytes_eq}
+use Rattle.std.specs.Cmp.Lexicographic.{pointwise, bytes_decides}
+use Rattle.std.proofs.lemmas.List.Folds.{list_any-append}
+use Rattle.std.proofs.lemmas.List.{map-append}
+use Rattle.grammar_file.specs.Words.{Word}
+use Rattle.grammar_file.specs.Contents.{RuleLine, is_among}
+use Rattle.grammar_file.specs.Faults.{is_production, is_skip_rule, has_production}
+use Rattle.grammar_file.specs.Said.{texts, are_among, with_names, with_rule, with_skip, with_sides}
+use Rattle.grammar_file.specs.Statements.{Line, Nothing, Production, Rule, Start, Fold, Bad, Statement, at}
+use Rattle.grammar_file.proofs.Finding.{turned}
+use Rattle.grammar_file.proofs.Mapped.{pointwise-map}
+
+or-none : (a : Bool) → (a || false) ≡ a
+or-none true = refl
+or-none false = refl
+
+or-some : (a : Bool) → (a || true) ≡ true
+or-some true = refl
+or-some false = refl
+
+-- what is in a list that had an item added unless it was there
+any-with : {X : Type 0} (eq : X → X → Bool) → ((x y : X) → eq x y ≡ true → x ≡ y) → (xs : List X) (v w : X) → list_any (λ x. eq x w) (if list_any (λ x. eq x v) xs then xs else xs ++ v ∷ []) ≡ (list_any (λ x. eq x w) xs || eq v w)
+any-with eq same xs v w = go (list_any (λ x. eq x v) xs) refl (eq v w) refl
+  where
+    go : (b : Bool) → list_any (λ x. eq x v) xs ≡ b → (d : Bool) → eq v w ≡ d → list_any (λ x. eq x w) (if b then xs else xs ++ v ∷ []) ≡ (list_any (λ x. eq x w) xs || eq v w)
+    go true e true is =
+        ap (λ x. list_any (λ y. eq y x) xs) (sym (same v w is)) ∙ e ∙ sym (ap (λ d. list_any (λ x. eq x w) xs || d) is ∙ or-some (list_any (λ x. eq x w) xs))
+    go true e false is = sym (ap (λ d. list_any (λ x. eq x w) xs || d) is ∙ or-none (list_any (λ x. eq x w) xs))
+    go false e d is = list_any-append (λ x. eq x w) xs (v ∷ []) ∙ ap (λ d. list_any (λ x. eq x w) xs || d) (or-none (eq v w))
+
+both : (a b : Bool) → (a && b) ≡ true → (a ≡ true) × (b ≡ true)
+both true b h = (refl, h)
+both false b h = absurd (cc)
+
+same_words : (vs ws : List Word) → pointwise bytes_eq vs ws ≡ true → vs ≡ ws
+same_words [] [] h = refl
+same_words [] (w ∷ ws) h = absurd (cc)
+same_words (v ∷ vs) [] h = absurd (cc)
+same_words (v ∷ vs) (w ∷ ws) h = let two = both (bytes_eq v w) (pointwise bytes_eq vs ws) h in λ i. (bytes_decides v w).0 two.0 i ∷ same_words vs ws two.1 i
+
+turned_words : (vs ws : List Word) → pointwise bytes_eq vs ws ≡ pointwise bytes_eq ws vs
+turned_words [] [] = refl
+turned_words [] (w ∷ ws) = refl
+turned_words (v ∷ vs) [] = refl
+turned_words (v ∷ vs) (w ∷ ws) = λ i. turned v w i && turned_words vs ws i
+
+pub skips-step : (names : List Word) (rs : List RuleLine) (l : Line) → ((w : Word) → is_among w names ≡ list_any (is_skip_rule w) rs) → (w : Word) → is_among w (with_skip names l) ≡ list_any (is_skip_rule w) (with_rule rs l)
+skips-step names rs Nothing are w = are w
+skips-step names rs (Production left right) are w = are w
+skips-step names rs (Rule true name pattern) are w =
+    any-with bytes_eq (λ x y. (bytes_decides x y).0) names name w
+    ∙ (λ i. are w i || sym (or-none (bytes_eq name w)) i)
+    ∙ sym (list_any-append (is_skip_rule w) rs (record { skip = true; name = name; pattern = pattern } ∷ []))
+skips-step names rs (Rule false name pattern) are w =
+    are w ∙ sym (list_any-append (is_skip_rule w) rs (record { skip = false; name = name; pattern = pattern } ∷ []) ∙ or-none (list_any (is_skip_rule w) rs))
+skips-step names rs (Start name) are w = are w
+skips-step names rs (Fold name) are w = are w
+skips-step names rs Bad are w = are w
+
+-- what one line adds to the productions that there are
+one_more : (all : List (List Word)) (l : Line) (left : Word) (right : List Word) → are_among (left ∷ right) (with_sides all l) ≡ (are_among (left ∷ right) all || is_production left right l)
+one_more all Nothing left right = sym (or-none (are_among (left ∷ right) all))
+one_more all (Production other others) left right = any-with (pointwise bytes_eq) same_words all (other ∷ others) (left ∷ right)
+one_more all (Rule skip name pattern) left right = sym (or-none (are_among (left ∷ right) all))
+one_more all (Start name) left right = sym (or-none (are_among (left ∷ right) all))
+one_more all (Fold name) left right = sym (or-none (are_among (left ∷ right) all))
+one_more all Bad left right = sym (or-none (are_among (left ∷ right) all))
+
+pub sides-step : (all : List (List Word)) (ss : List Statement) (n : ℕ) (l : Line) → ((left : Word) (right : List Word) → are_among (left ∷ right) all ≡ has_production ss left right) → (left : Word) (right : List Word) → are_among (left ∷ right) (with_sides all l) ≡ has_production (ss ++ at n l ∷ []) left right
+sides-step all ss n l are left right =
+    one_more all l left right
+    ∙ (λ i. are left right i || sym (or-none (is_production left right l)) i)
+    ∙ sym (list_any-append (λ s. is_production left right s.says) ss (at n l ∷ []))
+
+same_texts : (vs ws : List (Bor (List ℕ))) → pointwise (λ a b. bytes_eq a.now b.now) vs ws ≡ pointwise bytes_eq (texts ws) (texts vs)
+same_texts vs ws = sym (pointwise-map bytes_eq (λ w. w.now) (λ w. w.now) vs ws) ∙ turned_words (texts vs) (texts ws)
+
+module _ {X : Type 0} (names : X → List (Bor (List ℕ))) where
+  -- keys of names are searched by the other order of the texts
+  pub among-keys : (ws : List (Bor (List ℕ))) (ks : List X) → list_any (λ k. pointwise (λ a b. bytes_eq a.now b.now) ws (names k)) ks ≡ are_among (texts ws) (map (λ k. texts (names k)) ks)
+  among-keys ws [] = refl
+  among-keys ws (k ∷ ks) = λ i. same_texts ws (names k) i || among-keys ws ks i
+
+  -- the keys with one that is new
+  pub keys-with : (k : X) (ks : List X) → map (λ x. texts (names x)) (if list_any (λ x. pointwise (λ a b. bytes_eq a.now b.now) (names k) (names x)) ks then ks else ks ++ k ∷ []) ≡ with_names (map (λ x. texts (names x)) ks) (texts (names k))
+  keys-with k ks =
+      go (list_any (λ x. pointwise (λ a b. bytes_eq a.now b.now) (names k) (names x)) ks)
+      ∙ ap (λ b. if b then map (λ x. texts (names x)) ks else map (λ x. texts (names x)) ks ++ texts (names k) ∷ []) (among-keys (names k) ks)
+    where
+      go : (b : Bool) → map (λ x. texts (names x)) (if b then ks else ks ++ k ∷ []) ≡ (if b then map (λ x. texts (names x)) ks else map (λ x. texts (names x)) ks ++ texts (names k) ∷ [])
+      go true = refl
+      go false = map-append (λ x. texts (names x)) ks (k ∷ [])

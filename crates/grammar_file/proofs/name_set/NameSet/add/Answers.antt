@@ -1,0 +1,12 @@
+use Rattle.std.proofs.Common.{◌∙◌, ap}
+use Rattle.grammar_file.specs.Contents.{with_name}
+use Rattle.grammar_file.specs.Said.{texts}
+use Rattle.grammar_file.proofs.Finding.{keys-with}
+use Rattle.grammar_file.proofs.name_set.NameSet.add.Goals as goal
+use Rattle.grammar_file.proofs.name_set.NameSet.add.Goals.{in-Ok, in-Err}
+
+pub returns : goal.returns
+returns c = elim c.match-insert.branch [
+  | in-Ok w ↦ rw w.result-is (ap texts w.in-Ok.ensures.keys ∙ keys-with c.args.name c.self.inside.names.keys ∙ ap (λ ws. with_name ws c.args.name.now) c.self.view_is)
+  | in-Err w ↦ rw w.result-is tt
+]

@@ -1,0 +1,7 @@
+use Rattle.std.proofs.Common.{◌∙◌, ap}
+use Rattle.grammar_file.specs.Contents.{is_among}
+use Rattle.grammar_file.proofs.Finding.{among-keys}
+use Rattle.grammar_file.proofs.name_set.NameSet.contains.Goals as goal
+
+pub returns : goal.returns
+returns c = c.contains.ensures ∙ among-keys c.args.name.now c.self.inside.names.keys ∙ ap (is_among c.args.name.now) c.self.view_is

@@ -1,0 +1,7 @@
+pub mod Words
+pub mod Statements
+pub mod Contents
+pub mod Faults
+pub mod Told
+pub mod Numbers
+pub mod Said

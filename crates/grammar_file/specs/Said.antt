@@ -1,0 +1,141 @@
+-- What the code keeps of the lines, in the words of the definitions.
+use Rattle.std.specs.Prelude.{◌≡◌, ℕ, ◌+◌, ◌≤◌, Bool, true, if◌then◌else◌, nat_lt, Option, Some, None, slice_get, IsSomeAnd, List, [], ◌∷◌, ◌++◌, length, map}
+use Rattle.std.specs.Borrow.{Bor}
+use Rattle.std.specs.Str.{bytes_eq, chars}
+use Rattle.std.specs.List.{list_any}
+use Rattle.std.specs.Cmp.Lexicographic.{pointwise}
+use Rattle.definitions.specs.declared.expression.Expression.{Expression}
+use Rattle.definitions.specs.Spelling.{IsPattern}
+use Rattle.grammar_file.specs.declared.line.Line.{Line as Kept}
+use Rattle.grammar_file.specs.declared.line.Line.TheVariants as k
+use Rattle.grammar_file.specs.declared.rules.RuleName.{RuleName}
+use Rattle.grammar_file.specs.declared.names.Names.{Names}
+use Rattle.grammar_file.specs.declared.statements.Numbered.{Numbered}
+use Rattle.grammar_file.specs.declared.statements.File.{File}
+use Rattle.grammar_file.specs.Words.{Word}
+use Rattle.grammar_file.specs.Statements.{Line, Nothing, Production, Rule, Start, Fold, Bad, Statement}
+use Rattle.grammar_file.specs.Contents.{RuleLine, ProductionLine, rules, productions, starts, nonterminals, is_among, with_name}
+use Rattle.grammar_file.specs.Faults.{AreFaultless, is_skip_rule, has_production}
+
+-- what these point to
+abbrev pub texts : List (Bor (List ℕ)) → List Word
+texts ws = map (λ w. w.now) ws
+
+abbrev pub said : Kept → Line
+said k.Nothing = Nothing
+said (k.Production left right) = Production left.now (texts right.items)
+said (k.Rule skip name pattern) = Rule skip name.now pattern.now
+said (k.Start name) = Start name.now
+said (k.Fold name) = Fold name.now
+said k.Bad = Bad
+
+abbrev pub statement_of : Numbered → Statement
+statement_of n = record { number = n.number; says = said n.line }
+
+abbrev pub all_said : List Numbered → List Statement
+all_said ns = map statement_of ns
+
+abbrev pub rule_line : RuleName → RuleLine
+rule_line r = record { skip = r.skip; name = r.name.now; pattern = r.pattern.now }
+
+-- these names, in this order, are one of the lists
+abbrev pub are_among : List Word → List (List Word) → Bool
+are_among ws all = list_any (λ vs. pointwise bytes_eq vs ws) all
+
+-- the lists with these names behind them, unless they are one of them
+abbrev pub with_names : List (List Word) → List Word → List (List Word)
+with_names all ws = if are_among ws all then all else all ++ ws ∷ []
+
+-- the names are those that the statements define
+pub record AreNames (names : Names) (ss : List Statement) : Type 0 where
+  pub skips : (w : Word) → is_among w names.skips ≡ list_any (is_skip_rule w) (rules ss)
+  pub rules : names.rules ≡ rules ss
+  pub nonterminals : names.nonterminals ≡ nonterminals ss
+  pub sides : (left : Word) (right : List Word) → are_among (left ∷ right) names.sides ≡ has_production ss left right
+  pub productions : names.productions ≡ length (productions ss)
+  pub started : names.started ≡ nat_lt 0 (length (starts ss))
+
+-- what one line adds to them
+abbrev pub with_rule : List RuleLine → Line → List RuleLine
+with_rule rules Nothing = rules
+with_rule rules (Production left right) = rules
+with_rule rules (Rule skip name pattern) = rules ++ record { skip = skip; name = name; pattern = pattern } ∷ []
+with_rule rules (Start name) = rules
+with_rule rules (Fold name) = rules
+with_rule rules Bad = rules
+
+abbrev pub with_skip : List Word → Line → List Word
+with_skip names Nothing = names
+with_skip names (Production left right) = names
+with_skip names (Rule skip name pattern) = if skip then with_name names name else names
+with_skip names (Start name) = names
+with_skip names (Fold name) = names
+with_skip names Bad = names
+
+abbrev pub with_left : List Word → Line → List Word
+with_left names Nothing = names
+with_left names (Production left right) = with_name names left
+with_left names (Rule skip name pattern) = names
+with_left names (Start name) = names
+with_left names (Fold name) = names
+with_left names Bad = names
+
+abbrev pub with_sides : List (List Word) → Line → List (List Word)
+with_sides all Nothing = all
+with_sides all (Production left right) = with_names all (left ∷ right)
+with_sides all (Rule skip name pattern) = all
+with_sides all (Start name) = all
+with_sides all (Fold name) = all
+with_sides all Bad = all
+
+abbrev pub with_production : ℕ → Line → ℕ
+with_production n Nothing = n
+with_production n (Production left right) = n + 1
+with_production n (Rule skip name pattern) = n
+with_production n (Start name) = n
+with_production n (Fold name) = n
+with_production n Bad = n
+
+abbrev pub with_start : Bool → Line → Bool
+with_start b Nothing = b
+with_start b (Production left right) = b
+with_start b (Rule skip name pattern) = b
+with_start b (Start name) = true
+with_start b (Fold name) = b
+with_start b Bad = b
+
+-- the expressions of the rules, in order
+abbrev pub ArePatterns : List RuleLine → List Expression → Type 0
+ArePatterns [] [] = Unit {0}
+ArePatterns [] (e ∷ es) = ⊥
+ArePatterns (r ∷ rs) [] = ⊥
+ArePatterns (r ∷ rs) (e ∷ es) = IsPattern (chars r.pattern) e × ArePatterns rs es
+
+-- the limits are kept, and no production is there twice
+pub record AreFew (ss : List Statement) : Type 0 where
+  pub few_rules : length (rules ss) ≤ 256
+  pub few_nonterminals : length (nonterminals ss) ≤ 256
+  pub few_productions : length (productions ss) ≤ 1024
+  pub short : (k : ℕ) (p : ProductionLine) → slice_get (productions ss) k ≡ Some p → length p.right ≤ 16
+
+-- the file's lines so far are these statements, which have no fault
+pub record IsRead (file : File) (ss : List Statement) : Type 0 where
+  pub statements : all_said file.statements.items ≡ ss
+  pub names : AreNames file.names ss
+  pub patterns : ArePatterns (rules ss) file.patterns.items
+  pub faultless : AreFaultless ss
+  pub few : AreFew ss
+
+-- the expression of a rule's line, and none for another line
+abbrev pub IsPatternOf : Line → Option Expression → Type 0
+IsPatternOf Nothing p = p ≡ None
+IsPatternOf (Production left right) p = p ≡ None
+IsPatternOf (Rule skip name pattern) p = IsSomeAnd p (λ e. IsPattern (chars pattern) e)
+IsPatternOf (Start name) p = p ≡ None
+IsPatternOf (Fold name) p = p ≡ None
+IsPatternOf Bad p = p ≡ None
+
+-- the expressions with that of a line, if it has one
+abbrev pub with_pattern : List Expression → Option Expression → List Expression
+with_pattern es None = es
+with_pattern es (Some e) = es ++ e ∷ []

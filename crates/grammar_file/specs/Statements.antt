@@ -1,0 +1,86 @@
+-- What the lines of a grammar file say.
+use Rattle.std.specs.Prelude.{ℕ, ◌&&◌, ◌==◌, Bool, true, false, if◌then◌else◌, List, [], ◌∷◌, drop, slice_index, Option, Some, None, codes}
+use Rattle.std.specs.List.{list_all, filter_map, enumerate_from}
+use Rattle.std.specs.Str.{bytes_eq}
+use Rattle.std.specs.Str.Lines.{lines}
+use Rattle.grammar_file.specs.Words.{Word, words, is_name, behind_equals}
+
+-- what a line says
+pub data Line : Type 0 where
+  -- nothing: it is blank, or a comment
+  Nothing : Line
+  -- `LEFT = RIGHT ..`
+  Production : (left : Word) (right : List Word) → Line
+  -- `token NAME = PATTERN` or `skip NAME = PATTERN`
+  Rule : (skip : Bool) (name pattern : Word) → Line
+  -- `start NAME`, `fold NAME`
+  Start Fold : (name : Word) → Line
+  -- it is none of these
+  Bad : Line
+
+abbrev pub is_comment : Word → Bool
+is_comment w = slice_index w 0 == 35
+
+abbrev pub production : Word → List Word → Line
+production left right = if is_name left && list_all is_name right then Production left right else Bad
+
+abbrev pub rule : Word → Word → Word → Line
+rule keyword name pattern =
+    if is_name name && bytes_eq keyword (codes "token") then Rule false name pattern
+    else if is_name name && bytes_eq keyword (codes "skip") then Rule true name pattern
+    else Bad
+
+abbrev pub mark : Word → Word → Line
+mark keyword name =
+    if is_name name && bytes_eq keyword (codes "start") then Start name
+    else if is_name name && bytes_eq keyword (codes "fold") then Fold name
+    else Bad
+
+-- a line of two words, and of three or more, that is neither a comment nor a production
+abbrev pub statement : Word → Word → List Word → Word → Line
+statement a b [] pattern = mark a b
+statement a b (c ∷ ws) pattern = if bytes_eq c (codes "=") then rule a b pattern else Bad
+
+abbrev pub longer_line : Word → Word → List Word → Word → Line
+longer_line a b ws pattern = if bytes_eq b (codes "=") then production a ws else statement a b ws pattern
+
+-- a line of these words, with this text behind its first `=`, which no keyword and no name holds
+abbrev pub line_of_words : List Word → Word → Line
+line_of_words [] pattern = Nothing
+line_of_words (a ∷ []) pattern = if is_comment a then Nothing else Bad
+line_of_words (a ∷ b ∷ ws) pattern = if is_comment a then Nothing else longer_line a b ws pattern
+
+abbrev pub line_of : List ℕ → Line
+line_of text = line_of_words (words text) (behind_equals text)
+
+-- a line that says something, with its number, the first line's being 1
+pub record Statement : Type 0 where
+  pub number : ℕ
+  pub says : Line
+
+abbrev pub at : ℕ → Line → Statement
+at n l = record { number = n; says = l }
+
+abbrev pub numbered : ℕ → Line → Option Statement
+numbered n Nothing = None
+numbered n (Production left right) = Some (at n (Production left right))
+numbered n (Rule skip name pattern) = Some (at n (Rule skip name pattern))
+numbered n (Start name) = Some (at n (Start name))
+numbered n (Fold name) = Some (at n (Fold name))
+numbered n Bad = Some (at n Bad)
+
+-- what these lines say, which stand from the second line of the file on
+abbrev pub statements_in : List (List ℕ) → List Statement
+statements_in texts = filter_map (λ t. numbered t.0 (line_of t.1)) (enumerate_from 2 texts)
+
+-- the statements of a file: what its lines behind the first one say
+abbrev pub statements : List ℕ → List Statement
+statements text = statements_in (drop 1 (lines text))
+
+-- the first line is `lrgrammar 1`
+abbrev pub is_header : List ℕ → Bool
+is_header line = bytes_eq line (codes "lrgrammar 1")
+
+abbrev pub is_headed : List (List ℕ) → Bool
+is_headed [] = false
+is_headed (l ∷ ls) = is_header l

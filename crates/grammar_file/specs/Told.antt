@@ -1,0 +1,26 @@
+-- The causes that the code tells, in the words of the definitions.
+use Rattle.std.specs.Prelude.{ℕ}
+use Rattle.grammar_file.specs.declared.fault.Cause.{Cause as Borrowed}
+use Rattle.grammar_file.specs.declared.fault.Cause.TheVariants as b
+use Rattle.grammar_file.specs.declared.fault.Refusal.{Refusal}
+use Rattle.grammar_file.specs.declared.fault.Refusal.TheVariants.{Fault, Memory}
+use Rattle.grammar_file.specs.Faults.{Cause, FirstLine, BadLine, NoStart, SecondStart, DefinedTwice, Undefined, Reserved, NotANonterminal, Unproductive, SkipInProduction, BadPattern, Passed}
+
+abbrev pub cause_of : Borrowed → Cause
+cause_of b.FirstLine = FirstLine
+cause_of b.BadLine = BadLine
+cause_of (b.DefinedTwice w) = DefinedTwice w.now
+cause_of (b.Undefined w) = Undefined w.now
+cause_of (b.Reserved w) = Reserved w.now
+cause_of (b.BadPattern f) = BadPattern f
+cause_of b.NoStart = NoStart
+cause_of b.SecondStart = SecondStart
+cause_of (b.NotANonterminal w) = NotANonterminal w.now
+cause_of (b.Unproductive w) = Unproductive w.now
+cause_of (b.SkipInProduction w) = SkipInProduction w.now
+cause_of (b.Passed l) = Passed l
+
+-- a refusal for another cause than memory tells this
+abbrev pub Tells : Refusal → (ℕ → Cause → Type 0) → Type 0
+Tells (Fault line c) P = P line (cause_of c)
+Tells Memory P = Unit {0}

@@ -1,0 +1,105 @@
+//! The names that the lines of a file define.
+
+ghost use Rattle.std.specs.Prelude.{◌≡◌, ◌+◌, ◌<◌, ◌≤◌, ◌^◌, List, [], None, Some, if◌then◌else◌, length, map, OnOk, IfOk, nat_lt};
+ghost use Rattle.definitions.specs.declared.Symbol.TheVariants.{Nonterminal};
+ghost use Rattle.grammar_file.specs.Statements.{Statement};
+ghost use Rattle.grammar_file.specs.Contents.{defines, is_among};
+ghost use Rattle.grammar_file.specs.Said.{said, rule_line, texts, AreNames, with_rule, with_skip, with_left, with_sides, with_production, with_start};
+
+use crate::line::Line;
+use crate::name_set::NameSet;
+use crate::production_set::ProductionSet;
+use crate::rules::{RuleName, Rules};
+use definitions::Symbol;
+use std::alloc::{AllocError, Global};
+
+/// What the lines so far define.
+#[derive(Drop)]
+pub struct Names<'a> {
+    /// The rules, in file order.
+    pub rules: Rules<'a>,
+    /// The names of the `skip` rules.
+    pub(crate) skips: NameSet<'a>,
+    /// The nonterminals, in the order of their first productions.
+    pub nonterminals: NameSet<'a>,
+    /// The productions.
+    pub(crate) sides: ProductionSet<'a>,
+    /// How many productions there are.
+    pub(crate) productions: usize,
+    /// Whether there is a start.
+    pub(crate) started: bool,
+}
+
+impl<'a> Names<'a> {
+    /// Before any line.
+    pub(crate) fn new(alloc: Global) -> Names<'a>
+        ensures { AreNames result [] }
+    {
+        Names {
+            rules: Rules::new(alloc),
+            skips: NameSet::new(alloc),
+            nonterminals: NameSet::new(alloc),
+            sides: ProductionSet::new(alloc),
+            productions: 0,
+            started: false,
+        }
+    }
+
+    /// Adds what a line defines.
+    pub(crate) fn note(&mut self, alloc: Global, line: &Line<'a>) -> Result<(), AllocError>
+        requires { self.old.productions < 2 ^ 32 }
+        ensures rules { OnOk result (self.new.rules ≡ with_rule self.old.rules (said line.now)) }
+        ensures skips { OnOk result (self.new.skips ≡ with_skip self.old.skips (said line.now)) }
+        ensures nonterminals { OnOk result (self.new.nonterminals ≡ with_left self.old.nonterminals (said line.now)) }
+        ensures sides { OnOk result (self.new.sides ≡ with_sides self.old.sides (said line.now)) }
+        ensures productions { OnOk result (self.new.productions ≡ with_production self.old.productions (said line.now)) }
+        ensures started { OnOk result (self.new.started ≡ with_start self.old.started (said line.now)) }
+    {
+        match line {
+            Line::Rule {
+                skip,
+                name,
+                pattern,
+            } => {
+                if *skip {
+                    self.skips.add(name)?;
+                }
+                self.rules.add(RuleName {
+                    skip: *skip,
+                    name,
+                    pattern,
+                })?;
+            }
+            Line::Production { left, right } => {
+                self.nonterminals.add(left)?;
+                self.sides.add(alloc, left, right)?;
+                self.productions += 1;
+            }
+            Line::Start(_) => self.started = true,
+            Line::Fold(_) | Line::Nothing | Line::Bad => {}
+        }
+        Ok(())
+    }
+
+    /// What a line defines behind those so far: a rule, or a nonterminal at its first production.
+    pub(crate) fn defined_by(&self, line: &Line<'_>) -> Option<Symbol>
+        ensures { (ss : List Statement) → AreNames self.now ss → result ≡ defines ss (said line.now) }
+    {
+        match line {
+            Line::Rule { .. } => Some(Symbol::Rule(self.rules.len())),
+            Line::Production { left, .. } => self.new_nonterminal(left),
+            _ => None,
+        }
+    }
+
+    /// The nonterminal that a left side defines, unless it is there.
+    fn new_nonterminal(&self, left: &str) -> Option<Symbol>
+        ensures { result ≡ (if is_among left.now self.now.nonterminals then None else Some (Nonterminal (length self.now.nonterminals))) }
+    {
+        if self.nonterminals.contains(left) {
+            None
+        } else {
+            Some(Symbol::Nonterminal(self.nonterminals.len()))
+        }
+    }
+}

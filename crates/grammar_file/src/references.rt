@@ -1,0 +1,78 @@
+//! The names that the lines use.
+
+ghost use Rattle.std.specs.Prelude.{◌≡◌, IfErr, OnOk, List, not, option_map};
+ghost use Rattle.grammar_file.specs.Contents.{nonterminals, is_among};
+ghost use Rattle.grammar_file.specs.Faults;
+ghost use Rattle.grammar_file.specs.Faults.{told, symbol_fault, right_fault, reference_fault, HaveReferents, IsFirstReferenceFault};
+ghost use Rattle.grammar_file.specs.Statements.{Statement};
+ghost use Rattle.grammar_file.specs.Said.{said, all_said, texts, AreNames};
+ghost use Rattle.grammar_file.specs.Told.{cause_of, Tells};
+
+use crate::fault::{Cause, Refusal};
+use crate::line::Line;
+use crate::names::Names;
+use crate::statements::Numbered;
+
+/// Tests the names that the lines use, from the first line on.
+pub fn test_references<'a>(
+    names: &Names<'a>,
+    statements: &[Numbered<'a>],
+) -> Result<(), Refusal<'a>>
+    requires { AreNames names.now (all_said statements.now) }
+    ensures fine { OnOk result (HaveReferents (all_said statements.now) (all_said statements.now)) }
+    ensures fault { IfErr result (λ r. Tells r (λ n c. IsFirstReferenceFault (all_said statements.now) n c)) }
+{
+    for statement in statements {
+        if let Some(cause) = reference_fault(names, &statement.line) {
+            return Err(Refusal::Fault(statement.number, cause));
+        }
+    }
+    Ok(())
+}
+
+/// What is wrong with the names that a line uses.
+fn reference_fault<'a>(names: &Names<'a>, line: &Line<'a>) -> Option<Cause<'a>>
+    ensures { (ss : List Statement) → AreNames names.now ss → option_map cause_of result ≡ reference_fault ss (said line.now) }
+{
+    match line {
+        Line::Production { right, .. } => right_fault(names, right),
+        Line::Start(name) | Line::Fold(name) => nonterminal_fault(names, name),
+        Line::Nothing | Line::Rule { .. } | Line::Bad => None,
+    }
+}
+
+fn nonterminal_fault<'a>(names: &Names<'a>, name: &'a str) -> Option<Cause<'a>>
+    ensures { (ss : List Statement) → AreNames names.now ss → option_map cause_of result ≡ told (not (is_among name.now (nonterminals ss))) (Faults.NotANonterminal name.now) }
+{
+    if names.nonterminals.contains(name) {
+        None
+    } else {
+        Some(Cause::NotANonterminal(name))
+    }
+}
+
+/// What is wrong with the leftmost name that may not stand on a right side.
+fn right_fault<'a>(names: &Names<'a>, right: &[&'a str]) -> Option<Cause<'a>>
+    ensures { (ss : List Statement) → AreNames names.now ss → option_map cause_of result ≡ right_fault ss (texts right.now) }
+{
+    for name in right {
+        if let Some(cause) = symbol_fault(names, name) {
+            return Some(cause);
+        }
+    }
+    None
+}
+
+fn symbol_fault<'a>(names: &Names<'a>, name: &'a str) -> Option<Cause<'a>>
+    ensures { (ss : List Statement) → AreNames names.now ss → option_map cause_of result ≡ symbol_fault ss name.now }
+{
+    if names.nonterminals.contains(name) {
+        None
+    } else if names.skips.contains(name) {
+        Some(Cause::SkipInProduction(name))
+    } else if names.rules.contains(name) {
+        None
+    } else {
+        Some(Cause::Undefined(name))
+    }
+}

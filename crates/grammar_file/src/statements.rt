@@ -1,0 +1,321 @@
+//! The statements of a file, line by line.
+
+ghost use Rattle.std.specs.Prelude.{◌≡◌, ◌≢◌, ◌+◌, ◌<◌, ◌≤◌, ◌^◌, ◌++◌, ◌∷◌, ◌||◌, [], ℕ, Bool, List, None, Some, length, map, not, nat_lt, option_map, IfOk, IfErr, OnOk, MatchOption};
+ghost use Rattle.std.specs.List.{cons_option};
+ghost use Rattle.std.specs.Str.{chars};
+ghost use Rattle.definitions.specs.declared.expression.PatternFault.{PatternFault};
+ghost use Rattle.definitions.specs.PatternFaults.{IsFault as IsPatternFault};
+ghost use Rattle.definitions.specs.Spelling.{IsPattern};
+ghost use Rattle.grammar_file.specs.Statements.{line_of, Statement, numbered, statements_in, Nothing, at};
+ghost use Rattle.grammar_file.specs.Statements;
+ghost use Rattle.grammar_file.specs.Contents.{rules, starts};
+ghost use Rattle.grammar_file.specs.Faults.{reserved, told, has_rule, has_production, early_fault, late_fault, IsFaultless, IsLineFault, IsFirstLineFault, HasPattern, HasPatternFault, BadPattern, Passed};
+ghost use Rattle.grammar_file.specs.Faults;
+ghost use Rattle.grammar_file.specs.Said.{said, all_said, texts, AreNames, IsRead, IsPatternOf, with_pattern};
+ghost use Rattle.grammar_file.specs.Told.{cause_of, Tells};
+
+use crate::fault::{Cause, Limit, Refusal};
+use crate::line::{Line, read_line};
+use crate::names::Names;
+use crate::words::is_reserved;
+use definitions::PatternCause;
+use patterns::Pattern;
+use std::alloc::{AllocError, Global};
+
+/// The most rules of a file.
+const MOST_RULES: usize = 256;
+
+/// The most nonterminals.
+const MOST_NONTERMINALS: usize = 256;
+
+/// The most productions.
+const MOST_PRODUCTIONS: usize = 1024;
+
+/// The most symbols of a right side.
+const MOST_SYMBOLS: usize = 16;
+
+/// A line that says something, with its number, the first line's being 1.
+#[derive(Drop)]
+pub struct Numbered<'a> {
+    /// The line's number.
+    pub number: usize,
+    /// What it says.
+    pub line: Line<'a>,
+}
+
+/// What is kept of a file's lines, which have no fault.
+#[derive(Drop)]
+pub struct File<'a> {
+    /// The lines that say something, in file order.
+    pub statements: Vec<Numbered<'a>>,
+    /// The names that they define.
+    pub names: Names<'a>,
+    /// The patterns of the rules, in file order.
+    pub patterns: Vec<Pattern>,
+}
+
+/// What the lines say, of which the first has number 2; or the first fault.
+pub fn read_statements<'a>(alloc: Global, lines: &[&'a str]) -> Result<File<'a>, Refusal<'a>>
+    ensures read { IfOk result (λ f. IsRead f (statements_in (texts lines.now))) }
+    ensures fault { IfErr result (λ r. Tells r (λ n c. IsFirstLineFault (statements_in (texts lines.now)) n c)) }
+{
+    let mut file = File {
+        statements: Vec::new(alloc),
+        names: Names::new(alloc),
+        patterns: Vec::new(alloc),
+    };
+    for (index, text) in lines.iter().enumerate() {
+        let line = read_line(alloc, text)?;
+        match file.add(alloc, index + 2, line) {
+            Ok(()) => {}
+            Err(refusal) => return Err(refusal),
+        }
+    }
+    Ok(file)
+}
+
+impl<'a> File<'a> {
+    /// Adds a line with its number, unless it says nothing.
+    fn add(&mut self, alloc: Global, number: usize, line: Line<'a>) -> Result<(), Refusal<'a>>
+        requires { IsRead self.old (all_said self.old.statements.items) }
+        ensures read { OnOk result (IsRead self.new (all_said self.old.statements.items ++ cons_option (numbered number (said line.entry)) [])) }
+        ensures fault { IfErr result (λ r. Tells r (λ n c. (n ≡ number) × (said line.entry ≢ Nothing) × IsLineFault (all_said self.old.statements.items) (said line.entry) c)) }
+    {
+        match line {
+            Line::Nothing => Ok(()),
+            line => self.add_statement(alloc, number, line),
+        }
+    }
+
+    /// Adds a line that says something.
+    fn add_statement(
+        &mut self,
+        alloc: Global,
+        number: usize,
+        line: Line<'a>,
+    ) -> Result<(), Refusal<'a>>
+        requires { IsRead self.old (all_said self.old.statements.items) }
+        ensures read { OnOk result (IsRead self.new (all_said self.old.statements.items ++ at number (said line.entry) ∷ [])) }
+        ensures fault { IfErr result (λ r. Tells r (λ n c. (n ≡ number) × IsLineFault (all_said self.old.statements.items) (said line.entry) c)) }
+    {
+        let pattern = self.tested(alloc, number, &line)?;
+        add_pattern(&mut self.patterns, pattern)?;
+        self.names.note(alloc, &line)?;
+        add_line(&mut self.statements, number, line)?;
+        Ok(())
+    }
+
+    /// Tests a line, and hands out the pattern of a rule.
+    fn tested(
+        &self,
+        alloc: Global,
+        number: usize,
+        line: &Line<'a>,
+    ) -> Result<Option<Pattern>, Refusal<'a>>
+        requires { AreNames self.now.names (all_said self.now.statements.items) }
+        ensures faultless { IfOk result (λ _. IsFaultless (all_said self.now.statements.items) (said line.now)) }
+        ensures pattern { IfOk result (λ p. IsPatternOf (said line.now) p) }
+        ensures fault { IfErr result (λ r. Tells r (λ n c. (n ≡ number) × IsLineFault (all_said self.now.statements.items) (said line.now) c)) }
+    {
+        if let Some(cause) = self.early_fault(alloc, line)? {
+            return Err(Refusal::Fault(number, cause));
+        }
+        let pattern = pattern_of(alloc, number, line)?;
+        match self.late_fault(line) {
+            Some(cause) => Err(Refusal::Fault(number, cause)),
+            None => Ok(pattern),
+        }
+    }
+
+    /// A fault that is told before the pattern is read.
+    fn early_fault(&self, alloc: Global, line: &Line<'a>) -> Result<Option<Cause<'a>>, AllocError>
+        requires { AreNames self.now.names (all_said self.now.statements.items) }
+        ensures { IfOk result (λ fault. option_map cause_of fault ≡ early_fault (all_said self.now.statements.items) (said line.now)) }
+    {
+        match line {
+            Line::Nothing => Ok(None),
+            Line::Production { left, right } => self.production_fault(alloc, left, right),
+            Line::Rule { name, .. } => Ok(self.rule_fault(name)),
+            Line::Start(name) | Line::Fold(name) => Ok(reserved(name)),
+            Line::Bad => Ok(Some(Cause::BadLine)),
+        }
+    }
+
+    fn production_fault(
+        &self,
+        alloc: Global,
+        left: &'a str,
+        right: &[&'a str],
+    ) -> Result<Option<Cause<'a>>, AllocError>
+        requires { AreNames self.now.names (all_said self.now.statements.items) }
+        ensures { IfOk result (λ fault. option_map cause_of fault ≡ early_fault (all_said self.now.statements.items) (Statements.Production left.now (texts right.now))) }
+    {
+        if is_reserved(left) {
+            return Ok(Some(Cause::Reserved(left)));
+        }
+        if let Some(cause) = first_reserved(right) {
+            return Ok(Some(cause));
+        }
+        if self.is_defined(alloc, left, right)? {
+            return Ok(Some(Cause::DefinedTwice(left)));
+        }
+        Ok(None)
+    }
+
+    /// Whether the left side is a rule's name, or the production is there.
+    fn is_defined(
+        &self,
+        alloc: Global,
+        left: &'a str,
+        right: &[&'a str],
+    ) -> Result<bool, AllocError>
+        requires { AreNames self.now.names (all_said self.now.statements.items) }
+        ensures { IfOk result (λ is. is ≡ (has_rule (all_said self.now.statements.items) left.now || has_production (all_said self.now.statements.items) left.now (texts right.now))) }
+    {
+        if self.names.rules.contains(left) {
+            return Ok(true);
+        }
+        self.names.sides.contains(alloc, left, right)
+    }
+
+    fn rule_fault(&self, name: &'a str) -> Option<Cause<'a>>
+        requires { AreNames self.now.names (all_said self.now.statements.items) }
+        ensures { (skip : Bool) (pattern : List ℕ) → option_map cause_of result ≡ early_fault (all_said self.now.statements.items) (Statements.Rule skip name.now pattern) }
+    {
+        if is_reserved(name) {
+            return Some(Cause::Reserved(name));
+        }
+        if self.names.rules.contains(name) || self.names.nonterminals.contains(name) {
+            return Some(Cause::DefinedTwice(name));
+        }
+        None
+    }
+
+    /// A fault that is told behind the pattern's.
+    fn late_fault(&self, line: &Line<'a>) -> Option<Cause<'a>>
+        requires { AreNames self.now.names (all_said self.now.statements.items) }
+        ensures { option_map cause_of result ≡ late_fault (all_said self.now.statements.items) (said line.now) }
+    {
+        match line {
+            Line::Production { left, right } => self.production_limit(left, right),
+            Line::Rule { .. } => self.rule_limit(),
+            Line::Start(_) => self.second_start(),
+            Line::Nothing | Line::Fold(_) | Line::Bad => None,
+        }
+    }
+
+    fn rule_limit(&self) -> Option<Cause<'a>>
+        requires { AreNames self.now.names (all_said self.now.statements.items) }
+        ensures { option_map cause_of result ≡ told (not (nat_lt (length (rules (all_said self.now.statements.items))) 256)) (Passed Limit.Tokens) }
+    {
+        if self.names.rules.len() < MOST_RULES {
+            None
+        } else {
+            Some(Cause::Passed(Limit::Tokens))
+        }
+    }
+
+    fn second_start(&self) -> Option<Cause<'a>>
+        requires { AreNames self.now.names (all_said self.now.statements.items) }
+        ensures { option_map cause_of result ≡ told (nat_lt 0 (length (starts (all_said self.now.statements.items)))) Faults.SecondStart }
+    {
+        if self.names.started {
+            Some(Cause::SecondStart)
+        } else {
+            None
+        }
+    }
+
+    fn production_limit(&self, left: &str, right: &[&str]) -> Option<Cause<'a>>
+        requires { AreNames self.now.names (all_said self.now.statements.items) }
+        ensures { option_map cause_of result ≡ late_fault (all_said self.now.statements.items) (Statements.Production left.now (texts right.now)) }
+    {
+        if MOST_SYMBOLS < right.len() {
+            return Some(Cause::Passed(Limit::Symbols));
+        }
+        if !self.names.nonterminals.contains(left)
+            && self.names.nonterminals.len() >= MOST_NONTERMINALS
+        {
+            return Some(Cause::Passed(Limit::Nonterminals));
+        }
+        if self.names.productions < MOST_PRODUCTIONS {
+            return None;
+        }
+        Some(Cause::Passed(Limit::Productions))
+    }
+}
+
+fn add_pattern(patterns: &mut Vec<Pattern>, pattern: Option<Pattern>) -> Result<(), AllocError>
+    ensures { OnOk result (patterns.new.items ≡ with_pattern patterns.old.items pattern) }
+{
+    match pattern {
+        Some(pattern) => {
+            patterns.push(pattern)?;
+            Ok(())
+        }
+        None => Ok(()),
+    }
+}
+
+fn add_line<'a>(
+    statements: &mut Vec<Numbered<'a>>,
+    number: usize,
+    line: Line<'a>,
+) -> Result<(), AllocError>
+    ensures { OnOk result (all_said statements.new.items ≡ all_said statements.old.items ++ at number (said line.entry) ∷ []) }
+{
+    statements.push(Numbered { number, line })?;
+    Ok(())
+}
+
+fn reserved<'a>(name: &'a str) -> Option<Cause<'a>>
+    ensures { option_map cause_of result ≡ reserved (name.now ∷ []) }
+{
+    if is_reserved(name) {
+        Some(Cause::Reserved(name))
+    } else {
+        None
+    }
+}
+
+/// The leftmost reserved name.
+fn first_reserved<'a>(names: &[&'a str]) -> Option<Cause<'a>>
+    ensures { option_map cause_of result ≡ reserved (texts names.now) }
+{
+    for name in names {
+        if is_reserved(name) {
+            return Some(Cause::Reserved(name));
+        }
+    }
+    None
+}
+
+/// The pattern of a rule's line.
+fn pattern_of<'a>(
+    alloc: Global,
+    number: usize,
+    line: &Line<'_>,
+) -> Result<Option<Pattern>, Refusal<'a>>
+    ensures pattern { IfOk result (λ p. IsPatternOf (said line.now) p) }
+    ensures fault { IfErr result (λ r. Tells r (λ n c. (n ≡ number) × ((f : PatternFault) × HasPatternFault (said line.now) f × (c ≡ BadPattern f)))) }
+{
+    match line {
+        Line::Rule { pattern, .. } => Ok(Some(read_pattern(alloc, number, pattern)?)),
+        _ => Ok(None),
+    }
+}
+
+fn read_pattern<'a>(alloc: Global, number: usize, text: &str) -> Result<Pattern, Refusal<'a>>
+    ensures pattern { IfOk result (λ p. IsPattern (chars text.now) p) }
+    ensures fault { IfErr result (λ r. Tells r (λ n c. (n ≡ number) × ((f : PatternFault) × IsPatternFault (chars text.now) f × (c ≡ BadPattern f)))) }
+{
+    match Pattern::read(alloc, text) {
+        Ok(pattern) => Ok(pattern),
+        Err(fault) => {
+            if fault.cause == PatternCause::Memory {
+                return Err(Refusal::Memory);
+            }
+            Err(Refusal::Fault(number, Cause::BadPattern(fault)))
+        }
+    }
+}

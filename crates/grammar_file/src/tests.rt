@@ -1,0 +1,48 @@
+//! Worked files: each line ends with a LF.
+
+use crate::{Refusal, read_file};
+use std::alloc::Global;
+use std::test::Fail;
+
+const SUMS: &str = r#"lrgrammar 1
+# sums
+token NUM = [0-9]+
+skip WS = [ ]+
+
+start Sum
+Sum = Sum NUM
+Sum = NUM
+"#;
+
+#[test]
+fn reads_lines(rt: HostRuntime) -> Result<(), Fail> {
+    let Ok(file) = read_file(rt.alloc(), SUMS) else {
+        panic!(rt; "no file");
+    };
+    assert_eq!(rt; file.statements.len(), 5);
+    assert_eq!(rt; file.patterns.len(), 2);
+    assert_eq!(rt; file.names.nonterminals.as_slice(), ["Sum"].as_slice());
+    assert_eq!(rt; file.names.nonterminals.number("Sum"), 0);
+    assert_eq!(rt; file.names.rules.number("WS"), 1);
+    Ok(())
+}
+
+// The line of the first fault that lines and names tell, and 99 where there is none.
+fn line_at_fault(alloc: Global, text: &str) -> usize {
+    match read_file(alloc, text) {
+        Err(Refusal::Fault(line, _)) => line,
+        _ => 99,
+    }
+}
+
+#[test]
+fn tells_the_line_at_fault(rt: HostRuntime) -> Result<(), Fail> {
+    let alloc = rt.alloc();
+    assert_eq!(rt; line_at_fault(alloc, SUMS), 99);
+    assert_eq!(rt; line_at_fault(alloc, "lrgrammar 2\n"), 1);
+    assert_eq!(rt; line_at_fault(alloc, "lrgrammar 1\n"), 0);
+    assert_eq!(rt; line_at_fault(alloc, "lrgrammar 1\n\nstart\n"), 3);
+    assert_eq!(rt; line_at_fault(alloc, "lrgrammar 1\nstart S\nS = X\n"), 3);
+    assert_eq!(rt; line_at_fault(alloc, "lrgrammar 1\nstart A\nA = A\n"), 99);
+    Ok(())
+}
