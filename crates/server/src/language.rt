@@ -108,8 +108,12 @@ impl Language {
         ensures kinds { IfOk result (λ r. r.1.kinds.items ≡ kinds_of r.0.items) }
     {
         let _length = text.len();
-        let (tokens, kinds) =
-            Tokens::scan_with_kinds(alloc, &self.grammar, &self.automaton, &Whole(text))?;
+        let (tokens, kinds) = Tokens::scan_with_kinds(
+            alloc,
+            &self.grammar,
+            &self.automaton,
+            &Whole(text),
+        )?;
         Ok((tokens, Significant { kinds }))
     }
 
