@@ -56,8 +56,8 @@ impl Tokens {
         Ok(tokens)
     }
 
-    /// The same, with the kinds of the significant ones, in order. A parser reads them all, and a walk over the tokens would
-    /// cost it as much as the scan.
+    /// The same, with the kinds of the significant ones, in order. A parser reads them all, and needs no walk over the tokens
+    /// for them.
     pub fn scan_with_kinds<S: Source>(
         alloc: Global,
         grammar: &Grammar,
