@@ -5,7 +5,8 @@ use Rattle.definitions.specs.Tokens.{Leads, is_skipped}
 use Rattle.lexer.specs.declared.sums.Token.{Token}
 use Rattle.lexer.specs.Tokens.{plain, characters}
 
--- the tokens are marked where their kind is skipped, have this stamp, and their sums are exact
+-- the tokens are marked where their kind is skipped and have this stamp; none is empty, and none reaches farther than a text
+-- does
 pub record AreMade (skips : List Bool) (born : ℕ) (made : List Token) : Type 0 where
   pub marked : All (λ x. x.skipped ≡ is_skipped skips x.kind) made
   pub stamped : All (λ x. x.born ≡ born) made
