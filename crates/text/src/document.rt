@@ -1,6 +1,6 @@
 //! The text of a document.
 
-ghost use Rattle.std.specs.Prelude.{◌≡◌, ◌+◌, ◌<◌, ◌≤◌, ◌^◌, ◌↔◌, ℕ, List, length, drop, ◌++◌, Err, IfOk, OnOk, OnErr, string_bytes, encode_utf8_all};
+ghost use Rattle.std.specs.Prelude.{◌≡◌, ◌+◌, ◌<◌, ◌≤◌, ◌^◌, ◌↔◌, ℕ, List, length, drop, slice_index, ◌++◌, Err, IfOk, OnOk, OnErr, string_bytes, encode_utf8_all};
 ghost use Rattle.std.specs.Iterator.{YieldsFirst, item_count};
 ghost use Rattle.std.specs.Str.{chars};
 ghost use Rattle.definitions.specs.Text.{IsText, edit, changed};
@@ -61,6 +61,7 @@ impl Text {
     /// `TooLarge` exactly where `text` has more than [`LONGEST_TEXT`] bytes.
     pub fn open(alloc: Global, text: &str) -> Result<Text, TextFault>
         ensures opened { IfOk result (λ opened. opened ≡ chars text.now) }
+        ensures limit { LONGEST_TEXT ≡ 1048576 }
         ensures too_large { (result ≡ Err TextFault.TooLarge) ↔ (LONGEST_TEXT < length text.now) }
     {
         let bytes = text.len();
@@ -80,23 +81,36 @@ impl Text {
         requires in_range { b ≤ length self.old }
         ensures edited { OnOk result (self.new ≡ edit self.old a b (chars new.now)) }
         ensures unchanged { OnErr result (self.new ≡ self.old) }
-        ensures too_large { (result ≡ Err TextFault.TooLarge) ↔ (LONGEST_TEXT < length (encode_utf8_all (edit self.old a b (chars new.now)))) }
+        ensures too_large { (result ≡ Err TextFault.TooLarge)
+            ↔ (LONGEST_TEXT < length (encode_utf8_all (edit self.old a b (chars new.now)))) }
+    {
+        *self = self.replaced(alloc, a, b, new)?;
+        Ok(())
+    }
+
+    /// The text with `new` in the place of the characters from offset `a` up to offset `b`.
+    fn replaced(&self, alloc: Global, a: usize, b: usize, new: &str) -> Result<Text, TextFault>
+        requires ordered { a ≤ b }
+        requires in_range { b ≤ length self.now }
+        ensures edited { IfOk result (λ text. text ≡ edit self.now a b (chars new.now)) }
+        ensures too_large { (result ≡ Err TextFault.TooLarge)
+            ↔ (LONGEST_TEXT < length (encode_utf8_all (edit self.now a b (chars new.now)))) }
     {
         let kept = self.bytes_outside(a, b);
         if new.len() > LONGEST_TEXT - kept {
             return Err(TextFault::TooLarge);
         }
         let characters = edited(alloc, &self.characters, a, b, new)?;
-        self.characters = characters;
-        self.bytes = kept + new.len();
-        Ok(())
+        let bytes = kept + new.len();
+        Ok(Text { characters, bytes })
     }
 
-    // How many bytes the characters before offset `a` and from offset `b` on have.
+    /// How many bytes the characters before offset `a` and from offset `b` on have.
     fn bytes_outside(&self, a: usize, b: usize) -> usize
         requires ordered { a ≤ b }
         requires in_range { b ≤ length self.now }
-        ensures edited { (s : List ℕ) → length (encode_utf8_all (edit self.now a b s)) ≡ result + length (encode_utf8_all s) }
+        ensures edited { (s : List ℕ) →
+            length (encode_utf8_all (edit self.now a b s)) ≡ result + length (encode_utf8_all s) }
         ensures few { result ≤ LONGEST_TEXT }
     {
         self.bytes() - utf8_len(&self.characters[a..b])
@@ -115,13 +129,26 @@ impl Text {
     ) -> Result<(), TextFault>
         ensures changed { OnOk result (self.new ≡ changed Utf16 self.old range (chars new.now)) }
         ensures unchanged { OnErr result (self.new ≡ self.old) }
-        ensures too_large { (result ≡ Err TextFault.TooLarge) ↔ (LONGEST_TEXT < length (encode_utf8_all (changed Utf16 self.old range (chars new.now)))) }
+        ensures too_large { let wanted = changed Utf16 self.old range (chars new.now) in
+            (result ≡ Err TextFault.TooLarge) ↔ (LONGEST_TEXT < length (encode_utf8_all wanted)) }
     {
-        let (a, b) = self.span(range);
-        self.replace(alloc, a, b, new)
+        *self = self.changed(alloc, range, new)?;
+        Ok(())
     }
 
-    // The offsets of a range in ascending order, or those of the whole text.
+    /// The text after one change, as [`Text::change`] makes it, beside this one.
+    ///
+    /// `TooLarge` exactly where the new text would have more than [`LONGEST_TEXT`] bytes.
+    pub fn changed(&self, alloc: Global, range: Option<Range>, new: &str) -> Result<Text, TextFault>
+        ensures changed { IfOk result (λ text. text ≡ changed Utf16 self.now range (chars new.now)) }
+        ensures too_large { let wanted = changed Utf16 self.now range (chars new.now) in
+            (result ≡ Err TextFault.TooLarge) ↔ (LONGEST_TEXT < length (encode_utf8_all wanted)) }
+    {
+        let (a, b) = self.span(range);
+        self.replaced(alloc, a, b, new)
+    }
+
+    /// The offsets of a range in ascending order, or those of the whole text.
     fn span(&self, range: Option<Range>) -> (usize, usize)
         ensures edits { (s : List ℕ) → changed Utf16 self.now range s ≡ edit self.now result.0 result.1 s }
         ensures ordered { result.0 ≤ result.1 }
@@ -176,6 +203,14 @@ impl Text {
         ensures few { result ≤ LONGEST_TEXT }
     {
         self.bytes
+    }
+
+    /// The character at an offset.
+    pub fn at(&self, offset: usize) -> char
+        requires { offset < length self.now }
+        ensures { result ≡ slice_index self.now offset }
+    {
+        self.characters[offset]
     }
 
     /// The characters from an offset on, none from the end of the text on.
@@ -239,7 +274,7 @@ impl<'a> Iterator for Chars<'a> {
     }
 }
 
-// How many bytes the characters have in UTF-8.
+/// How many bytes the characters have in UTF-8.
 fn utf8_len(characters: &[char]) -> usize
     requires { length (encode_utf8_all characters.now) < 2 ^ 64 }
     ensures { result ≡ length (encode_utf8_all characters.now) }
@@ -251,7 +286,7 @@ fn utf8_len(characters: &[char]) -> usize
     bytes
 }
 
-// The characters with `new` in place of those from `a` up to `b`, in memory of the exact size.
+/// The characters with `new` in place of those from `a` up to `b`, in memory of the exact size.
 fn edited(
     alloc: Global,
     old: &[char],
@@ -271,7 +306,7 @@ fn edited(
     Ok(characters)
 }
 
-// Appends the characters of `new`.
+/// Appends the characters of `new`.
 fn append(characters: &mut Vec<char>, new: &str) -> Result<(), AllocError>
     ensures { OnOk result (characters.new.items ≡ characters.old.items ++ chars new.now) }
 {

@@ -4,7 +4,7 @@ use Rattle.definitions.specs.Text.{IsCharacter, edit}
 use Rattle.std.proofs.lemmas.List.Elements.{All-same}
 use Rattle.definitions.proofs.Characters.{IsText-chars, IsText-edit}
 use Rattle.text.proofs.Sizes.{size, size-chars}
-use Rattle.text.proofs.document.Text.replace.Goals as goal
+use Rattle.text.proofs.document.Text.replaced.Goals as goal
 
 pub returns-then-new-kept-clause-too_large : goal.returns-then-new-kept-clause-too_large
 returns-then-new-kept-clause-too_large c =
@@ -18,8 +18,8 @@ returns-in_err-characters-clause-too_large c =
     let new = size-chars c.args.new.now c.utf8.new in
     (λ e. absurd (let wrong = rw e at c.from_residual.ensures in cc), λ large. absurd (omega (arith, counted, new, large, c.if-new-kept.false, c.bytes_outside-kept.ensures.few)))
 
-pub invariant_of-self : goal.invariant_of-self
-invariant_of-self c =
+pub invariant_of-result : goal.invariant_of-result
+invariant_of-result c =
     let counted = c.bytes_outside-kept.ensures.edited (chars c.args.new.now) in
     let new = size-chars c.args.new.now c.utf8.new in
     let made = c.in_ok-characters.ensures ∙ ap (λ t. edit t c.args.a c.args.b (chars c.args.new.now)) (c.deref.ensures.value ∙ c.self.view_is) in
