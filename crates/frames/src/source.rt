@@ -1,6 +1,6 @@
 //! Where bytes come from.
 
-ghost use Rattle.std.specs.Prelude.{◌≡◌, ℕ, ◌^◌, ◌-◌, ◌<◌, ◌≤◌, List, Option, length, IfOk, OnOk, MatchResult, if◌then◌else◌};
+ghost use Rattle.std.specs.Prelude.{◌≡◌, ℕ, ◌^◌, ◌+◌, ◌-◌, ◌≤◌, List, Option, length, IfOk, OnOk, MatchResult, if◌then◌else◌};
 ghost use Rattle.std.specs.Io.KnownBytes.{ReadConsumes};
 
 use crate::fault::DeviceFault;
@@ -17,12 +17,13 @@ pub trait Input {
     /// How often the device has failed: once at most.
     ghost failures: { Self → ℕ };
 
-    /// Reads some bytes to the front of `buf`, and tells how many: none only at the end of the stream, or where `buf` is empty. Where no read is left, it fails.
+    /// Reads some bytes to the front of `buf`, and tells how many: none only at the end of the stream, or where `buf`
+    /// is empty. It takes one of the reads that are left, and fails where none is.
     fn read(&mut self, buf: &mut [u8]) -> Result<usize, DeviceFault>
         requires { failures self.old ≡ 0 }
         ensures bound { IfOk result (λ n. n ≤ length buf.new) }
         ensures bytes { ReadConsumes (remaining self.old) (remaining self.new) result buf.new }
-        ensures reads { OnOk result (reads_left self.new < reads_left self.old) }
+        ensures reads { OnOk result (reads_left self.old ≡ reads_left self.new + 1) }
         ensures cause { MatchResult result (λ _. failures self.new ≡ 0) (λ _. failures self.new ≡ 1) };
 }
 
