@@ -26,52 +26,70 @@ pub fn characters_are_scalars()
 
 /// The offset of a position lies in its line, and is the greatest one before which the line has no more units than it counts.
 pub fn offset_is_greatest()
-    ensures { (encoding : Encoding) (t : List ℕ) (p : Position) → IsOffsetOf encoding t p (offset encoding t p) }
+    ensures { (encoding : Encoding) (t : List ℕ) (p : Position) →
+        IsOffsetOf encoding t p (offset encoding t p) }
 {}
 
 /// The position of an offset leads back to it, but between a `\r` and its `\n`, which have no position.
 pub fn offset_of_position()
-    ensures { (encoding : Encoding) (t : List ℕ) (o : ℕ) → IsInLine t o → offset encoding t (position encoding t o) ≡ o }
+    ensures { (encoding : Encoding) (t : List ℕ) (o : ℕ) → IsInLine t o →
+        offset encoding t (position encoding t o) ≡ o }
 {}
 
 /// And the offset of a position that counts whole characters of a line of the text leads back to it.
 pub fn position_of_offset()
-    ensures { (encoding : Encoding) (t : List ℕ) (p : Position) → IsPlace encoding t p → position encoding t (offset encoding t p) ≡ p }
+    ensures { (encoding : Encoding) (t : List ℕ) (p : Position) → IsPlace encoding t p →
+        position encoding t (offset encoding t p) ≡ p }
 {}
 
 /// The test for a class with no member is right.
 pub fn empty_class_is_told()
-    ensures { (negated : Bool) (intervals : List Interval) → AreWell intervals → IsTrue (is_nothing negated intervals) ↔ ((c : ℕ) → IsCharacter c → ¬ IsTrue (is_in_class negated intervals c)) }
+    ensures { (negated : Bool) (intervals : List Interval) → AreWell intervals →
+        IsTrue (is_nothing negated intervals)
+        ↔ ((c : ℕ) → IsCharacter c → ¬ IsTrue (is_in_class negated intervals c)) }
 {}
 
 /// A text has one list of tokens.
 pub fn tokens_unique()
-    ensures { (rules : List Expression) (t : List ℕ) (xs : List Token) (ys : List Token) → AreTokens rules t xs → AreTokens rules t ys → xs ≡ ys }
+    ensures { (rules : List Expression) (t : List ℕ) (xs : List Token) (ys : List Token) →
+        AreTokens rules t xs → AreTokens rules t ys → xs ≡ ys }
 {}
 
 /// A token depends on no more of the text than its reach.
 pub fn token_is_local()
-    ensures { (rules : List Expression) (t : List ℕ) (u : List ℕ) (x : Token) → IsToken rules t x → take x.reach t ≡ take x.reach u → IsToken rules u x }
+    ensures { (rules : List Expression) (t : List ℕ) (u : List ℕ) (x : Token) → IsToken rules t x →
+        take x.reach t ≡ take x.reach u → IsToken rules u x }
 {}
 
 /// What an edit keeps are tokens of both texts: the same ones in front of it, and the same ones from the place of rejoining on.
 pub fn kept_tokens_stay()
-    ensures front { (rules : List Expression) (t : List ℕ) (s : List ℕ) (e : Edit) (old : List Token) (new : List Token) → IsTokenEdit rules t s e old new → take (front e old) old ≡ take (front e old) new }
-    ensures rest { (rules : List Expression) (t : List ℕ) (s : List ℕ) (e : Edit) (old : List Token) (new : List Token) → IsTokenEdit rules t s e old new → drop (length old - (length new - rejoin e old new)) old ≡ drop (rejoin e old new) new }
+    ensures front { (rules : List Expression) (t : List ℕ) (s : List ℕ) (e : Edit)
+        (old : List Token) (new : List Token) → IsTokenEdit rules t s e old new →
+        take (front e old) old ≡ take (front e old) new }
+    ensures rest { (rules : List Expression) (t : List ℕ) (s : List ℕ) (e : Edit) (old : List Token)
+        (new : List Token) → IsTokenEdit rules t s e old new →
+        drop (length old - (length new - rejoin e old new)) old ≡ drop (rejoin e old new) new }
 {}
 
 /// A list of kinds has one list of expected rules, and either ends or does not.
 pub fn expected_unique()
-    ensures rules { (g : Grammar) (x : List Kind) (r : List ℕ) (s : List ℕ) (a : Bool) (b : Bool) → IsExpected g x r a → IsExpected g x s b → r ≡ s }
-    ensures ends { (g : Grammar) (x : List Kind) (r : List ℕ) (s : List ℕ) (a : Bool) (b : Bool) → IsExpected g x r a → IsExpected g x s b → a ≡ b }
+    ensures rules { (g : Grammar) (x : List Kind) (r : List ℕ) (s : List ℕ) (a : Bool) (b : Bool) →
+        IsExpected g x r a → IsExpected g x s b → r ≡ s }
+    ensures ends { (g : Grammar) (x : List Kind) (r : List ℕ) (s : List ℕ) (a : Bool) (b : Bool) →
+        IsExpected g x r a → IsExpected g x s b → a ≡ b }
 {}
 
 /// Trees have one list of folds.
 pub fn folds_unique()
-    ensures { (g : Grammar) (trees : List Tree) (t : List ℕ) (tokens : List Placed) (folds : List Bool) (one : List (ℕ × ℕ)) (two : List (ℕ × ℕ)) → AreFolds t tokens folds (IsNodeOf g trees) one → AreFolds t tokens folds (IsNodeOf g trees) two → one ≡ two }
+    ensures { (g : Grammar) (trees : List Tree) (t : List ℕ) (tokens : List Placed)
+        (folds : List Bool) (one : List (ℕ × ℕ)) (two : List (ℕ × ℕ)) →
+        AreFolds t tokens folds (IsNodeOf g trees) one →
+        AreFolds t tokens folds (IsNodeOf g trees) two → one ≡ two }
 {}
 
 /// And an offset has one selection in them.
 pub fn selection_unique()
-    ensures { (g : Grammar) (trees : List Tree) (t : List ℕ) (tokens : List Placed) (o : ℕ) (one : List (ℕ × ℕ)) (two : List (ℕ × ℕ)) → IsSelection t tokens (IsNodeOf g trees) o one → IsSelection t tokens (IsNodeOf g trees) o two → one ≡ two }
+    ensures { (g : Grammar) (trees : List Tree) (t : List ℕ) (tokens : List Placed) (o : ℕ)
+        (one : List (ℕ × ℕ)) (two : List (ℕ × ℕ)) → IsSelection t tokens (IsNodeOf g trees) o one →
+        IsSelection t tokens (IsNodeOf g trees) o two → one ≡ two }
 {}

@@ -29,7 +29,9 @@ struct Found {
 /// The content that a header part of this size announces, if it is whole.
 fn content_at(bytes: &[u8], size: usize, len: usize) -> Option<&[u8]>
     requires { size ≤ length bytes.now }
-    ensures some { IfSome result (λ content. (size + len ≤ length bytes.now) × (length content.now ≡ len) × (content.now ≡ take len (drop size bytes.now))) }
+    ensures some { IfSome result (λ content.
+        (size + len ≤ length bytes.now) × (length content.now ≡ len) ×
+        (content.now ≡ take len (drop size bytes.now))) }
     ensures none { IfNone result (length bytes.now < size + len) }
 {
     let rest = bytes_from(bytes, size);
@@ -125,16 +127,19 @@ impl Decoder {
     ///
     /// A fault behind them is answered by the next call, and where there are none by this one; then by every call, and no piece is taken any more. `Memory` says that memory was refused: the piece isn't taken, and may be fed again.
     pub fn feed(&mut self, alloc: Global, piece: &[u8]) -> Result<Vec<Frame>, FrameFault>
-        ensures ok { IfOk result (λ frames. GoesOn self.old piece.now (contents frames.items) self.new) }
+        ensures ok { IfOk result (λ frames.
+            GoesOn self.old piece.now (contents frames.items) self.new) }
         ensures none { IfOk result (λ frames. frames.items ≡ [] → IsOpen self.new) }
         ensures fault { IfErr result (λ fault. fault ≢ FrameFault.Memory →
             GoesOn self.old piece.now [] self.new × (self.new ≡ Faulty fault)) }
         ensures memory { IsErrOf result FrameFault.Memory → self.new ≡ self.old }
         ensures kind { IfErr result (λ fault. fault ≢ FrameFault.Truncated) }
-        ensures ended { IfSome (fault_of self.old) (λ fault. IsErrOf result fault × (self.new ≡ self.old)) }
+        ensures ended { IfSome (fault_of self.old) (λ fault.
+            IsErrOf result fault × (self.new ≡ self.old)) }
 
         // Each piece makes something of the stream, also one that isn't taken for want of memory.
-        ensures goes_on { (contents : List (List ℕ)) × (new : Tail) × GoesOn self.old piece.now contents new }
+        ensures goes_on { (contents : List (List ℕ)) × (new : Tail) ×
+            GoesOn self.old piece.now contents new }
 
         // There are streams with these tails, so the promises above are never empty.
         ensures reached { IsReached self.old × IsReached self.new }
@@ -145,13 +150,15 @@ impl Decoder {
 
     /// `feed`, by what is left of the stream.
     fn take_piece(&mut self, alloc: Global, piece: &[u8]) -> Result<Vec<Frame>, FrameFault>
-        ensures ok { IfOk result (λ frames. Continues self.old piece.now (contents frames.items) self.new) }
+        ensures ok { IfOk result (λ frames.
+            Continues self.old piece.now (contents frames.items) self.new) }
         ensures none { IfOk result (λ frames. frames.items ≡ [] → IsOpen self.new) }
         ensures fault { IfErr result (λ fault. fault ≢ FrameFault.Memory →
             Continues self.old piece.now [] self.new × (self.new ≡ Faulty fault)) }
         ensures memory { IsErrOf result FrameFault.Memory → self.new ≡ self.old }
         ensures kind { IfErr result (λ fault. fault ≢ FrameFault.Truncated) }
-        ensures ended { IfSome (fault_of self.old) (λ fault. IsErrOf result fault × (self.new ≡ self.old)) }
+        ensures ended { IfSome (fault_of self.old) (λ fault.
+            IsErrOf result fault × (self.new ≡ self.old)) }
         ensures reached { IsReached self.old × IsReached self.new }
     {
         if let Some(fault) = self.met {

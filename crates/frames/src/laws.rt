@@ -13,6 +13,7 @@ pub fn one_split()
 
 /// The header part is the shortest front that is CR LF, or that ends with CR LF CR LF.
 pub fn shortest_header_part()
-    ensures found { (bytes : List ℕ) (size : ℕ) → (header_size bytes ≡ Some size) ↔ IsHeaderPart bytes size }
+    ensures found { (bytes : List ℕ) (size : ℕ) →
+        (header_size bytes ≡ Some size) ↔ IsHeaderPart bytes size }
     ensures none { (bytes : List ℕ) (n : ℕ) → header_size bytes ≡ None → ¬ IsWhole (take n bytes) }
 {}

@@ -20,13 +20,15 @@ pub trait Output {
         ensures bound { IfOk result (λ n. n ≤ length bytes.now) }
         ensures some { IfOk result (λ n. 0 < length bytes.now → 0 < n) }
         ensures bytes { WriteAppends (contents self.old) (contents self.new) result bytes.now }
-        ensures cause { MatchResult result (λ _. failures self.new ≡ 0) (λ _. failures self.new ≡ 1) };
+        ensures cause { MatchResult result
+            (λ _. failures self.new ≡ 0) (λ _. failures self.new ≡ 1) };
 
     /// Passes on what was taken.
     fn flush(&mut self) -> Result<(), DeviceFault>
         requires { failures self.old ≡ 0 }
         ensures bytes { Keeps (contents self.old) (contents self.new) }
-        ensures cause { MatchResult result (λ _. failures self.new ≡ 0) (λ _. failures self.new ≡ 1) };
+        ensures cause { MatchResult result
+            (λ _. failures self.new ≡ 0) (λ _. failures self.new ≡ 1) };
 }
 
 /// Rust's `Write` as an output. Every error is a fault, also one that says to try again, and so is a write that takes nothing.

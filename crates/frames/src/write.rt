@@ -10,7 +10,8 @@ use crate::sink::Output;
 fn write_all<W: Output>(output: &mut W, bytes: &[u8]) -> Result<(), DeviceFault>
     requires { W.failures output.old ≡ 0 }
     ensures bytes { Writes (W.contents output.old) (W.contents output.new) result bytes.now }
-    ensures cause { MatchResult result (λ _. W.failures output.new ≡ 0) (λ _. W.failures output.new ≡ 1) }
+    ensures cause { MatchResult result
+        (λ _. W.failures output.new ≡ 0) (λ _. W.failures output.new ≡ 1) }
 {
     let mut at = 0;
     while at < bytes.len() {
@@ -37,8 +38,10 @@ fn put_digits(buffer: &mut [u8], n: usize) -> usize
 /// Writes the content behind a header part that tells its length in bytes. After a fault, a front of the frame was written. Takes no memory.
 pub fn write_frame<W: Output>(output: &mut W, content: &[u8]) -> Result<(), DeviceFault>
     requires { W.failures output.old ≡ 0 }
-    ensures bytes { Writes (W.contents output.old) (W.contents output.new) result (frame content.now) }
-    ensures cause { MatchResult result (λ _. W.failures output.new ≡ 0) (λ _. W.failures output.new ≡ 1) }
+    ensures bytes { Writes
+        (W.contents output.old) (W.contents output.new) result (frame content.now) }
+    ensures cause { MatchResult result
+        (λ _. W.failures output.new ≡ 0) (λ _. W.failures output.new ≡ 1) }
 {
     let mut digits = [0; 20];
     let count = put_digits(&mut digits, content.len());

@@ -36,7 +36,8 @@ fn character_at(text: &[char], place: usize) -> (Character, usize)
     requires { place < length text.now }
     ensures forward { place < result.1 }
     ensures in_range { result.1 ≤ length text.now }
-    ensures written { written place (drop place text.now) ≡ written_as result.0 ∷ written result.1 (drop result.1 text.now) }
+    ensures written { written place (drop place text.now)
+        ≡ written_as result.0 ∷ written result.1 (drop result.1 text.now) }
 {
     let code = text[place];
     if code != '\\' {

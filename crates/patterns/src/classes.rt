@@ -49,11 +49,17 @@ pub fn literal<'a>(
     quote: usize,
     end: usize,
 ) -> Result<(Vec<char>, &'a [Character]), Refusal>
-    ensures spelled { IfOk result (λ r. IsLiteralFront r.0.items (writing words.now) (writing r.1.now)) }
+    ensures spelled { IfOk result (λ r.
+        IsLiteralFront r.0.items (writing words.now) (writing r.1.now)) }
     ensures not_empty { IfOk result (λ r. is_empty r.0.items ≡ false) }
     ensures shorter { IfOk result (λ r. length r.1.now < length words.now) }
-    ensures goes_on { IfOk result (λ r. (depth : ℕ) → fault_from end (InLiteral depth quote true) (writing words.now) ≡ fault_from end (Outside depth AnAtom) (writing r.1.now)) }
-    ensures fault { IfErr result (λ r. Tells r (λ f. (depth : ℕ) → fault_from end (InLiteral depth quote true) (writing words.now) ≡ Some f)) }
+    ensures goes_on { IfOk result (λ r.
+        (depth : ℕ) →
+        fault_from end (InLiteral depth quote true) (writing words.now)
+        ≡ fault_from end (Outside depth AnAtom) (writing r.1.now)) }
+    ensures fault { IfErr result (λ r.
+        Tells r (λ f.
+        (depth : ℕ) → fault_from end (InLiteral depth quote true) (writing words.now) ≡ Some f)) }
 {
     let mut characters = Vec::new(alloc);
     let mut left = words;
@@ -106,12 +112,19 @@ pub fn class<'a>(
     bracket: usize,
     end: usize,
 ) -> Result<(bool, Vec<Interval>, &'a [Character]), Refusal>
-    ensures spelled { IfOk result (λ r. IsClassBody r.0 r.1.items (writing words.now) (writing r.2.now)) }
+    ensures spelled { IfOk result (λ r.
+        IsClassBody r.0 r.1.items (writing words.now) (writing r.2.now)) }
     ensures ordered { IfOk result (λ r. list_all is_range r.1.items ≡ true) }
     ensures not_empty { IfOk result (λ r. is_nothing r.0 r.1.items ≡ false) }
     ensures shorter { IfOk result (λ r. length r.2.now < length words.now) }
-    ensures goes_on { IfOk result (λ r. (depth : ℕ) → fault_from end (InClass depth bracket false [] Opened) (writing words.now) ≡ fault_from end (Outside depth AnAtom) (writing r.2.now)) }
-    ensures fault { IfErr result (λ r. Tells r (λ f. (depth : ℕ) → fault_from end (InClass depth bracket false [] Opened) (writing words.now) ≡ Some f)) }
+    ensures goes_on { IfOk result (λ r.
+        (depth : ℕ) →
+        fault_from end (InClass depth bracket false [] Opened) (writing words.now)
+        ≡ fault_from end (Outside depth AnAtom) (writing r.2.now)) }
+    ensures fault { IfErr result (λ r.
+        Tells r (λ f.
+        (depth : ℕ) →
+        fault_from end (InClass depth bracket false [] Opened) (writing words.now) ≡ Some f)) }
 {
     match strip(words, '^') {
         Some((_, inside)) => {
@@ -133,12 +146,19 @@ fn members<'a>(
     bracket: usize,
     end: usize,
 ) -> Result<(Vec<Interval>, &'a [Character]), Refusal>
-    ensures spelled { IfOk result (λ r. IsClassFront r.0.items (writing words.now) (writing r.1.now)) }
+    ensures spelled { IfOk result (λ r.
+        IsClassFront r.0.items (writing words.now) (writing r.1.now)) }
     ensures ordered { IfOk result (λ r. list_all is_range r.0.items ≡ true) }
     ensures not_empty { IfOk result (λ r. is_nothing negated r.0.items ≡ false) }
     ensures shorter { IfOk result (λ r. length r.1.now < length words.now) }
-    ensures goes_on { IfOk result (λ r. (depth : ℕ) → fault_from end (InClass depth bracket negated [] Items) (writing words.now) ≡ fault_from end (Outside depth AnAtom) (writing r.1.now)) }
-    ensures fault { IfErr result (λ r. Tells r (λ f. (depth : ℕ) → fault_from end (InClass depth bracket negated [] Items) (writing words.now) ≡ Some f)) }
+    ensures goes_on { IfOk result (λ r.
+        (depth : ℕ) →
+        fault_from end (InClass depth bracket negated [] Items) (writing words.now)
+        ≡ fault_from end (Outside depth AnAtom) (writing r.1.now)) }
+    ensures fault { IfErr result (λ r.
+        Tells r (λ f.
+        (depth : ℕ) →
+        fault_from end (InClass depth bracket negated [] Items) (writing words.now) ≡ Some f)) }
 {
     let (intervals, rest) = items(alloc, words, end)?;
     if is_nothing(negated, &intervals) {
@@ -153,11 +173,19 @@ fn items<'a>(
     words: &'a [Character],
     end: usize,
 ) -> Result<(Vec<Interval>, &'a [Character]), Refusal>
-    ensures spelled { IfOk result (λ r. IsClassFront r.0.items (writing words.now) (writing r.1.now)) }
+    ensures spelled { IfOk result (λ r.
+        IsClassFront r.0.items (writing words.now) (writing r.1.now)) }
     ensures ordered { IfOk result (λ r. list_all is_range r.0.items ≡ true) }
     ensures shorter { IfOk result (λ r. length r.1.now < length words.now) }
-    ensures goes_on { IfOk result (λ r. (depth bracket : ℕ) (negated : Bool) → fault_from end (InClass depth bracket negated [] Items) (writing words.now) ≡ or_later (λ s. fault_from end s (writing r.1.now)) (closed depth bracket negated r.0.items)) }
-    ensures fault { IfErr result (λ r. Tells r (λ f. (depth bracket : ℕ) (negated : Bool) → fault_from end (InClass depth bracket negated [] Items) (writing words.now) ≡ Some f)) }
+    ensures goes_on { IfOk result (λ r.
+        (depth bracket : ℕ) (negated : Bool) →
+        fault_from end (InClass depth bracket negated [] Items) (writing words.now)
+        ≡ or_later (λ s. fault_from end s (writing r.1.now))
+        (closed depth bracket negated r.0.items)) }
+    ensures fault { IfErr result (λ r.
+        Tells r (λ f.
+        (depth bracket : ℕ) (negated : Bool) →
+        fault_from end (InClass depth bracket negated [] Items) (writing words.now) ≡ Some f)) }
 {
     let mut intervals = Vec::new(alloc);
     let mut left = words;
@@ -177,8 +205,15 @@ fn item<'a>(words: &'a [Character], end: usize) -> Result<(Interval, &'a [Charac
     ensures spelled { IfOk result (λ r. IsItemFront r.0 (writing words.now) (writing r.1.now)) }
     ensures ordered { IfOk result (λ r. is_range r.0 ≡ true) }
     ensures shorter { IfOk result (λ r. length r.1.now < length words.now) }
-    ensures goes_on { IfOk result (λ r. (depth bracket : ℕ) (negated : Bool) (before : List Interval) → fault_from end (InClass depth bracket negated before Items) (writing words.now) ≡ fault_from end (InClass depth bracket negated (before ++ r.0 ∷ []) Items) (writing r.1.now)) }
-    ensures fault { IfErr result (λ r. Tells r (λ f. (depth bracket : ℕ) (negated : Bool) (before : List Interval) → fault_from end (InClass depth bracket negated before Items) (writing words.now) ≡ Some f)) }
+    ensures goes_on { IfOk result (λ r.
+        (depth bracket : ℕ) (negated : Bool) (before : List Interval) →
+        fault_from end (InClass depth bracket negated before Items) (writing words.now)
+        ≡ fault_from end (InClass depth bracket negated (before ++ r.0 ∷ []) Items)
+        (writing r.1.now)) }
+    ensures fault { IfErr result (λ r.
+        Tells r (λ f.
+        (depth bracket : ℕ) (negated : Bool) (before : List Interval) →
+        fault_from end (InClass depth bracket negated before Items) (writing words.now) ≡ Some f)) }
 {
     let Some((place, first, rest)) = class_char(words) else {
         return Err(fault(place_of(words, end), PatternCause::Syntax));
@@ -221,7 +256,8 @@ fn class_char<'a>(words: &'a [Character]) -> Option<(usize, char, &'a [Character
 
 // Whether a class needs no escape for it.
 fn stands_for_itself(code: char) -> bool
-    ensures { MatchBool result ((code ≢ 93) × (code ≢ 45) × (code ≢ 94)) ((code ≢ 93) × (code ≢ 45) × (code ≢ 94) → ⊥) }
+    ensures { MatchBool result
+        ((code ≢ 93) × (code ≢ 45) × (code ≢ 94)) ((code ≢ 93) × (code ≢ 45) × (code ≢ 94) → ⊥) }
 {
     code != ']' && code != '-' && code != '^'
 }
@@ -246,7 +282,9 @@ fn is_everything(intervals: &[Interval]) -> bool
 
 // Whether the character behind each interval lies in one of them.
 fn all_are_followed(intervals: &[Interval]) -> bool
-    ensures { result ≡ list_all (λ i. i.last == 0x10_FFFF || is_member (code_after i.last) intervals.now) intervals.now }
+    ensures { result
+        ≡ list_all (λ i. i.last == 0x10_FFFF || is_member (code_after i.last) intervals.now)
+        intervals.now }
 {
     intervals.iter().all(|i| is_followed(i.last, intervals))
 }

@@ -7,5 +7,6 @@ ghost use Rattle.definitions.specs.Spelling.{Spells};
 
 /// The text of a pattern has one meaning: all expressions that it spells mean the same texts.
 pub fn one_text_has_one_meaning()
-    ensures { (t : List ℕ) (e : Expression) (f : Expression) (u : List ℕ) → Spells e t → Spells f t → Matches e u ↔ Matches f u }
+    ensures { (t : List ℕ) (e : Expression) (f : Expression) (u : List ℕ) → Spells e t →
+        Spells f t → Matches e u ↔ Matches f u }
 {}

@@ -62,7 +62,8 @@ impl Pattern {
         ensures pattern { IfOk result (λ p. IsPattern (chars text.now) p) }
         ensures no_fault { IfOk result (λ p. first_fault (chars text.now) ≡ None) }
         ensures fault { IfErr result (λ f. f.cause ≢ Memory → IsFault (chars text.now) f) }
-        ensures refused { IfErr result (λ f. f.cause ≢ Memory → (e : Expression) → IsPattern (chars text.now) e → ⊥) }
+        ensures refused { IfErr result (λ f.
+            f.cause ≢ Memory → (e : Expression) → IsPattern (chars text.now) e → ⊥) }
     {
         match read_expression(alloc, text) {
             Ok(expression) => Ok(Pattern { expression }),

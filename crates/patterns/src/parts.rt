@@ -17,8 +17,10 @@ use std::alloc::{AllocError, Global};
 pub fn whole(alloc: Global, words: &[Character], end: usize) -> Result<Expression, Refusal>
     ensures spelled { IfOk result (λ e. SpellsAt Alt 0 e (writing words.now)) }
     ensures sound { IfOk result (λ e. is_sound e ≡ true) }
-    ensures no_fault { IfOk result (λ e. fault_from end (Outside 0 Nothing) (writing words.now) ≡ None) }
-    ensures fault { IfErr result (λ r. Tells r (λ f. fault_from end (Outside 0 Nothing) (writing words.now) ≡ Some f)) }
+    ensures no_fault { IfOk result (λ e.
+        fault_from end (Outside 0 Nothing) (writing words.now) ≡ None) }
+    ensures fault { IfErr result (λ r.
+        Tells r (λ f. fault_from end (Outside 0 Nothing) (writing words.now) ≡ Some f)) }
 {
     let (expression, rest) = alternatives(alloc, words, 0, end)?;
     if let Some((place, _)) = strip(rest, ')') {
@@ -36,12 +38,16 @@ fn alternatives<'a>(
     end: usize,
 ) -> Result<(Expression, &'a [Character]), Refusal>
     requires { depth ≤ 64 }
-    ensures spelled { IfOk result (λ r. IsPart Alt depth r.0 (writing words.now) (writing r.1.now)) }
+    ensures spelled { IfOk result (λ r.
+        IsPart Alt depth r.0 (writing words.now) (writing r.1.now)) }
     ensures sound { IfOk result (λ r. is_sound r.0 ≡ true) }
     ensures shorter { IfOk result (λ r. length r.1.now < length words.now) }
     ensures stops { IfOk result (λ r. IsAtEnd (writing r.1.now)) }
-    ensures goes_on { IfOk result (λ r. fault_from end (Outside depth Nothing) (writing words.now) ≡ fault_from end (Outside depth ARepetition) (writing r.1.now)) }
-    ensures fault { IfErr result (λ r. Tells r (λ f. fault_from end (Outside depth Nothing) (writing words.now) ≡ Some f)) }
+    ensures goes_on { IfOk result (λ r.
+        fault_from end (Outside depth Nothing) (writing words.now)
+        ≡ fault_from end (Outside depth ARepetition) (writing r.1.now)) }
+    ensures fault { IfErr result (λ r.
+        Tells r (λ f. fault_from end (Outside depth Nothing) (writing words.now) ≡ Some f)) }
 {
     let (mut choice, mut rest) = sequence(alloc, words, depth, end)?;
     while let Some((_, behind)) = strip(rest, '|') {
@@ -61,12 +67,16 @@ fn sequence<'a>(
     end: usize,
 ) -> Result<(Expression, &'a [Character]), Refusal>
     requires { depth ≤ 64 }
-    ensures spelled { IfOk result (λ r. IsPart Seq depth r.0 (writing words.now) (writing r.1.now)) }
+    ensures spelled { IfOk result (λ r.
+        IsPart Seq depth r.0 (writing words.now) (writing r.1.now)) }
     ensures sound { IfOk result (λ r. is_sound r.0 ≡ true) }
     ensures shorter { IfOk result (λ r. length r.1.now < length words.now) }
     ensures stops { IfOk result (λ r. stops (writing r.1.now) ≡ true) }
-    ensures goes_on { IfOk result (λ r. fault_from end (Outside depth Nothing) (writing words.now) ≡ fault_from end (Outside depth ARepetition) (writing r.1.now)) }
-    ensures fault { IfErr result (λ r. Tells r (λ f. fault_from end (Outside depth Nothing) (writing words.now) ≡ Some f)) }
+    ensures goes_on { IfOk result (λ r.
+        fault_from end (Outside depth Nothing) (writing words.now)
+        ≡ fault_from end (Outside depth ARepetition) (writing r.1.now)) }
+    ensures fault { IfErr result (λ r.
+        Tells r (λ f. fault_from end (Outside depth Nothing) (writing words.now) ≡ Some f)) }
 {
     let (mut sequence, mut rest) = repetition(alloc, words, depth, end)?;
     while !stops(rest) {
@@ -86,12 +96,16 @@ fn repetition<'a>(
     end: usize,
 ) -> Result<(Expression, &'a [Character]), Refusal>
     requires { depth ≤ 64 }
-    ensures spelled { IfOk result (λ r. IsPart Rep depth r.0 (writing words.now) (writing r.1.now)) }
+    ensures spelled { IfOk result (λ r.
+        IsPart Rep depth r.0 (writing words.now) (writing r.1.now)) }
     ensures sound { IfOk result (λ r. is_sound r.0 ≡ true) }
     ensures shorter { IfOk result (λ r. length r.1.now < length words.now) }
     ensures no_blank { IfOk result (λ r. HasNoBlank (writing r.1.now)) }
-    ensures goes_on { IfOk result (λ r. fault_from end (Outside depth Nothing) (writing words.now) ≡ fault_from end (Outside depth ARepetition) (writing r.1.now)) }
-    ensures fault { IfErr result (λ r. Tells r (λ f. fault_from end (Outside depth Nothing) (writing words.now) ≡ Some f)) }
+    ensures goes_on { IfOk result (λ r.
+        fault_from end (Outside depth Nothing) (writing words.now)
+        ≡ fault_from end (Outside depth ARepetition) (writing r.1.now)) }
+    ensures fault { IfErr result (λ r.
+        Tells r (λ f. fault_from end (Outside depth Nothing) (writing words.now) ≡ Some f)) }
 {
     let (part, rest) = atom(alloc, words, depth, end)?;
     let (expression, rest) = repeated(alloc, part, rest)?;
@@ -107,12 +121,16 @@ fn atom<'a>(
     end: usize,
 ) -> Result<(Expression, &'a [Character]), Refusal>
     requires { depth ≤ 64 }
-    ensures spelled { IfOk result (λ r. IsPart Atom depth r.0 (writing words.now) (writing r.1.now)) }
+    ensures spelled { IfOk result (λ r.
+        IsPart Atom depth r.0 (writing words.now) (writing r.1.now)) }
     ensures sound { IfOk result (λ r. is_sound r.0 ≡ true) }
     ensures shorter { IfOk result (λ r. length r.1.now < length words.now) }
     ensures no_blank { IfOk result (λ r. HasNoBlank (writing r.1.now)) }
-    ensures goes_on { IfOk result (λ r. fault_from end (Outside depth Nothing) (writing words.now) ≡ fault_from end (Outside depth AnAtom) (writing r.1.now)) }
-    ensures fault { IfErr result (λ r. Tells r (λ f. fault_from end (Outside depth Nothing) (writing words.now) ≡ Some f)) }
+    ensures goes_on { IfOk result (λ r.
+        fault_from end (Outside depth Nothing) (writing words.now)
+        ≡ fault_from end (Outside depth AnAtom) (writing r.1.now)) }
+    ensures fault { IfErr result (λ r.
+        Tells r (λ f. fault_from end (Outside depth Nothing) (writing words.now) ≡ Some f)) }
 {
     let (part, rest) = bare_atom(alloc, skip_blanks(words), depth, end)?;
     Ok((part, skip_blanks(rest)))
@@ -128,11 +146,15 @@ fn bare_atom<'a>(
 ) -> Result<(Expression, &'a [Character]), Refusal>
     requires depth { depth ≤ 64 }
     requires no_blank { HasNoBlank (writing words.now) }
-    ensures spelled { IfOk result (λ r. IsPart Atom depth r.0 (writing words.now) (writing r.1.now)) }
+    ensures spelled { IfOk result (λ r.
+        IsPart Atom depth r.0 (writing words.now) (writing r.1.now)) }
     ensures sound { IfOk result (λ r. is_sound r.0 ≡ true) }
     ensures shorter { IfOk result (λ r. length r.1.now < length words.now) }
-    ensures goes_on { IfOk result (λ r. fault_from end (Outside depth Nothing) (writing words.now) ≡ fault_from end (Outside depth AnAtom) (writing r.1.now)) }
-    ensures fault { IfErr result (λ r. Tells r (λ f. fault_from end (Outside depth Nothing) (writing words.now) ≡ Some f)) }
+    ensures goes_on { IfOk result (λ r.
+        fault_from end (Outside depth Nothing) (writing words.now)
+        ≡ fault_from end (Outside depth AnAtom) (writing r.1.now)) }
+    ensures fault { IfErr result (λ r.
+        Tells r (λ f. fault_from end (Outside depth Nothing) (writing words.now) ≡ Some f)) }
 {
     if let Some((quote, inside)) = strip(words, '"') {
         let (characters, rest) = literal(alloc, inside, quote, end)?;
@@ -157,7 +179,10 @@ fn close<'a>(words: &'a [Character], end: usize) -> Result<&'a [Character], Refu
     requires { IsAtEnd (writing words.now) }
     ensures shorter { IfOk result (λ r. length r.now < length words.now) }
     ensures closed { IfOk result (λ r. IsClosed (writing words.now) (writing r.now)) }
-    ensures fault { IfErr result (λ r. Tells r (λ f. (depth : ℕ) → fault_from end (Outside (depth + 1) ARepetition) (writing words.now) ≡ Some f)) }
+    ensures fault { IfErr result (λ r.
+        Tells r (λ f.
+        (depth : ℕ) →
+        fault_from end (Outside (depth + 1) ARepetition) (writing words.now) ≡ Some f)) }
 {
     match strip(words, ')') {
         Some((_, behind)) => Ok(behind),
@@ -167,7 +192,8 @@ fn close<'a>(words: &'a [Character], end: usize) -> Result<&'a [Character], Refu
 
 // The rest behind the blanks at the front.
 fn skip_blanks(words: &[Character]) -> &[Character]
-    ensures { IsBlanks (writing words.now) (writing result.now) × HasNoBlank (writing result.now) × (length result.now ≤ length words.now) }
+    ensures { IsBlanks (writing words.now) (writing result.now) × HasNoBlank (writing result.now) ×
+        (length result.now ≤ length words.now) }
 {
     let mut rest = words;
     while let Some((_, behind)) = strip_blank(rest) {
@@ -215,7 +241,10 @@ fn repeated<'a>(
     ensures sound { IfOk result (λ r. is_sound part ≡ true → is_sound r.0 ≡ true) }
     ensures no_longer { IfOk result (λ r. length r.1.now ≤ length words.now) }
     ensures still_no_blank { IfOk result (λ r. HasNoBlank (writing r.1.now)) }
-    ensures goes_on { IfOk result (λ r. (depth end : ℕ) → fault_from end (Outside depth AnAtom) (writing words.now) ≡ fault_from end (Outside depth ARepetition) (writing r.1.now)) }
+    ensures goes_on { IfOk result (λ r.
+        (depth end : ℕ) →
+        fault_from end (Outside depth AnAtom) (writing words.now)
+        ≡ fault_from end (Outside depth ARepetition) (writing r.1.now)) }
 {
     if let Some((_, rest)) = strip(words, '*') {
         return Ok((star(alloc, part)?, skip_blanks(rest)));

@@ -78,7 +78,8 @@ impl<'a, T: Measured> Iterator for Iter<'a, T> {
 fn first_of<'a, T: Measured>(parts: &mut Stack<Part<'a, T>>, part: Part<'a, T>) -> &'a T
     requires parts { AreParts 0 parts.old }
     requires part { IsPart (length parts.old) part }
-    ensures items { part_items part.entry ++ items_ahead parts.old ≡ result.now ∷ items_ahead parts.new }
+    ensures items { part_items part.entry ++ items_ahead parts.old
+        ≡ result.now ∷ items_ahead parts.new }
     ensures parts { AreParts 0 parts.new }
 {
     let Part { tree, mut skipped } = part;

@@ -88,8 +88,12 @@ impl<T: Measured> Seq<T> {
     pub fn locate<G: Goal<T::Sum>>(&self, goal: &G) -> (usize, T::Sum)
         ensures within { result.0 ≤ length self.now }
         ensures before { result.1 ≡ total T.Sum.empty T.Sum.op T.measure (take result.0 self.now) }
-        ensures not_before { (k : ℕ) → k < result.0 → G.reaches goal.now (total T.Sum.empty T.Sum.op T.measure (take (k + 1) self.now)) ≡ false }
-        ensures reached { result.0 < length self.now → IsTrue (G.reaches goal.now (total T.Sum.empty T.Sum.op T.measure (take (result.0 + 1) self.now))) }
+        ensures not_before { (k : ℕ) → k < result.0 →
+            G.reaches goal.now (total T.Sum.empty T.Sum.op T.measure (take (k + 1) self.now))
+            ≡ false }
+        ensures reached { result.0 < length self.now →
+            IsTrue (G.reaches goal.now (total T.Sum.empty T.Sum.op T.measure
+            (take (result.0 + 1) self.now))) }
     {
         tree::locate(&self.root, goal)
     }

@@ -150,7 +150,8 @@ fn balance<T: Measured>(left: Tree<T>, root: Box<Node<T>>, right: Tree<T>) -> Bo
     ensures items { result.value.0 ≡ items_of left ++ root.value.0 ++ items_of right }
     ensures not_lower { max (height_of left) (height_of right) ≤ result.value.1 }
     ensures one_higher { result.value.1 ≤ max (height_of left) (height_of right) + 1 }
-    ensures settled { DifferByAtMost 1 (height_of left) (height_of right) → result.value.1 ≡ max (height_of left) (height_of right) + 1 }
+    ensures settled { DifferByAtMost 1 (height_of left) (height_of right) →
+        result.value.1 ≡ max (height_of left) (height_of right) + 1 }
 {
     let (l, r) = (height(&left), height(&right));
     if l > r + 1 {
@@ -336,7 +337,8 @@ pub fn last<T: Measured>(
 
 /// How many items go before the one at which the sum reaches the goal, and their sum.
 pub fn locate<T: Measured, G: Goal<T::Sum>>(tree: &Tree<T>, goal: &G) -> (usize, T::Sum)
-    ensures { IsLeast T.Sum.empty T.Sum.op T.measure (G.reaches goal.now) T.Sum.empty (items_of tree.now) result.0 result.1 }
+    ensures { IsLeast T.Sum.empty T.Sum.op T.measure
+        (G.reaches goal.now) T.Sum.empty (items_of tree.now) result.0 result.1 }
 {
     let _all = count(tree);
     let mut below = tree;

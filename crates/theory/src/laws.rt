@@ -17,12 +17,15 @@ ghost use Rattle.theory.specs.Laws.{HasOneTreeEach, StampsExactly};
 
 /// The items valid for a prefix are those of its set by the usual rules: start, goto and closure.
 pub fn items_by_rules()
-    ensures { (g : Grammar) (prefix : List Symbol) (i : Item) → ByRules g prefix i ↔ IsValid g prefix i }
+    ensures { (g : Grammar) (prefix : List Symbol) (i : Item) →
+        ByRules g prefix i ↔ IsValid g prefix i }
 {}
 
 /// FIRST of symbols by the usual rules is FIRST by the trees of these symbols, where each of them has one.
 pub fn first_by_rules()
-    ensures { (g : Grammar) → AllProductive g → (symbols : List Symbol) (ts : List Tree) → HaveRoots g ts symbols → (look : Option ℕ) (a : Option ℕ) → MayFollow g symbols look a ↔ IsFirst g symbols look a }
+    ensures { (g : Grammar) → AllProductive g → (symbols : List Symbol) (ts : List Tree) →
+        HaveRoots g ts symbols → (look : Option ℕ) (a : Option ℕ) →
+        MayFollow g symbols look a ↔ IsFirst g symbols look a }
 {}
 
 /// A grammar whose sets of items have no conflict has Knuth's property.
@@ -32,7 +35,8 @@ pub fn no_conflict_lr1()
 
 /// So a conflict refutes it, where each symbol is productive and no production is there twice.
 pub fn lr1_no_conflict()
-    ensures { (g : Grammar) → AllProductive g → HasDistinctProductions g → IsLr1 g → HasNoConflict g }
+    ensures { (g : Grammar) → AllProductive g → HasDistinctProductions g → IsLr1 g →
+        HasNoConflict g }
 {}
 
 /// Where no set has a conflict, a root that some derivation uses and a yield have at most one tree.
@@ -42,40 +46,54 @@ pub fn one_tree_of_used()
 
 /// And a list of kinds has at most one verdict.
 pub fn verdict_unique()
-    ensures { (g : Grammar) → HasNoConflict g → (x : List Kind) (v : Verdict) (w : Verdict) → IsVerdict g x v → IsVerdict g x w → v ≡ w }
+    ensures { (g : Grammar) → HasNoConflict g → (x : List Kind) (v : Verdict) (w : Verdict) →
+        IsVerdict g x v → IsVerdict g x w → v ≡ w }
 {}
 
 /// A viable list of kinds settles one list of trees, whichever sentence begins with it.
 pub fn settled_unique()
-    ensures exists { (g : Grammar) (x : List Kind) → IsViable g x → (lefts : List Tree) × IsSettled g x lefts }
-    ensures unique { (g : Grammar) → HasNoConflict g → (x : List Kind) (one : List Tree) (two : List Tree) → IsSettled g x one → IsSettled g x two → one ≡ two }
+    ensures exists { (g : Grammar) (x : List Kind) → IsViable g x →
+        (lefts : List Tree) × IsSettled g x lefts }
+    ensures unique { (g : Grammar) → HasNoConflict g →
+        (x : List Kind) (one : List Tree) (two : List Tree) → IsSettled g x one →
+        IsSettled g x two → one ≡ two }
 {}
 
 /// So a document has one list of trees.
 pub fn document_trees_unique()
-    ensures { (g : Grammar) → HasNoConflict g → (x : List Kind) (v : Verdict) (w : Verdict) (one : List Tree) (two : List Tree) → IsVerdict g x v → IsVerdict g x w → AreDocumentTrees g x v one → AreDocumentTrees g x w two → one ≡ two }
+    ensures { (g : Grammar) → HasNoConflict g →
+        (x : List Kind) (v : Verdict) (w : Verdict) (one : List Tree) (two : List Tree) →
+        IsVerdict g x v → IsVerdict g x w → AreDocumentTrees g x v one →
+        AreDocumentTrees g x w two → one ≡ two }
 {}
 
 /// Behind the kinds that it has read the machine has a move on a kind exactly where some sentence goes on with it, and
 /// for each viable list there is such a stack.
 pub fn move_iff_viable()
-    ensures reached { (g : Grammar) (x : List Kind) → IsViable g x → (stack : List Tree) × IsStackAfter g x stack }
-    ensures moves { (g : Grammar) → HasNoConflict g → AllProductive g → (x : List Kind) (stack : List Tree) (k : Kind) → IsStackAfter g x stack → StackHasMove g stack (Some k) ↔ IsViable g (x ++ (k ∷ [])) }
+    ensures reached { (g : Grammar) (x : List Kind) → IsViable g x →
+        (stack : List Tree) × IsStackAfter g x stack }
+    ensures moves { (g : Grammar) → HasNoConflict g → AllProductive g →
+        (x : List Kind) (stack : List Tree) (k : Kind) → IsStackAfter g x stack →
+        StackHasMove g stack (Some k) ↔ IsViable g (x ++ (k ∷ [])) }
 {}
 
 /// And on the end exactly where it has read a sentence.
 pub fn move_iff_sentence()
-    ensures { (g : Grammar) → HasNoConflict g → AllProductive g → (x : List Kind) (stack : List Tree) → IsStackAfter g x stack → StackHasMove g stack None ↔ IsSentence g x }
+    ensures { (g : Grammar) → HasNoConflict g → AllProductive g →
+        (x : List Kind) (stack : List Tree) → IsStackAfter g x stack →
+        StackHasMove g stack None ↔ IsSentence g x }
 {}
 
 /// Where the reuse test passes, the plain machine reads the tree's yield and comes to the stack with that very tree.
 pub fn reuse_is_run()
-    ensures { (g : Grammar) → AllProductive g → (stack : List Tree) (t : Tree) (rest : List Kind) → CanReuse g stack t rest → Run g (look_at rest None) stack (yield t) (stack ++ (t ∷ [])) }
+    ensures { (g : Grammar) → AllProductive g → (stack : List Tree) (t : Tree) (rest : List Kind) →
+        CanReuse g stack t rest → Run g (look_at rest None) stack (yield t) (stack ++ (t ∷ [])) }
 {}
 
 /// So what the incremental machine reads to its end the plain one reads, and both come to the same trees.
 pub fn incremental_is_plain()
-    ensures { (g : Grammar) → AllProductive g → (input : List Tree) (stack : List Tree) → Goes_on g [] input stack [] → Run g None [] (all_kinds input) stack }
+    ensures { (g : Grammar) → AllProductive g → (input : List Tree) (stack : List Tree) →
+        Goes_on g [] input stack [] → Run g None [] (all_kinds input) stack }
 {}
 
 /// After an edit exactly those branches carry its number that lie in no node that the edit keeps.
