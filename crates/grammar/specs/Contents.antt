@@ -6,17 +6,13 @@ use Rattle.definitions.specs.declared.Symbol.{Symbol}
 use Rattle.definitions.specs.declared.Symbol.TheVariants.{Rule as Terminal, Nonterminal}
 use Rattle.definitions.specs.Trees.{Production as Production', Grammar}
 use Rattle.grammar_file.specs.Words.{Word}
-use Rattle.grammar_file.specs.Statements.{Line, Nothing, Production, Rule, Start, Fold, Bad, Statement}
+use Rattle.grammar_file.specs.Statements.{Line, Fold, Statement}
 use Rattle.grammar_file.specs.Contents.{ProductionLine, rules, productions, starts, nonterminals, is_among, number_of}
 
 -- whether the line is `fold` with this name
 abbrev pub folds_name : Word → Line → Bool
-folds_name w Nothing = false
-folds_name w (Production left right) = false
-folds_name w (Rule skip name pattern) = false
-folds_name w (Start name) = false
 folds_name w (Fold name) = bytes_eq name w
-folds_name w Bad = false
+folds_name w _ = false
 
 abbrev pub is_fold : Word → List Statement → Bool
 is_fold w ss = list_any (λ s. folds_name w s.says) ss

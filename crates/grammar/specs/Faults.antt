@@ -5,7 +5,7 @@ use Rattle.std.specs.Str.{bytes_eq}
 use Rattle.definitions.specs.declared.Symbol.TheVariants.{Nonterminal}
 use Rattle.definitions.specs.Sentences.{IsProductive}
 use Rattle.grammar_file.specs.Words.{Word}
-use Rattle.grammar_file.specs.Statements.{Line, Nothing, Production, Rule, Start, Fold, Bad, Statement, statements}
+use Rattle.grammar_file.specs.Statements.{Line, Production, Statement, statements}
 use Rattle.grammar_file.specs.Contents.{nonterminals}
 use Rattle.grammar_file.specs.Faults.{IsWhole, HaveReferents, IsFileFault}
 pub use Rattle.grammar_file.specs.Faults.{Cause, Unproductive}
@@ -13,12 +13,8 @@ use Rattle.grammar.specs.Contents.{grammar_of}
 
 -- whether the line is a production of the nonterminal
 abbrev pub is_production_of : Word → Line → Bool
-is_production_of w Nothing = false
 is_production_of w (Production left right) = bytes_eq left w
-is_production_of w (Rule skip name pattern) = false
-is_production_of w (Start name) = false
-is_production_of w (Fold name) = false
-is_production_of w Bad = false
+is_production_of w _ = false
 
 -- nonterminal n is the first one that is the root of no tree
 pub record IsFirstUnproductive (ss : List Statement) (n : ℕ) : Type 0 where

@@ -5,7 +5,7 @@ use Rattle.std.specs.Str.{bytes_eq}
 use Rattle.definitions.specs.declared.Symbol.{Symbol}
 use Rattle.definitions.specs.declared.Symbol.TheVariants.{Rule as Terminal, Nonterminal}
 use Rattle.grammar_file.specs.Words.{Word}
-use Rattle.grammar_file.specs.Statements.{Line, Nothing, Production, Rule, Start, Fold, Bad, Statement}
+use Rattle.grammar_file.specs.Statements.{Line, Production, Rule, Start, Statement}
 
 -- a `token` or `skip` line
 pub record RuleLine : Type 0 where
@@ -19,28 +19,16 @@ pub record ProductionLine : Type 0 where
   pub right : List Word
 
 abbrev pub as_rule : Line → Option RuleLine
-as_rule Nothing = None
-as_rule (Production left right) = None
 as_rule (Rule skip name pattern) = Some (record { skip = skip; name = name; pattern = pattern })
-as_rule (Start name) = None
-as_rule (Fold name) = None
-as_rule Bad = None
+as_rule _ = None
 
 abbrev pub as_production : Line → Option ProductionLine
-as_production Nothing = None
 as_production (Production left right) = Some (record { left = left; right = right })
-as_production (Rule skip name pattern) = None
-as_production (Start name) = None
-as_production (Fold name) = None
-as_production Bad = None
+as_production _ = None
 
 abbrev pub as_start : Line → Option Word
-as_start Nothing = None
-as_start (Production left right) = None
-as_start (Rule skip name pattern) = None
 as_start (Start name) = Some name
-as_start (Fold name) = None
-as_start Bad = None
+as_start _ = None
 
 -- the rules, the productions, and the names behind `start`, in file order
 abbrev pub rules : List Statement → List RuleLine
@@ -69,12 +57,9 @@ number_of w names = unwrap_or (position (λ v. bytes_eq v w) names) (length name
 
 -- what a line defines behind these statements, if anything: a rule, or a nonterminal at its first production
 abbrev pub defines : List Statement → Line → Option Symbol
-defines ss Nothing = None
 defines ss (Production left right) = if is_among left (nonterminals ss) then None else Some (Nonterminal (length (nonterminals ss)))
 defines ss (Rule skip name pattern) = Some (Terminal (length (rules ss)))
-defines ss (Start name) = None
-defines ss (Fold name) = None
-defines ss Bad = None
+defines ss _ = None
 
 -- what the statements define behind these, in file order
 abbrev pub defined_behind : List Statement → List Statement → List Symbol

@@ -35,12 +35,8 @@ reserved (w ∷ ws) = if is_reserved w then Some (Reserved w) else reserved ws
 
 -- the line is a production with this left side and this right side
 abbrev pub is_production : Word → List Word → Line → Bool
-is_production left right Nothing = false
 is_production left right (Production other others) = bytes_eq other left && pointwise bytes_eq others right
-is_production left right (Rule skip name pattern) = false
-is_production left right (Start name) = false
-is_production left right (Fold name) = false
-is_production left right Bad = false
+is_production left right _ = false
 
 abbrev pub has_production : List Statement → Word → List Word → Bool
 has_production ss left right = list_any (λ s. is_production left right s.says) ss
@@ -64,33 +60,23 @@ early_fault ss Bad = Some BadLine
 
 -- And those that are told behind it: a second start, and the limits.
 abbrev pub late_fault : List Statement → Line → Option Cause
-late_fault ss Nothing = None
 late_fault ss (Production left right) =
     or_else (told (nat_lt 16 (length right)) (Passed Symbols))
     (or_else (told (not (is_among left (nonterminals ss)) && not (nat_lt (length (nonterminals ss)) 256)) (Passed Nonterminals))
     (told (not (nat_lt (length (productions ss)) 1024)) (Passed Productions)))
 late_fault ss (Rule skip name pattern) = told (not (nat_lt (length (rules ss)) 256)) (Passed Tokens)
 late_fault ss (Start name) = told (nat_lt 0 (length (starts ss))) SecondStart
-late_fault ss (Fold name) = None
-late_fault ss Bad = None
+late_fault ss _ = None
 
 -- the pattern of a rule is one
 abbrev pub HasPattern : Line → Type 0
-HasPattern Nothing = Unit {0}
-HasPattern (Production left right) = Unit {0}
 HasPattern (Rule skip name pattern) = (e : Expression) × IsPattern (chars pattern) e
-HasPattern (Start name) = Unit {0}
-HasPattern (Fold name) = Unit {0}
-HasPattern Bad = Unit {0}
+HasPattern _ = Unit {0}
 
 -- the pattern of a rule is none, with this fault
 abbrev pub HasPatternFault : Line → PatternFault → Type 0
-HasPatternFault Nothing f = ⊥
-HasPatternFault (Production left right) f = ⊥
 HasPatternFault (Rule skip name pattern) f = IsPatternFault (chars pattern) f
-HasPatternFault (Start name) f = ⊥
-HasPatternFault (Fold name) f = ⊥
-HasPatternFault Bad f = ⊥
+HasPatternFault _ f = ⊥
 
 -- the line has no fault, behind these statements
 pub record IsFaultless (ss : List Statement) (l : Line) : Type 0 where
@@ -133,12 +119,10 @@ right_fault ss (w ∷ ws) = or_else (symbol_fault ss w) (right_fault ss ws)
 
 -- what is wrong with the names that a line uses
 abbrev pub reference_fault : List Statement → Line → Option Cause
-reference_fault ss Nothing = None
 reference_fault ss (Production left right) = right_fault ss right
-reference_fault ss (Rule skip name pattern) = None
 reference_fault ss (Start name) = told (not (is_among name (nonterminals ss))) (NotANonterminal name)
 reference_fault ss (Fold name) = told (not (is_among name (nonterminals ss))) (NotANonterminal name)
-reference_fault ss Bad = None
+reference_fault ss _ = None
 
 abbrev pub HaveReferents : List Statement → List Statement → Type 0
 HaveReferents ss some = (k : ℕ) (s : Statement) → slice_get some k ≡ Some s → reference_fault ss s.says ≡ None

@@ -57,52 +57,28 @@ pub record AreNames (names : Names) (ss : List Statement) : Type 0 where
 
 -- what one line adds to them
 abbrev pub with_rule : List RuleLine → Line → List RuleLine
-with_rule rules Nothing = rules
-with_rule rules (Production left right) = rules
 with_rule rules (Rule skip name pattern) = rules ++ record { skip = skip; name = name; pattern = pattern } ∷ []
-with_rule rules (Start name) = rules
-with_rule rules (Fold name) = rules
-with_rule rules Bad = rules
+with_rule rules _ = rules
 
 abbrev pub with_skip : List Word → Line → List Word
-with_skip names Nothing = names
-with_skip names (Production left right) = names
 with_skip names (Rule skip name pattern) = if skip then with_name names name else names
-with_skip names (Start name) = names
-with_skip names (Fold name) = names
-with_skip names Bad = names
+with_skip names _ = names
 
 abbrev pub with_left : List Word → Line → List Word
-with_left names Nothing = names
 with_left names (Production left right) = with_name names left
-with_left names (Rule skip name pattern) = names
-with_left names (Start name) = names
-with_left names (Fold name) = names
-with_left names Bad = names
+with_left names _ = names
 
 abbrev pub with_sides : List (List Word) → Line → List (List Word)
-with_sides all Nothing = all
 with_sides all (Production left right) = with_names all (left ∷ right)
-with_sides all (Rule skip name pattern) = all
-with_sides all (Start name) = all
-with_sides all (Fold name) = all
-with_sides all Bad = all
+with_sides all _ = all
 
 abbrev pub with_production : ℕ → Line → ℕ
-with_production n Nothing = n
 with_production n (Production left right) = n + 1
-with_production n (Rule skip name pattern) = n
-with_production n (Start name) = n
-with_production n (Fold name) = n
-with_production n Bad = n
+with_production n _ = n
 
 abbrev pub with_start : Bool → Line → Bool
-with_start b Nothing = b
-with_start b (Production left right) = b
-with_start b (Rule skip name pattern) = b
 with_start b (Start name) = true
-with_start b (Fold name) = b
-with_start b Bad = b
+with_start b _ = b
 
 -- the expressions of the rules, in order
 abbrev pub ArePatterns : List RuleLine → List Expression → Type 0
@@ -128,12 +104,8 @@ pub record IsRead (file : File) (ss : List Statement) : Type 0 where
 
 -- the expression of a rule's line, and none for another line
 abbrev pub IsPatternOf : Line → Option Expression → Type 0
-IsPatternOf Nothing p = p ≡ None
-IsPatternOf (Production left right) p = p ≡ None
 IsPatternOf (Rule skip name pattern) p = IsSomeAnd p (λ e. IsPattern (chars pattern) e)
-IsPatternOf (Start name) p = p ≡ None
-IsPatternOf (Fold name) p = p ≡ None
-IsPatternOf Bad p = p ≡ None
+IsPatternOf _ p = p ≡ None
 
 -- the expressions with that of a line, if it has one
 abbrev pub with_pattern : List Expression → Option Expression → List Expression

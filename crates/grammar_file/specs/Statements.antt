@@ -63,11 +63,7 @@ at n l = record { number = n; says = l }
 
 abbrev pub numbered : ℕ → Line → Option Statement
 numbered n Nothing = None
-numbered n (Production left right) = Some (at n (Production left right))
-numbered n (Rule skip name pattern) = Some (at n (Rule skip name pattern))
-numbered n (Start name) = Some (at n (Start name))
-numbered n (Fold name) = Some (at n (Fold name))
-numbered n Bad = Some (at n Bad)
+numbered n l = Some (at n l)
 
 -- what these lines say, which stand from the second line of the file on
 abbrev pub statements_in : List (List ℕ) → List Statement
