@@ -90,8 +90,11 @@ impl Grammar {
     /// `GrammarCause::Memory`, which says nothing of the file.
     pub fn read(alloc: Global, text: &str) -> Result<Grammar, GrammarFault>
         ensures grammar { IfOk result (λ g. IsGrammarOf text.now g) }
-        ensures fault { IfErr result (λ f. TellsCause (public_cause f.cause) (λ c. IsFault text.now f.line c)) }
-        ensures refused { IfErr result (λ f. TellsCause (public_cause f.cause) (λ _. (g : FileGrammar) → IsGrammarOf text.now g → ⊥)) }
+        ensures fault { IfErr result (λ f.
+            TellsCause (public_cause f.cause) (λ c. IsFault text.now f.line c)) }
+        ensures refused { IfErr result (λ f.
+            TellsCause (public_cause f.cause) (λ _.
+            (g : FileGrammar) → IsGrammarOf text.now g → ⊥)) }
     {
         match read(alloc, text) {
             Ok(grammar) => Ok(grammar),
@@ -189,7 +192,8 @@ impl Grammar {
     /// The names of the nonterminals and `token` rules that no derivation from the start uses, in file order, a
     /// nonterminal at its first production.
     pub fn notes(&self) -> Notes<'_>
-        ensures { (notes : List Symbol) × AreNotes self.now self.now.defined notes × (result ≡ map (symbol_name self.now) notes) }
+        ensures { (notes : List Symbol) × AreNotes self.now self.now.defined notes ×
+            (result ≡ map (symbol_name self.now) notes) }
     {
         Notes {
             grammar: self,

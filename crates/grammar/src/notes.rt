@@ -22,7 +22,9 @@ pub fn notes(
     productions: &[Production],
     marks: &[bool],
 ) -> Result<Vec<Symbol>, AllocError>
-    ensures { IfOk result (λ notes. (f : FileGrammar) → f.skips ≡ skips.now → f.grammar.productions ≡ productions.now → AreUsed f.grammar.start productions.now marks.now → AreNotes f defined.now notes.items) }
+    ensures { IfOk result (λ notes.
+        (f : FileGrammar) → f.skips ≡ skips.now → f.grammar.productions ≡ productions.now →
+        AreUsed f.grammar.start productions.now marks.now → AreNotes f defined.now notes.items) }
 {
     let mut notes = Vec::new(alloc);
     for symbol in defined {
@@ -39,7 +41,10 @@ fn add(
     productions: &[Production],
     marks: &[bool],
 ) -> Result<(), AllocError>
-    ensures { OnOk result ((f : FileGrammar) (ss : List Symbol) → f.skips ≡ skips.now → f.grammar.productions ≡ productions.now → AreUsed f.grammar.start productions.now marks.now → AreNotes f ss notes.old.items → AreNotes f (ss ++ symbol ∷ []) notes.new.items) }
+    ensures { OnOk result ((f : FileGrammar) (ss : List Symbol) → f.skips ≡ skips.now →
+        f.grammar.productions ≡ productions.now →
+        AreUsed f.grammar.start productions.now marks.now → AreNotes f ss notes.old.items →
+        AreNotes f (ss ++ symbol ∷ []) notes.new.items) }
 {
     if is_skip(symbol, skips) || is_used(symbol, productions, marks) {
         return Ok(());
@@ -59,7 +64,8 @@ fn is_skip(symbol: Symbol, skips: &[bool]) -> bool
 
 /// Whether some derivation from the start uses the symbol.
 fn is_used(symbol: Symbol, productions: &[Production], marks: &[bool]) -> bool
-    ensures { (g : Grammar) → g.productions ≡ productions.now → AreUsed g.start productions.now marks.now → (result ≡ true) ↔ IsUsed g symbol }
+    ensures { (g : Grammar) → g.productions ≡ productions.now →
+        AreUsed g.start productions.now marks.now → (result ≡ true) ↔ IsUsed g symbol }
 {
     match symbol {
         Symbol::Nonterminal(nonterminal) => is_marked(nonterminal, marks),
@@ -69,7 +75,9 @@ fn is_used(symbol: Symbol, productions: &[Production], marks: &[bool]) -> bool
 
 /// Whether the rule stands on the right side of a production whose left side is marked.
 fn uses_rule(rule: usize, productions: &[Production], marks: &[bool]) -> bool
-    ensures { result ≡ list_any (λ p. slice_index_or marks.now p.left false && has_rule rule p.right) productions.now }
+    ensures { result
+        ≡ list_any (λ p. slice_index_or marks.now p.left false && has_rule rule p.right)
+        productions.now }
 {
     productions.iter().any(|production| is_marked(production.left, marks)
         && has_rule(rule, &production.right))

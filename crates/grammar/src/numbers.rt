@@ -14,7 +14,8 @@ use std::alloc::{AllocError, Global};
 
 /// The symbol of a name.
 fn symbol_of(name: &str, names: &Names<'_>) -> Symbol
-    ensures { result ≡ symbol_of names.now.nonterminals (map (λ r. r.name) names.now.rules) name.now }
+    ensures { result
+        ≡ symbol_of names.now.nonterminals (map (λ r. r.name) names.now.rules) name.now }
 {
     if names.nonterminals.contains(name) {
         Symbol::Nonterminal(names.nonterminals.number(name))
@@ -24,7 +25,10 @@ fn symbol_of(name: &str, names: &Names<'_>) -> Symbol
 }
 
 fn symbols_of(alloc: Global, right: &[&str], names: &Names<'_>) -> Result<Vec<Symbol>, AllocError>
-    ensures { IfOk result (λ symbols. symbols.items ≡ map (symbol_of names.now.nonterminals (map (λ r. r.name) names.now.rules)) (texts right.now)) }
+    ensures { IfOk result (λ symbols.
+        symbols.items
+        ≡ map (symbol_of names.now.nonterminals (map (λ r. r.name) names.now.rules))
+        (texts right.now)) }
 {
     let mut symbols = Vec::with_capacity(alloc, right.len())?;
     for name in right {
@@ -39,7 +43,10 @@ fn production_of(
     line: &Line<'_>,
     names: &Names<'_>,
 ) -> Result<Option<Production>, AllocError>
-    ensures { IfOk result (λ p. p ≡ option_map (production_of names.now.nonterminals (map (λ r. r.name) names.now.rules)) (as_production (said line.now))) }
+    ensures { IfOk result (λ p.
+        p
+        ≡ option_map (production_of names.now.nonterminals (map (λ r. r.name) names.now.rules))
+        (as_production (said line.now))) }
 {
     match line {
         Line::Production { left, right } => Ok(Some(Production {
@@ -56,7 +63,10 @@ pub fn productions(
     statements: &[Numbered<'_>],
     names: &Names<'_>,
 ) -> Result<Vec<Production>, AllocError>
-    ensures { IfOk result (λ found. found.items ≡ map (production_of names.now.nonterminals (map (λ r. r.name) names.now.rules)) (productions (all_said statements.now))) }
+    ensures { IfOk result (λ found.
+        found.items
+        ≡ map (production_of names.now.nonterminals (map (λ r. r.name) names.now.rules))
+        (productions (all_said statements.now))) }
 {
     let mut found = Vec::new(alloc);
     for statement in statements {
@@ -92,7 +102,8 @@ fn first_start<'a>(statements: &[Numbered<'a>]) -> &'a str
 
 /// The number of the start.
 pub fn start(statements: &[Numbered<'_>], names: &Names<'_>) -> usize
-    ensures { result ≡ number_of (first_of (starts (all_said statements.now))) names.now.nonterminals }
+    ensures { result
+        ≡ number_of (first_of (starts (all_said statements.now))) names.now.nonterminals }
 {
     names.nonterminals.number(first_start(statements))
 }
@@ -103,7 +114,8 @@ pub fn folds(
     statements: &[Numbered<'_>],
     names: &Names<'_>,
 ) -> Result<Vec<bool>, AllocError>
-    ensures { IfOk result (λ folds. folds.items ≡ map (λ w. is_fold w (all_said statements.now)) names.now.nonterminals) }
+    ensures { IfOk result (λ folds.
+        folds.items ≡ map (λ w. is_fold w (all_said statements.now)) names.now.nonterminals) }
 {
     let all = names.nonterminals.as_slice();
     let mut folds = Vec::with_capacity(alloc, all.len())?;

@@ -27,7 +27,8 @@ pub fn productive(
 
 /// A nonterminal without a mark that has a production over marked symbols alone.
 fn next(productions: &[Production], marks: &[bool]) -> Option<usize>
-    ensures { MatchOption result (IsClosed productions.now marks.now) (IsNext productions.now marks.now) }
+    ensures { MatchOption result
+        (IsClosed productions.now marks.now) (IsNext productions.now marks.now) }
 {
     for production in productions {
         if is_ready(production, marks) {

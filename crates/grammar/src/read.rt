@@ -48,9 +48,12 @@ fn grammar_of(
 ) -> Result<Grammar, AllocError>
     requires names { AreNames file.names (all_said file.statements.items) }
     requires few { AreFew (all_said file.statements.items) }
-    requires productions { productions.items ≡ (grammar_of (all_said file.statements.items)).productions }
-    requires grammar { IsGrammar (file_grammar (all_said file.statements.items) file.patterns.items) }
-    ensures { IfOk result (λ g. g ≡ file_grammar (all_said file.entry.statements.items) file.entry.patterns.items) }
+    requires productions { productions.items
+        ≡ (grammar_of (all_said file.statements.items)).productions }
+    requires grammar { IsGrammar (file_grammar (all_said file.statements.items)
+        file.patterns.items) }
+    ensures { IfOk result (λ g.
+        g ≡ file_grammar (all_said file.entry.statements.items) file.entry.patterns.items) }
 {
     let File {
         statements,
@@ -86,7 +89,8 @@ fn skips(alloc: Global, rules: &[RuleName<'_>]) -> Result<Vec<bool>, AllocError>
 }
 
 fn rule_names(alloc: Global, rules: &[RuleName<'_>]) -> Result<Vec<Name>, AllocError>
-    ensures { IfOk result (λ names. names.items ≡ map chars (map (λ r. r.name) (map rule_line rules.now))) }
+    ensures { IfOk result (λ names.
+        names.items ≡ map chars (map (λ r. r.name) (map rule_line rules.now))) }
 {
     let mut names = Vec::with_capacity(alloc, rules.len())?;
     for rule in rules {

@@ -28,7 +28,11 @@ pub fn test_productive<'a>(
     requires below { AreBelow productions.now (length names.now) }
     requires names { texts names.now ≡ nonterminals (all_said statements.now) }
     ensures fine { OnOk result (AllProductiveIn productions.now (length names.now)) }
-    ensures fault { IfErr result (λ r. Tells r (λ line c. (n : ℕ) × ((w : Word) × (slice_get (texts names.now) n ≡ Some w) × (c ≡ Unproductive w) × IsUnproductiveIn productions.now n × IsFirstProduction (all_said statements.now) w line))) }
+    ensures fault { IfErr result (λ r.
+        Tells r (λ line c.
+        (n : ℕ) ×
+        ((w : Word) × (slice_get (texts names.now) n ≡ Some w) × (c ≡ Unproductive w) ×
+        IsUnproductiveIn productions.now n × IsFirstProduction (all_said statements.now) w line))) }
 {
     let marks = productive(alloc, names.len(), productions)?;
     match first_unmarked(&marks) {
@@ -41,7 +45,9 @@ pub fn test_productive<'a>(
 }
 
 fn first_unmarked(marks: &[bool]) -> Option<usize>
-    ensures { MatchOption result ((n : ℕ) → n < length marks.now → slice_index_or marks.now n false ≡ true) (IsFirstUnmarked marks.now) }
+    ensures { MatchOption result
+        ((n : ℕ) → n < length marks.now → slice_index_or marks.now n false ≡ true)
+        (IsFirstUnmarked marks.now) }
 {
     for (index, mark) in marks.iter().enumerate() {
         if !*mark {

@@ -32,7 +32,8 @@ pub fn used(
 
 /// A nonterminal without a mark on the right side of a production whose left side has one.
 fn next(productions: &[Production], marks: &[bool]) -> Option<usize>
-    ensures { MatchOption result (IsSpread productions.now marks.now) (IsReached productions.now marks.now) }
+    ensures { MatchOption result
+        (IsSpread productions.now marks.now) (IsReached productions.now marks.now) }
 {
     for production in productions {
         if let Some(nonterminal) = next_of(production, marks) {
@@ -43,8 +44,11 @@ fn next(productions: &[Production], marks: &[bool]) -> Option<usize>
 }
 
 fn next_of(production: &Production, marks: &[bool]) -> Option<usize>
-    ensures none { result ≡ None → slice_index_or marks.now production.now.left false ≡ true → are_marked marks.now production.now.right ≡ true }
-    ensures some { (n : ℕ) → result ≡ Some n → (slice_index_or marks.now production.now.left false ≡ true) × IsUnmarkedIn marks.now production.now.right n }
+    ensures none { result ≡ None → slice_index_or marks.now production.now.left false ≡ true →
+        are_marked marks.now production.now.right ≡ true }
+    ensures some { (n : ℕ) → result ≡ Some n →
+        (slice_index_or marks.now production.now.left false ≡ true) ×
+        IsUnmarkedIn marks.now production.now.right n }
 {
     if is_marked(production.left, marks) {
         first_unmarked(&production.right, marks)
@@ -54,7 +58,8 @@ fn next_of(production: &Production, marks: &[bool]) -> Option<usize>
 }
 
 fn first_unmarked(symbols: &[Symbol], marks: &[bool]) -> Option<usize>
-    ensures { MatchOption result (are_marked marks.now symbols.now ≡ true) (IsUnmarkedIn marks.now symbols.now) }
+    ensures { MatchOption result
+        (are_marked marks.now symbols.now ≡ true) (IsUnmarkedIn marks.now symbols.now) }
 {
     for symbol in symbols {
         if let Symbol::Nonterminal(nonterminal) = *symbol

@@ -23,7 +23,8 @@ const LARGEST_FILE: usize = 65_536;
 pub fn read_file<'a>(alloc: Global, text: &'a str) -> Result<File<'a>, Refusal<'a>>
     ensures whole { IfOk result (λ _. IsWhole text.now) }
     ensures read { IfOk result (λ file. IsRead file (statements text.now)) }
-    ensures referents { IfOk result (λ _. HaveReferents (statements text.now) (statements text.now)) }
+    ensures referents { IfOk result (λ _.
+        HaveReferents (statements text.now) (statements text.now)) }
     ensures fault { IfErr result (λ r. Tells r (λ n c. IsFileFault text.now n c)) }
 {
     if LARGEST_FILE < text.len() {

@@ -67,7 +67,8 @@ fn longer_line<'a>(
     rest: &[&'a str],
     line: &'a str,
 ) -> Result<Line<'a>, AllocError>
-    ensures { IfOk result (λ l. said l ≡ longer_line first.now second.now (texts rest.now) (behind_equals line.now)) }
+    ensures { IfOk result (λ l.
+        said l ≡ longer_line first.now second.now (texts rest.now) (behind_equals line.now)) }
 {
     if second == "=" {
         production(alloc, first, rest)
@@ -78,7 +79,8 @@ fn longer_line<'a>(
 
 /// A line of two words or more that is neither a comment nor a production.
 fn statement<'a>(keyword: &str, name: &'a str, rest: &[&str], line: &'a str) -> Line<'a>
-    ensures { said result ≡ statement keyword.now name.now (texts rest.now) (behind_equals line.now) }
+    ensures { said result
+        ≡ statement keyword.now name.now (texts rest.now) (behind_equals line.now) }
 {
     match rest {
         [] => mark(keyword, name),

@@ -50,10 +50,13 @@ impl<'a> Names<'a> {
         requires { self.old.productions < 2 ^ 32 }
         ensures rules { OnOk result (self.new.rules ≡ with_rule self.old.rules (said line.now)) }
         ensures skips { OnOk result (self.new.skips ≡ with_skip self.old.skips (said line.now)) }
-        ensures nonterminals { OnOk result (self.new.nonterminals ≡ with_left self.old.nonterminals (said line.now)) }
+        ensures nonterminals { OnOk result (self.new.nonterminals
+            ≡ with_left self.old.nonterminals (said line.now)) }
         ensures sides { OnOk result (self.new.sides ≡ with_sides self.old.sides (said line.now)) }
-        ensures productions { OnOk result (self.new.productions ≡ with_production self.old.productions (said line.now)) }
-        ensures started { OnOk result (self.new.started ≡ with_start self.old.started (said line.now)) }
+        ensures productions { OnOk result (self.new.productions
+            ≡ with_production self.old.productions (said line.now)) }
+        ensures started { OnOk result (self.new.started
+            ≡ with_start self.old.started (said line.now)) }
     {
         match line {
             Line::Rule {
@@ -83,7 +86,8 @@ impl<'a> Names<'a> {
 
     /// What a line defines behind those so far: a rule, or a nonterminal at its first production.
     pub(crate) fn defined_by(&self, line: &Line<'_>) -> Option<Symbol>
-        ensures { (ss : List Statement) → AreNames self.now ss → result ≡ defines ss (said line.now) }
+        ensures { (ss : List Statement) → AreNames self.now ss →
+            result ≡ defines ss (said line.now) }
     {
         match line {
             Line::Rule { .. } => Some(Symbol::Rule(self.rules.len())),
@@ -94,7 +98,9 @@ impl<'a> Names<'a> {
 
     /// The nonterminal that a left side defines, unless it is there.
     fn new_nonterminal(&self, left: &str) -> Option<Symbol>
-        ensures { result ≡ (if is_among left.now self.now.nonterminals then None else Some (Nonterminal (length self.now.nonterminals))) }
+        ensures { result
+            ≡ (if is_among left.now self.now.nonterminals then None else Some
+            (Nonterminal (length self.now.nonterminals))) }
     {
         if self.nonterminals.contains(left) {
             None

@@ -20,7 +20,8 @@ pub fn test_references<'a>(
 ) -> Result<(), Refusal<'a>>
     requires { AreNames names.now (all_said statements.now) }
     ensures fine { OnOk result (HaveReferents (all_said statements.now) (all_said statements.now)) }
-    ensures fault { IfErr result (λ r. Tells r (λ n c. IsFirstReferenceFault (all_said statements.now) n c)) }
+    ensures fault { IfErr result (λ r.
+        Tells r (λ n c. IsFirstReferenceFault (all_said statements.now) n c)) }
 {
     for statement in statements {
         if let Some(cause) = reference_fault(names, &statement.line) {
@@ -32,7 +33,8 @@ pub fn test_references<'a>(
 
 /// What is wrong with the names that a line uses.
 fn reference_fault<'a>(names: &Names<'a>, line: &Line<'a>) -> Option<Cause<'a>>
-    ensures { (ss : List Statement) → AreNames names.now ss → option_map cause_of result ≡ reference_fault ss (said line.now) }
+    ensures { (ss : List Statement) → AreNames names.now ss →
+        option_map cause_of result ≡ reference_fault ss (said line.now) }
 {
     match line {
         Line::Production { right, .. } => right_fault(names, right),
@@ -42,7 +44,9 @@ fn reference_fault<'a>(names: &Names<'a>, line: &Line<'a>) -> Option<Cause<'a>>
 }
 
 fn nonterminal_fault<'a>(names: &Names<'a>, name: &'a str) -> Option<Cause<'a>>
-    ensures { (ss : List Statement) → AreNames names.now ss → option_map cause_of result ≡ told (not (is_among name.now (nonterminals ss))) (Faults.NotANonterminal name.now) }
+    ensures { (ss : List Statement) → AreNames names.now ss →
+        option_map cause_of result
+        ≡ told (not (is_among name.now (nonterminals ss))) (Faults.NotANonterminal name.now) }
 {
     if names.nonterminals.contains(name) {
         None
@@ -53,7 +57,8 @@ fn nonterminal_fault<'a>(names: &Names<'a>, name: &'a str) -> Option<Cause<'a>>
 
 /// What is wrong with the leftmost name that may not stand on a right side.
 fn right_fault<'a>(names: &Names<'a>, right: &[&'a str]) -> Option<Cause<'a>>
-    ensures { (ss : List Statement) → AreNames names.now ss → option_map cause_of result ≡ right_fault ss (texts right.now) }
+    ensures { (ss : List Statement) → AreNames names.now ss →
+        option_map cause_of result ≡ right_fault ss (texts right.now) }
 {
     for name in right {
         if let Some(cause) = symbol_fault(names, name) {
@@ -64,7 +69,8 @@ fn right_fault<'a>(names: &Names<'a>, right: &[&'a str]) -> Option<Cause<'a>>
 }
 
 fn symbol_fault<'a>(names: &Names<'a>, name: &'a str) -> Option<Cause<'a>>
-    ensures { (ss : List Statement) → AreNames names.now ss → option_map cause_of result ≡ symbol_fault ss name.now }
+    ensures { (ss : List Statement) → AreNames names.now ss →
+        option_map cause_of result ≡ symbol_fault ss name.now }
 {
     if names.nonterminals.contains(name) {
         None

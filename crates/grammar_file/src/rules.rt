@@ -100,7 +100,9 @@ fn add_number<'a>(
     name: &'a str,
     number: usize,
 ) -> Result<(), AllocError>
-    ensures added { OnOk result ((names : List Word) → length names ≡ number → AreNumbers names numbers.old.entries → AreNumbers (names ++ name.now ∷ []) numbers.new.entries) }
+    ensures added { OnOk result ((names : List Word) → length names ≡ number →
+        AreNumbers names numbers.old.entries →
+        AreNumbers (names ++ name.now ∷ []) numbers.new.entries) }
     ensures err { OnErr result (numbers.new.entries ≡ numbers.old.entries) }
 {
     if !numbers.contains_key(name) {

@@ -57,7 +57,8 @@ pub struct File<'a> {
 /// What the lines say, of which the first has number 2; or the first fault.
 pub fn read_statements<'a>(alloc: Global, lines: &[&'a str]) -> Result<File<'a>, Refusal<'a>>
     ensures read { IfOk result (λ f. IsRead f (statements_in (texts lines.now))) }
-    ensures fault { IfErr result (λ r. Tells r (λ n c. IsFirstLineFault (statements_in (texts lines.now)) n c)) }
+    ensures fault { IfErr result (λ r.
+        Tells r (λ n c. IsFirstLineFault (statements_in (texts lines.now)) n c)) }
 {
     let mut file = File {
         statements: Vec::new(alloc),
@@ -78,8 +79,12 @@ impl<'a> File<'a> {
     /// Adds a line with its number, unless it says nothing.
     fn add(&mut self, alloc: Global, number: usize, line: Line<'a>) -> Result<(), Refusal<'a>>
         requires { IsRead self.old (all_said self.old.statements.items) }
-        ensures read { OnOk result (IsRead self.new (all_said self.old.statements.items ++ cons_option (numbered number (said line.entry)) [])) }
-        ensures fault { IfErr result (λ r. Tells r (λ n c. (n ≡ number) × (said line.entry ≢ Nothing) × IsLineFault (all_said self.old.statements.items) (said line.entry) c)) }
+        ensures read { OnOk result (IsRead self.new (all_said self.old.statements.items
+            ++ cons_option (numbered number (said line.entry)) [])) }
+        ensures fault { IfErr result (λ r.
+            Tells r (λ n c.
+            (n ≡ number) × (said line.entry ≢ Nothing) ×
+            IsLineFault (all_said self.old.statements.items) (said line.entry) c)) }
     {
         match line {
             Line::Nothing => Ok(()),
@@ -95,8 +100,11 @@ impl<'a> File<'a> {
         line: Line<'a>,
     ) -> Result<(), Refusal<'a>>
         requires { IsRead self.old (all_said self.old.statements.items) }
-        ensures read { OnOk result (IsRead self.new (all_said self.old.statements.items ++ at number (said line.entry) ∷ [])) }
-        ensures fault { IfErr result (λ r. Tells r (λ n c. (n ≡ number) × IsLineFault (all_said self.old.statements.items) (said line.entry) c)) }
+        ensures read { OnOk result (IsRead self.new (all_said self.old.statements.items
+            ++ at number (said line.entry) ∷ [])) }
+        ensures fault { IfErr result (λ r.
+            Tells r (λ n c.
+            (n ≡ number) × IsLineFault (all_said self.old.statements.items) (said line.entry) c)) }
     {
         let pattern = self.tested(alloc, number, &line)?;
         add_pattern(&mut self.patterns, pattern)?;
@@ -113,9 +121,12 @@ impl<'a> File<'a> {
         line: &Line<'a>,
     ) -> Result<Option<Pattern>, Refusal<'a>>
         requires { AreNames self.now.names (all_said self.now.statements.items) }
-        ensures faultless { IfOk result (λ _. IsFaultless (all_said self.now.statements.items) (said line.now)) }
+        ensures faultless { IfOk result (λ _.
+            IsFaultless (all_said self.now.statements.items) (said line.now)) }
         ensures pattern { IfOk result (λ p. IsPatternOf (said line.now) p) }
-        ensures fault { IfErr result (λ r. Tells r (λ n c. (n ≡ number) × IsLineFault (all_said self.now.statements.items) (said line.now) c)) }
+        ensures fault { IfErr result (λ r.
+            Tells r (λ n c.
+            (n ≡ number) × IsLineFault (all_said self.now.statements.items) (said line.now) c)) }
     {
         if let Some(cause) = self.early_fault(alloc, line)? {
             return Err(Refusal::Fault(number, cause));
@@ -130,7 +141,9 @@ impl<'a> File<'a> {
     /// A fault that is told before the pattern is read.
     fn early_fault(&self, alloc: Global, line: &Line<'a>) -> Result<Option<Cause<'a>>, AllocError>
         requires { AreNames self.now.names (all_said self.now.statements.items) }
-        ensures { IfOk result (λ fault. option_map cause_of fault ≡ early_fault (all_said self.now.statements.items) (said line.now)) }
+        ensures { IfOk result (λ fault.
+            option_map cause_of fault
+            ≡ early_fault (all_said self.now.statements.items) (said line.now)) }
     {
         match line {
             Line::Nothing => Ok(None),
@@ -148,7 +161,10 @@ impl<'a> File<'a> {
         right: &[&'a str],
     ) -> Result<Option<Cause<'a>>, AllocError>
         requires { AreNames self.now.names (all_said self.now.statements.items) }
-        ensures { IfOk result (λ fault. option_map cause_of fault ≡ early_fault (all_said self.now.statements.items) (Statements.Production left.now (texts right.now))) }
+        ensures { IfOk result (λ fault.
+            option_map cause_of fault
+            ≡ early_fault (all_said self.now.statements.items)
+            (Statements.Production left.now (texts right.now))) }
     {
         if is_reserved(left) {
             return Ok(Some(Cause::Reserved(left)));
@@ -170,7 +186,10 @@ impl<'a> File<'a> {
         right: &[&'a str],
     ) -> Result<bool, AllocError>
         requires { AreNames self.now.names (all_said self.now.statements.items) }
-        ensures { IfOk result (λ is. is ≡ (has_rule (all_said self.now.statements.items) left.now || has_production (all_said self.now.statements.items) left.now (texts right.now))) }
+        ensures { IfOk result (λ is.
+            is
+            ≡ (has_rule (all_said self.now.statements.items) left.now
+            || has_production (all_said self.now.statements.items) left.now (texts right.now))) }
     {
         if self.names.rules.contains(left) {
             return Ok(true);
@@ -180,7 +199,10 @@ impl<'a> File<'a> {
 
     fn rule_fault(&self, name: &'a str) -> Option<Cause<'a>>
         requires { AreNames self.now.names (all_said self.now.statements.items) }
-        ensures { (skip : Bool) (pattern : List ℕ) → option_map cause_of result ≡ early_fault (all_said self.now.statements.items) (Statements.Rule skip name.now pattern) }
+        ensures { (skip : Bool) (pattern : List ℕ) →
+            option_map cause_of result
+            ≡ early_fault (all_said self.now.statements.items)
+            (Statements.Rule skip name.now pattern) }
     {
         if is_reserved(name) {
             return Some(Cause::Reserved(name));
@@ -194,7 +216,8 @@ impl<'a> File<'a> {
     /// A fault that is told behind the pattern's.
     fn late_fault(&self, line: &Line<'a>) -> Option<Cause<'a>>
         requires { AreNames self.now.names (all_said self.now.statements.items) }
-        ensures { option_map cause_of result ≡ late_fault (all_said self.now.statements.items) (said line.now) }
+        ensures { option_map cause_of result
+            ≡ late_fault (all_said self.now.statements.items) (said line.now) }
     {
         match line {
             Line::Production { left, right } => self.production_limit(left, right),
@@ -206,7 +229,9 @@ impl<'a> File<'a> {
 
     fn rule_limit(&self) -> Option<Cause<'a>>
         requires { AreNames self.now.names (all_said self.now.statements.items) }
-        ensures { option_map cause_of result ≡ told (not (nat_lt (length (rules (all_said self.now.statements.items))) 256)) (Passed Limit.Tokens) }
+        ensures { option_map cause_of result
+            ≡ told (not (nat_lt (length (rules (all_said self.now.statements.items))) 256))
+            (Passed Limit.Tokens) }
     {
         if self.names.rules.len() < MOST_RULES {
             None
@@ -217,7 +242,9 @@ impl<'a> File<'a> {
 
     fn second_start(&self) -> Option<Cause<'a>>
         requires { AreNames self.now.names (all_said self.now.statements.items) }
-        ensures { option_map cause_of result ≡ told (nat_lt 0 (length (starts (all_said self.now.statements.items)))) Faults.SecondStart }
+        ensures { option_map cause_of result
+            ≡ told (nat_lt 0 (length (starts (all_said self.now.statements.items))))
+            Faults.SecondStart }
     {
         if self.names.started {
             Some(Cause::SecondStart)
@@ -228,7 +255,9 @@ impl<'a> File<'a> {
 
     fn production_limit(&self, left: &str, right: &[&str]) -> Option<Cause<'a>>
         requires { AreNames self.now.names (all_said self.now.statements.items) }
-        ensures { option_map cause_of result ≡ late_fault (all_said self.now.statements.items) (Statements.Production left.now (texts right.now)) }
+        ensures { option_map cause_of result
+            ≡ late_fault (all_said self.now.statements.items)
+            (Statements.Production left.now (texts right.now)) }
     {
         if MOST_SYMBOLS < right.len() {
             return Some(Cause::Passed(Limit::Symbols));
@@ -262,7 +291,8 @@ fn add_line<'a>(
     number: usize,
     line: Line<'a>,
 ) -> Result<(), AllocError>
-    ensures { OnOk result (all_said statements.new.items ≡ all_said statements.old.items ++ at number (said line.entry) ∷ []) }
+    ensures { OnOk result (all_said statements.new.items
+        ≡ all_said statements.old.items ++ at number (said line.entry) ∷ []) }
 {
     statements.push(Numbered { number, line })?;
     Ok(())
@@ -297,7 +327,10 @@ fn pattern_of<'a>(
     line: &Line<'_>,
 ) -> Result<Option<Pattern>, Refusal<'a>>
     ensures pattern { IfOk result (λ p. IsPatternOf (said line.now) p) }
-    ensures fault { IfErr result (λ r. Tells r (λ n c. (n ≡ number) × ((f : PatternFault) × HasPatternFault (said line.now) f × (c ≡ BadPattern f)))) }
+    ensures fault { IfErr result (λ r.
+        Tells r (λ n c.
+        (n ≡ number) ×
+        ((f : PatternFault) × HasPatternFault (said line.now) f × (c ≡ BadPattern f)))) }
 {
     match line {
         Line::Rule { pattern, .. } => Ok(Some(read_pattern(alloc, number, pattern)?)),
@@ -307,7 +340,10 @@ fn pattern_of<'a>(
 
 fn read_pattern<'a>(alloc: Global, number: usize, text: &str) -> Result<Pattern, Refusal<'a>>
     ensures pattern { IfOk result (λ p. IsPattern (chars text.now) p) }
-    ensures fault { IfErr result (λ r. Tells r (λ n c. (n ≡ number) × ((f : PatternFault) × IsPatternFault (chars text.now) f × (c ≡ BadPattern f)))) }
+    ensures fault { IfErr result (λ r.
+        Tells r (λ n c.
+        (n ≡ number) ×
+        ((f : PatternFault) × IsPatternFault (chars text.now) f × (c ≡ BadPattern f)))) }
 {
     match Pattern::read(alloc, text) {
         Ok(pattern) => Ok(pattern),

@@ -20,7 +20,9 @@ pub fn words(alloc: Global, line: &str) -> Result<Vec<&str>, AllocError>
 
 /// Adds what stands between the tabs of a part of a line.
 fn add_words<'a>(alloc: Global, found: &mut Vec<&'a str>, part: &'a str) -> Result<(), AllocError>
-    ensures { OnOk result (map (λ w. w.now) found.new.items ≡ map (λ w. w.now) found.old.items ++ filter is_filled (slice_split (λ b. b == 9) part.now)) }
+    ensures { OnOk result (map (λ w. w.now) found.new.items
+        ≡ map (λ w. w.now) found.old.items
+        ++ filter is_filled (slice_split (λ b. b == 9) part.now)) }
 {
     let words = parts_of(alloc, part, '\t')?;
     for word in &words {
@@ -34,7 +36,8 @@ fn add_words<'a>(alloc: Global, found: &mut Vec<&'a str>, part: &'a str) -> Resu
 /// What stands between the places of an ASCII character.
 fn parts_of(alloc: Global, text: &str, separator: char) -> Result<Vec<&str>, AllocError>
     requires { separator < 128 }
-    ensures { IfOk result (λ parts. map (λ w. w.now) parts.items ≡ slice_split (λ b. b == separator) text.now) }
+    ensures { IfOk result (λ parts.
+        map (λ w. w.now) parts.items ≡ slice_split (λ b. b == separator) text.now) }
 {
     text.split(separator).collect(alloc)
 }
@@ -63,8 +66,10 @@ fn trim_start(text: &str) -> &str
 
 /// What stands behind the first character, if it is a blank.
 fn strip_first_blank(text: &str) -> Option<&str>
-    ensures value { MatchOption result (trim_start text.now ≡ text.now) (λ r. trim_start text.now ≡ trim_start r.now) }
-    ensures shorter { MatchOption result (text.now ≡ text.now) (λ r. length r.now < length text.now) }
+    ensures value { MatchOption result
+        (trim_start text.now ≡ text.now) (λ r. trim_start text.now ≡ trim_start r.now) }
+    ensures shorter { MatchOption result (text.now ≡ text.now) (λ r.
+        length r.now < length text.now) }
 {
     match text.strip_prefix(' ') {
         Some(rest) => Some(rest),
@@ -85,8 +90,10 @@ fn trim_end(text: &str) -> &str
 
 /// What stands before the last character, if it is a blank.
 fn strip_last_blank(text: &str) -> Option<&str>
-    ensures value { MatchOption result (trim_end text.now ≡ text.now) (λ r. trim_end text.now ≡ trim_end r.now) }
-    ensures shorter { MatchOption result (text.now ≡ text.now) (λ r. length r.now < length text.now) }
+    ensures value { MatchOption result
+        (trim_end text.now ≡ text.now) (λ r. trim_end text.now ≡ trim_end r.now) }
+    ensures shorter { MatchOption result (text.now ≡ text.now) (λ r.
+        length r.now < length text.now) }
 {
     match text.strip_suffix(' ') {
         Some(rest) => Some(rest),
