@@ -170,7 +170,8 @@ fn reply_value(alloc: Global, reply: &Reply) -> Result<Value, AllocError>
 
 /// The bytes of a reply: compact JSON, the keys of each object in byte order. It is refused where memory is.
 pub fn to_bytes(alloc: Global, reply: &Reply) -> Result<Vec<u8>, AllocError>
-    ensures { IfOk result (λ bytes. bytes.items ≡ compact_text (reply_data (reply_view reply.now))) }
+    ensures { IfOk result (λ bytes.
+        bytes.items ≡ compact_text (reply_data (reply_view reply.now))) }
 {
     reply_value(alloc, reply)?.to_vec(alloc)
 }

@@ -140,7 +140,8 @@ impl Text {
     ///
     /// `TooLarge` exactly where the new text would have more than [`LONGEST_TEXT`] bytes.
     pub fn changed(&self, alloc: Global, range: Option<Range>, new: &str) -> Result<Text, TextFault>
-        ensures changed { IfOk result (λ text. text ≡ changed Utf16 self.now range (chars new.now)) }
+        ensures changed { IfOk result (λ text.
+            text ≡ changed Utf16 self.now range (chars new.now)) }
         ensures too_large { let wanted = changed Utf16 self.now range (chars new.now) in
             (result ≡ Err TextFault.TooLarge) ↔ (LONGEST_TEXT < length (encode_utf8_all wanted)) }
     {
@@ -150,7 +151,8 @@ impl Text {
 
     /// The offsets of a range in ascending order, or those of the whole text.
     fn span(&self, range: Option<Range>) -> (usize, usize)
-        ensures edits { (s : List ℕ) → changed Utf16 self.now range s ≡ edit self.now result.0 result.1 s }
+        ensures edits { (s : List ℕ) →
+            changed Utf16 self.now range s ≡ edit self.now result.0 result.1 s }
         ensures ordered { result.0 ≤ result.1 }
         ensures in_range { result.1 ≤ length self.now }
     {

@@ -85,7 +85,9 @@ fn line_start(text: &[char], line: u32) -> usize
 fn fitting(text: &[char], start: usize, limit: u32) -> usize
     requires in_range { start ≤ length text.now }
     requires fits { length text.now < 2 ^ 31 }
-    ensures is { result ≡ start + greatest (λ n. nat_le (units Utf16 (take n (line_from start text.now))) limit) (length (line_from start text.now)) }
+    ensures is { result
+        ≡ start + greatest (λ n. nat_le (units Utf16 (take n (line_from start text.now))) limit)
+        (length (line_from start text.now)) }
     ensures within { result ≤ length text.now }
 {
     let mut count: u32 = 0;

@@ -99,7 +99,8 @@ impl Store {
     pub fn production(&self, id: NodeId) -> usize
         requires { id.index < length self.now }
         ensures is { result ≡ (cell_of self.now id).production }
-        ensures tree { (born : ℕ) × (below : StampedForest) × (tree self.now (Child.Node id) ≡ StampedBranch result born below) }
+        ensures tree { (born : ℕ) × (below : StampedForest) ×
+            (tree self.now (Child.Node id) ≡ StampedBranch result born below) }
     {
         self.nodes[id.index].production
     }
@@ -108,7 +109,8 @@ impl Store {
     pub fn born(&self, id: NodeId) -> u64
         requires { id.index < length self.now }
         ensures is { result ≡ (cell_of self.now id).born }
-        ensures tree { (production : ℕ) × (below : StampedForest) × (tree self.now (Child.Node id) ≡ StampedBranch production result below) }
+        ensures tree { (production : ℕ) × (below : StampedForest) ×
+            (tree self.now (Child.Node id) ≡ StampedBranch production result below) }
     {
         self.nodes[id.index].born
     }
@@ -117,7 +119,8 @@ impl Store {
     pub fn tokens(&self, id: NodeId) -> u64
         requires { id.index < length self.now }
         ensures is { result ≡ min most (length (yield (plain (tree self.now (Child.Node id))))) }
-        ensures tree { (production born : ℕ) × (below : StampedForest) × (tree self.now (Child.Node id) ≡ StampedBranch production born below) }
+        ensures tree { (production born : ℕ) × (below : StampedForest) ×
+            (tree self.now (Child.Node id) ≡ StampedBranch production born below) }
     {
         self.nodes[id.index].tokens
     }
@@ -135,7 +138,10 @@ impl Store {
         requires { id.index < length self.now }
         ensures is { result ≡ slice_get (cell_of self.now id).children k }
         ensures below { IfSome result (IsBelow id.index) }
-        ensures tree { (production born : ℕ) × (children : List Child) × (tree self.now (Child.Node id) ≡ StampedBranch production born (forest_in self.now children)) × (result ≡ slice_get children k) }
+        ensures tree { (production born : ℕ) × (children : List Child) ×
+            (tree self.now (Child.Node id)
+            ≡ StampedBranch production born (forest_in self.now children)) ×
+            (result ≡ slice_get children k) }
     {
         self.children(id).get(k).copied()
     }
@@ -145,7 +151,9 @@ impl Store {
         requires { id.index < length self.now }
         ensures is { result.now ≡ (cell_of self.now id).children }
         ensures below { AreBelow id.index result.now }
-        ensures tree { (production born : ℕ) × (tree self.now (Child.Node id) ≡ StampedBranch production born (forest_of (trees_from [] self.now) result.now)) }
+        ensures tree { (production born : ℕ) ×
+            (tree self.now (Child.Node id)
+            ≡ StampedBranch production born (forest_of (trees_from [] self.now) result.now)) }
     {
         let node = &self.nodes[id.index];
         node.children.as_slice()
@@ -200,7 +208,9 @@ impl Store {
     ) -> Result<NodeId, AllocError>
         requires { AreBelow (length self.old) children.now }
         ensures ok { IfOk result (λ id. IsGrown self.old production children.now born self.new id) }
-        ensures tree { IfOk result (λ id. tree self.new (Child.Node id) ≡ StampedBranch production born (forest_in self.old children.now)) }
+        ensures tree { IfOk result (λ id.
+            tree self.new (Child.Node id)
+            ≡ StampedBranch production born (forest_in self.old children.now)) }
         ensures kept { OnOk result (KeepsTrees (length self.old) self.old self.new) }
         ensures count { OnOk result (length self.new ≡ length self.old + 1) }
         ensures err { OnErr result (self.new ≡ self.old) }
