@@ -12,7 +12,7 @@ use definitions::{Position, Range};
 use serde_json::Value;
 use std::alloc::{AllocError, Global};
 
-// A text, or a whole number that fits.
+/// A text, or a whole number that fits.
 fn ident_of(alloc: Global, value: &Value) -> Result<Option<Id>, AllocError>
     ensures { IfOk result (λ id. option_map id_view id ≡ ident_of (view value.now)) }
 {
@@ -22,7 +22,7 @@ fn ident_of(alloc: Global, value: &Value) -> Result<Option<Id>, AllocError>
     }
 }
 
-// The id, where it can be read.
+/// The id, where it can be read.
 pub fn id_at(alloc: Global, value: &Value) -> Result<Option<Id>, AllocError>
     ensures { IfOk result (λ id. option_map id_view id ≡ id_at (view value.now)) }
 {
@@ -32,24 +32,28 @@ pub fn id_at(alloc: Global, value: &Value) -> Result<Option<Id>, AllocError>
     }
 }
 
+/// The URI of the document that the parameters name.
 pub fn uri_at(params: &Value) -> Option<&str>
     ensures { option_map (λ s. s.now) result ≡ uri_at (view params.now) }
 {
     text_at(params.get("textDocument")?, "uri")
 }
 
+/// The version of the document that the parameters tell.
 pub fn version_at(params: &Value) -> Option<i32>
     ensures { result ≡ version_at (view params.now) }
 {
     integer_at(params.get("textDocument")?, "version")
 }
 
+/// The text of the document that the parameters tell.
 pub fn document_text(params: &Value) -> Option<&str>
     ensures { option_map (λ s. s.now) result ≡ document_text (view params.now) }
 {
     text_at(params.get("textDocument")?, "text")
 }
 
+/// A position (LSP 3.17, "Position").
 fn position_of(value: &Value) -> Option<Position>
     ensures { result ≡ position_of (view value.now) }
 {
@@ -59,12 +63,14 @@ fn position_of(value: &Value) -> Option<Position>
     })
 }
 
+/// The position that stands under a key.
 fn position_at(value: &Value, key: &str) -> Option<Position>
     ensures { result ≡ position_at key.now (view value.now) }
 {
     position_of(value.get(key)?)
 }
 
+/// A range (LSP 3.17, "Range").
 pub fn range_of(value: &Value) -> Option<Range>
     ensures { result ≡ range_of (view value.now) }
 {
@@ -74,18 +80,21 @@ pub fn range_of(value: &Value) -> Option<Range>
     })
 }
 
+/// Whether the value has no method, but what a reply has (JSON-RPC 2.0, "Response object").
 pub fn is_reply(value: &Value) -> bool
     ensures { result ≡ is_reply (view value.now) }
 {
     !has_key(value, "method") && (has_key(value, "result") || has_key(value, "error"))
 }
 
+/// Whether `jsonrpc` is 2.0.
 fn has_version(value: &Value) -> bool
     ensures { result ≡ is_text (codes "2.0") (text_at (codes "jsonrpc") (view value.now)) }
 {
     text_at(value, "jsonrpc").is_some_and(|version| version == "2.0")
 }
 
+/// Whether the version isn't 2.0, there is no method, or there is an id that can't be read. `id` is the one that can.
 pub fn is_invalid(value: &Value, id: &Option<Id>) -> bool
     requires { option_map id_view id.now ≡ id_at (view value.now) }
     ensures { result ≡ is_invalid (view value.now) }

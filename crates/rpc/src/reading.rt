@@ -14,7 +14,7 @@ use definitions::Range;
 use serde_json::Value;
 use std::alloc::{AllocError, Global};
 
-// No `range` member, or one that is a range.
+/// No `range` member, or one that is a range.
 fn maybe_range(value: &Value) -> Option<Option<Range>>
     ensures { result ≡ maybe_range (get (codes "range") (view value.now)) }
 {
@@ -24,6 +24,7 @@ fn maybe_range(value: &Value) -> Option<Option<Range>>
     }
 }
 
+/// A change (LSP 3.17, "TextDocumentContentChangeEvent").
 fn change_of(alloc: Global, value: &Value) -> Result<Option<Change>, AllocError>
     ensures { IfOk result (λ change. option_map change_view change ≡ change_of (view value.now)) }
 {
@@ -36,6 +37,7 @@ fn change_of(alloc: Global, value: &Value) -> Result<Option<Change>, AllocError>
     }
 }
 
+/// The changes, where each item is one.
 fn changes_of(alloc: Global, items: &[Value]) -> Result<Option<Vec<Change>>, AllocError>
     ensures { IfOk result (λ changes.
         option_map (λ v. map change_view v.items) changes ≡ changes_of (items_view items.now)) }
@@ -50,6 +52,7 @@ fn changes_of(alloc: Global, items: &[Value]) -> Result<Option<Vec<Change>>, All
     Ok(Some(changes))
 }
 
+/// The changes of a document, where they are a list and each item is one.
 fn changes_at(alloc: Global, params: &Value) -> Result<Option<Vec<Change>>, AllocError>
     ensures { IfOk result (λ changes.
         option_map (λ v. map change_view v.items) changes ≡ changes_at (view params.now)) }
@@ -60,6 +63,7 @@ fn changes_at(alloc: Global, params: &Value) -> Result<Option<Vec<Change>>, Allo
     }
 }
 
+/// What a `textDocument/didOpen` with these parameters tells.
 fn opening(alloc: Global, params: &Value) -> Result<Note, AllocError>
     ensures { IfOk result (λ note. note_view note ≡ opening (view params.now)) }
 {
@@ -73,6 +77,7 @@ fn opening(alloc: Global, params: &Value) -> Result<Note, AllocError>
     }
 }
 
+/// What a `textDocument/didChange` with these parameters tells.
 fn changing(alloc: Global, params: &Value) -> Result<Note, AllocError>
     ensures { IfOk result (λ note. note_view note ≡ changing (view params.now)) }
 {
@@ -90,6 +95,7 @@ fn changing(alloc: Global, params: &Value) -> Result<Note, AllocError>
     }
 }
 
+/// An `initialize`, whose parameters are an object.
 fn asked_initialize(id: Id, params: &Value) -> Result<Message, RpcFault>
     ensures { Gives result (asked_initialize (id_view id) (view params.now)) }
 {
@@ -103,7 +109,7 @@ fn asked_initialize(id: Id, params: &Value) -> Result<Message, RpcFault>
     }
 }
 
-// The URI of the document that the parameters name.
+/// The URI of the document that the parameters name.
 fn copied_uri(alloc: Global, params: &Value) -> Result<Option<String>, AllocError>
     ensures { IfOk result (λ uri. option_map string_bytes uri ≡ uri_at (view params.now)) }
 {
@@ -113,6 +119,7 @@ fn copied_uri(alloc: Global, params: &Value) -> Result<Option<String>, AllocErro
     }
 }
 
+/// The refusal of parameters that don't fit, of another method than `initialize`.
 fn misfit(id: Id) -> RpcFault
     ensures { fault_view result ≡ Some (refused (params (id_view id) false)) }
 {
@@ -122,6 +129,7 @@ fn misfit(id: Id) -> RpcFault
     }
 }
 
+/// An `lr/text`, whose parameters name a document.
 fn asked_text(alloc: Global, id: Id, params: &Value) -> Result<Message, RpcFault>
     ensures { Gives result (asked_about text_of (id_view id) (uri_at (view params.now))) }
 {
@@ -131,6 +139,7 @@ fn asked_text(alloc: Global, id: Id, params: &Value) -> Result<Message, RpcFault
     }
 }
 
+/// An `lr/tokens`, whose parameters name a document.
 fn asked_tokens(alloc: Global, id: Id, params: &Value) -> Result<Message, RpcFault>
     ensures { Gives result (asked_about tokens_of (id_view id) (uri_at (view params.now))) }
 {
@@ -140,6 +149,7 @@ fn asked_tokens(alloc: Global, id: Id, params: &Value) -> Result<Message, RpcFau
     }
 }
 
+/// An `lr/tree`, whose parameters name a document.
 fn asked_tree(alloc: Global, id: Id, params: &Value) -> Result<Message, RpcFault>
     ensures { Gives result (asked_about tree_of (id_view id) (uri_at (view params.now))) }
 {
@@ -149,6 +159,7 @@ fn asked_tree(alloc: Global, id: Id, params: &Value) -> Result<Message, RpcFault
     }
 }
 
+/// The request of a method.
 fn request_of(alloc: Global, method: &str, id: Id, params: &Value) -> Result<Message, RpcFault>
     ensures { Gives result (request_of method.now (id_view id) (view params.now)) }
 {
@@ -167,6 +178,7 @@ fn request_of(alloc: Global, method: &str, id: Id, params: &Value) -> Result<Mes
     }
 }
 
+/// The notification of a method. One of an unknown method is ignored.
 fn notice_of(alloc: Global, method: &str, params: &Value) -> Result<Message, AllocError>
     ensures { IfOk result (λ message.
         said (message_view message) ≡ notice_of method.now (view params.now)) }
@@ -184,6 +196,7 @@ fn notice_of(alloc: Global, method: &str, params: &Value) -> Result<Message, All
     }
 }
 
+/// With an id it is a request, without one a notification.
 fn of_method(alloc: Global, value: &Value, id: Option<Id>) -> Result<Message, RpcFault>
     ensures { Gives result (of_method
         (text_at (codes "method") (view value.now))
@@ -201,6 +214,7 @@ fn of_method(alloc: Global, value: &Value, id: Option<Id>) -> Result<Message, Rp
     }
 }
 
+/// The message that a value is, by the tests in their order.
 fn message_of(alloc: Global, value: &Value) -> Result<Message, RpcFault>
     ensures { Gives result (message_of (view value.now)) }
 {

@@ -48,6 +48,7 @@ pub enum Reply {
     Error { id: Option<Id>, refusal: Refusal },
 }
 
+/// The JSON value of an id.
 fn id_value(alloc: Global, id: &Id) -> Result<Value, AllocError>
     ensures { IfOk result (λ v. view v ≡ id_data (id_view id.now)) }
 {
@@ -57,6 +58,7 @@ fn id_value(alloc: Global, id: &Id) -> Result<Value, AllocError>
     }
 }
 
+/// The JSON value of an id, or `null`.
 fn maybe_id_value(alloc: Global, id: &Option<Id>) -> Result<Value, AllocError>
     ensures { IfOk result (λ v. view v ≡ maybe_id_data (option_map id_view id.now)) }
 {
@@ -66,6 +68,7 @@ fn maybe_id_value(alloc: Global, id: &Option<Id>) -> Result<Value, AllocError>
     }
 }
 
+/// The number of a refusal (JSON-RPC 2.0, "Error object"; LSP 3.17, "ErrorCodes").
 fn code_of(refusal: Refusal) -> i32
     ensures { result ≡ code_of refusal }
 {
@@ -79,6 +82,7 @@ fn code_of(refusal: Refusal) -> i32
     }
 }
 
+/// The text of a refusal.
 fn message_text(refusal: Refusal) -> &'static str
     ensures { result.now ≡ message_text refusal }
 {
@@ -92,6 +96,7 @@ fn message_text(refusal: Refusal) -> &'static str
     }
 }
 
+/// What the server can do (LSP 3.17, "InitializeResult").
 fn capabilities(alloc: Global) -> Result<Value, AllocError>
     ensures { IfOk result (λ v. view v ≡ capabilities) }
 {
@@ -105,12 +110,14 @@ fn capabilities(alloc: Global) -> Result<Value, AllocError>
     })
 }
 
+/// A document's text and version.
 fn document_value(alloc: Global, version: i32, text: &str) -> Result<Value, AllocError>
     ensures { IfOk result (λ v. view v ≡ document_data version text.now) }
 {
     json!(in alloc; {"text": text, "version": version})
 }
 
+/// A token's name, and the lines and characters where it starts and ends.
 fn row_value(alloc: Global, row: &Row) -> Result<Value, AllocError>
     ensures { IfOk result (λ v. view v ≡ row_data (row_view row.now)) }
 {
@@ -119,6 +126,7 @@ fn row_value(alloc: Global, row: &Row) -> Result<Value, AllocError>
     json!(in alloc; [name, start.line, start.character, end.line, end.character])
 }
 
+/// The rows of tokens, in order.
 fn rows_value(alloc: Global, rows: &[Row]) -> Result<Value, AllocError>
     ensures { IfOk result (λ v. view v ≡ rows_data (map row_view rows.now)) }
 {
@@ -129,18 +137,21 @@ fn rows_value(alloc: Global, rows: &[Row]) -> Result<Value, AllocError>
     Ok(Value::Array(values))
 }
 
+/// A reply with a result.
 fn result_value(alloc: Global, id: Value, outcome: Value) -> Result<Value, AllocError>
     ensures { IfOk result (λ v. view v ≡ result_data (view id) (view outcome)) }
 {
     json!(in alloc; {"id": id, "jsonrpc": "2.0", "result": outcome})
 }
 
+/// A reply with an error.
 fn error_value(alloc: Global, id: Value, code: i32, message: &str) -> Result<Value, AllocError>
     ensures { IfOk result (λ v. view v ≡ error_data (view id) code message.now) }
 {
     json!(in alloc; {"error": {"code": code, "message": message}, "id": id, "jsonrpc": "2.0"})
 }
 
+/// The JSON value of a reply.
 fn reply_value(alloc: Global, reply: &Reply) -> Result<Value, AllocError>
     ensures { IfOk result (λ v. view v ≡ reply_data (reply_view reply.now)) }
 {
