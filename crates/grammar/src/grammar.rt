@@ -52,12 +52,19 @@ impl Model for Name {
 /// What a grammar file defines: its rules and nonterminals in file order, and its productions.
 #[derive(Drop)]
 pub struct Grammar {
+    /// The names of the rules, in file order.
     pub(crate) names: Vec<Name>,
+    /// The pattern of each rule.
     pub(crate) patterns: Vec<Pattern>,
+    /// Whether each rule is a skip rule.
     pub(crate) skips: Vec<bool>,
+    /// The names of the nonterminals, in file order.
     pub(crate) nonterminals: Vec<Name>,
+    /// Whether each nonterminal folds.
     pub(crate) folds: Vec<bool>,
+    /// The number of the start.
     pub(crate) start: usize,
+    /// The productions, in file order.
     pub(crate) productions: Vec<Production>,
     /// All that the file defines, in file order.
     pub(crate) defined: Vec<Symbol>,
@@ -227,6 +234,7 @@ fn name_at(names: &[Name], place: usize) -> &str
 #[derive(Drop)]
 pub struct Notes<'a> {
     grammar: &'a Grammar,
+    /// The symbols whose names are still to come.
     rest: &'a [Symbol],
 }
 

@@ -71,6 +71,7 @@ fn first_unmarked(symbols: &[Symbol], marks: &[bool]) -> Option<usize>
     None
 }
 
+/// Whether the nonterminal is marked.
 pub fn is_marked(nonterminal: usize, marks: &[bool]) -> bool
     ensures { result ≡ slice_index_or marks.now nonterminal false }
 {

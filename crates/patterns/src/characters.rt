@@ -31,7 +31,7 @@ pub fn writing(alloc: Global, text: &[char]) -> Result<Vec<Character>, AllocErro
     Ok(words)
 }
 
-// The character that is written at `place`, and the place behind it.
+/// The character that is written at `place`, and the place behind it.
 fn character_at(text: &[char], place: usize) -> (Character, usize)
     requires { place < length text.now }
     ensures forward { place < result.1 }
@@ -49,7 +49,7 @@ fn character_at(text: &[char], place: usize) -> (Character, usize)
     }
 }
 
-// What the escape at `place` stands for, and the place behind it.
+/// What the escape at `place` stands for, and the place behind it.
 fn escaped(text: &[char], place: usize) -> Option<(char, usize)>
     requires { place < length text.now }
     ensures { MatchOption result
@@ -67,7 +67,7 @@ fn escaped(text: &[char], place: usize) -> Option<(char, usize)>
     }
 }
 
-// What an escape by a number in braces stands for, and the place behind it.
+/// What an escape by a number in braces stands for, and the place behind it.
 fn by_number(text: &[char], place: usize) -> Option<(char, usize)>
     requires { place + 2 ≤ length text.now }
     ensures { MatchOption result

@@ -78,7 +78,7 @@ pub fn literal<'a>(
     }
 }
 
-// The code of the first of these characters, and the others, if it may stand in a literal.
+/// The code of the first of these characters, and the others, if it may stand in a literal.
 fn literal_char<'a>(words: &'a [Character]) -> Option<(char, &'a [Character])>
     ensures { MatchOption result
         (HasNoLiteralChar (writing words.now))
@@ -138,7 +138,7 @@ pub fn class<'a>(
     }
 }
 
-// The items of a class that has members, and the rest behind the class.
+/// The items of a class that has members, and the rest behind the class.
 fn members<'a>(
     alloc: Global,
     words: &'a [Character],
@@ -167,7 +167,7 @@ fn members<'a>(
     Ok((intervals, rest))
 }
 
-// The items up to the closing bracket, and the rest behind it.
+/// The items up to the closing bracket, and the rest behind it.
 fn items<'a>(
     alloc: Global,
     words: &'a [Character],
@@ -199,7 +199,7 @@ fn items<'a>(
     }
 }
 
-// The first item, and the rest behind it.
+/// The first item, and the rest behind it.
 fn item<'a>(words: &'a [Character], end: usize) -> Result<(Interval, &'a [Character]), Refusal>
     requires { Begins 93 (writing words.now) → ⊥ }
     ensures spelled { IfOk result (λ r. IsItemFront r.0 (writing words.now) (writing r.1.now)) }
@@ -239,7 +239,7 @@ fn range(first: char, last: char) -> Interval
     Interval { first, last }
 }
 
-// The place and the code of the first of these characters, and the others, if it may stand for itself in a class.
+/// The place and the code of the first of these characters, and the others, if it may stand for itself in a class.
 fn class_char<'a>(words: &'a [Character]) -> Option<(usize, char, &'a [Character])>
     ensures { MatchOption result
         (HasNoClassChar (writing words.now))
@@ -254,7 +254,7 @@ fn class_char<'a>(words: &'a [Character]) -> Option<(usize, char, &'a [Character
     }
 }
 
-// Whether a class needs no escape for it.
+/// Whether a class needs no escape for it.
 fn stands_for_itself(code: char) -> bool
     ensures { MatchBool result
         ((code ≢ 93) × (code ≢ 45) × (code ≢ 94)) ((code ≢ 93) × (code ≢ 45) × (code ≢ 94) → ⊥) }
@@ -262,7 +262,7 @@ fn stands_for_itself(code: char) -> bool
     code != ']' && code != '-' && code != '^'
 }
 
-// Whether a class has no member.
+/// Whether a class has no member.
 fn is_nothing(negated: bool, intervals: &[Interval]) -> bool
     ensures { result ≡ is_nothing negated intervals.now }
 {
@@ -273,14 +273,14 @@ fn is_nothing(negated: bool, intervals: &[Interval]) -> bool
     }
 }
 
-// Whether each character lies in one of the intervals.
+/// Whether each character lies in one of the intervals.
 fn is_everything(intervals: &[Interval]) -> bool
     ensures { result ≡ is_everything intervals.now }
 {
     is_member(0, intervals) && all_are_followed(intervals)
 }
 
-// Whether the character behind each interval lies in one of them.
+/// Whether the character behind each interval lies in one of them.
 fn all_are_followed(intervals: &[Interval]) -> bool
     ensures { result
         ≡ list_all (λ i. i.last == 0x10_FFFF || is_member (code_after i.last) intervals.now)
@@ -289,7 +289,7 @@ fn all_are_followed(intervals: &[Interval]) -> bool
     intervals.iter().all(|i| is_followed(i.last, intervals))
 }
 
-// Whether the character behind this one, if there is one, lies in one of the intervals.
+/// Whether the character behind this one, if there is one, lies in one of the intervals.
 fn is_followed(last: char, intervals: &[Interval]) -> bool
     ensures { result ≡ (last == 0x10_FFFF || is_member (code_after last) intervals.now) }
 {
@@ -304,7 +304,7 @@ fn is_member(code: u32, intervals: &[Interval]) -> bool
         .any(|i| i.first as u32 <= code && code <= i.last as u32)
 }
 
-// The code of the character behind this one, if there is one.
+/// The code of the character behind this one, if there is one.
 fn code_after(character: char) -> u32
     ensures { result ≡ code_after character }
 {

@@ -29,7 +29,7 @@ pub fn whole(alloc: Global, words: &[Character], end: usize) -> Result<Expressio
     Ok(expression)
 }
 
-// The alternatives at the front, and the rest, which is empty or begins with a closing parenthesis.
+/// The alternatives at the front, and the rest, which is empty or begins with a closing parenthesis.
 #[cycle(parts)]
 fn alternatives<'a>(
     alloc: Global,
@@ -58,7 +58,7 @@ fn alternatives<'a>(
     Ok((choice, rest))
 }
 
-// The sequence at the front, and the rest, which is empty or begins with a `|` or a closing parenthesis.
+/// The sequence at the front, and the rest, which is empty or begins with a `|` or a closing parenthesis.
 #[cycle(parts)]
 fn sequence<'a>(
     alloc: Global,
@@ -87,7 +87,7 @@ fn sequence<'a>(
     Ok((sequence, rest))
 }
 
-// The atom at the front with its sign of repetition, if it has one, and the rest, which begins with no blank.
+/// The atom at the front with its sign of repetition, if it has one, and the rest, which begins with no blank.
 #[cycle(parts)]
 fn repetition<'a>(
     alloc: Global,
@@ -112,7 +112,7 @@ fn repetition<'a>(
     Ok((expression, rest))
 }
 
-// The atom at the front, with the blanks about it, and the rest, which begins with no blank.
+/// The atom at the front, with the blanks about it, and the rest, which begins with no blank.
 #[cycle(parts)]
 fn atom<'a>(
     alloc: Global,
@@ -136,7 +136,7 @@ fn atom<'a>(
     Ok((part, skip_blanks(rest)))
 }
 
-// The atom at the very front, and the rest.
+/// The atom at the very front, and the rest.
 #[cycle(parts)]
 fn bare_atom<'a>(
     alloc: Global,
@@ -174,7 +174,7 @@ fn bare_atom<'a>(
     Err(fault(place_of(words, end), PatternCause::Syntax))
 }
 
-// The rest behind a closing parenthesis, or the fault of its want, which is at the end.
+/// The rest behind a closing parenthesis, or the fault of its want, which is at the end.
 fn close<'a>(words: &'a [Character], end: usize) -> Result<&'a [Character], Refusal>
     requires { IsAtEnd (writing words.now) }
     ensures shorter { IfOk result (λ r. length r.now < length words.now) }
@@ -190,7 +190,7 @@ fn close<'a>(words: &'a [Character], end: usize) -> Result<&'a [Character], Refu
     }
 }
 
-// The rest behind the blanks at the front.
+/// The rest behind the blanks at the front.
 fn skip_blanks(words: &[Character]) -> &[Character]
     ensures { IsBlanks (writing words.now) (writing result.now) × HasNoBlank (writing result.now) ×
         (length result.now ≤ length words.now) }
@@ -202,7 +202,7 @@ fn skip_blanks(words: &[Character]) -> &[Character]
     rest
 }
 
-// The place of the first of these characters, and the others, if it is a blank.
+/// The place of the first of these characters, and the others, if it is a blank.
 fn strip_blank(words: &[Character]) -> Option<(usize, &[Character])>
     ensures { MatchOption result
         (HasNoBlank (writing words.now))
@@ -214,7 +214,7 @@ fn strip_blank(words: &[Character]) -> Option<(usize, &[Character])>
     }
 }
 
-// Whether nothing, a `|` or a closing parenthesis stands at the front.
+/// Whether nothing, a `|` or a closing parenthesis stands at the front.
 fn stops(words: &[Character]) -> bool
     ensures { result ≡ stops (writing words.now) }
 {
@@ -230,7 +230,7 @@ fn stops(words: &[Character]) -> bool
     }
 }
 
-// The atom with the sign of repetition that stands at the front, if there is one, and the rest behind the blanks.
+/// The atom with the sign of repetition that stands at the front, if there is one, and the rest behind the blanks.
 fn repeated<'a>(
     alloc: Global,
     part: Expression,

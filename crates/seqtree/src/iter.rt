@@ -13,6 +13,7 @@ use std::marker::Model;
 /// What is left of a tree behind its first items.
 pub struct Part<'a, T: Measured> {
     tree: &'a Tree<T>,
+    /// How many of its first items are left out.
     skipped: usize,
 }
 
@@ -32,6 +33,7 @@ impl<'a, T: Measured> Copy for Part<'a, T> {}
 /// gone twice: a walk of n items takes a number of steps that grows with n, and no memory.
 #[derive(Drop)]
 pub struct Iter<'a, T: Measured> {
+    /// What is left, the next part on top.
     parts: Stack<Part<'a, T>>,
 }
 
@@ -53,6 +55,7 @@ impl<'a, T: Measured> Iter<'a, T> {
     {
         let whole = Part { tree, skipped };
         let mut parts = Stack::new(whole);
+        // Read for the proof: no tree is higher than the stack.
         let _low = tree::height(tree);
         if skipped < tree::count(tree) {
             parts.push(whole);

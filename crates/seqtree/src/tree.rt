@@ -14,11 +14,17 @@ pub type Tree<T> = Option<Box<Node<T>>>;
 /// A node with one item between the items of its sides.
 #[derive(Drop)]
 pub struct Node<T: Measured> {
+    /// The items before its own.
     pub left: Tree<T>,
+    /// Its own item.
     pub item: T,
+    /// How many items it has with its sides.
     len: usize,
+    /// How many nodes stand on the longest way down, its own included.
     tall: u8,
+    /// The sum of all these items.
     all: T::Sum,
+    /// The items behind its own.
     pub right: Tree<T>,
 }
 
@@ -340,6 +346,7 @@ pub fn locate<T: Measured, G: Goal<T::Sum>>(tree: &Tree<T>, goal: &G) -> (usize,
     ensures { IsLeast T.Sum.empty T.Sum.op T.measure
         (G.reaches goal.now) T.Sum.empty (items_of tree.now) result.0 result.1 }
 {
+    // Read for the proof: so many items fit.
     let _all = count(tree);
     let mut below = tree;
     let mut before = T::Sum::zero();

@@ -30,7 +30,7 @@ impl<'a> Model for Places<'a> {
 }
 
 impl<'a> Places<'a> {
-    // The start of a text.
+    /// The start of a text.
     pub(crate) fn new(text: &'a [char]) -> Places<'a>
         requires { length text.now < 2 ^ 31 }
         ensures { result ≡ record { text = text.now; offset = 0 } }
@@ -68,7 +68,7 @@ impl<'a> Places<'a> {
     }
 }
 
-// The position behind the character at `i`, which is at `position`.
+/// The position behind the character at `i`, which is at `position`.
 fn behind(text: &[char], i: usize, position: Position) -> Position
     requires in_range { i < length text.now }
     requires fits { length text.now < 2 ^ 31 }

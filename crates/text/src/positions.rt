@@ -23,7 +23,7 @@ pub fn is_break_end(text: &[char], i: usize) -> bool
     c == '\n' || (c == '\r' && !(i + 1 < text.len() && text[i + 1] == '\n'))
 }
 
-// The UTF-16 units of the line from `start`, up to `end` or its end.
+/// The UTF-16 units of the line from `start`, up to `end` or its end.
 fn units_in_line(text: &[char], start: usize, end: usize) -> u32
     requires ordered { start ≤ end }
     requires in_range { end ≤ length text.now }
@@ -61,7 +61,7 @@ pub fn position(text: &[char], offset: usize) -> Position
     }
 }
 
-// Where a line begins, or the end of the text where there is no such line.
+/// Where a line begins, or the end of the text where there is no such line.
 fn line_start(text: &[char], line: u32) -> usize
     ensures start { result ≡ of.line_start text.now line }
     ensures within { result ≤ length text.now }
@@ -81,7 +81,7 @@ fn line_start(text: &[char], line: u32) -> usize
     text.len()
 }
 
-// How far the line from `start` has at most `limit` UTF-16 units.
+/// How far the line from `start` has at most `limit` UTF-16 units.
 fn fitting(text: &[char], start: usize, limit: u32) -> usize
     requires in_range { start ≤ length text.now }
     requires fits { length text.now < 2 ^ 31 }

@@ -40,13 +40,18 @@ impl Default for Child {
     }
 }
 
-// A branch of a tree. The counts are those of the whole tree below it, so that no call has to walk a tree.
+/// A branch of a tree. The counts are those of the whole tree below it, so that no call has to walk a tree.
 #[derive(Drop)]
 struct Node {
+    /// The number of its production.
     production: usize,
+    /// The number of the edit that made it.
     born: u64,
+    /// How many tokens its tree has.
     tokens: u64,
+    /// How many branches its tree has, its own included.
     size: u64,
+    /// Its children, from left to right.
     children: SmallVec<Child, 3>,
 }
 
@@ -181,7 +186,7 @@ impl Store {
         }
     }
 
-    // How many tokens and branches a node over these children has.
+    /// How many tokens and branches a node over these children has.
     fn counts(&self, children: &[Child]) -> (u64, u64)
         requires { AreBelow (length self.now) children.now }
         ensures tokens { result.0 ≡ min most (tokens_below self.now children.now) }
