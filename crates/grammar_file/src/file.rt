@@ -34,17 +34,12 @@ pub fn read_file<'a>(alloc: Global, text: &'a str) -> Result<File<'a>, Refusal<'
     if !is_headed(&lines) {
         return Err(Refusal::Fault(1, Cause::FirstLine));
     }
-    let file = match read_statements(alloc, behind_first(&lines)) {
-        Ok(file) => file,
-        Err(refusal) => return Err(refusal),
-    };
+    let file = read_statements(alloc, behind_first(&lines))?;
     if !file.names.started {
         return Err(Refusal::Fault(0, Cause::NoStart));
     }
-    match test_references(&file.names, &file.statements) {
-        Ok(()) => Ok(file),
-        Err(refusal) => Err(refusal),
-    }
+    test_references(&file.names, &file.statements)?;
+    Ok(file)
 }
 
 fn lines_of(alloc: Global, text: &str) -> Result<Vec<&str>, AllocError>

@@ -67,10 +67,7 @@ pub fn read_statements<'a>(alloc: Global, lines: &[&'a str]) -> Result<File<'a>,
     };
     for (index, text) in lines.iter().enumerate() {
         let line = read_line(alloc, text)?;
-        match file.add(alloc, index + 2, line) {
-            Ok(()) => {}
-            Err(refusal) => return Err(refusal),
-        }
+        file.add(alloc, index + 2, line)?;
     }
     Ok(file)
 }
