@@ -23,8 +23,10 @@ pub fn token_rows<'a>(
     text: &Text,
     tokens: &Tokens,
 ) -> Result<Vec<Row<'a>>, AllocError>
-    ensures rows { IfOk result (λ rows. map row_of rows.items ≡ rows_of grammar.now text.now tokens.now.items) }
-    ensures bytes { IfOk result (λ rows. map row_bytes rows.items ≡ map in_utf8 (rows_of grammar.now text.now tokens.now.items)) }
+    ensures rows { IfOk result (λ rows.
+        map row_of rows.items ≡ rows_of grammar.now text.now tokens.now.items) }
+    ensures bytes { IfOk result (λ rows.
+        map row_bytes rows.items ≡ map in_utf8 (rows_of grammar.now text.now tokens.now.items)) }
 {
     let mut rows = Vec::with_capacity(alloc, tokens.count())?;
     let mut places = text.places();

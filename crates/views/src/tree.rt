@@ -21,8 +21,11 @@ pub fn tree_text(
     root: NodeId,
 ) -> Result<String, AllocError>
     requires { root.index < length store.now }
-    ensures text { IfOk result (λ s. chars (string_bytes s) ≡ text_of grammar.now (plain (tree store.now (Child.Node root)))) }
-    ensures bytes { IfOk result (λ s. string_bytes s ≡ encode_utf8_all (text_of grammar.now (plain (tree store.now (Child.Node root))))) }
+    ensures text { IfOk result (λ s.
+        chars (string_bytes s) ≡ text_of grammar.now (plain (tree store.now (Child.Node root)))) }
+    ensures bytes { IfOk result (λ s.
+        string_bytes s
+        ≡ encode_utf8_all (text_of grammar.now (plain (tree store.now (Child.Node root))))) }
 {
     let mut text = String::new(alloc);
     let mut open = Vec::new(alloc);
@@ -42,7 +45,7 @@ pub fn tree_text(
     Ok(text)
 }
 
-// Writes a node's text up to its children, and answers these.
+/// Writes a node's text up to its children, and answers these.
 fn begin<'a>(
     grammar: &Grammar,
     store: &'a Store,
@@ -50,16 +53,19 @@ fn begin<'a>(
     text: &mut String,
 ) -> Result<&'a [Child], AllocError>
     requires { id.index < length store.now }
-    ensures { IfOk result (λ children. IsBegun grammar.now store.now id (string_bytes text.old) (string_bytes text.new) children.now) }
+    ensures { IfOk result (λ children.
+        IsBegun grammar.now store.now id (string_bytes text.old) (string_bytes text.new)
+        children.now) }
 {
     text.push('(')?;
     text.push_str(name_of(grammar, store.production(id)))?;
     Ok(store.children(id))
 }
 
-// The name of the nonterminal of a production.
+/// The name of the nonterminal of a production.
 fn name_of(grammar: &Grammar, production: usize) -> &str
-    ensures { chars result.now ≡ slice_index_or grammar.now.nonterminals (slice_index (lefts grammar.now) production) [] }
+    ensures { chars result.now
+        ≡ slice_index_or grammar.now.nonterminals (slice_index (lefts grammar.now) production) [] }
 {
     let nonterminal = if production < grammar.productions() {
         grammar.left(production)
