@@ -5,9 +5,13 @@ ghost use Rattle.std.specs.Char.{IsScalar};
 ghost use Rattle.definitions.specs.declared.Edit.{Edit};
 ghost use Rattle.definitions.specs.declared.Kind.{Kind};
 ghost use Rattle.definitions.specs.declared.Position.{Position};
+ghost use Rattle.definitions.specs.declared.Range.{Range};
+ghost use Rattle.definitions.specs.declared.Symbol.{Symbol};
 ghost use Rattle.definitions.specs.declared.Unit.{Unit as Encoding};
 ghost use Rattle.definitions.specs.declared.expression.Expression.{Expression};
 ghost use Rattle.definitions.specs.declared.expression.Interval.{Interval};
+ghost use Rattle.definitions.specs.declared.expression.PatternCause.{PatternCause};
+ghost use Rattle.definitions.specs.declared.expression.PatternFault.{PatternFault};
 ghost use Rattle.definitions.specs.Text.{IsCharacter, edit, offset, position};
 ghost use Rattle.definitions.specs.Patterns.{is_in_class};
 ghost use Rattle.definitions.specs.PatternFaults.{is_nothing};
@@ -92,4 +96,21 @@ pub fn selection_unique()
     ensures { (g : Grammar) (trees : List Tree) (t : List ℕ) (tokens : List Placed) (o : ℕ)
         (one : List (ℕ × ℕ)) (two : List (ℕ × ℕ)) → IsSelection t tokens (IsNodeOf g trees) o one →
         IsSelection t tokens (IsNodeOf g trees) o two → one ≡ two }
+{}
+
+/// Plain data is equal by `==` exactly where it is the same: no part of it is left out.
+pub fn equal_data_is_the_same()
+    ensures positions { (a b : Position) →
+        IsTrue (⟦<crate::Position as PartialEq>⟧.eq a b) ↔ (a ≡ b) }
+    ensures ranges { (a b : Range) → IsTrue (⟦<crate::Range as PartialEq>⟧.eq a b) ↔ (a ≡ b) }
+    ensures units { (a b : Encoding) → IsTrue (⟦<crate::Unit as PartialEq>⟧.eq a b) ↔ (a ≡ b) }
+    ensures kinds { (a b : Kind) → IsTrue (⟦<crate::Kind as PartialEq>⟧.eq a b) ↔ (a ≡ b) }
+    ensures edits { (a b : Edit) → IsTrue (⟦<crate::Edit as PartialEq>⟧.eq a b) ↔ (a ≡ b) }
+    ensures symbols { (a b : Symbol) → IsTrue (⟦<crate::Symbol as PartialEq>⟧.eq a b) ↔ (a ≡ b) }
+    ensures intervals { (a b : Interval) →
+        IsTrue (⟦<crate::Interval as PartialEq>⟧.eq a b) ↔ (a ≡ b) }
+    ensures causes { (a b : PatternCause) →
+        IsTrue (⟦<crate::PatternCause as PartialEq>⟧.eq a b) ↔ (a ≡ b) }
+    ensures faults { (a b : PatternFault) →
+        IsTrue (⟦<crate::PatternFault as PartialEq>⟧.eq a b) ↔ (a ≡ b) }
 {}
