@@ -22,20 +22,10 @@ pub fn read<'a>(alloc: Global, text: &'a str) -> Result<Grammar, Refusal<'a>>
     ensures grammar { IfOk result (λ g. IsGrammarOf text.now g) }
     ensures fault { IfErr result (λ r. Tells r (λ n c. IsFault text.now n c)) }
 {
-    let file = match read_file(alloc, text) {
-        Ok(file) => file,
-        Err(refusal) => return Err(refusal),
-    };
+    let file = read_file(alloc, text)?;
     let productions = numbers::productions(alloc, &file.statements, &file.names)?;
-    match test_productive(
-        alloc,
-        file.names.nonterminals.as_slice(),
-        &file.statements,
-        &productions,
-    ) {
-        Ok(()) => {}
-        Err(refusal) => return Err(refusal),
-    }
+    let nonterminals = file.names.nonterminals.as_slice();
+    test_productive(alloc, nonterminals, &file.statements, &productions)?;
     let grammar = grammar_of(alloc, file, productions)?;
     Ok(grammar)
 }
