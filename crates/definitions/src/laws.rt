@@ -28,7 +28,8 @@ pub fn characters_are_scalars()
     ensures { (c : ℕ) → IsCharacter c ↔ IsScalar c }
 {}
 
-/// The offset of a position lies in its line, and is the greatest one before which the line has no more units than it counts.
+/// The offset of a position lies in its line, and is the greatest one before which the line has no more units than it
+/// counts.
 pub fn offset_is_greatest()
     ensures { (encoding : Encoding) (t : List ℕ) (p : Position) →
         IsOffsetOf encoding t p (offset encoding t p) }
@@ -65,7 +66,8 @@ pub fn token_is_local()
         take x.reach t ≡ take x.reach u → IsToken rules u x }
 {}
 
-/// What an edit keeps are tokens of both texts: the same ones in front of it, and the same ones from the place of rejoining on.
+/// What an edit keeps are tokens of both texts: the same ones in front of it, and the same ones from the place of
+/// rejoining on.
 pub fn kept_tokens_stay()
     ensures front { (rules : List Expression) (t : List ℕ) (s : List ℕ) (e : Edit)
         (old : List Token) (new : List Token) → IsTokenEdit rules t s e old new →

@@ -125,7 +125,8 @@ impl Decoder {
 
     /// Takes the next piece of the stream, and answers the frames that are whole now, in order.
     ///
-    /// A fault behind them is answered by the next call, and where there are none by this one; then by every call, and no piece is taken any more. `Memory` says that memory was refused: the piece isn't taken, and may be fed again.
+    /// A fault behind them is answered by the next call, and where there are none by this one; then by every call, and no
+    /// piece is taken any more. `Memory` says that memory was refused: the piece isn't taken, and may be fed again.
     pub fn feed(&mut self, alloc: Global, piece: &[u8]) -> Result<Vec<Frame>, FrameFault>
         ensures ok { IfOk result (λ frames.
             GoesOn self.old piece.now (contents frames.items) self.new) }
@@ -206,7 +207,8 @@ impl Decoder {
         self.met
     }
 
-    /// What it means that the stream ends here: `Truncated` where a frame is begun and no fault was met, and the fault where one was.
+    /// What it means that the stream ends here: `Truncated` where a frame is begun and no fault was met, and the fault where
+    /// one was.
     pub fn finish(&self) -> Result<(), FrameFault>
         ensures value { result ≡ finish_of self.now }
         ensures truncated { (result ≡ Err FrameFault.Truncated) ↔ IsCut self.now }

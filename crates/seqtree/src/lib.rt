@@ -1,4 +1,5 @@
-//! A list in a balanced tree that knows the sum of each of its parts, so that a place is found, and a part replaced, in a number of steps that grows with the logarithm of the length.
+//! A list in a balanced tree that knows the sum of each of its parts, so that a place is found, and a part replaced, in a
+//! number of steps that grows with the logarithm of the length.
 #![tactic(auto)]
 
 ghost use Rattle.std.specs.Prelude.{◌≡◌, Bool};
