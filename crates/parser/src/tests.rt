@@ -1,9 +1,4 @@
-//! Worked kinds, of grammars of sums and of lists.
-
-ghost use Rattle.std.specs.Prelude.{◌<◌, List, length};
-ghost use Rattle.definitions.specs.declared.Kind.{Kind as TokenKind};
-ghost use Rattle.trees.specs.Cells.{Cell};
-ghost use Rattle.parser.specs.Parses.{IsParseOf};
+//! A run over an old tree, which no public call hands to the machine yet.
 
 use crate::input::Input;
 use crate::parse::parsed;
@@ -30,24 +25,9 @@ Atom = NUM
 Atom = LP Sum RP
 "#;
 
-const LISTS: &str = r#"lrgrammar 1
-token STR = "\"" [^"]* "\""
-token W = [a-z]+
-skip WS = [ ]+
-start L
-L =
-L = L Item
-Item = STR
-Item = W
-"#;
-
 const NUM: Kind = Kind::Rule(0);
 
 const PLUS: Kind = Kind::Rule(1);
-
-const LP: Kind = Kind::Rule(2);
-
-const RP: Kind = Kind::Rule(3);
 
 #[derive(Drop)]
 struct Listed<'a> {
@@ -71,83 +51,6 @@ fn tables(alloc: Global, text: &str) -> Result<Tables, Fail> {
     Ok(Tables::build(alloc, &grammar)?)
 }
 
-/// The first nodes of a store, by their numbers.
-fn node(index: usize) -> Child {
-    Child::Node(NodeId { index })
-}
-
-/// Edit 0 has made this node, of this production and over these children.
-fn assert_node(
-    rt: &impl Abort,
-    store: &Store,
-    index: usize,
-    production: usize,
-    children: &[Child],
-) {
-    let id = NodeId { index };
-    assert!(rt; index < store.len());
-    assert_eq!(rt; store.production(id), production);
-    assert_eq!(rt; store.born(id), 0);
-    assert!(rt; store.children(id) == children);
-}
-
-/// Which of the five token rules, and whether the end, may stand at the fault.
-fn expected(alloc: Global, tables: &Tables, parse: &Parse) -> Result<Vec<Option<usize>>, AllocError>
-    requires { (kinds : List TokenKind) × (cells : List Cell) × IsParseOf tables.now kinds cells parse.now }
-{
-    let mut looks = Vec::new(alloc);
-    for rule in 0..5 {
-        if parse.expects(tables, Some(rule)) {
-            looks.push(Some(rule))?;
-        }
-    }
-    if parse.expects(tables, None) {
-        looks.push(None)?;
-    }
-    Ok(looks)
-}
-
-/// The parse of these kinds of sums stops so, and these are the rules that may follow.
-fn assert_stops(
-    rt: &impl Abort,
-    alloc: Global,
-    kinds: &[Kind],
-    verdict: Verdict,
-    stack: &[Child],
-    looks: &[Option<usize>],
-) -> Result<(), Fail> {
-    let tables = tables(alloc, SUMS)?;
-    let mut store = Store::new(alloc);
-    let parse = Parse::whole(alloc, &tables, &mut store, &Listed { kinds })?;
-    assert_eq!(rt; parse.verdict(), verdict);
-    assert!(rt; parse.stack() == stack);
-    assert!(rt; expected(alloc, &tables, &parse)?.as_slice() == looks);
-    Ok(())
-}
-
-#[test]
-fn one_tree_of_a_sum(rt: HostRuntime) -> Result<(), Fail> {
-    let tree = Verdict::Tree(NodeId { index: 3 });
-    assert_stops(&rt, rt.alloc(), &[NUM, PLUS, NUM], tree, &[node(3)], &[])
-}
-
-#[test]
-fn the_nodes_of_a_sum(rt: HostRuntime) -> Result<(), Fail> {
-    let alloc = rt.alloc();
-    let tables = tables(alloc, SUMS)?;
-    let mut store = Store::new(alloc);
-    let kinds = Listed {
-        kinds: &[NUM, PLUS, NUM],
-    };
-    let parse = Parse::whole(alloc, &tables, &mut store, &kinds)?;
-    assert_eq!(rt; parse.counts(), (4, 4));
-    assert_node(&rt, &store, 0, 2, &[Child::Token(NUM)]);
-    assert_node(&rt, &store, 1, 1, &[node(0)]);
-    assert_node(&rt, &store, 2, 2, &[Child::Token(NUM)]);
-    assert_node(&rt, &store, 3, 0, &[node(1), Child::Token(PLUS), node(2)]);
-    Ok(())
-}
-
 #[test]
 fn a_tree_is_taken_over_whole(rt: HostRuntime) -> Result<(), Fail> {
     let alloc = rt.alloc();
@@ -166,91 +69,5 @@ fn a_tree_is_taken_over_whole(rt: HostRuntime) -> Result<(), Fail> {
     assert_eq!(rt; store.len(), 4);
     assert_eq!(rt; again.verdict(), Verdict::Tree(id));
     assert_eq!(rt; again.counts(), (4, 0));
-    Ok(())
-}
-
-#[test]
-fn older_nodes_stay(rt: HostRuntime) -> Result<(), Fail> {
-    let alloc = rt.alloc();
-    let tables = tables(alloc, SUMS)?;
-    let mut store = Store::new(alloc);
-    let older = store.branch(alloc, 7, &[], 9)?;
-    let parse = Parse::whole(alloc, &tables, &mut store, &Listed { kinds: &[NUM] })?;
-    assert_eq!(rt; store.len(), 3);
-    assert_eq!(rt; parse.counts(), (2, 2));
-    assert!(rt; older.index < store.len());
-    assert_eq!(rt; store.born(older), 9);
-    Ok(())
-}
-
-#[test]
-fn a_fault_at_the_first_token_that_fits_no_sentence(rt: HostRuntime) -> Result<(), Fail> {
-    let stack = [Child::Token(NUM)];
-    let looks = [Some(1), None];
-    assert_stops(
-        &rt,
-        rt.alloc(),
-        &[NUM, NUM],
-        Verdict::FaultAt(1),
-        &stack,
-        &looks,
-    )
-}
-
-#[test]
-fn an_invalid_token_is_a_fault(rt: HostRuntime) -> Result<(), Fail> {
-    let kinds = [NUM, PLUS, Kind::Invalid, PLUS];
-    let stack = [node(1), Child::Token(PLUS)];
-    let looks = [Some(0), Some(2)];
-    assert_stops(&rt, rt.alloc(), &kinds, Verdict::FaultAt(2), &stack, &looks)
-}
-
-#[test]
-fn nothing_ends_too_early(rt: HostRuntime) -> Result<(), Fail> {
-    let looks = [Some(0), Some(2)];
-    assert_stops(&rt, rt.alloc(), &[], Verdict::FaultAtEnd, &[], &looks)
-}
-
-#[test]
-fn an_open_parenthesis_expects_no_end(rt: HostRuntime) -> Result<(), Fail> {
-    let stack = [Child::Token(LP), Child::Token(NUM)];
-    let looks = [Some(1), Some(3)];
-    assert_stops(
-        &rt,
-        rt.alloc(),
-        &[LP, NUM],
-        Verdict::FaultAtEnd,
-        &stack,
-        &looks,
-    )
-}
-
-#[test]
-fn a_list_of_no_items_is_a_branch(rt: HostRuntime) -> Result<(), Fail> {
-    let alloc = rt.alloc();
-    let tables = tables(alloc, LISTS)?;
-    let mut store = Store::new(alloc);
-    let parse = Parse::whole(alloc, &tables, &mut store, &Listed { kinds: &[] })?;
-    assert_eq!(rt; parse.verdict(), Verdict::Tree(NodeId { index: 0 }));
-    assert_node(&rt, &store, 0, 0, &[]);
-    Ok(())
-}
-
-#[test]
-fn nests_without_recursion(rt: HostRuntime) -> Result<(), Fail> {
-    let alloc = rt.alloc();
-    let tables = tables(alloc, SUMS)?;
-    let mut store = Store::new(alloc);
-    let mut kinds = Vec::new(alloc);
-    for _ in 0..100_000 {
-        kinds.push(LP)?;
-    }
-    kinds.push(NUM)?;
-    for _ in 0..100_000 {
-        kinds.push(RP)?;
-    }
-    let parse = Parse::whole(alloc, &tables, &mut store, &Listed { kinds: &kinds })?;
-    assert!(rt; matches!(parse.verdict(), Verdict::Tree(_)));
-    assert_eq!(rt; store.len(), 200_002);
     Ok(())
 }

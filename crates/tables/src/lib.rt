@@ -19,6 +19,3 @@ pub use conflict::Conflict;
 pub use decisions::Move;
 pub use input::Item;
 pub use tables::{MOST_SETS, TableFault, Tables};
-
-#[cfg(test)]
-mod tests;

@@ -1,92 +1,16 @@
-//! Worked grammar files.
+//! Tables of worked grammar files: their moves, their conflicts and their limit.
 
 ghost use Rattle.std.specs.Prelude.{◌<◌, List, length};
 ghost use Rattle.definitions.specs.declared.Symbol.{Symbol as GrammarSymbol};
 ghost use Rattle.tables.specs.Tables.{IsStateOf};
 
-use crate::{Conflict, Item, Move, TableFault, Tables};
 use definitions::{Kind, Symbol};
 use grammar::Grammar;
 use std::alloc::{AllocError, Global};
 use std::process::Abort;
 use std::test::Fail;
-
-const SUMS: &str = r#"lrgrammar 1
-token NUM = [0-9]+
-token PLUS = "+"
-token LP = "("
-token RP = ")"
-skip WS = [ \t\r\n]+
-start Sum
-fold Atom
-Sum = Sum PLUS Atom
-Sum = Atom
-Atom = NUM
-Atom = LP Sum RP
-"#;
-
-/// Unambiguous, but two lookaheads would be needed.
-const TWO_AHEAD: &str = r#"lrgrammar 1
-token X = "x"
-token Y = "y"
-token Z = "z"
-token C = "c"
-start S
-S = P X Y
-S = Q X Z
-P = C
-Q = C
-"#;
-
-/// LALR(1) tables of it would have a conflict.
-const NOT_LALR: &str = r#"lrgrammar 1
-token A = "a"
-token B = "b"
-token C = "c"
-token D = "d"
-token E = "e"
-start S
-S = A P D
-S = B Q D
-S = A Q E
-S = B P E
-P = C
-Q = C
-"#;
-
-const CHOICES: &str = r#"lrgrammar 1
-token IF = "if"
-token ELSE = "else"
-token X = "x"
-skip WS = [ ]+
-start S
-S = IF S
-S = IF S ELSE S
-S = X
-"#;
-
-const LOOP: &str = r#"lrgrammar 1
-token X = "x"
-start S
-S = S
-S = X
-"#;
-
-/// One nonterminal with `count` right sides of 16 symbols, whose first two tell them apart: 2 + 135 + 15 `count` sets.
-fn long_sides(alloc: Global, count: usize) -> Result<String, AllocError> {
-    let mut text = String::from_str(alloc, "lrgrammar 1\n")?;
-    for rule in 0..135 {
-        write!(text, "token T{rule} = \"x\"\n")?;
-    }
-    text.push_str("start S\n")?;
-    for side in 0..count {
-        let first = side / 4;
-        let second = side % 4;
-        write!(text, "S = T{first} T{second}")?;
-        text.push_str(" T0 T0 T0 T0 T0 T0 T0 T0 T0 T0 T0 T0 T0 T0\n")?;
-    }
-    Ok(text)
-}
+use tables::{Conflict, Item, Move, TableFault, Tables};
+use worked::{CHOICES, LOOP, NOT_LALR, SUMS, TWO_AHEAD, long_sides};
 
 fn tables(alloc: Global, text: &str) -> Result<Tables, Fail> {
     let grammar = Grammar::read(alloc, text)?;
