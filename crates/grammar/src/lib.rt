@@ -14,6 +14,3 @@ pub use definitions::{Kind, KindSplice, Symbol};
 pub use fault::{GrammarCause, GrammarFault};
 pub use grammar::{Grammar, Notes};
 pub use grammar_file::Limit;
-
-#[cfg(test)]
-mod tests;

@@ -21,6 +21,3 @@ pub use names::Names;
 pub use rules::{RuleName, Rules};
 pub use statements::{File, Numbered};
 pub use symbols::defined;
-
-#[cfg(test)]
-mod tests;

@@ -4,4 +4,12 @@
 #[cfg(test)]
 mod canonical_tables;
 #[cfg(test)]
+mod grammar_lines;
+#[cfg(test)]
+mod grammars;
+#[cfg(test)]
 mod parses;
+#[cfg(test)]
+mod rows_and_trees;
+#[cfg(test)]
+mod scans;

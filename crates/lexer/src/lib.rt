@@ -13,6 +13,3 @@ pub use laws::each_text_has_tokens;
 pub use sums::{Sums, Token};
 pub use tokens::Tokens;
 pub use whole::Whole;
-
-#[cfg(test)]
-mod tests;

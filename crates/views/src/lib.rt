@@ -9,6 +9,3 @@ pub use definitions::{Position, Range};
 pub use laws::equal_rows_tell_the_same;
 pub use rows::{Row, token_rows};
 pub use tree::tree_text;
-
-#[cfg(test)]
-mod tests;

@@ -1,6 +1,6 @@
-//! Worked files: each line ends with a LF.
+//! The lines of grammar files.
 
-use crate::{Refusal, read_file};
+use grammar_file::{Refusal, read_file};
 use std::alloc::Global;
 use std::test::Fail;
 
@@ -27,7 +27,7 @@ fn reads_lines(rt: HostRuntime) -> Result<(), Fail> {
     Ok(())
 }
 
-// The line of the first fault that lines and names tell, and 99 where there is none.
+/// The line of the first fault that lines and names tell, and 99 where there is none.
 fn line_at_fault(alloc: Global, text: &str) -> usize {
     match read_file(alloc, text) {
         Err(Refusal::Fault(line, _)) => line,
@@ -38,11 +38,16 @@ fn line_at_fault(alloc: Global, text: &str) -> usize {
 #[test]
 fn tells_the_line_at_fault(rt: HostRuntime) -> Result<(), Fail> {
     let alloc = rt.alloc();
-    assert_eq!(rt; line_at_fault(alloc, SUMS), 99);
-    assert_eq!(rt; line_at_fault(alloc, "lrgrammar 2\n"), 1);
-    assert_eq!(rt; line_at_fault(alloc, "lrgrammar 1\n"), 0);
-    assert_eq!(rt; line_at_fault(alloc, "lrgrammar 1\n\nstart\n"), 3);
-    assert_eq!(rt; line_at_fault(alloc, "lrgrammar 1\nstart S\nS = X\n"), 3);
-    assert_eq!(rt; line_at_fault(alloc, "lrgrammar 1\nstart A\nA = A\n"), 99);
+    let rows = [
+        (SUMS, 99),
+        ("lrgrammar 2\n", 1),
+        ("lrgrammar 1\n", 0),
+        ("lrgrammar 1\n\nstart\n", 3),
+        ("lrgrammar 1\nstart S\nS = X\n", 3),
+        ("lrgrammar 1\nstart A\nA = A\n", 99),
+    ];
+    for (file, line) in rows {
+        assert_eq!(rt; line_at_fault(alloc, file), line, "at {file}");
+    }
     Ok(())
 }

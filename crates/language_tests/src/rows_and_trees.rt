@@ -1,4 +1,5 @@
-use crate::{Range, token_rows, tree_text};
+//! The rows of tokens, and the texts of trees.
+
 use dfa::Automaton;
 use grammar::Grammar;
 use lexer::{Kind, Tokens, Whole};
@@ -6,14 +7,8 @@ use std::alloc::{AllocError, Global};
 use std::test::Fail;
 use text::{LONGEST_TEXT, Text};
 use trees::{Child, NodeId, Store};
-
-/// Sums of numbers: the productions are `Sum = Sum PLUS Atom`, `Sum = Atom`, `Atom = NUM` and `Atom = LP Sum RP`.
-const SUMS: &str =
-    "lrgrammar 1\ntoken NUM = [0-9]+\ntoken PLUS = \"+\"\ntoken LP = \"(\"\ntoken RP = \")\"\nskip WS = [ \\t\\r\\n]+\nstart Sum\nfold Atom\nSum = Sum PLUS Atom\nSum = Atom\nAtom = NUM\nAtom = LP Sum RP\n";
-
-/// Lists, whose first production is empty.
-const LISTS: &str =
-    "lrgrammar 1\ntoken STR = \"\\\"\" [^\"]* \"\\\"\"\ntoken W = [a-z]+\nskip WS = [ ]+\nstart L\nL =\nL = L Item\nItem = STR\nItem = W\n";
+use views::{Range, token_rows, tree_text};
+use worked::{LISTS, SUMS};
 
 /// The rows of a text's tokens, a line for each.
 fn rows(alloc: Global, file: &str, text: &str) -> Result<String, Fail> {
@@ -39,33 +34,55 @@ fn line(alloc: Global, name: &str, range: Range) -> Result<String, AllocError> {
 }
 
 #[test]
-fn rows_of_all_tokens_in_lines(rt: HostRuntime) -> Result<(), Fail> {
-    let rows = rows(rt.alloc(), SUMS, "1 +\r\n2")?;
-    assert_eq!(rt;
-        rows.as_str(),
-        "NUM 0:0 0:1;WS 0:1 0:2;PLUS 0:2 0:3;WS 0:3 1:0;NUM 1:0 1:1;"
-    );
+fn rows_of_all_tokens(rt: HostRuntime) -> Result<(), Fail> {
+    let alloc = rt.alloc();
+    let cases = [
+        (
+            SUMS,
+            "1 +\r\n2",
+            "NUM 0:0 0:1;WS 0:1 0:2;PLUS 0:2 0:3;WS 0:3 1:0;NUM 1:0 1:1;",
+        ),
+        // a token may end within a break
+        (LISTS, "\r\n", "invalid 0:0 0:0;invalid 0:0 1:0;"),
+        (SUMS, "", ""),
+        // characters outside the first plane count two
+        (SUMS, "\u{1f600}1", "invalid 0:0 0:2;NUM 0:2 0:3;"),
+        (SUMS, "\u{10000}1", "invalid 0:0 0:2;NUM 0:2 0:3;"),
+        (SUMS, "\u{10ffff}1", "invalid 0:0 0:2;NUM 0:2 0:3;"),
+        (SUMS, "\u{ffff}1", "invalid 0:0 0:1;NUM 0:1 0:2;"),
+        (
+            LISTS,
+            "\"\u{10000}\r\u{10ffff}\" a",
+            "STR 0:0 1:3;WS 1:3 1:4;W 1:4 1:5;",
+        ),
+    ];
+    for (file, text, wanted) in cases {
+        assert_eq!(rt; rows(alloc, file, text)?.as_str(), wanted, "at {text}");
+    }
     Ok(())
 }
 
+/// The first row and the last one of a text of a million tokens.
 #[test]
-fn a_token_may_end_within_a_break(rt: HostRuntime) -> Result<(), Fail> {
-    let rows = rows(rt.alloc(), LISTS, "\r\n")?;
-    assert_eq!(rt; rows.as_str(), "invalid 0:0 0:0;invalid 0:0 1:0;");
-    Ok(())
-}
-
-#[test]
-fn an_empty_text_has_no_row(rt: HostRuntime) -> Result<(), Fail> {
-    let rows = rows(rt.alloc(), SUMS, "")?;
-    assert!(rt; rows.is_empty());
-    Ok(())
-}
-
-#[test]
-fn characters_past_the_first_plane_count_two(rt: HostRuntime) -> Result<(), Fail> {
-    let rows = rows(rt.alloc(), SUMS, "\u{1f600}1")?;
-    assert_eq!(rt; rows.as_str(), "invalid 0:0 0:2;NUM 0:2 0:3;");
+fn rows_of_a_million_tokens(rt: HostRuntime) -> Result<(), Fail> {
+    let alloc = rt.alloc();
+    let grammar = Grammar::read(alloc, SUMS)?;
+    let automaton = Automaton::build(alloc, grammar.patterns())?;
+    let mut written = String::new(alloc);
+    for _ in 0..500_000 {
+        written.push_str("1+")?;
+    }
+    let text = Text::open(alloc, &written)?;
+    let count = text.len();
+    prove!(count <= LONGEST_TEXT);
+    let tokens = Tokens::scan(alloc, &grammar, &automaton, &Whole(&text))?;
+    let rows = token_rows(alloc, &grammar, &text, &tokens)?;
+    assert_eq!(rt; rows.len(), 1_000_000);
+    for (i, (name, from)) in [(0, ("NUM", 0)), (999_999, ("PLUS", 999_999))] {
+        let row = line(alloc, rows[i].name, rows[i].range)?;
+        let wanted = format!(in alloc; "{name} 0:{from} 0:{};", i + 1)?;
+        assert_eq!(rt; row.as_str(), wanted.as_str());
+    }
     Ok(())
 }
 

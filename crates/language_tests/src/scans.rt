@@ -1,52 +1,19 @@
-//! Worked texts and edits.
+//! The tokens of worked texts, and what edits change of them.
 
 ghost use Rattle.std.specs.Prelude.{◌≡◌, ◌+◌, ◌<◌, ◌≤◌, length, IfOk, OnOk};
 ghost use Rattle.std.specs.Str.{chars};
 ghost use Rattle.dfa.specs.Table.{IsAutomaton};
 ghost use Rattle.lexer.specs.Tokens.{AreTokensOf};
 
-use crate::{Edit, Kind, KindSplice, Source, Tokens, Whole};
 use dfa::Automaton;
 use grammar::Grammar;
+use lexer::{Edit, Kind, KindSplice, Source, Tokens, Whole};
 use std::alloc::Global;
 use std::cell::Cell;
 use std::process::Abort;
 use std::test::Fail;
 use text::Text;
-
-const SUMS: &str = r#"lrgrammar 1
-token NUM = [0-9]+
-token PLUS = "+"
-token LP = "("
-token RP = ")"
-skip WS = [ \t\r\n]+
-start Sum
-fold Atom
-Sum = Sum PLUS Atom
-Sum = Atom
-Atom = NUM
-Atom = LP Sum RP
-"#;
-
-const LISTS: &str = r#"lrgrammar 1
-token STR = "\"" [^"]* "\""
-token W = [a-z]+
-skip WS = [ ]+
-start L
-L =
-L = L Item
-Item = STR
-Item = W
-"#;
-
-const LETTERS: &str = r#"lrgrammar 1
-token ABC = "abc"
-token A = "a"
-token B = "b"
-token D = "d"
-start S
-S = ABC A B D
-"#;
+use worked::{LETTERS, LISTS, SUMS};
 
 const NUM: Kind = Kind::Rule(0);
 
@@ -387,5 +354,44 @@ fn reads_few_characters(rt: HostRuntime) -> Result<(), Fail> {
     let edit = step_by_7((50_000, 0, "9"), (2, 100_000), (49_999, 49_999, &[]));
     let reads = check_step(&rt, alloc, &sums, &mut text, &mut tokens, &edit)?;
     assert!(rt; 0 < reads && reads < 100);
+    Ok(())
+}
+
+/// The quote behind the words is taken away, so that each of them is a token again.
+#[test]
+fn rescans_ten_thousand_tokens(rt: HostRuntime) -> Result<(), Fail> {
+    let alloc = rt.alloc();
+    let lists = load(alloc, LISTS)?;
+    let mut open = String::from_str(alloc, "\"")?;
+    let mut kinds = vec![in alloc; Kind::Invalid]?;
+    for _ in 0..5_000 {
+        open.push_str("a ")?;
+        kinds.push(Kind::Rule(1))?;
+    }
+    open.push('"')?;
+    let edit = step_by_7((10_001, 1, ""), (10_001, 10_001), (0, 1, &kinds));
+    check(&rt, alloc, &lists, &open, &edit)
+}
+
+/// Faces are a rule's; other characters outside the first plane are no rule's.
+#[test]
+fn scans_characters_outside_the_first_plane(rt: HostRuntime) -> Result<(), Fail> {
+    let alloc = rt.alloc();
+    let file = "lrgrammar 1\ntoken FACE = [\\u{1F600}-\\u{1F64F}]+\nstart S\nS = FACE\n";
+    let faces = load(alloc, file)?;
+    let rows = [
+        ("FACE", 2, 3, 0),
+        ("invalid", 1, 1, 2),
+        ("FACE", 1, 2, 3),
+        ("invalid", 1, 1, 4),
+    ];
+    let text = "\u{1f600}\u{1f64f}\u{10000}\u{1f601}\u{10ffff}";
+    assert!(rt; has_tokens(alloc, &faces, text, &rows)?);
+    let mut long = String::new(alloc);
+    for _ in 0..262_144 {
+        long.push('\u{1f600}')?;
+    }
+    let rows = [("FACE", 262_144, 262_145, 0)];
+    assert!(rt; has_tokens(alloc, &faces, &long, &rows)?);
     Ok(())
 }
