@@ -33,6 +33,3 @@ pub trait Source {
     /// The window lies within the text.
     ghost inside: { (s : Self) (i : ℕ) → in_window s i → i < length (text s) };
 }
-
-#[cfg(test)]
-mod tests;

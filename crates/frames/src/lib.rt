@@ -15,6 +15,3 @@ pub use laws::{one_split, shortest_header_part};
 pub use sink::{Output, WriteOutput};
 pub use source::{Input, ReadInput};
 pub use write::write_frame;
-
-#[cfg(test)]
-mod tests;

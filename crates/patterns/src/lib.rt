@@ -106,6 +106,3 @@ fn characters_of(alloc: Global, text: &str) -> Result<Vec<char>, AllocError>
 {
     text.chars().collect(alloc)
 }
-
-#[cfg(test)]
-mod tests;

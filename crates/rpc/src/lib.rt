@@ -13,6 +13,3 @@ pub use laws::{one_hearing, some_hearing};
 pub use message::{Call, Change, Id, Malformed, Message, Note, RpcFault};
 pub use reading::read;
 pub use reply::{Refusal, Reply, Row, to_bytes};
-
-#[cfg(test)]
-mod tests;

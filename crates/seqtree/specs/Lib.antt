@@ -4,4 +4,3 @@ pub mod Parts
 pub mod Falls
 pub mod Goal
 pub mod Saturated
-pub mod Maxima

@@ -9,8 +9,6 @@ ghost use Rattle.seqtree.specs.Goal.{StaysReached};
 mod iter;
 mod seq;
 mod stack;
-#[cfg(test)]
-mod tests;
 mod tree;
 
 pub use iter::Iter;

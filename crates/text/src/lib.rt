@@ -8,6 +8,3 @@ mod positions;
 pub use definitions::{Position, Range};
 pub use document::{Chars, LONGEST_TEXT, Text, TextFault};
 pub use places::Places;
-
-#[cfg(test)]
-mod tests;

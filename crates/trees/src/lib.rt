@@ -8,6 +8,3 @@ mod store;
 pub use definitions::Kind;
 pub use kinds::Kinds;
 pub use store::{Child, NodeId, Store};
-
-#[cfg(test)]
-mod tests;

@@ -1,4 +1,6 @@
-use crate::{
+//! The messages that contents are heard as, and the bytes of replies.
+
+use rpc::{
     Call, Id, Malformed, Message, Note, Position, Range, Refusal, Reply, Row, RpcFault,
     one_hearing, read, some_hearing, to_bytes,
 };

@@ -1,9 +1,9 @@
-//! A list of numbers with the greatest of each part, against a plain vector.
+//! Lists of numbers with the greatest of each part, against plain vectors.
 
 ghost use Rattle.std.specs.Prelude.{max, nat_le};
-ghost use Rattle.seqtree.specs.Maxima.{max_left_unit, max_right_unit, max_assoc, max_stays};
+ghost use Rattle.layer_tests.specs.Maxima.{max_left_unit, max_right_unit, max_assoc, max_stays};
 
-use crate::{Goal, Measured, Monoid, Seq, Slots};
+use seqtree::{Goal, Measured, Monoid, Seq, Slots};
 use std::alloc::Global;
 use std::process::Abort;
 use std::test::Fail;

@@ -1,7 +1,9 @@
+//! Longest matches, and how many states an automaton may have.
+
 ghost use Rattle.std.specs.Prelude.{◌<◌, length};
 ghost use Rattle.definitions.specs.Text.{IsText};
 
-use crate::{Automaton, DfaFault, Match, Source};
+use dfa::{Automaton, DfaFault, Match, Source};
 use patterns::Pattern;
 use std::alloc::{AllocError, Global};
 use std::string::String;

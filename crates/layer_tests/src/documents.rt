@@ -1,7 +1,9 @@
-use crate::{LONGEST_TEXT, Position, Range, Text, TextFault};
+//! Texts, their positions and their edits.
+
 use std::alloc::{AllocError, Global};
 use std::process::Abort;
 use std::test::Fail;
+use text::{LONGEST_TEXT, Position, Range, Text, TextFault};
 
 fn at(line: u32, character: u32) -> Position {
     Position { line, character }
@@ -42,11 +44,14 @@ fn breaks_apart_are_two_and_together_one(rt: HostRuntime) -> Result<(), Fail> {
 #[test]
 fn characters_past_the_first_plane_count_two(rt: HostRuntime) -> Result<(), Fail> {
     let alloc = rt.alloc();
-    let mut text = Text::open(alloc, "\u{1f600}1")?;
-    expect_positions(&rt, &text, &[(0, 0, 0), (1, 0, 2), (2, 0, 3)]);
-    text.change(alloc, between(at(0, 1), at(0, 1)), "5")?;
-    assert_eq!(rt; text.to_string(alloc)?.as_str(), "5\u{1f600}1");
-    expect_positions(&rt, &text, &[(1, 0, 1), (2, 0, 3)]);
+    for c in ['\u{10000}', '\u{1f600}', '\u{10ffff}'] {
+        let mut text = Text::open(alloc, format!(in alloc; "{c}1")?.as_str())?;
+        expect_positions(&rt, &text, &[(0, 0, 0), (1, 0, 2), (2, 0, 3)]);
+        text.change(alloc, between(at(0, 1), at(0, 1)), "5")?;
+        let wanted = format!(in alloc; "5{c}1")?;
+        assert_eq!(rt; text.to_string(alloc)?.as_str(), wanted.as_str());
+        expect_positions(&rt, &text, &[(1, 0, 1), (2, 0, 3)]);
+    }
     Ok(())
 }
 

@@ -1,7 +1,9 @@
-use crate::{Child, Kind, Kinds, NodeId, Store};
+//! Stores of trees.
+
 use std::alloc::{AllocError, Global};
 use std::process::Abort;
 use std::test::Fail;
+use trees::{Child, Kind, Kinds, NodeId, Store};
 
 const NUMBER: Child = Child::Token(Kind::Rule(0));
 

@@ -1,4 +1,6 @@
-use crate::{Expression, Interval, Pattern, PatternCause, PatternFault};
+//! The texts of token patterns, and their faults.
+
+use patterns::{Expression, Interval, Pattern, PatternCause, PatternFault};
 use std::alloc::{AllocError, Global};
 use std::test::Fail;
 

@@ -1,10 +1,9 @@
+//! Streams of frames, whatever the pieces that they come and go in.
+
 ghost use Rattle.std.specs.Prelude.{None, ◌<◌, if◌then◌else◌};
 
-use crate::{
-    Decoder, DeviceFault, Frame, FrameFault, Input, Output, ReadInput, WriteOutput, write_frame,
-};
+use frames::{Decoder, DeviceFault, Frame, FrameFault, Output, WriteOutput, write_frame};
 use std::alloc::Global;
-use std::io::{self, ErrorKind, Read, Write};
 use std::process::Abort;
 use std::test::Fail;
 
@@ -207,43 +206,6 @@ fn frames_are_written_whole_or_a_front_of_them(rt: HostRuntime) -> Result<(), Fa
 }
 
 #[test]
-fn readers_are_inputs(rt: HostRuntime) {
-    let mut input = ReadInput::new(b"abc".as_slice());
-    let mut buffer = [0; 2];
-    let first = input.read(&mut buffer);
-    assert_eq!(rt; first, Ok(2));
-    assert_eq!(rt; &buffer, b"ab");
-    if first.is_ok() {
-        assert_eq!(rt; input.read(&mut buffer), Ok(1));
-        assert_eq!(rt; buffer[0], b'c');
-    }
-    let mut input = ReadInput::new(b"".as_slice());
-    assert_eq!(rt; input.read(&mut buffer), Ok(0));
-    let mut input = ReadInput::new(Broken);
-    assert_eq!(rt; input.read(&mut buffer), Err(DeviceFault));
-}
-
-/// A reader and writer that answers nothing but errors.
-#[derive(Drop)]
-struct Broken;
-
-impl Read for Broken {
-    fn read(&mut self, _buf: &mut [u8]) -> io::Result<usize> {
-        Err(io::Error::from(ErrorKind::Interrupted))
-    }
-}
-
-impl Write for Broken {
-    fn write(&mut self, _buf: &[u8]) -> io::Result<usize> {
-        Err(io::Error::from(ErrorKind::Interrupted))
-    }
-
-    fn flush(&mut self) -> io::Result<()> {
-        Err(io::Error::from(ErrorKind::Interrupted))
-    }
-}
-
-#[test]
 fn faults_are_printed_by_their_names(rt: HostRuntime) -> Result<(), Fail> {
     let alloc = rt.alloc();
     let names = [
@@ -262,22 +224,70 @@ fn faults_are_printed_by_their_names(rt: HostRuntime) -> Result<(), Fail> {
     Ok(())
 }
 
+/// A content of so many bytes.
+fn long_content(alloc: Global, len: usize) -> Result<Vec<u8>, Fail> {
+    let mut content = Vec::new(alloc);
+    for _ in 0..len {
+        content.push(b'x')?;
+    }
+    Ok(content)
+}
+
+/// The stream, fed in pieces of this size, is one frame of this content.
+fn is_one_frame(
+    rt: &impl Abort,
+    alloc: Global,
+    stream: &[u8],
+    content: &[u8],
+    size: usize,
+) -> Result<(), Fail>
+    requires { 0 < size }
+{
+    let mut decoder = Decoder::new(alloc);
+    let mut frames = Vec::new(alloc);
+    for piece in stream.chunks(size) {
+        for frame in decoder.feed(alloc, piece)? {
+            frames.push(frame)?;
+        }
+    }
+    assert_eq!(rt; frames.len(), 1, "in pieces of {size}");
+    for frame in &frames {
+        assert!(rt; frame.content.as_slice() == content, "in pieces of {size}");
+    }
+    assert_eq!(rt; decoder.finish(), Ok(()), "in pieces of {size}");
+    Ok(())
+}
+
 #[test]
-fn writers_are_outputs(rt: HostRuntime) -> Result<(), Fail> {
+fn the_longest_content_is_a_frame(rt: HostRuntime) -> Result<(), Fail> {
     let alloc = rt.alloc();
-    let mut taken = Vec::with_capacity(alloc, 30)?;
-    let mut output = WriteOutput::new(&mut taken);
-    let outcome = write_frame(&mut output, b"{}");
+    let content = long_content(alloc, 16_777_216)?;
+    let mut stream = Vec::new(alloc);
+    stream.extend_from_slice(b"Content-Length: 16777216\r\n\r\n")?;
+    stream.extend_from_slice(&content)?;
+    is_one_frame(&rt, alloc, &stream, &content, 65_536)?;
+    is_one_frame(&rt, alloc, &stream, &content, 100_000_000)
+}
+
+#[test]
+fn a_frame_of_a_mebibyte_is_written(rt: HostRuntime) -> Result<(), Fail> {
+    let alloc = rt.alloc();
+    let content = long_content(alloc, 1_048_576)?;
+    let mut wanted = Vec::new(alloc);
+    wanted.extend_from_slice(b"Content-Length: 1048576\r\n\r\n")?;
+    wanted.extend_from_slice(&content)?;
+    let mut taken = Vec::new(alloc);
+    let outcome = write_frame(&mut WriteOutput::new(&mut taken), &content);
     assert!(rt; outcome.is_ok());
-    assert_eq!(rt; taken.as_slice(), b"Content-Length: 2\r\n\r\n{}".as_slice());
-    let mut room = [0; 20];
-    let mut output = WriteOutput::new(room.as_mut_slice());
-    let outcome = write_frame(&mut output, b"{}");
-    assert!(rt; outcome.is_err());
-    assert_eq!(rt; &room, b"Content-Length: 2\r\n\r");
-    let mut output = WriteOutput::new(Broken);
-    assert_eq!(rt; output.write(b"{}"), Err(DeviceFault));
-    let mut output = WriteOutput::new(Broken);
-    assert_eq!(rt; output.flush(), Err(DeviceFault));
+    assert!(rt; taken == wanted);
+    let mut taker = Taker {
+        taken: Vec::new(alloc),
+        most: 1_000,
+        writes_left: usize::MAX,
+        has_failed: false,
+    };
+    let outcome = write_frame(&mut taker, &content);
+    assert!(rt; outcome.is_ok());
+    assert!(rt; taker.taken == wanted);
     Ok(())
 }

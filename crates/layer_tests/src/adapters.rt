@@ -1,0 +1,108 @@
+//! Readers as inputs, and writers as outputs.
+
+use frames::{DeviceFault, Input, Output, ReadInput, WriteOutput, write_frame};
+use std::cell::Cell;
+use std::io::{self, ErrorKind, Read, Write};
+use std::test::Fail;
+
+#[test]
+fn readers_are_inputs(rt: HostRuntime) {
+    let mut input = ReadInput::new(b"abc".as_slice());
+    let mut buffer = [0; 2];
+    let first = input.read(&mut buffer);
+    assert_eq!(rt; first, Ok(2));
+    assert_eq!(rt; &buffer, b"ab");
+    if first.is_ok() {
+        assert_eq!(rt; input.read(&mut buffer), Ok(1));
+        assert_eq!(rt; buffer[0], b'c');
+    }
+    let mut input = ReadInput::new(b"".as_slice());
+    assert_eq!(rt; input.read(&mut buffer), Ok(0));
+}
+
+#[test]
+fn writers_are_outputs(rt: HostRuntime) -> Result<(), Fail> {
+    let alloc = rt.alloc();
+    let mut taken = Vec::with_capacity(alloc, 30)?;
+    let mut output = WriteOutput::new(&mut taken);
+    let outcome = write_frame(&mut output, b"{}");
+    assert!(rt; outcome.is_ok());
+    assert_eq!(rt; taken.as_slice(), b"Content-Length: 2\r\n\r\n{}".as_slice());
+    let mut room = [0; 20];
+    let mut output = WriteOutput::new(room.as_mut_slice());
+    let outcome = write_frame(&mut output, b"{}");
+    assert!(rt; outcome.is_err());
+    assert_eq!(rt; &room, b"Content-Length: 2\r\n\r");
+    Ok(())
+}
+
+/// Fails at its first call, and works at all others, each of which takes or gives one byte. Its calls are counted.
+#[derive(Drop)]
+struct FailsFirst<'a> {
+    calls: &'a Cell<usize>,
+    kind: ErrorKind,
+}
+
+impl FailsFirst<'_> {
+    fn called(&self) -> io::Result<()> {
+        let calls = self.calls.get();
+        self.calls.set(calls.saturating_add(1));
+        if calls == 0 {
+            return Err(io::Error::from(self.kind));
+        }
+        Ok(())
+    }
+}
+
+impl Read for FailsFirst<'_> {
+    fn read(&mut self, buf: &mut [u8]) -> io::Result<usize> {
+        self.called()?;
+        Ok(buf.len().min(1))
+    }
+}
+
+impl Write for FailsFirst<'_> {
+    fn write(&mut self, buf: &[u8]) -> io::Result<usize> {
+        self.called()?;
+        Ok(buf.len().min(1))
+    }
+
+    fn flush(&mut self) -> io::Result<()> {
+        self.called()
+    }
+}
+
+#[test]
+fn a_failed_call_is_not_tried_again(rt: HostRuntime) {
+    let calls = Cell::new(0);
+    let kinds = [
+        ErrorKind::Interrupted,
+        ErrorKind::WouldBlock,
+        ErrorKind::TimedOut,
+        ErrorKind::UnexpectedEof,
+        ErrorKind::Other,
+    ];
+    for kind in kinds {
+        calls.set(0);
+        let device = FailsFirst {
+            calls: &calls,
+            kind,
+        };
+        assert_eq!(rt; ReadInput::new(device).read(&mut [0]), Err(DeviceFault));
+        assert_eq!(rt; calls.get(), 1);
+        calls.set(0);
+        let device = FailsFirst {
+            calls: &calls,
+            kind,
+        };
+        assert_eq!(rt; WriteOutput::new(device).write(b"{}"), Err(DeviceFault));
+        assert_eq!(rt; calls.get(), 1);
+        calls.set(0);
+        let device = FailsFirst {
+            calls: &calls,
+            kind,
+        };
+        assert_eq!(rt; WriteOutput::new(device).flush(), Err(DeviceFault));
+        assert_eq!(rt; calls.get(), 1);
+    }
+}
