@@ -1,15 +1,7 @@
 //! The program `lrls`: checks grammars, and is a language server on standard input and output.
 #![tactic(auto)]
 
-mod command_line;
-mod commands;
-mod fault;
-#[cfg(test)]
-mod tests;
-
-use crate::command_line::{Task, words};
-use crate::commands::{Printed, check, load};
-use crate::fault::Fault;
+use commands::{Fault, Printed, Task, check, load, words};
 use frames::{ReadInput, WriteOutput};
 use server::{Language, run};
 use std::alloc::Global;

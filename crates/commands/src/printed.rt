@@ -16,7 +16,7 @@ pub struct Printed {
 }
 
 /// What is printed of a fault.
-pub fn refusal(alloc: Global, fault: &Fault) -> Result<Printed, AllocError> {
+fn refusal(alloc: Global, fault: &Fault) -> Result<Printed, AllocError> {
     Ok(Printed {
         out: Vec::new(alloc),
         err: format!(in alloc; "{fault}\n")?.into_bytes(),

@@ -1,5 +1,6 @@
-use crate::command_line::{Task, words};
-use crate::fault::Fault;
+//! What words ask for, and the texts and statuses of faults.
+
+use commands::{Fault, Task, words};
 use frames::FrameFault;
 use std::alloc::Global;
 use std::test::Fail;

@@ -5,6 +5,7 @@ ghost use Rattle.std.specs.Prelude.{None, if◌then◌else◌};
 use frames::{DeviceFault, Input, Output};
 use std::alloc::Global;
 use std::cell::RefCell;
+use std::io::{self, Read};
 
 /// What an output took, how much of it was flushed, and whether each reply was flushed before the read behind its request.
 #[derive(Drop)]
@@ -122,5 +123,22 @@ impl Output for Taker<'_> {
         }
         self.has_failed = true;
         Err(DeviceFault)
+    }
+}
+
+/// A reader that gives its bytes one by one.
+#[derive(Drop)]
+pub struct Drops<'a> {
+    pub rest: &'a [u8],
+}
+
+impl Read for Drops<'_> {
+    fn read(&mut self, buf: &mut [u8]) -> io::Result<usize> {
+        if let (Some(first), Some(place)) = (self.rest.first(), buf.first_mut()) {
+            *place = *first;
+            self.rest = &self.rest[1..];
+            return Ok(1);
+        }
+        Ok(0)
     }
 }

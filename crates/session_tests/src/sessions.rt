@@ -1,8 +1,8 @@
 //! Sessions, from bytes to bytes.
 
-use super::devices::{Pieces, Record, Taker};
-use super::grammars::{lists, sums};
-use frames::FrameFault;
+use crate::devices::{Drops, Pieces, Record, Taker};
+use crate::grammar_checks::{lists, sums};
+use frames::{FrameFault, ReadInput, WriteOutput};
 use server::{Language, RunFault, run};
 use std::alloc::Global;
 use std::cell::RefCell;
@@ -47,6 +47,26 @@ const ANSWERS: [&str; 3] = [
 
 const PARSE_ERROR: &str =
     "{\"error\":{\"code\":-32700,\"message\":\"parse error\"},\"id\":null,\"jsonrpc\":\"2.0\"}";
+
+const EARLY: &str =
+    "{\"jsonrpc\":\"2.0\",\"id\":7,\"method\":\"lr/text\",\"params\":{\"textDocument\":{\"uri\":\"a:x\"}}}";
+
+const NOT_INITIALIZED: &str =
+    "{\"error\":{\"code\":-32002,\"message\":\"server not initialized\"},\"id\":7,\"jsonrpc\":\"2.0\"}";
+
+const INVALID: &str =
+    "{\"error\":{\"code\":-32600,\"message\":\"invalid request\"},\"id\":null,\"jsonrpc\":\"2.0\"}";
+
+const UNKNOWN: &str = "{\"jsonrpc\":\"2.0\",\"id\":4,\"method\":\"$/x\"}";
+
+const NOT_FOUND: &str =
+    "{\"error\":{\"code\":-32601,\"message\":\"method not found\"},\"id\":4,\"jsonrpc\":\"2.0\"}";
+
+const AGAIN: &str =
+    "{\"error\":{\"code\":-32600,\"message\":\"invalid request\"},\"id\":1,\"jsonrpc\":\"2.0\"}";
+
+const DOWN: &str =
+    "{\"error\":{\"code\":-32600,\"message\":\"invalid request\"},\"id\":2,\"jsonrpc\":\"2.0\"}";
 
 fn framed(alloc: Global, contents: &[&str]) -> Result<Vec<u8>, Fail> {
     let mut bytes = Vec::new(alloc);
@@ -143,35 +163,39 @@ fn converses(
     Ok(())
 }
 
+/// The stored session in this way: each reply is out before the next read.
+fn passes(
+    rt: &impl Abort,
+    alloc: Global,
+    (input, output): (&[u8], &[u8]),
+    way: Way,
+    due: &[(usize, usize)],
+) -> Result<(), Fail> {
+    let (first, piece) = (way.first, way.piece);
+    let (outcome, record) = run_on(alloc, input, way, due)?;
+    assert_eq!(rt; outcome, Ok(0), "{first}, then pieces of {piece}");
+    assert!(rt;
+        record.taken.as_slice() == output,
+        "{first}, then pieces of {piece}"
+    );
+    assert!(rt; record.is_prompt, "{first}, then pieces of {piece}");
+    Ok(())
+}
+
 #[test]
 fn the_session_passes_however_it_is_cut(rt: HostRuntime) -> Result<(), Fail> {
     let alloc = rt.alloc();
     let input = framed(alloc, &SESSION)?;
     let output = framed(alloc, &ANSWERS)?;
-    let due = [
-        (
-            framed(alloc, &SESSION[..1])?.len(),
-            framed(alloc, &ANSWERS[..1])?.len(),
-        ),
-        (
-            framed(alloc, &SESSION[..4])?.len(),
-            framed(alloc, &ANSWERS[..2])?.len(),
-        ),
-        (
-            framed(alloc, &SESSION[..5])?.len(),
-            framed(alloc, &ANSWERS[..3])?.len(),
-        ),
-    ];
+    let mut due = Vec::new(alloc);
+    for (asked, answered) in [(1, 1), (4, 2), (5, 3)] {
+        let read = framed(alloc, &SESSION[..asked])?.len();
+        let written = framed(alloc, &ANSWERS[..answered])?.len();
+        due.push((read, written))?;
+    }
     for first in 1..input.len() {
         let way = Way { first, ..WHOLE };
-        let (outcome, record) = run_on(alloc, &input, way, &due)?;
-        assert_eq!(rt; outcome, Ok(0), "cut after {first}");
-        assert_eq!(rt;
-            record.taken.as_slice(),
-            output.as_slice(),
-            "cut after {first}"
-        );
-        assert!(rt; record.is_prompt, "cut after {first}");
+        passes(&rt, alloc, (&input, &output), way, &due)?;
     }
     for (piece, written) in [(1, 1), (7, 3), (4096, 4096)] {
         let way = Way {
@@ -180,14 +204,7 @@ fn the_session_passes_however_it_is_cut(rt: HostRuntime) -> Result<(), Fail> {
             written,
             ..WHOLE
         };
-        let (outcome, record) = run_on(alloc, &input, way, &due)?;
-        assert_eq!(rt; outcome, Ok(0), "pieces of {piece}");
-        assert_eq!(rt;
-            record.taken.as_slice(),
-            output.as_slice(),
-            "pieces of {piece}"
-        );
-        assert!(rt; record.is_prompt, "pieces of {piece}");
+        passes(&rt, alloc, (&input, &output), way, &due)?;
     }
     Ok(())
 }
@@ -195,57 +212,24 @@ fn the_session_passes_however_it_is_cut(rt: HostRuntime) -> Result<(), Fail> {
 #[test]
 fn requests_are_answered_by_phase(rt: HostRuntime) -> Result<(), Fail> {
     let alloc = rt.alloc();
-    let early =
-        "{\"jsonrpc\":\"2.0\",\"id\":7,\"method\":\"lr/text\",\"params\":{\"textDocument\":{\"uri\":\"a:x\"}}}";
-    let not_initialized =
-        "{\"error\":{\"code\":-32002,\"message\":\"server not initialized\"},\"id\":7,\"jsonrpc\":\"2.0\"}";
-    assert_eq!(rt; not_initialized.len(), 83);
-    converses(&rt, alloc, &[early], &[not_initialized], Ok(1))?;
-    let no_id =
-        "{\"error\":{\"code\":-32600,\"message\":\"invalid request\"},\"id\":null,\"jsonrpc\":\"2.0\"}";
-    converses(&rt, alloc, &["[]"], &[no_id], Ok(1))?;
-    let unknown = "{\"jsonrpc\":\"2.0\",\"id\":4,\"method\":\"$/x\"}";
-    let not_found =
-        "{\"error\":{\"code\":-32601,\"message\":\"method not found\"},\"id\":4,\"jsonrpc\":\"2.0\"}";
-    converses(
-        &rt,
-        alloc,
-        &[INITIALIZE, unknown],
-        &[CAPABILITIES, not_found],
-        Ok(1),
-    )?;
-    converses(
-        &rt,
-        alloc,
-        &[INITIALIZE, ASK_TEXT],
-        &[CAPABILITIES, NOT_OPEN],
-        Ok(1),
-    )?;
-    let again =
-        "{\"error\":{\"code\":-32600,\"message\":\"invalid request\"},\"id\":1,\"jsonrpc\":\"2.0\"}";
-    converses(
-        &rt,
-        alloc,
-        &[INITIALIZE, INITIALIZE],
-        &[CAPABILITIES, again],
-        Ok(1),
-    )?;
-    let down =
-        "{\"error\":{\"code\":-32600,\"message\":\"invalid request\"},\"id\":2,\"jsonrpc\":\"2.0\"}";
-    converses(
-        &rt,
-        alloc,
-        &[INITIALIZE, SHUTDOWN, ASK_TEXT, EXIT],
-        &[CAPABILITIES, ANSWERS[2], down],
-        Ok(0),
-    )?;
-    converses(
-        &rt,
-        alloc,
-        &[INITIALIZE, EXIT, SHUTDOWN],
-        &[CAPABILITIES],
-        Ok(1),
-    )
+    assert_eq!(rt; NOT_INITIALIZED.len(), 83);
+    let rows: [(&[&str], &[&str], u8); 7] = [
+        (&[EARLY], &[NOT_INITIALIZED], 1),
+        (&["[]"], &[INVALID], 1),
+        (&[INITIALIZE, UNKNOWN], &[CAPABILITIES, NOT_FOUND], 1),
+        (&[INITIALIZE, ASK_TEXT], &[CAPABILITIES, NOT_OPEN], 1),
+        (&[INITIALIZE, INITIALIZE], &[CAPABILITIES, AGAIN], 1),
+        (
+            &[INITIALIZE, SHUTDOWN, ASK_TEXT, EXIT],
+            &[CAPABILITIES, ANSWERS[2], DOWN],
+            0,
+        ),
+        (&[INITIALIZE, EXIT, SHUTDOWN], &[CAPABILITIES], 1),
+    ];
+    for (contents, answers, status) in rows {
+        converses(&rt, alloc, contents, answers, Ok(status))?;
+    }
+    Ok(())
 }
 
 /// A document of this text, after these changes, has that text; texts are written as JSON escapes them.
@@ -281,37 +265,29 @@ fn becomes(
 
 #[test]
 fn texts_are_edited(rt: HostRuntime) -> Result<(), Fail> {
-    let alloc = rt.alloc();
-    becomes(&rt, alloc, "1\\rX\\n2", &[((1, 0), (1, 1), "")], "1\\r\\n2")?;
-    becomes(
-        &rt,
-        alloc,
-        "\u{1F600}1",
-        &[((0, 1), (0, 1), "5")],
-        "5\u{1F600}1",
-    )?;
-    becomes(
-        &rt,
-        alloc,
-        "\u{1F600}1",
-        &[((0, 2), (0, 2), "5")],
-        "\u{1F600}51",
-    )?;
-    becomes(
-        &rt,
-        alloc,
-        "",
-        &[((0, 0), (0, 0), "12"), ((0, 0), (0, 1), "")],
-        "2",
-    )?;
-    becomes(&rt, alloc, "1+2", &[((0, 3), (0, 1), "")], "1")?;
-    becomes(
-        &rt,
-        alloc,
-        "1+2",
-        &[((0, 3), (0, 1), ""), ((99, 0), (99, 0), "+3")],
-        "1+3",
-    )
+    let rows: [(&str, &[((u32, u32), (u32, u32), &str)], &str); 9] = [
+        ("1\\rX\\n2", &[((1, 0), (1, 1), "")], "1\\r\\n2"),
+        ("\u{1F600}1", &[((0, 1), (0, 1), "5")], "5\u{1F600}1"),
+        ("\u{1F600}1", &[((0, 2), (0, 2), "5")], "\u{1F600}51"),
+        ("\u{10000}1", &[((0, 2), (0, 2), "5")], "\u{10000}51"),
+        ("\u{10FFFF}1", &[((0, 2), (0, 3), "")], "\u{10FFFF}"),
+        (
+            "",
+            &[((0, 0), (0, 0), "\u{10000}"), ((0, 2), (0, 2), "x")],
+            "\u{10000}x",
+        ),
+        ("", &[((0, 0), (0, 0), "12"), ((0, 0), (0, 1), "")], "2"),
+        ("1+2", &[((0, 3), (0, 1), "")], "1"),
+        (
+            "1+2",
+            &[((0, 3), (0, 1), ""), ((99, 0), (99, 0), "+3")],
+            "1+3",
+        ),
+    ];
+    for (text, changes, wanted) in rows {
+        becomes(&rt, rt.alloc(), text, changes, wanted)?;
+    }
+    Ok(())
 }
 
 /// A document of this text, as JSON escapes it, is answered so when it is asked about by this method.
@@ -484,5 +460,80 @@ fn a_device_that_fails_leaves_a_front_of_the_answers(rt: HostRuntime) -> Result<
         assert!(rt; output.starts_with(&record.taken), "after {reads} reads");
         assert_eq!(rt; outcome, Err(RunFault::Read), "after {reads} reads");
     }
+    Ok(())
+}
+
+/// The read behind a frame fault would fail, so it must not be made.
+#[test]
+fn nothing_is_read_behind_a_frame_fault(rt: HostRuntime) -> Result<(), Fail> {
+    let alloc = rt.alloc();
+    let record = RefCell::new(Record::new(alloc));
+    let streams: [(&[u8], u64); 4] = [
+        (b"X\r\n\r\n", 5),
+        (b"Content-Length: 1\r\n\r\n{X\r\n\r\n", 27),
+        (b"Content-Length: 16777217\r\n\r\n", 28),
+        (b"\r\n", 2),
+    ];
+    for (stream, bytes) in streams {
+        for (piece, reads) in [(100, 1), (1, bytes)] {
+            let mut pieces = Pieces {
+                rest: stream,
+                first: piece,
+                piece,
+                given: 0,
+                due: &[],
+                record: &record,
+                reads,
+                has_failed: false,
+            };
+            let mut taker = Taker {
+                piece: 100,
+                record: &record,
+                calls: u64::MAX,
+                has_failed: false,
+            };
+            let outcome = run(alloc, sums(alloc)?, &mut pieces, &mut taker);
+            assert_eq!(rt; outcome, Err(RunFault::Frame(FrameFault::BadField)));
+            assert!(rt; !pieces.has_failed, "pieces of {piece}");
+        }
+    }
+    Ok(())
+}
+
+/// `initialize` in a content of so many bytes, with blanks behind it.
+fn padded(alloc: Global, len: usize) -> Result<Vec<u8>, Fail> {
+    let mut stream = Vec::new(alloc);
+    let header = format!(in alloc; "Content-Length: {len}\r\n\r\n{INITIALIZE}")?;
+    stream.extend_from_slice(header.as_bytes())?;
+    for _ in INITIALIZE.len()..len {
+        stream.push(b' ')?;
+    }
+    Ok(stream)
+}
+
+#[test]
+fn a_content_of_the_greatest_length_is_answered(rt: HostRuntime) -> Result<(), Fail> {
+    let alloc = rt.alloc();
+    let input = padded(alloc, 16_777_216)?;
+    let output = framed(alloc, &[CAPABILITIES])?;
+    let (outcome, record) = run_on(alloc, &input, WHOLE, &[])?;
+    assert_eq!(rt; outcome, Ok(1));
+    assert_eq!(rt; record.taken.as_slice(), output.as_slice());
+    Ok(())
+}
+
+/// By the adapters of readers and writers.
+#[test]
+fn a_hundred_thousand_reads_of_one_byte(rt: HostRuntime) -> Result<(), Fail> {
+    let alloc = rt.alloc();
+    let stream = padded(alloc, 99_974)?;
+    assert_eq!(rt; stream.len(), 99_999);
+    let mut input = ReadInput::new(Drops { rest: &stream });
+    let mut taken = Vec::new(alloc);
+    let mut output = WriteOutput::new(&mut taken);
+    let outcome = run(alloc, sums(alloc)?, &mut input, &mut output);
+    assert_eq!(rt; outcome, Ok(1));
+    let wanted = framed(alloc, &[CAPABILITIES])?;
+    assert_eq!(rt; taken.as_slice(), wanted.as_slice());
     Ok(())
 }

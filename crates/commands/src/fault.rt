@@ -1,8 +1,8 @@
 //! Why the program ends with a fault.
 
 ghost use Rattle.std.specs.Prelude.{◌≡◌};
-ghost use Rattle.lrls.specs.Status.{status_of, fault_of};
-ghost use Rattle.lrls.specs.declared.fault.Fault.TheVariants.{NoMemory};
+ghost use Rattle.commands.specs.Status.{status_of, fault_of};
+ghost use Rattle.commands.specs.declared.fault.Fault.TheVariants.{NoMemory};
 
 use frames::FrameFault;
 use grammar::GrammarFault;

@@ -1,4 +1,0 @@
-mod command_line;
-mod devices;
-mod grammars;
-mod sessions;

@@ -1,0 +1,12 @@
+//! Tests of the program's calls: command lines, what is printed of grammar files, and whole sessions over the server's loop.
+//! The crate has nothing else.
+#![tactic(auto)]
+
+#[cfg(test)]
+mod command_lines;
+#[cfg(test)]
+mod devices;
+#[cfg(test)]
+mod grammar_checks;
+#[cfg(test)]
+mod sessions;
