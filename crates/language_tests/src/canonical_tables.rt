@@ -38,23 +38,13 @@ fn shift(rt: &impl Abort, tables: &Tables, state: usize, rule: usize) -> usize
     }
 }
 
-/// Which of the first `rules` token rules, and whether the end, may follow in a state.
-fn expected(
-    alloc: Global,
-    tables: &Tables,
-    state: usize,
-    rules: usize,
-) -> Result<Vec<Option<usize>>, AllocError>
+/// What may come next in a state.
+fn expected(alloc: Global, tables: &Tables, state: usize) -> Result<Vec<Option<usize>>, AllocError>
     requires { (prefix : List GrammarSymbol) × IsStateOf tables.now prefix state }
 {
     let mut looks = Vec::new(alloc);
-    for rule in 0..rules {
-        if tables.expects(state, Some(rule)) {
-            looks.push(Some(rule))?;
-        }
-    }
-    if tables.expects(state, None) {
-        looks.push(None)?;
+    for look in tables.expects(state) {
+        looks.push(look)?;
     }
     Ok(looks)
 }
@@ -69,19 +59,19 @@ fn expects_what_sums_go_on_with(rt: HostRuntime) -> Result<(), Fail> {
     let inner = shift(&rt, &tables, open, 0);
     let operand = [Some(0), Some(2)];
     assert_eq!(rt;
-        expected(alloc, &tables, start, 5)?.as_slice(),
+        expected(alloc, &tables, start)?.as_slice(),
         operand.as_slice()
     );
     assert_eq!(rt;
-        expected(alloc, &tables, open, 5)?.as_slice(),
+        expected(alloc, &tables, open)?.as_slice(),
         operand.as_slice()
     );
     assert_eq!(rt;
-        expected(alloc, &tables, number, 5)?.as_slice(),
+        expected(alloc, &tables, number)?.as_slice(),
         [Some(1), None].as_slice()
     );
     assert_eq!(rt;
-        expected(alloc, &tables, inner, 5)?.as_slice(),
+        expected(alloc, &tables, inner)?.as_slice(),
         [Some(1), Some(3)].as_slice()
     );
     Ok(())

@@ -70,13 +70,8 @@ fn expected(alloc: Global, tables: &Tables, parse: &Parse) -> Result<Vec<Option<
     requires { (kinds : List TokenKind) × (cells : List Cell) × IsParseOf tables.now kinds cells parse.now }
 {
     let mut looks = Vec::new(alloc);
-    for rule in 0..5 {
-        if parse.expects(tables, Some(rule)) {
-            looks.push(Some(rule))?;
-        }
-    }
-    if parse.expects(tables, None) {
-        looks.push(None)?;
+    for look in parse.expected(tables) {
+        looks.push(look)?;
     }
     Ok(looks)
 }

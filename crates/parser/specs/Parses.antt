@@ -1,19 +1,19 @@
 -- What a parse tells of the kinds that it was made of.
 --     IsParseOf t kinds cells parse      the parse by the tables t of these kinds, with its nodes in these cells
 --     before_fault kinds v      the kinds before a fault, and none where there is a tree
---     MayFollow g kinds v look      at a fault, a token rule or the end may stand behind the kinds before it
-use Rattle.std.specs.Prelude.{◌≡◌, ℕ, ◌-◌, ◌<◌, List, [], ◌∷◌, ◌++◌, length, take, slice_index_or, Option, Some, None}
+--     AreExpectedAt g kinds v looks      at a fault exactly what may stand behind the kinds before it
+use Rattle.std.specs.Prelude.{◌≡◌, ℕ, ◌-◌, ◌<◌, List, [], ◌∷◌, ◌++◌, length, take, slice_index_or, Option}
 use Rattle.definitions.specs.declared.Kind.{Kind}
-use Rattle.definitions.specs.declared.Kind.TheVariants.{Rule as Token}
 use Rattle.definitions.specs.declared.Symbol.{Symbol}
 use Rattle.definitions.specs.Trees.{Grammar, Tree, Leaf, HaveRoots}
 use Rattle.definitions.specs.TreeEdits.{plain}
-use Rattle.definitions.specs.Sentences.{IsSentence, IsViable, IsVerdict}
+use Rattle.definitions.specs.Sentences.{IsVerdict}
 use Rattle.definitions.specs.Sentences.{Verdict as Answer, HasTree, FaultAt, FaultAtEnd}
 use Rattle.definitions.specs.DocumentNodes.{AreDocumentTrees}
 use Rattle.trees.specs.declared.store.Child.{Child}
 use Rattle.trees.specs.declared.store.Child.TheVariants.{Node}
 use Rattle.trees.specs.Cells.{Cell, AreBelow, tree}
+use Rattle.tables.specs.Expected.{AreExpected}
 use Rattle.tables.specs.Tables.{Sets, IsStateOf}
 use Rattle.parser.specs.declared.parse.Verdict.{Verdict}
 use Rattle.parser.specs.declared.parse.Verdict.TheVariants.{Tree as TreeAt, FaultAt as StopsAt, FaultAtEnd as StopsAtEnd}
@@ -76,12 +76,8 @@ IsParseOf t kinds cells parse = IsStop t kinds cells parse.verdict parse.stack p
 abbrev pub IsStoppedAt : Sets → List Kind → List Cell → Verdict → List Child → List ℕ → Type 0
 IsStoppedAt t kinds cells v stack states = (0 < length states) × IsStop t kinds cells v stack (slice_index_or states (length states - 1) 0)
 
--- some sentence goes on behind x with this token rule, or ends there
-abbrev pub GoesOnWith : Grammar → List Kind → Option ℕ → Type 0
-GoesOnWith g x (Some a) = IsViable g (x ++ (Token a ∷ []))
-GoesOnWith g x None = IsSentence g x
-
-abbrev pub MayFollow : Grammar → List Kind → Answer → Option ℕ → Type 0
-MayFollow g kinds (HasTree t) look = ⊥
-MayFollow g kinds (FaultAt k) look = GoesOnWith g (take k kinds) look
-MayFollow g kinds FaultAtEnd look = GoesOnWith g kinds look
+-- at a fault exactly what may follow the kinds before it; nothing where there is a tree
+abbrev pub AreExpectedAt : Grammar → List Kind → Answer → List (Option ℕ) → Type 0
+AreExpectedAt g kinds (HasTree t) looks = looks ≡ []
+AreExpectedAt g kinds (FaultAt k) looks = AreExpected g (take k kinds) looks
+AreExpectedAt g kinds FaultAtEnd looks = AreExpected g kinds looks

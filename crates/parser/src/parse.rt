@@ -1,6 +1,6 @@
 //! The parse of a list of kinds.
 
-ghost use Rattle.std.specs.Prelude.{◌≡◌, ◌↔◌, ◌+◌, ◌^◌, ◌<◌, ℕ, List, length, min, take, true, IfOk, OnErr};
+ghost use Rattle.std.specs.Prelude.{◌≡◌, ◌+◌, ◌^◌, ◌<◌, List, length, min, take, IfOk, OnErr};
 ghost use Rattle.definitions.specs.declared.Kind.{Kind};
 ghost use Rattle.definitions.specs.Nodes.{all_branches};
 ghost use Rattle.trees.specs.Cells.{AreBelow, Cell, KeepsTrees, all_trees, forest_in, most};
@@ -8,13 +8,13 @@ ghost use Rattle.tables.specs.Tables.{Sets};
 ghost use Rattle.parser.specs.Machine.{plain_of, AreMadeBy};
 ghost use Rattle.parser.specs.Input.{input_of, IsInput};
 ghost use Rattle.parser.specs.Run.{IsMadeByRun, NoneIsMadeBy};
-ghost use Rattle.parser.specs.Parses.{IsParseOf, MayFollow, verdict_in};
+ghost use Rattle.parser.specs.Parses.{AreExpectedAt, IsParseOf, verdict_in};
 
 use crate::input::Input;
 use crate::machine::Machine;
 use std::alloc::{AllocError, Global};
 use std::marker::Model;
-use tables::Tables;
+use tables::{Expected, Tables};
 use trees::{Child, Kinds, NodeId, Store};
 
 /// What the kinds of a document's significant tokens mean.
@@ -145,15 +145,16 @@ impl Parse {
         (self.branches, self.built)
     }
 
-    /// Whether this token rule, or where `look` is `None` the end, may stand at the fault, behind the tokens before it. Where
-    /// there is a tree, nothing may. The tables are those of the parse.
-    pub fn expects(&self, tables: &Tables, look: Option<usize>) -> bool
+    /// What may stand at the fault, behind the tokens before it: the token rules in file order, and then the end. Where there is
+    /// a tree, nothing may. The tables are those of the parse. It takes no memory.
+    pub fn expected<'a>(&self, tables: &'a Tables) -> Expected<'a>
         requires { (kinds : List Kind) × (cells : List Cell) × IsParseOf tables.now kinds cells self.now }
-        ensures { (kinds : List Kind) (cells : List Cell) → IsParseOf tables.now kinds cells self.now → (result ≡ true) ↔ MayFollow tables.now.grammar kinds (verdict_in cells self.now.verdict) look }
+        ensures { (kinds : List Kind) (cells : List Cell) → IsParseOf tables.now kinds cells self.now
+            → AreExpectedAt tables.now.grammar kinds (verdict_in cells self.now.verdict) result }
     {
         match self.verdict {
-            Verdict::Tree(_) => false,
-            Verdict::FaultAt(_) | Verdict::FaultAtEnd => tables.expects(self.state, look),
+            Verdict::Tree(_) => Expected::nothing(),
+            Verdict::FaultAt(_) | Verdict::FaultAtEnd => tables.expects(self.state),
         }
     }
 }

@@ -13,6 +13,7 @@ use Rattle.tables.specs.Input.{Shape}
 use Rattle.tables.specs.Rows.{look_in}
 use Rattle.tables.specs.States.{HasKernel}
 use Rattle.tables.specs.Tables.{Sets, IsStateOf, IsAction, AreTables}
+use Rattle.tables.proofs.Called.{look_in-rule, look_in-end}
 use Rattle.tables.proofs.Complete.{Stands, no_far_move, next_known}
 use Rattle.tables.proofs.Numbered.{symbol_of-number}
 
@@ -31,6 +32,17 @@ module _ (g : Shape) (kernels : List (List Item)) (gotos : List (List (Option �
     pub is_action : (look : Option ℕ) (o : Option Move) → IsMoveAt g.grammar kernels prefix look o → IsAction g.grammar prefix (kind_of look) o
     is_action look None x = x
     is_action look (Some m) x = x.0.has
+
+    -- the move on a token rule, and on the end
+    pub rule_action : (a : ℕ) → a < g.grammar.rules → IsAction g.grammar prefix (Some (Token a)) (slice_index_or (slice_index_or actions s []) a None)
+    rule_action a l =
+        let o = slice_index_or (slice_index_or actions s []) a None in
+        is_action (Some a) o (subst (λ y. IsMoveAt g.grammar kernels prefix y o) (look_in-rule g.grammar a l) (move_in_row a (omega (arith, l))))
+
+    pub end_action : IsAction g.grammar prefix None (slice_index_or (slice_index_or actions s []) g.grammar.rules None)
+    end_action =
+        let o = slice_index_or (slice_index_or actions s []) g.grammar.rules None in
+        is_action None o (subst (λ y. IsMoveAt g.grammar kernels prefix y o) (look_in-end g.grammar) (move_in_row g.grammar.rules (omega arith)))
 
     pub shift_state : (a to : ℕ) (o : Option Move) → IsMoveAt g.grammar kernels prefix (Some a) o → o ≡ Some (Shift to) → IsStateOf seen (prefix ++ (Terminal a ∷ [])) to
     shift_state a to o x e =

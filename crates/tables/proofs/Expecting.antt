@@ -1,18 +1,77 @@
 -- The moves of a state are what is expected.
-use Rattle.std.proofs.Common.{◌≡◌, ◌↔◌, true, List, ◌∷◌, ◌++◌, [], Option, Some, None, refl, subst, ℕ}
-use Rattle.std.specs.Prelude.{is_some}
+use Rattle.std.proofs.Common.{◌≡◌, ◌<◌, ◌≤◌, ◌+◌, ◌↔◌, Bool, true, false, ℕ, zero, suc, List, ◌∷◌, ◌++◌, [], Option, Some, None, Contains, length, take, drop, slice_index_or, slice_index, refl, sym, ap, ◌∙◌, subst, inl, inr, ⊎_elim, arith}
+use Rattle.std.specs.Prelude.{is_some, if◌then◌else◌}
+use Rattle.std.specs.List.Sorted.{IsStrictlyIncreasing}
+use Rattle.std.proofs.lemmas.Bool.{cases_lt}
+use Rattle.std.proofs.lemmas.List.{drop_all, get_or-take, length-take-le}
+use Rattle.std.proofs.Math.Seq.{drop-cons}
 use Rattle.definitions.specs.declared.Kind.{Kind}
 use Rattle.definitions.specs.declared.Kind.TheVariants.{Rule as Token}
 use Rattle.definitions.specs.declared.Symbol.{Symbol}
 use Rattle.definitions.specs.Trees.{Grammar, Tree, HaveRoots}
 use Rattle.definitions.specs.Items.{HasMove}
 use Rattle.definitions.specs.Sentences.{IsSentence, IsViable}
+use Rattle.definitions.proofs.Ordered.{Contains-first, Contains-later, Contains-cases, Contains-none}
 use Rattle.theory.specs.Machine.{IsStackAfter, StackHasMove}
 use Rattle.theory.proofs.Theorems.{move_iff_viable, move_iff_sentence}
 use Rattle.theory.proofs.Unique.{roots_unique}
 use Rattle.tables.specs.declared.decisions.Move.{Move}
 use Rattle.tables.specs.Actions.{plain}
+use Rattle.tables.specs.Expected.{AreExpected, in_file_order, rules_with_move}
 use Rattle.tables.specs.Tables.{IsAction, IsAccepted}
+
+-- the rules with a move, from one place of a row on
+pub rules_from : (moves : List (Option Move)) (k : ℕ) → k < length moves → rules_with_move k (drop k moves) ≡ (if is_some (slice_index_or moves k None) then k ∷ rules_with_move (k + 1) (drop (k + 1) moves) else rules_with_move (k + 1) (drop (k + 1) moves))
+rules_from moves k l =
+    let one : suc k ≡ k + 1 = omega arith in
+    ap (rules_with_move k) (drop-cons moves k None l) ∙ go (slice_index_or moves k None) (drop (suc k) moves) ∙ ap (λ n. if is_some (slice_index_or moves k None) then k ∷ rules_with_move (k + 1) (drop n moves) else rules_with_move (k + 1) (drop n moves)) one
+  where
+    go : (o : Option Move) (rest : List (Option Move)) → rules_with_move k (o ∷ rest) ≡ (if is_some o then k ∷ rules_with_move (k + 1) rest else rules_with_move (k + 1) rest)
+    go None rest = refl
+    go (Some m) rest = refl
+
+-- what is told next: a rule with a move, behind those that have none, and then the end
+pub told_next : (moves : List (Option Move)) (k : ℕ) (at_end : Bool) → k < length moves → is_some (slice_index_or moves k None) ≡ true → in_file_order (rules_with_move k (drop k moves)) at_end ≡ Some k ∷ in_file_order (rules_with_move (k + 1) (drop (k + 1) moves)) at_end
+told_next moves k at_end l e = ap (λ rules. in_file_order rules at_end) (rules_from moves k l ∙ ap (λ b. if b then k ∷ rules_with_move (k + 1) (drop (k + 1) moves) else rules_with_move (k + 1) (drop (k + 1) moves)) e)
+
+pub passed_over : (moves : List (Option Move)) (k : ℕ) (at_end : Bool) → k < length moves → is_some (slice_index_or moves k None) ≡ false → in_file_order (rules_with_move k (drop k moves)) at_end ≡ in_file_order (rules_with_move (k + 1) (drop (k + 1) moves)) at_end
+passed_over moves k at_end l e = ap (λ rules. in_file_order rules at_end) (rules_from moves k l ∙ ap (λ b. if b then k ∷ rules_with_move (k + 1) (drop (k + 1) moves) else rules_with_move (k + 1) (drop (k + 1) moves)) e)
+
+pub rules_told : (moves : List (Option Move)) (k : ℕ) (at_end : Bool) → length moves ≤ k → in_file_order (rules_with_move k (drop k moves)) at_end ≡ (if at_end then None ∷ [] else [])
+rules_told moves k at_end l = ap (λ rest. in_file_order (rules_with_move k rest) at_end) (drop_all k moves l)
+
+-- a rule that is told has a move
+has_move : (k : ℕ) (moves : List (Option Move)) (a : ℕ) → Contains (rules_with_move k moves) a → (j : ℕ) × (j < length moves) × (a ≡ k + j) × (is_some (slice_index_or moves j None) ≡ true)
+has_move k [] a c = absurd (Contains-none a c)
+has_move k (None ∷ moves) a c = let x = has_move (k + 1) moves a c in let l = x.1 in let e = x.2 in (suc x.0, omega (arith, l), omega (arith, e), x.3)
+has_move k (Some m ∷ moves) a c =
+    ⊎_elim
+    (λ e. (0, omega arith, omega (arith, e), refl))
+    (λ d. let x = has_move (k + 1) moves a d in let l = x.1 in let e = x.2 in (suc x.0, omega (arith, l), omega (arith, e), x.3))
+    (Contains-cases k (rules_with_move (k + 1) moves) a c)
+
+-- and one with a move is told
+is_told : (k : ℕ) (moves : List (Option Move)) (j : ℕ) → j < length moves → is_some (slice_index_or moves j None) ≡ true → Contains (rules_with_move k moves) (k + j)
+is_told k [] j l e = absurd (omega (arith, l))
+is_told k (None ∷ moves) zero l e = absurd (cc e)
+is_told k (Some m ∷ moves) zero l e = let same : k ≡ k + 0 = omega arith in subst (Contains (k ∷ rules_with_move (k + 1) moves)) same (Contains-first k (rules_with_move (k + 1) moves))
+is_told k (None ∷ moves) (suc j) l e = let same : k + 1 + j ≡ k + suc j = omega arith in subst (Contains (rules_with_move (k + 1) moves)) same (is_told (k + 1) moves j (omega (arith, l)) e)
+is_told k (Some m ∷ moves) (suc j) l e = let same : k + 1 + j ≡ k + suc j = omega arith in subst (Contains (k ∷ rules_with_move (k + 1) moves)) same (Contains-later k (rules_with_move (k + 1) moves) (k + 1 + j) (is_told (k + 1) moves j (omega (arith, l)) e))
+
+-- the rules are told in file order
+least : (k : ℕ) (moves : List (Option Move)) (j : ℕ) → j < length (rules_with_move k moves) → k ≤ slice_index (rules_with_move k moves) j
+least k [] j l = absurd (omega (arith, l))
+least k (None ∷ moves) j l = let n = least (k + 1) moves j l in omega (arith, n)
+least k (Some m ∷ moves) zero l = omega arith
+least k (Some m ∷ moves) (suc j) l = let n = least (k + 1) moves j (omega (arith, l)) in omega (arith, n)
+
+increasing : (k : ℕ) (moves : List (Option Move)) → IsStrictlyIncreasing (rules_with_move k moves)
+increasing k [] j l = absurd (omega (arith, l))
+increasing k (None ∷ moves) j l = increasing (k + 1) moves j l
+increasing k (Some m ∷ moves) zero l = let n = least (k + 1) moves 0 (omega (arith, l)) in omega (arith, n)
+increasing k (Some m ∷ moves) (suc j) l =
+    let next : suc (j + 1) ≡ suc j + 1 = omega arith in
+    subst (λ n. slice_index (k ∷ rules_with_move (k + 1) moves) (suc j) < slice_index (k ∷ rules_with_move (k + 1) moves) n) next (increasing (k + 1) moves j (omega (arith, l)))
 
 module _ (g : Grammar) (accepted : IsAccepted g) (x : List Kind) (stack : List Tree) (prefix : List Symbol) (after : IsStackAfter g x stack) (roots : HaveRoots g stack prefix) where
   move_told : (next : Option Kind) (o : Option Move) → IsAction g prefix next o → (is_some o ≡ true) ↔ StackHasMove g stack next
@@ -20,21 +79,52 @@ module _ (g : Grammar) (accepted : IsAccepted g) (x : List Kind) (stack : List T
   move_told next (Some m) h = (λ e. record { symbols = prefix; roots = roots; move = plain m; called = h }, λ m. refl)
 
   -- a token rule is expected where some sentence goes on with it
-  pub rule_expected : (a : ℕ) (o : Option Move) → IsAction g prefix (Some (Token a)) o → (is_some o ≡ true) ↔ IsViable g (x ++ (Token a ∷ []))
+  rule_expected : (a : ℕ) (o : Option Move) → IsAction g prefix (Some (Token a)) o → (is_some o ≡ true) ↔ IsViable g (x ++ (Token a ∷ []))
   rule_expected a o h =
       let told = move_told (Some (Token a)) o h in
       let viable = move_iff_viable g accepted.free accepted.productive x stack (Token a) after in
       (λ e. viable.0 (told.0 e), λ v. told.1 (viable.1 v))
 
   -- and the end where the kinds are a sentence
-  pub end_expected : (o : Option Move) → IsAction g prefix None o → (is_some o ≡ true) ↔ IsSentence g x
+  end_expected : (o : Option Move) → IsAction g prefix None o → (is_some o ≡ true) ↔ IsSentence g x
   end_expected o h =
       let told = move_told None o h in
       let sentence = move_iff_sentence g accepted.free accepted.productive x stack after in
       (λ e. sentence.0 (told.0 e), λ v. told.1 (sentence.1 v))
 
-pub some_back : (a b : ℕ) → Some a ≡ Some b → a ≡ b
-some_back a b e = cc e
+  module _ (row : List (Option Move)) (filled : length row ≡ g.rules + 1) (each : (a : ℕ) → a < g.rules → IsAction g prefix (Some (Token a)) (slice_index_or row a None)) (last : IsAction g prefix None (slice_index_or row g.rules None)) (far : (a : ℕ) → g.rules ≤ a → IsAction g prefix (Some (Token a)) None) where
+    abbrev front : List (Option Move)
+    front = take g.rules row
 
-pub none_not_some : (a : ℕ) (look : Option ℕ) → look ≡ None → look ≡ Some a → ⊥
-none_not_some a look e f = cc (e, f)
+    long : length front ≡ g.rules
+    long = length-take-le g.rules row (omega (arith, filled))
+
+    told_viable : (a : ℕ) → Contains (rules_with_move 0 front) a → IsViable g (x ++ (Token a ∷ []))
+    told_viable a c =
+        let m = has_move 0 front a c in
+        let l = m.1 in
+        let n = long in
+        let e = m.2 in
+        let same : m.0 ≡ a = omega (arith, e) in
+        let below : m.0 < g.rules = omega (arith, l, n) in
+        let moves = subst (λ o. is_some o ≡ true) (get_or-take g.rules row m.0 None below) m.3 in
+        (rule_expected a (slice_index_or row a None) (each a (omega (arith, below, same)))).0 (subst (λ j. is_some (slice_index_or row j None) ≡ true) same moves)
+
+    viable_told : (a : ℕ) → IsViable g (x ++ (Token a ∷ [])) → Contains (rules_with_move 0 front) a
+    viable_told a v = elim (cases_lt a g.rules) [
+      | inl l ↦
+          let moves = (rule_expected a (slice_index_or row a None) (each a l)).1 v in
+          let n = long in
+          let same : 0 + a ≡ a = omega arith in
+          subst (Contains (rules_with_move 0 front)) same (is_told 0 front a (omega (arith, l, n)) (subst (λ o. is_some o ≡ true) (sym (get_or-take g.rules row a None l)) moves))
+      | inr l ↦ absurd (let e = (rule_expected a None (far a l)).1 v in cc e)
+    ]
+
+    -- what has a move in the state's row is what may come next
+    pub all_expected : AreExpected g x (in_file_order (rules_with_move 0 front) (is_some (slice_index_or row g.rules None)))
+    all_expected = (
+      rules_with_move 0 front,
+      is_some (slice_index_or row g.rules None),
+      record { in_order = increasing 0 front; each = λ a. (told_viable a, viable_told a); ends = end_expected (slice_index_or row g.rules None) last },
+      refl,
+    )

@@ -12,3 +12,4 @@ pub mod Reports
 pub mod Tables
 pub mod Faults
 pub mod Decidable
+pub mod Expected

@@ -1,11 +1,13 @@
 // The moves of a state.
-ghost use Rattle.std.specs.Prelude.{◌≡◌, ◌<◌, ◌+◌, Some, None, Option, ℕ, true, false, All, Contains, IfOk, IfSome, length, slice_index_or};
+ghost use Rattle.std.specs.Prelude.{◌≡◌, ◌<◌, ◌+◌, Some, None, Option, ℕ, true, false, All, Contains, IfOk, IfSome, length, slice_index_or, take, is_some};
 ghost use Rattle.definitions.specs.Items.{Move as LrMove, CallsFor, kind_of};
 ghost use Rattle.tables.specs.declared.input.Item.{Item};
+ghost use Rattle.tables.specs.Expected.{in_file_order, rules_with_move};
 ghost use Rattle.tables.specs.Input.{IsSound};
 ghost use Rattle.tables.specs.Rows.{look_in, place_in, chosen, IsDecided};
 ghost use Rattle.tables.specs.Sets.{IsItem, item_of};
 
+use crate::expected::Expected;
 use crate::first::Marks;
 use crate::input::{Input, Item};
 use crate::moves::{Call, Decision, call_of, decide};
@@ -148,6 +150,14 @@ pub fn moves_of(
 }
 
 impl Moves {
+    /// The rules that have a move, where there are as many as this, and the end if it has one.
+    pub fn expected(&self, rules: usize) -> Expected<'_>
+        requires { length self.now ≡ rules + 1 }
+        ensures { result ≡ in_file_order (rules_with_move 0 (take rules self.now)) (is_some (slice_index_or self.now rules None)) }
+    {
+        Expected::new(&self.row[..rules], self.row[rules].is_some())
+    }
+
     pub fn at(&self, place: usize) -> Option<Move>
         requires { place < length self.now }
         ensures { result ≡ slice_index_or self.now place None }

@@ -5,6 +5,7 @@ mod closure;
 mod collection;
 mod conflict;
 mod decisions;
+mod expected;
 mod first;
 mod goto;
 mod input;
@@ -17,5 +18,6 @@ mod tables;
 
 pub use conflict::Conflict;
 pub use decisions::Move;
+pub use expected::Expected;
 pub use input::Item;
 pub use tables::{MOST_SETS, TableFault, Tables};

@@ -7,12 +7,13 @@ ghost use Rattle.definitions.specs.declared.Symbol.TheVariants.{Rule as Terminal
 ghost use Rattle.definitions.specs.Items.{HasItem, HasNoConflict, HasMoreSetsThan};
 ghost use Rattle.definitions.specs.Derivations.{IsLr1};
 ghost use Rattle.theory.specs.Laws.{HasOneTreeEach};
-ghost use Rattle.definitions.specs.Sentences.{AllProductive, IsSentence, IsViable};
+ghost use Rattle.definitions.specs.Sentences.{AllProductive};
 ghost use Rattle.definitions.specs.Trees.{HasProduction, HaveRoots, Tree};
 ghost use Rattle.theory.specs.Machine.{IsStackAfter};
 ghost use Rattle.tables.specs.Actions.{AreMade};
 ghost use Rattle.tables.specs.Collection.{AreStates};
 ghost use Rattle.tables.specs.Input.{IsSound};
+ghost use Rattle.tables.specs.Expected.{AreExpected};
 ghost use Rattle.tables.specs.Faults.{IsConflictOf, IsRight, RefutesLr1};
 ghost use Rattle.tables.specs.Tables.{IsStateOf, IsAction, IsAccepted};
 ghost use Rattle.tables.specs.Decidable.{AreMovesDecided};
@@ -20,6 +21,7 @@ ghost use Rattle.tables.specs.Decidable.{AreMovesDecided};
 use crate::collection::States;
 use crate::conflict::{Conflict, conflict_of};
 use crate::decisions::{Move, Moves};
+use crate::expected::Expected;
 use crate::first::First;
 use crate::input::Input;
 use crate::kernels::Kernels;
@@ -176,19 +178,15 @@ impl Tables {
         }
     }
 
-    /// Whether a token rule, or where `look` is `None` the end, may follow in a state: exactly where some sentence goes on with
-    /// it, or ends, behind the kinds that were read.
-    pub fn expects(&self, state: usize, look: Option<usize>) -> bool
+    /// What may come next in a state: the token rules in file order, and then the end, with which some sentence goes on behind
+    /// the kinds that were read. It takes no memory.
+    pub fn expects(&self, state: usize) -> Expected<'_>
         requires { state < length self.now.kernels }
-        ensures rules { (x : List Kind) (stack : List Tree) (prefix : List Symbol) (a : ℕ) → IsStateOf self.now prefix state → IsStackAfter self.now.grammar x stack → HaveRoots self.now.grammar stack prefix → look ≡ Some a → (result ≡ true) ↔ IsViable self.now.grammar (x ++ (Token a ∷ [])) }
-        ensures end { (x : List Kind) (stack : List Tree) (prefix : List Symbol) → IsStateOf self.now prefix state → IsStackAfter self.now.grammar x stack → HaveRoots self.now.grammar stack prefix → look ≡ None → (result ≡ true) ↔ IsSentence self.now.grammar x }
+        ensures { (x : List Kind) (stack : List Tree) (prefix : List Symbol) → IsStateOf self.now prefix state
+            → IsStackAfter self.now.grammar x stack → HaveRoots self.now.grammar stack prefix
+            → AreExpected self.now.grammar x result }
     {
-        let _input = &self.input;
-        let next = match look {
-            Some(a) => Some(Kind::Rule(a)),
-            None => None,
-        };
-        self.action(state, next).is_some()
+        self.moves[state].expected(self.input.rules())
     }
 
     /// For every prefix with an item, and not for the states alone, it is decided what its items call for.

@@ -1,6 +1,6 @@
 use Rattle.std.proofs.Common.{◌≡◌, refl, sym, ap, subst}
-use Rattle.parser.proofs.Expecting.{IsFault, TellsRules, TellsEnd, expected}
-use Rattle.parser.proofs.parse.Parse.expects.Goals as goal
+use Rattle.parser.proofs.Expecting.{IsFault, TellsExpected, expected}
+use Rattle.parser.proofs.parse.Parse.expected.Goals as goal
 
 pub returns-in-FaultAt : goal.returns-in-FaultAt
 returns-in-FaultAt c kinds cells h =
@@ -9,4 +9,4 @@ returns-in-FaultAt c kinds cells h =
     let is : parse.verdict ≡ c.self.inside.verdict = sym (ap (λ p. p.verdict) c.self.view_is) in
     let f : IsFault parse.verdict = subst IsFault (sym is) c.in-FaultAt.is in
     let state : c.self.inside.state ≡ parse.state = ap (λ p. p.state) c.self.view_is in
-    expected t kinds cells parse c.args.look c.expects.result h parse.verdict refl f (subst (λ s. TellsRules t s c.args.look c.expects.result) state c.expects.ensures.rules) (subst (λ s. TellsEnd t s c.args.look c.expects.result) state c.expects.ensures.end)
+    expected t kinds cells parse c.expects.result h parse.verdict refl f (subst (λ s. TellsExpected t s c.expects.result) state c.expects.ensures)

@@ -1,0 +1,70 @@
+//! What may come next in a state.
+ghost use Rattle.std.specs.Prelude.{◌≡◌, []};
+ghost use Rattle.std.specs.Iterator.{YieldsFirst, item_count};
+ghost use Rattle.tables.specs.Expected.{in_file_order, rules_with_move};
+
+use crate::decisions::Move;
+use std::marker::Model;
+
+/// The token rules that may come next, in file order, and behind them `None` where the end may come. It takes no memory.
+#[derive(Drop)]
+pub struct Expected<'a> {
+    /// The moves of a state, by the token rule that is next.
+    moves: &'a [Option<Move>],
+    /// The first rule that was not looked at.
+    rule: usize,
+    /// Whether the end is still to be told.
+    at_end: bool,
+}
+
+impl<'a> Model for Expected<'a> {
+    ghost use Rattle.std.specs.Prelude.{ℕ, List, Option, drop};
+    ghost use Rattle.tables.specs.Expected.{in_file_order, rules_with_move};
+
+    ghost Value = { List (Option ℕ) };
+
+    ghost view = { λ e. in_file_order (rules_with_move e.rule (drop e.rule e.moves.now)) e.at_end };
+}
+
+impl<'a> Expected<'a> {
+    /// What has a move among these, the first of which is that of rule 0, and the end where it has one.
+    pub(crate) fn new(moves: &'a [Option<Move>], at_end: bool) -> Expected<'a>
+        ensures { result ≡ in_file_order (rules_with_move 0 moves.now) at_end }
+    {
+        Expected {
+            moves,
+            rule: 0,
+            at_end,
+        }
+    }
+
+    /// Nothing.
+    pub fn nothing() -> Expected<'a>
+        ensures { result ≡ [] }
+    {
+        Expected::new(&[], false)
+    }
+}
+
+impl<'a> Iterator for Expected<'a> {
+    type Item = Option<usize>;
+
+    ghost next_gives = { YieldsFirst (λ s. s) };
+
+    ghost remaining = { item_count (λ s. s) };
+
+    fn next(&mut self) -> Option<Option<usize>> {
+        while self.rule < self.moves.len() {
+            let rule = self.rule;
+            self.rule += 1;
+            if self.moves[rule].is_some() {
+                return Some(Some(rule));
+            }
+        }
+        if self.at_end {
+            self.at_end = false;
+            return Some(None);
+        }
+        None
+    }
+}
