@@ -1,10 +1,10 @@
 -- What is told of a conflict.
-use Rattle.std.specs.Prelude.{◌≡◌, ◌≢◌, ◌<◌, ℕ, [], Option, Some, None}
+use Rattle.std.specs.Prelude.{◌≡◌, ◌≢◌, ◌<◌, ◌≤◌, ℕ, [], Option, Some, None, length}
 use Rattle.definitions.specs.Trees.{Grammar}
 use Rattle.definitions.specs.Items.{Item as LrItem, Move, CallsFor, kind_of, IsConflict}
 use Rattle.tables.specs.declared.conflict.Conflict.{Conflict}
 use Rattle.tables.specs.declared.decisions.Clash.{Clash}
-use Rattle.tables.specs.Sets.{item_of}
+use Rattle.tables.specs.Sets.{item_of, side}
 
 -- one production comes before another, the added start production before all
 abbrev pub IsEarlier : Option ℕ → Option ℕ → Type 0
@@ -22,7 +22,9 @@ pub record IsInOrder (one two : LrItem) : Type 0 where
 abbrev pub Differ : Grammar → Clash → Type 0
 Differ g c = (m : Move) × (n : Move) × CallsFor (item_of g c.one) (kind_of c.look) m × CallsFor (item_of g c.two) (kind_of c.look) n × (m ≢ n)
 
--- what is told is a conflict, with its items in order
+-- what is told is a conflict, with its items in order, and each item's place is within its right side
 pub record IsReport (g : Grammar) (c : Conflict) : Type 0 where
   pub conflict : IsConflict g c.prefix.items (kind_of c.look) (item_of g c.first) (item_of g c.second)
   pub order : IsInOrder (item_of g c.first) (item_of g c.second)
+  pub first_place : c.first.at ≤ length (side g c.first.production)
+  pub second_place : c.second.at ≤ length (side g c.second.production)
