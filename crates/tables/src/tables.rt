@@ -96,8 +96,8 @@ fn tables_of(alloc: Global, input: Input) -> Result<Tables, TableFault>
     requires productive { AllProductive input.grammar }
     ensures grammar { IfOk result (λ t. t.grammar ≡ input.grammar) }
     ensures free { IfOk result (λ _. HasNoConflict input.grammar) }
-    ensures few { IfOk result (λ _. HasMoreSetsThan input.grammar MOST_SETS → ⊥) }
-    ensures refused { IfErr result (IsRight input.grammar MOST_SETS) }
+    ensures few { IfOk result (λ _. HasMoreSetsThan input.grammar 8192 → ⊥) }
+    ensures refused { IfErr result (IsRight input.grammar 8192) }
 {
     let Ok(first) = First::new(alloc, &input) else {
         return Err(TableFault::Memory);
@@ -125,8 +125,8 @@ impl Tables {
         ensures free { IfOk result (λ _. HasNoConflict grammar.now.grammar) }
         ensures lr1 { IfOk result (λ _. IsLr1 grammar.now.grammar) }
         ensures one_tree { IfOk result (λ _. HasOneTreeEach grammar.now.grammar) }
-        ensures few { IfOk result (λ _. HasMoreSetsThan grammar.now.grammar MOST_SETS → ⊥) }
-        ensures refused { IfErr result (IsRight grammar.now.grammar MOST_SETS) }
+        ensures few { IfOk result (λ _. HasMoreSetsThan grammar.now.grammar 8192 → ⊥) }
+        ensures refused { IfErr result (IsRight grammar.now.grammar 8192) }
         ensures refuted { IfErr result (RefutesLr1 grammar.now.grammar) }
     {
         let Ok(input) = Input::of(alloc, grammar) else {
