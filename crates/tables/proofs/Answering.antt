@@ -1,5 +1,6 @@
 -- What the rows of tables say for a prefix.
 use Rattle.std.proofs.Common.{◌≡◌, ◌+◌, ◌<◌, ◌≤◌, ℕ, List, [], ◌∷◌, ◌++◌, Option, Some, None, MatchOption, slice_index_or, sym, subst, arith}
+use Rattle.std.proofs.lemmas.List.Elements.{Contains-get_or}
 use Rattle.definitions.specs.declared.Kind.TheVariants.{Rule as Token}
 use Rattle.definitions.specs.declared.Symbol.{Symbol}
 use Rattle.definitions.specs.declared.Symbol.TheVariants.{Rule as Terminal, Nonterminal}
@@ -11,9 +12,11 @@ use Rattle.tables.specs.Actions.{IsMoveAt}
 use Rattle.tables.specs.Collection.{kernel_at, IsStep}
 use Rattle.tables.specs.Input.{Shape}
 use Rattle.tables.specs.Rows.{look_in}
+use Rattle.tables.specs.Sets.{item_of}
 use Rattle.tables.specs.States.{HasKernel}
 use Rattle.tables.specs.Tables.{Sets, IsStateOf, IsAction, AreTables}
 use Rattle.tables.proofs.Called.{look_in-rule, look_in-end}
+use Rattle.tables.proofs.Collected.{start_item}
 use Rattle.tables.proofs.Complete.{Stands, no_far_move, next_known}
 use Rattle.tables.proofs.Numbered.{symbol_of-number}
 
@@ -23,6 +26,10 @@ module _ (g : Shape) (kernels : List (List Item)) (gotos : List (List (Option �
 
   stands : (prefix : List Symbol) (s : ℕ) → IsStateOf seen prefix s → Stands g t.sound t.accepted.productive kernels t.known prefix
   stands prefix s h = record { state = s; below = h.below; kernel = h.kernel }
+
+  -- some item is valid for the prefix of a state
+  has_item : (prefix : List Symbol) (s : ℕ) → IsStateOf seen prefix s → HasItem g.grammar prefix
+  has_item prefix s h = let i = slice_index_or (kernel_at kernels s) 0 start_item in (item_of g.grammar i, h.kernel.sound i (Contains-get_or (kernel_at kernels s) 0 start_item (t.some_item s h.below)))
 
   module _ (prefix : List Symbol) (s : ℕ) (h : IsStateOf seen prefix s) where
     -- what a place of the state's moves says
@@ -54,12 +61,15 @@ module _ (g : Shape) (kernels : List (List Item)) (gotos : List (List (Option �
     pub no_rule : (a : ℕ) → g.grammar.rules ≤ a → (m : LrMove) → HasMove g.grammar prefix (Some (Token a)) m → ⊥
     no_rule a far = no_far_move g t.sound t.accepted.productive kernels t.known prefix (stands prefix s h) a far
 
-    goto_of : (n : ℕ) (o : Option ℕ) → IsStep g.grammar kernels s (Nonterminal n) o → MatchOption o (HasItem g.grammar (prefix ++ (Nonterminal n ∷ [])) → ⊥) (λ to. IsStateOf seen (prefix ++ (Nonterminal n ∷ [])) to)
-    goto_of n None x = x prefix h.kernel
-    goto_of n (Some to) x = record { below = x.0; kernel = x.1 prefix h.kernel }
+    -- where a nonterminal leads, by what is valid there
+    abbrev Goes : ℕ → Option ℕ → Type 0
+    Goes n o = MatchOption o (HasItem g.grammar (prefix ++ (Nonterminal n ∷ [])) → ⊥) (λ to. HasItem g.grammar (prefix ++ (Nonterminal n ∷ [])) × IsStateOf seen (prefix ++ (Nonterminal n ∷ [])) to)
 
-    -- where a nonterminal leads
-    pub goto_in_row : (n : ℕ) → n < g.nonterminals → MatchOption (slice_index_or (slice_index_or gotos s []) (g.grammar.rules + n) None) (HasItem g.grammar (prefix ++ (Nonterminal n ∷ [])) → ⊥) (λ to. IsStateOf seen (prefix ++ (Nonterminal n ∷ [])) to)
+    goto_of : (n : ℕ) (o : Option ℕ) → IsStep g.grammar kernels s (Nonterminal n) o → Goes n o
+    goto_of n None x = x prefix h.kernel
+    goto_of n (Some to) x = let there : IsStateOf seen (prefix ++ (Nonterminal n ∷ [])) to = record { below = x.0; kernel = x.1 prefix h.kernel } in (has_item (prefix ++ (Nonterminal n ∷ [])) to there, there)
+
+    pub goto_in_row : (n : ℕ) → n < g.nonterminals → Goes n (slice_index_or (slice_index_or gotos s []) (g.grammar.rules + n) None)
     goto_in_row n l =
         let r = t.rows s h.below in
         let f = r.filled in

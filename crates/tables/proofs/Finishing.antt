@@ -1,12 +1,14 @@
 -- The tables of all states.
-use Rattle.std.proofs.Common.{◌≡◌, ◌<◌, ◌≤◌, ℕ, [], None, MatchOption, length, slice_index_or, sym, ◌∙◌, subst, arith}
+use Rattle.std.proofs.Common.{◌≡◌, ◌<◌, ◌≤◌, ℕ, [], None, MatchOption, length, slice_index_or, sym, ◌∙◌, subst, inl, inr, arith}
+use Rattle.std.proofs.lemmas.Bool.{cases_lt}
 use Rattle.definitions.specs.Sentences.{AllProductive}
 use Rattle.tables.specs.Actions.{AreMoves, AreAllMoves, IsClashAt, Made, AreMade}
-use Rattle.tables.specs.Collection.{IsRow, Found, AreStates}
+use Rattle.tables.specs.Collection.{kernel_at, IsRow, Found, AreStates}
 use Rattle.tables.specs.Input.{Shape, IsSound}
 use Rattle.tables.specs.States.{HasKernel}
 use Rattle.tables.specs.Tables.{AreTables}
 use Rattle.tables.proofs.Collected.{start_kernel}
+use Rattle.tables.proofs.Collecting.{no_item}
 use Rattle.theory.proofs.Knuth.{lr1_no_conflict}
 use Rattle.tables.proofs.Complete.{no_conflict}
 use Rattle.tables.proofs.Counted.{no_more_sets}
@@ -28,6 +30,7 @@ tables_all g sound productive t states m made all none =
       begins = states.begins;
       start = subst (λ y. HasKernel g.grammar y []) (sym states.start) (start_kernel g.grammar);
       known = λ s l. (states.ordered s l).known;
+      some_item = λ s l. let r = states.reached s l in elim (cases_lt 0 (length (kernel_at t.kernels s))) [ inl b ↦ b | inr b ↦ absurd (no_item g.grammar (kernel_at t.kernels s) r.0 b r.1 r.2) ];
       rows_filled = all;
       rows = each_row;
       moves_filled = filled ∙ all;

@@ -39,6 +39,7 @@ pub record AreTables (g : Shape) (kernels : List (List Item)) (gotos : List (Lis
   pub begins : 0 < length kernels
   pub start : HasKernel g.grammar (kernel_at kernels 0) []
   pub known : (s : ℕ) → s < length kernels → All (IsItem g) (kernel_at kernels s)
+  pub some_item : (s : ℕ) → s < length kernels → 0 < length (kernel_at kernels s)
   pub rows_filled : length gotos ≡ length kernels
   pub rows : (s : ℕ) → s < length kernels → IsRow g kernels s (slice_index_or gotos s [])
   pub moves_filled : length actions ≡ length kernels

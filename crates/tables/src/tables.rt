@@ -166,10 +166,12 @@ impl Tables {
         }
     }
 
-    /// The state that a nonterminal leads to.
+    /// The state that a nonterminal leads to, if some item calls for it there.
     pub fn goto(&self, state: usize, nonterminal: usize) -> Option<usize>
         requires { state < length self.now.kernels }
-        ensures { (prefix : List Symbol) → IsStateOf self.now prefix state → MatchOption result (HasItem self.now.grammar (prefix ++ (Nonterminal nonterminal ∷ [])) → ⊥) (λ to. IsStateOf self.now (prefix ++ (Nonterminal nonterminal ∷ [])) to) }
+        ensures { (prefix : List Symbol) → IsStateOf self.now prefix state → let g = self.now.grammar in
+            let next = prefix ++ (Nonterminal nonterminal ∷ []) in
+            MatchOption result (HasItem g next → ⊥) (λ to. HasItem g next × IsStateOf self.now next to) }
     {
         if nonterminal < self.input.nonterminals() {
             self.rows[state].to(self.input.rules() + nonterminal)

@@ -96,6 +96,6 @@ returns-clause-states c =
     let roots = subst (λ l. HaveRoots gr new (l ++ (Nonterminal left ∷ []))) d_same rd.roots in
     let there = state_under t stack states c.requires.states called.1 called.2 left sized.0 k m at in
     let state : c.state.result ≡ get_or (take (m + 1) states) (length (take (m + 1) states) - 1) 0 = c.state.ensures ∙ ap (λ l. get_or l (length l - 1) 0) c.truncate-2.ensures.items in
-    let goes = c.in-Some.ensures k.d (subst (IsStateOf t k.d) (sym state) there) in
+    let goes = (c.in-Some.ensures k.d (subst (IsStateOf t k.d) (sym state) there)).1 in
     let after : c.push.new.self.states.items ≡ take (m + 1) states ++ (c.in-Some.next ∷ []) = search rules in
     subst (HasStates t new) (sym after) (states_after t stack states c.requires.states called.1 called.2 left sized.0 k m at new c.in-Some.next roots goes)
