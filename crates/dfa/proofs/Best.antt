@@ -3,7 +3,7 @@ use Rattle.std.specs.Prelude.{◌≡◌, ℕ, ◌+◌, ◌<◌, ◌≤◌, ◌�
 use Rattle.std.proofs.Common.{arith, refl, sym, ap, subst, inl, inr, ◌∙◌}
 use Rattle.std.proofs.lemmas.Bool.{cases_lt}
 use Rattle.std.proofs.lemmas.List.{take_more, length-take}
-use Rattle.std.proofs.lemmas.List.Elements.{All-take}
+use Rattle.std.proofs.lemmas.List.Elements.{All-push}
 use Rattle.definitions.specs.declared.expression.Expression.{Expression}
 use Rattle.definitions.specs.Text.{IsText, IsCharacter}
 use Rattle.definitions.specs.Tokens.{RuleMatches, IsRuleFront, IsPiece, IsReach}
@@ -29,9 +29,13 @@ IsBest rules t n None len = (len ≡ min (length t) 1) × ((j m : ℕ) → 1 ≤
 IsBest rules t n (Some k) len = (1 ≤ len) × (len ≤ n) × IsFirst rules (take len t) (Some k) × ((j m : ℕ) → len < m → m ≤ n → ¬ RuleMatches rules j (take m t))
 
 -- The state after one more character c of t.
-module _ (rules : List Expression) (table : Table) (a : IsAutomaton rules table) (t : List ℕ) (text : IsText t) (n s c : ℕ) (lt : n < length t) (read : c ≡ slice_index_or t n 0) (is : state_after table (take n t) ≡ Some s) where
+module _ (rules : List Expression) (table : Table) (a : IsAutomaton rules table) (t : List ℕ) (n s c : ℕ) (text : IsText (take n t)) (character : IsCharacter c) (lt : n < length t) (read : c ≡ slice_index_or t n 0) (is : state_after table (take n t) ≡ Some s) where
   longer : take (n + 1) t ≡ take n t ++ c ∷ []
   longer = take_more t n 0 lt ∙ ap (λ x. take n t ++ x ∷ []) (sym read)
+
+  -- what was read are characters
+  pub more_text : IsText (take (n + 1) t)
+  more_text = subst IsText (sym longer) (All-push IsCharacter (take n t) c text character)
 
   pub more_state : (o : Option ℕ) → follower table s c ≡ o → state_after table (take (n + 1) t) ≡ o
   more_state o f = ap (state_after table) longer ∙ state_after-more table (take n t) c s is ∙ f
@@ -39,7 +43,7 @@ module _ (rules : List Expression) (table : Table) (a : IsAutomaton rules table)
   told : (o : Option ℕ) → follower table s c ≡ o → MatchOption o (¬ IsRuleFront rules (take (n + 1) t)) (λ x. IsRuleFront rules (take (n + 1) t) × IsFirst rules (take (n + 1) t) (slice_index_or table.accepts x None))
   told o f =
       let some : 1 ≤ length (take (n + 1) t) = omega (arith, length-take (n + 1) t) in
-      subst (λ o. MatchOption o (¬ IsRuleFront rules (take (n + 1) t)) (λ x. IsRuleFront rules (take (n + 1) t) × IsFirst rules (take (n + 1) t) (slice_index_or table.accepts x None))) (more_state o f) (a.tells (take (n + 1) t) (All-take IsCharacter (n + 1) t text) some)
+      subst (λ o. MatchOption o (¬ IsRuleFront rules (take (n + 1) t)) (λ x. IsRuleFront rules (take (n + 1) t) × IsFirst rules (take (n + 1) t) (slice_index_or table.accepts x None))) (more_state o f) (a.tells (take (n + 1) t) more_text some)
 
   pub more_front : (x : ℕ) → follower table s c ≡ Some x → IsRuleFront rules (take (n + 1) t)
   more_front x f = (told (Some x) f).0

@@ -1,7 +1,6 @@
 // The table of an automaton, and its longest matches.
 ghost use Rattle.std.specs.Prelude.{◌≡◌, ℕ, ◌+◌, ◌-◌, ◌^◌, ◌<◌, ◌≤◌, drop, slice_index_or, length, List, IfSome};
 ghost use Rattle.definitions.specs.declared.expression.Expression.{Expression};
-ghost use Rattle.definitions.specs.Text.{IsText};
 ghost use Rattle.definitions.specs.Tokens.{IsPiece, IsReach};
 ghost use Rattle.dfa.specs.Table.{part, follower, kind_of, IsAutomaton};
 ghost use Rattle.dfa.specs.Stored.{table_of, IsStored};
@@ -115,7 +114,6 @@ impl Automaton {
     /// It takes no memory, and asks the source for no character outside the token's reach.
     pub fn longest<S: Source>(&self, source: &S, from: usize) -> Match
         requires within { from ≤ length (S.text source.now) }
-        requires text { IsText (S.text source.now) }
         requires small { length (S.text source.now) < 2 ^ 64 - 1 }
         requires window { (rules : List Expression) × IsAutomaton rules self.now
             × ((i : ℕ) → IsWithinReach rules (S.text source.now) from i → S.in_window source.now i) }

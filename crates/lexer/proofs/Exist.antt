@@ -1,7 +1,7 @@
 -- Where there is an automaton of the rules, every text has tokens: the run of the automaton finds the next one.
 use Rattle.std.specs.Prelude.{◌≡◌, ℕ, zero, suc, ◌+◌, ◌<◌, ◌≤◌, ◌⊎◌, min, List, [], ◌∷◌, length, take, drop, slice_index, slice_index_or, Option, Some, None}
 use Rattle.std.proofs.Common.{arith, refl, inl, inr, length-drop}
-use Rattle.std.proofs.lemmas.List.Elements.{All-drop}
+use Rattle.std.proofs.lemmas.List.Elements.{All-drop, All-take}
 use Rattle.definitions.specs.declared.expression.Expression.{Expression}
 use Rattle.definitions.specs.declared.Kind.{Kind}
 use Rattle.definitions.specs.declared.Kind.TheVariants.{Rule, Invalid}
@@ -47,23 +47,23 @@ module _ (rules : List Expression) (table : Table) (a : IsAutomaton rules table)
     next : (x : ℕ) → follower table r.state (slice_index t n) ≡ Some x → (o : Option ℕ) → slice_index_or table.accepts x None ≡ o → Run t (n + 1)
     next x f None e = record {
       state = x;
-      is = more_state rules table a t text n r.state (slice_index t n) l refl r.is (Some x) f;
-      fronts = fronts_more rules t n r.fronts (more_front rules table a t text n r.state (slice_index t n) l refl r.is x f);
+      is = more_state rules table a t n r.state (slice_index t n) (All-take IsCharacter n t text) (text n 0 l) l refl r.is (Some x) f;
+      fronts = fronts_more rules t n r.fronts (more_front rules table a t n r.state (slice_index t n) (All-take IsCharacter n t text) (text n 0 l) l refl r.is x f);
       rule = r.rule;
       count = r.count;
-      best = best_more_none rules t n r.rule r.count r.best (more_first rules table a t text n r.state (slice_index t n) l refl r.is x None f e);
+      best = best_more_none rules t n r.rule r.count r.best (more_first rules table a t n r.state (slice_index t n) (All-take IsCharacter n t text) (text n 0 l) l refl r.is x None f e);
     }
     next x f (Some k) e = record {
       state = x;
-      is = more_state rules table a t text n r.state (slice_index t n) l refl r.is (Some x) f;
-      fronts = fronts_more rules t n r.fronts (more_front rules table a t text n r.state (slice_index t n) l refl r.is x f);
+      is = more_state rules table a t n r.state (slice_index t n) (All-take IsCharacter n t text) (text n 0 l) l refl r.is (Some x) f;
+      fronts = fronts_more rules t n r.fronts (more_front rules table a t n r.state (slice_index t n) (All-take IsCharacter n t text) (text n 0 l) l refl r.is x f);
       rule = Some k;
       count = n + 1;
-      best = best_more_some rules t n k (more_first rules table a t text n r.state (slice_index t n) l refl r.is x (Some k) f e);
+      best = best_more_some rules t n k (more_first rules table a t n r.state (slice_index t n) (All-take IsCharacter n t text) (text n 0 l) l refl r.is x (Some k) f e);
     }
 
     step : (o : Option ℕ) → follower table r.state (slice_index t n) ≡ o → Ended t ⊎ Run t (n + 1)
-    step None f = inl (end t n (omega arith) (inr (l, more_dead rules table a t text n r.state (slice_index t n) l refl r.is f)) r)
+    step None f = inl (end t n (omega arith) (inr (l, more_dead rules table a t n r.state (slice_index t n) (All-take IsCharacter n t text) (text n 0 l) l refl r.is f)) r)
     step (Some x) f = inr (next x f (slice_index_or table.accepts x None) refl)
 
   -- with k characters left

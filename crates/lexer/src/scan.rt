@@ -1,6 +1,5 @@
 //! The tokens of a whole text.
 ghost use Rattle.std.specs.Prelude.{◌≡◌, ℕ, ◌+◌, ◌<◌, ◌≤◌, ◌++◌, ◌^◌, length, drop, IfOk, OnOk};
-ghost use Rattle.definitions.specs.Text.{IsText};
 ghost use Rattle.definitions.specs.Tokens.{IsToken, is_skipped};
 ghost use Rattle.dfa.specs.Table.{IsAutomaton, kind_of};
 ghost use Rattle.dfa.specs.Windows.{IsWithinReach};
@@ -37,7 +36,6 @@ pub fn token_at<S: Source>(
     born: u64,
 ) -> Token
     requires sound { IsAutomaton grammar.now.patterns automaton.now }
-    requires text { IsText (S.text source.now) }
     requires small { length (S.text source.now) ≤ 1048576 }
     requires within { at < length (S.text source.now) }
     requires window { (i : ℕ) → IsWithinReach grammar.now.patterns (S.text source.now) at i → S.in_window source.now i }
@@ -68,7 +66,6 @@ fn scan_piece<S: Source>(
     from: usize,
 ) -> Result<(Vec<Token>, usize), AllocError>
     requires sound { IsAutomaton grammar.now.patterns automaton.now }
-    requires text { IsText (S.text source.now) }
     requires small { length (S.text source.now) ≤ 1048576 }
     requires within { from < length (S.text source.now) }
     requires window { (i : ℕ) → i < length (S.text source.now) → S.in_window source.now i }
@@ -116,7 +113,6 @@ pub fn scan_all<S: Source>(
     source: &S,
 ) -> Result<(Seq<Token>, Vec<Kind>), AllocError>
     requires sound { IsAutomaton grammar.now.patterns automaton.now }
-    requires text { IsText (S.text source.now) }
     requires small { length (S.text source.now) ≤ 1048576 }
     requires window { (i : ℕ) → i < length (S.text source.now) → S.in_window source.now i }
     ensures next { IfOk result (λ r. AreNext grammar.now.patterns grammar.now.skips (S.text source.now) 0 r.0 (length (S.text source.now))) }

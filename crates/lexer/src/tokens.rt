@@ -1,7 +1,6 @@
 //! The list of the tokens of a text, and its change by an edit.
 ghost use Rattle.std.specs.Prelude.{◌≡◌, ◌≢◌, ℕ, ◌+◌, ◌-◌, ◌<◌, ◌≤◌, ◌^◌, Bool, true, false, List, [], ◌∷◌, ◌++◌, length, map, take, drop, count_by, filter, slice_get, slice_index_or, option_copied, IfOk, OnErr, MatchOption, All};
 ghost use Rattle.definitions.specs.declared.expression.Expression.{Expression};
-ghost use Rattle.definitions.specs.Text.{IsText};
 ghost use Rattle.definitions.specs.Tokens.{IsToken, AreTokens, is_skipped};
 ghost use Rattle.dfa.specs.Table.{IsAutomaton, kind_of};
 ghost use Rattle.dfa.specs.Windows.{IsWithinReach};
@@ -45,7 +44,6 @@ impl Tokens {
         source: &S,
     ) -> Result<Tokens, AllocError>
         requires sound { IsAutomaton grammar.now.patterns automaton.now }
-        requires text { IsText (S.text source.now) }
         requires small { length (S.text source.now) ≤ 1048576 }
         requires window { (i : ℕ) → i < length (S.text source.now) → S.in_window source.now i }
         ensures tokens { IfOk result (λ r. AreTokensOf grammar.now.patterns grammar.now.skips (S.text source.now) r.items) }
@@ -65,7 +63,6 @@ impl Tokens {
         source: &S,
     ) -> Result<(Tokens, Vec<Kind>), AllocError>
         requires sound { IsAutomaton grammar.now.patterns automaton.now }
-        requires text { IsText (S.text source.now) }
         requires small { length (S.text source.now) ≤ 1048576 }
         requires window { (i : ℕ) → i < length (S.text source.now) → S.in_window source.now i }
         ensures tokens { IfOk result (λ r. AreTokensOf grammar.now.patterns grammar.now.skips (S.text source.now) r.0.items) }
@@ -145,7 +142,6 @@ impl Tokens {
         edit: Edit,
     ) -> Result<KindSplice, AllocError>
         requires sound { IsAutomaton grammar.now.patterns automaton.now }
-        requires text { IsText (S.text source.now) }
         requires small { length (S.text source.now) ≤ 1048576 }
         requires edited { IsEdited grammar.now.patterns grammar.now.skips edit self.old.items (S.text source.now) }
         requires window { (i : ℕ) → IsNeeded grammar.now.patterns edit self.old.items (S.text source.now) i → S.in_window source.now i }
@@ -215,7 +211,6 @@ fn remake<S: Source>(
     from: usize,
 ) -> Result<(Vec<Token>, usize), AllocError>
     requires sound { IsAutomaton grammar.now.patterns automaton.now }
-    requires text { IsText (S.text source.now) }
     requires small { length (S.text source.now) ≤ 1048576 }
     requires fits { Fits items.now }
     requires edited { IsEdited grammar.now.patterns grammar.now.skips edit items.now (S.text source.now) }

@@ -1,9 +1,10 @@
 use Rattle.std.proofs.Common.{arith, rules, ◌≡◌, ◌+◌, ◌-◌, ◌<◌, Some, None, drop, length, length-drop, slice_index_or, sym, ◌∙◌, inl, inr, refl, ap}
 use Rattle.std.proofs.lemmas.List.{get_or-drop}
-use Rattle.std.proofs.lemmas.List.Elements.{All-drop}
-use Rattle.definitions.specs.Text.{IsCharacter, IsText}
+use Rattle.std.proofs.lemmas.List.Elements.{All-nil}
+use Rattle.definitions.specs.Text.{IsCharacter}
+use Rattle.definitions.proofs.TextLaws.{IsCharacter-from_scalar}
 use Rattle.dfa.specs.Table.{follower}
-use Rattle.dfa.proofs.Best.{best_none, state_after-none, within_reach, Ends, piece_of, reach_of, more_state, more_front, more_first, more_dead, fronts_more, best_more_none, best_more_some}
+use Rattle.dfa.proofs.Best.{best_none, state_after-none, within_reach, Ends, piece_of, reach_of, more_state, more_text, more_front, more_first, more_dead, fronts_more, best_more_none, best_more_some}
 use Rattle.dfa.proofs.automaton.Automaton.longest.Goals as goal
 use Rattle.dfa.proofs.automaton.Automaton.longest.Goals.{else-loop-read-test, then-loop-read-test+in_default}
 
@@ -18,6 +19,7 @@ loop-read-init g c =
       nonempty = λ h. omega arith;
       none_at_end = λ h. (refl, omega arith);
       stands = state_after-none c.args.self.now ∙ ap (λ n. Some n) (sym c.start-state.ensures.is);
+      text = All-nil IsCharacter;
       so_far = λ ps a. (λ m p q. absurd (omega arith), best_none ps t c.min.result (omega arith));
     }
 
@@ -32,10 +34,10 @@ overflow_add-best g c = omega arith
 pub loop-read-preserved : goal.loop-read-preserved
 loop-read-preserved g c =
     let t = drop c.args.from (g.S.Source.text c.args.source.now) in
-    let text : IsText t = All-drop IsCharacter c.args.from (g.S.Source.text c.args.source.now) c.requires.text in
     let many : length t ≡ c.len.result - c.args.from = length-drop c.args.from (g.S.Source.text c.args.source.now) ∙ omega arith in
     let lt : c.loop-read.read < length t = omega arith in
     let read : c.get-c.result ≡ slice_index_or t c.loop-read.read 0 = c.get-c.ensures ∙ sym (get_or-drop c.args.from (g.S.Source.text c.args.source.now) c.loop-read.read 0) in
+    let character : IsCharacter c.get-c.result = IsCharacter-from_scalar c.get-c.result c.get-c.type_inv.1.1 in
     let next : follower c.args.self.now c.loop-read.state c.get-c.result ≡ Some c.in-Some.next = cc in
     let accepted : slice_index_or c.args.self.now.accepts c.in-Some.next None ≡ None = cc (c.in_default-accepted.is) in
     record {
@@ -44,22 +46,23 @@ loop-read-preserved g c =
       length_in = c.loop-read.invariant.length_in;
       nonempty = c.loop-read.invariant.nonempty;
       none_at_end = c.loop-read.invariant.none_at_end;
-      stands = more_state c.requires.window.0 _ c.requires.window.1 t text c.loop-read.read c.loop-read.state c.get-c.result lt read c.loop-read.invariant.stands (Some c.in-Some.next) next;
+      stands = more_state c.requires.window.0 _ c.requires.window.1 t c.loop-read.read c.loop-read.state c.get-c.result c.loop-read.invariant.text character lt read c.loop-read.invariant.stands (Some c.in-Some.next) next;
+      text = more_text c.requires.window.0 _ c.requires.window.1 t c.loop-read.read c.loop-read.state c.get-c.result c.loop-read.invariant.text character lt read c.loop-read.invariant.stands;
       so_far = λ ps a.
           let old = c.loop-read.invariant.so_far ps a in
           let is = c.loop-read.invariant.stands in (
-            fronts_more ps t c.loop-read.read old.0 (more_front ps _ a t text c.loop-read.read c.loop-read.state c.get-c.result lt read is c.in-Some.next next),
-            best_more_none ps t c.loop-read.read _ _ old.1 (more_first ps _ a t text c.loop-read.read c.loop-read.state c.get-c.result lt read is c.in-Some.next None next accepted),
+            fronts_more ps t c.loop-read.read old.0 (more_front ps _ a t c.loop-read.read c.loop-read.state c.get-c.result c.loop-read.invariant.text character lt read is c.in-Some.next next),
+            best_more_none ps t c.loop-read.read _ _ old.1 (more_first ps _ a t c.loop-read.read c.loop-read.state c.get-c.result c.loop-read.invariant.text character lt read is c.in-Some.next None next accepted),
           );
     }
 
 pub loop-read-preserved-in-Some-accepted : goal.loop-read-preserved-in-Some-accepted
 loop-read-preserved-in-Some-accepted g c =
     let t = drop c.args.from (g.S.Source.text c.args.source.now) in
-    let text : IsText t = All-drop IsCharacter c.args.from (g.S.Source.text c.args.source.now) c.requires.text in
     let many : length t ≡ c.len.result - c.args.from = length-drop c.args.from (g.S.Source.text c.args.source.now) ∙ omega arith in
     let lt : c.loop-read.read < length t = omega arith in
     let read : c.get-c.result ≡ slice_index_or t c.loop-read.read 0 = c.get-c.ensures ∙ sym (get_or-drop c.args.from (g.S.Source.text c.args.source.now) c.loop-read.read 0) in
+    let character : IsCharacter c.get-c.result = IsCharacter-from_scalar c.get-c.result c.get-c.type_inv.1.1 in
     let next : follower c.args.self.now c.loop-read.state c.get-c.result ≡ Some c.in-Some.next = cc in
     let accepted : slice_index_or c.args.self.now.accepts c.in-Some.next None ≡ Some c.in-Some-accepted.k = cc in
     record {
@@ -68,19 +71,19 @@ loop-read-preserved-in-Some-accepted g c =
       length_in = omega arith;
       nonempty = λ h. omega arith;
       none_at_end = λ h. absurd (omega arith);
-      stands = more_state c.requires.window.0 _ c.requires.window.1 t text c.loop-read.read c.loop-read.state c.get-c.result lt read c.loop-read.invariant.stands (Some c.in-Some.next) next;
+      stands = more_state c.requires.window.0 _ c.requires.window.1 t c.loop-read.read c.loop-read.state c.get-c.result c.loop-read.invariant.text character lt read c.loop-read.invariant.stands (Some c.in-Some.next) next;
+      text = more_text c.requires.window.0 _ c.requires.window.1 t c.loop-read.read c.loop-read.state c.get-c.result c.loop-read.invariant.text character lt read c.loop-read.invariant.stands;
       so_far = λ ps a.
           let old = c.loop-read.invariant.so_far ps a in
           let is = c.loop-read.invariant.stands in (
-            fronts_more ps t c.loop-read.read old.0 (more_front ps _ a t text c.loop-read.read c.loop-read.state c.get-c.result lt read is c.in-Some.next next),
-            best_more_some ps t c.loop-read.read c.in-Some-accepted.k (more_first ps _ a t text c.loop-read.read c.loop-read.state c.get-c.result lt read is c.in-Some.next (Some c.in-Some-accepted.k) next accepted),
+            fronts_more ps t c.loop-read.read old.0 (more_front ps _ a t c.loop-read.read c.loop-read.state c.get-c.result c.loop-read.invariant.text character lt read is c.in-Some.next next),
+            best_more_some ps t c.loop-read.read c.in-Some-accepted.k (more_first ps _ a t c.loop-read.read c.loop-read.state c.get-c.result c.loop-read.invariant.text character lt read is c.in-Some.next (Some c.in-Some-accepted.k) next accepted),
           );
     }
 
 pub returns-clause-piece : goal.returns-clause-piece
 returns-clause-piece g c = λ ps a some.
     let t = drop c.args.from (g.S.Source.text c.args.source.now) in
-    let text : IsText t = All-drop IsCharacter c.args.from (g.S.Source.text c.args.source.now) c.requires.text in
     let many : length t ≡ c.len.result - c.args.from = length-drop c.args.from (g.S.Source.text c.args.source.now) ∙ omega arith in
     let old = c.loop-read.invariant.so_far ps a in
     let ends : Ends ps t c.loop-read.read = elim c.loop-read-test.branch [
@@ -88,15 +91,15 @@ returns-clause-piece g c = λ ps a some.
       | then-loop-read-test+in_default w ↦
           let lt : c.loop-read.read < length t = omega (arith, w.loop-read-test.true) in
           let read : w.get-c.result ≡ slice_index_or t c.loop-read.read 0 = w.get-c.ensures ∙ sym (get_or-drop c.args.from (g.S.Source.text c.args.source.now) c.loop-read.read 0) in
+          let character : IsCharacter w.get-c.result = IsCharacter-from_scalar w.get-c.result w.get-c.type_inv.1.1 in
           let next : follower c.args.self.now c.loop-read.state w.get-c.result ≡ None = cc (w.next.ensures.is, w.in_default.is) in
-          inr (lt, more_dead ps _ a t text c.loop-read.read c.loop-read.state w.get-c.result lt read c.loop-read.invariant.stands next)
+          inr (lt, more_dead ps _ a t c.loop-read.read c.loop-read.state w.get-c.result c.loop-read.invariant.text character lt read c.loop-read.invariant.stands next)
     ] in
     piece_of ps t c.loop-read.read _ _ old.1 ends (omega arith) (omega arith)
 
 pub returns-clause-reach : goal.returns-clause-reach
 returns-clause-reach g c = λ ps a.
     let t = drop c.args.from (g.S.Source.text c.args.source.now) in
-    let text : IsText t = All-drop IsCharacter c.args.from (g.S.Source.text c.args.source.now) c.requires.text in
     let many : length t ≡ c.len.result - c.args.from = length-drop c.args.from (g.S.Source.text c.args.source.now) ∙ omega arith in
     let old = c.loop-read.invariant.so_far ps a in
     let ends : Ends ps t c.loop-read.read = elim c.loop-read-test.branch [
@@ -104,7 +107,8 @@ returns-clause-reach g c = λ ps a.
       | then-loop-read-test+in_default w ↦
           let lt : c.loop-read.read < length t = omega (arith, w.loop-read-test.true) in
           let read : w.get-c.result ≡ slice_index_or t c.loop-read.read 0 = w.get-c.ensures ∙ sym (get_or-drop c.args.from (g.S.Source.text c.args.source.now) c.loop-read.read 0) in
+          let character : IsCharacter w.get-c.result = IsCharacter-from_scalar w.get-c.result w.get-c.type_inv.1.1 in
           let next : follower c.args.self.now c.loop-read.state w.get-c.result ≡ None = cc (w.next.ensures.is, w.in_default.is) in
-          inr (lt, more_dead ps _ a t text c.loop-read.read c.loop-read.state w.get-c.result lt read c.loop-read.invariant.stands next)
+          inr (lt, more_dead ps _ a t c.loop-read.read c.loop-read.state w.get-c.result c.loop-read.invariant.text character lt read c.loop-read.invariant.stands next)
     ] in
     reach_of ps t c.loop-read.read old.0 ends
