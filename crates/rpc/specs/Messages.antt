@@ -1,5 +1,5 @@
 -- Messages as plain data, without where their texts lie in memory (JSON-RPC 2.0; LSP 3.17). A text is its UTF-8 bytes.
---     Said      a message; Ident, Asked, Told, ChangeSaid and Unfit are its parts
+--     Said      a message; Ident, Asked, Question, Told, ChangeSaid and Unfit are its parts
 --     Refused      why a JSON value is no message
 --     Heard      what a content is heard as: nothing that can be read, a refused value, or a message
 --     id_view, call_view, change_view, malformed_view, note_view, message_view      a message and its parts as such data
@@ -25,13 +25,17 @@ pub data Ident : Type 0 where
   named : List ℕ → Ident
   numbered : ℤ → Ident
 
--- what a request asks; text_of, tokens_of and tree_of have the document's URI
+-- what can be asked about a document
+pub data Question : Type 0 where
+  its_text : Question
+  its_tokens : Question
+  its_tree : Question
+
+-- what a request asks; about a document it has the document's URI
 pub data Asked : Type 0 where
   initialize : Asked
   shutdown : Asked
-  text_of : List ℕ → Asked
-  tokens_of : List ℕ → Asked
-  tree_of : List ℕ → Asked
+  about : List ℕ → Question → Asked
 
 -- a text for a range, or for the whole
 pub record ChangeSaid : Type 0 where
@@ -75,9 +79,9 @@ id_view (Number z) = numbered z
 abbrev pub call_view : Call → Asked
 call_view call.Initialize = initialize
 call_view call.Shutdown = shutdown
-call_view (call.Text uri) = text_of (string_bytes uri)
-call_view (call.Tokens uri) = tokens_of (string_bytes uri)
-call_view (call.Tree uri) = tree_of (string_bytes uri)
+call_view (call.Text uri) = about (string_bytes uri) its_text
+call_view (call.Tokens uri) = about (string_bytes uri) its_tokens
+call_view (call.Tree uri) = about (string_bytes uri) its_tree
 
 abbrev pub change_view : Change → ChangeSaid
 change_view c = record { range = c.range; text = string_bytes c.text }

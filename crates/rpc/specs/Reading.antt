@@ -15,7 +15,7 @@ use Rattle.definitions.specs.declared.Range.{Range}
 use Rattle.rpc.specs.declared.message.Message.{Message}
 use Rattle.rpc.specs.declared.message.RpcFault.{RpcFault}
 use Rattle.rpc.specs.Fields.{integer_of, text_at, integer_at, natural_at, has_key}
-use Rattle.rpc.specs.Messages.{Ident, named, numbered, Asked, initialize, shutdown, text_of, tokens_of, tree_of, ChangeSaid, unfit_open, unfit_change, Told, initialized, exit, open_text, change_text, malformed, request, notice, ignored, invalid, unknown, params, Heard, unread, refused, said, heard_of}
+use Rattle.rpc.specs.Messages.{Ident, named, numbered, Question, its_text, its_tokens, its_tree, initialize, shutdown, about, ChangeSaid, unfit_open, unfit_change, Told, initialized, exit, open_text, change_text, malformed, request, notice, ignored, invalid, unknown, params, Heard, unread, refused, said, heard_of}
 
 -- ---- parts of a value
 
@@ -90,17 +90,17 @@ abbrev pub asked_initialize : Ident → Data → Heard
 asked_initialize id d = if is_some (as_object d) then said (request id initialize) else refused (params id true)
 
 -- the parameters have the URI of the document that is asked about
-abbrev pub asked_about : (List ℕ → Asked) → Ident → Option (List ℕ) → Heard
-asked_about ask id (Some uri) = said (request id (ask uri))
-asked_about ask id None = refused (params id false)
+abbrev pub asked_about : Question → Ident → Option (List ℕ) → Heard
+asked_about question id (Some uri) = said (request id (about uri question))
+asked_about question id None = refused (params id false)
 
 abbrev pub request_of : List ℕ → Ident → Data → Heard
 request_of method id d =
     if bytes_eq method (codes "initialize") then asked_initialize id d else (
     if bytes_eq method (codes "shutdown") then said (request id shutdown) else (
-    if bytes_eq method (codes "lr/text") then asked_about text_of id (uri_at d) else (
-    if bytes_eq method (codes "lr/tokens") then asked_about tokens_of id (uri_at d) else (
-    if bytes_eq method (codes "lr/tree") then asked_about tree_of id (uri_at d) else
+    if bytes_eq method (codes "lr/text") then asked_about its_text id (uri_at d) else (
+    if bytes_eq method (codes "lr/tokens") then asked_about its_tokens id (uri_at d) else (
+    if bytes_eq method (codes "lr/tree") then asked_about its_tree id (uri_at d) else
     refused (unknown id)))))
 
 -- ---- notifications (the last argument is the parameters)

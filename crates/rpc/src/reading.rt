@@ -4,7 +4,7 @@ ghost use Rattle.std.specs.Prelude.{◌≡◌, Some, codes, map, option_map, opt
 ghost use Rattle.serde_json.specs.Find.{get};
 ghost use Rattle.serde_json.specs.View.{view, items_view};
 ghost use Rattle.rpc.specs.Fields.{text_at};
-ghost use Rattle.rpc.specs.Messages.{said, refused, params, text_of, tokens_of, tree_of, id_view, change_view, note_view, message_view, fault_view, heard_of};
+ghost use Rattle.rpc.specs.Messages.{said, refused, params, its_text, its_tokens, its_tree, id_view, change_view, note_view, message_view, fault_view, heard_of};
 ghost use Rattle.rpc.specs.Reading.{maybe_range, change_of, changes_of, changes_at, opening, changing, asked_initialize, asked_about, request_of, notice_of, of_method, message_of, uri_at, params_at, Gives, Hears};
 
 use crate::fields::text_at;
@@ -131,7 +131,7 @@ fn misfit(id: Id) -> RpcFault
 
 /// An `lr/text`, whose parameters name a document.
 fn asked_text(alloc: Global, id: Id, params: &Value) -> Result<Message, RpcFault>
-    ensures { Gives result (asked_about text_of (id_view id) (uri_at (view params.now))) }
+    ensures { Gives result (asked_about its_text (id_view id) (uri_at (view params.now))) }
 {
     match copied_uri(alloc, params)? {
         Some(uri) => Ok(Message::Request(id, Call::Text { uri })),
@@ -141,7 +141,7 @@ fn asked_text(alloc: Global, id: Id, params: &Value) -> Result<Message, RpcFault
 
 /// An `lr/tokens`, whose parameters name a document.
 fn asked_tokens(alloc: Global, id: Id, params: &Value) -> Result<Message, RpcFault>
-    ensures { Gives result (asked_about tokens_of (id_view id) (uri_at (view params.now))) }
+    ensures { Gives result (asked_about its_tokens (id_view id) (uri_at (view params.now))) }
 {
     match copied_uri(alloc, params)? {
         Some(uri) => Ok(Message::Request(id, Call::Tokens { uri })),
@@ -151,7 +151,7 @@ fn asked_tokens(alloc: Global, id: Id, params: &Value) -> Result<Message, RpcFau
 
 /// An `lr/tree`, whose parameters name a document.
 fn asked_tree(alloc: Global, id: Id, params: &Value) -> Result<Message, RpcFault>
-    ensures { Gives result (asked_about tree_of (id_view id) (uri_at (view params.now))) }
+    ensures { Gives result (asked_about its_tree (id_view id) (uri_at (view params.now))) }
 {
     match copied_uri(alloc, params)? {
         Some(uri) => Ok(Message::Request(id, Call::Tree { uri })),
