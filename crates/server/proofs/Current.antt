@@ -9,6 +9,7 @@ use Rattle.definitions.specs.Tokens.{is_skipped, kinds}
 use Rattle.definitions.specs.Trees.{Grammar}
 use Rattle.grammar.specs.Grammars.{FileGrammar}
 use Rattle.lexer.specs.declared.sums.Token.{Token}
+use Rattle.lexer.specs.Rescans.{significant_kinds}
 use Rattle.lexer.specs.Tokens.{plain, is_significant}
 use Rattle.trees.specs.declared.store.Child.{Child}
 use Rattle.trees.specs.Cells.{Cell, AreBelow}
@@ -16,12 +17,12 @@ use Rattle.tables.specs.Tables.{Sets}
 use Rattle.parser.specs.declared.parse.Verdict.{Verdict}
 use Rattle.parser.specs.declared.parse.Verdict.TheVariants.{Tree, FaultAt, FaultAtEnd}
 use Rattle.parser.specs.Parses.{Stop, verdict_in, IsAlone, IsParseOf}
-use Rattle.rpc.specs.Messages.{Ident}
+use Rattle.rpc.specs.Messages.{Ident, its_tokens, its_tree}
 use Rattle.rpc.specs.Replies.{Answer, told_null, told_tokens}
-use Rattle.server.specs.declared.documents.Document.{Document}
-use Rattle.server.specs.Documents.{open_document, kinds_of, IsCurrent}
+use Rattle.server.specs.declared.document.Document.{Document}
+use Rattle.server.specs.Documents.{open_document, IsCurrent}
 use Rattle.server.specs.Languages.{HasNode, IsParsed}
-use Rattle.server.specs.Steps.{rows, tree_answer, TokensAnswer, TreeAnswer}
+use Rattle.server.specs.Answers.{rows, tree_answer, IsAnswer}
 
 -- what a function answers, said in other words
 pub if_ok : {T E : Type 0} {P Q : T → Type 0} (r : Result T E) → ((x : T) → P x → Q x) → IfOk r P → IfOk r Q
@@ -49,26 +50,26 @@ one_more false false x rest after e f = ap (λ ks. x.kind ∷ ks) f
 one_more true false x rest after e f = absurd (let g : ⊥ = cc in g)
 one_more false true x rest after e f = absurd (let g : ⊥ = cc in g)
 
-kinds_same : (skips : List Bool) (items : List Token) → AllByRecursion (λ x. x.skipped ≡ is_skipped skips x.kind) items → kinds_of items ≡ kinds skips (map plain items)
+kinds_same : (skips : List Bool) (items : List Token) → AllByRecursion (λ x. x.skipped ≡ is_skipped skips x.kind) items → significant_kinds items ≡ kinds skips (map plain items)
 kinds_same skips [] all = refl
 kinds_same skips (x ∷ items) all = one_more x.skipped (is_skipped skips x.kind) x (filter is_significant items) (kinds skips (map plain items)) all.0 (kinds_same skips items all.1)
 
-kinds_are : (file : FileGrammar) (d : Document) → IsCurrent file d → kinds_of d.tokens.items ≡ kinds file.skips (map plain d.tokens.items)
+kinds_are : (file : FileGrammar) (d : Document) → IsCurrent file d → significant_kinds d.tokens.items ≡ kinds file.skips (map plain d.tokens.items)
 kinds_are file d current = kinds_same file.skips d.tokens.items (recursion_from_All _ d.tokens.items current.tokens.marked)
 
 -- ---- answers
 
-pub tokens_answered : (file : FileGrammar) (d : Document) (id : Ident) (answer : Answer) → IsCurrent file d → answer ≡ told_tokens id (rows file d.text (map plain d.tokens.items)) → TokensAnswer file id (Some (open_document d)) answer
-tokens_answered file d id answer current e = λ text. (map plain d.tokens.items, current.tokens.tokens, e)
+pub tokens_answered : (file : FileGrammar) (d : Document) (id : Ident) (answer : Answer) → IsCurrent file d → answer ≡ told_tokens id (rows file d.text (map plain d.tokens.items)) → IsAnswer file id (Some (open_document d)) its_tokens answer
+tokens_answered file d id answer current e = (map plain d.tokens.items, current.tokens.tokens, e)
 
-pub tree_answered : (file : FileGrammar) (d : Document) (id : Ident) (answer : Answer) → IsCurrent file d → answer ≡ tree_answer file id (verdict_in d.store d.parse.verdict) → TreeAnswer file id (Some (open_document d)) answer
-tree_answered file d id answer current e = λ text. (
+pub tree_answered : (file : FileGrammar) (d : Document) (id : Ident) (answer : Answer) → IsCurrent file d → answer ≡ tree_answer file id (verdict_in d.store d.parse.verdict) → IsAnswer file id (Some (open_document d)) its_tree answer
+tree_answered file d id answer current e = (
   map plain d.tokens.items,
   current.tokens.tokens,
   (verdict_in d.store d.parse.verdict, subst (λ ks. IsVerdict file.grammar ks (verdict_in d.store d.parse.verdict)) (kinds_are file d current) current.parse.verdict, e),
 )
 
 -- there is no tree
-pub fault_answered : (file : FileGrammar) (d : Document) (id : Ident) (v : Verdict) → IsCurrent file d → ((k : ℕ) × (v ≡ FaultAt k)) ⊎ (v ≡ FaultAtEnd) → v ≡ d.parse.verdict → TreeAnswer file id (Some (open_document d)) (told_null id)
+pub fault_answered : (file : FileGrammar) (d : Document) (id : Ident) (v : Verdict) → IsCurrent file d → ((k : ℕ) × (v ≡ FaultAt k)) ⊎ (v ≡ FaultAtEnd) → v ≡ d.parse.verdict → IsAnswer file id (Some (open_document d)) its_tree (told_null id)
 fault_answered file d id v current (inl at) same = tree_answered file d id (told_null id) current (ap (λ w. tree_answer file id (verdict_in d.store w)) (sym at.1 ∙ same))
 fault_answered file d id v current (inr at_end) same = tree_answered file d id (told_null id) current (ap (λ w. tree_answer file id (verdict_in d.store w)) (sym at_end ∙ same))

@@ -13,7 +13,7 @@ use Rattle.std.specs.FinMap.{get, insert, len, contains_key, find, get-from_entr
 use Rattle.std.proofs.lemmas.Cmp.{nat_list_cmp_total}
 use Rattle.std.proofs.lemmas.Map.Text.{is_eq-slice_cmp}
 use Rattle.grammar.specs.Grammars.{FileGrammar}
-use Rattle.server.specs.declared.documents.Document.{Document}
+use Rattle.server.specs.declared.document.Document.{Document}
 use Rattle.server.specs.Documents.{OpenDocument, open_document, documents_of, entry_at, IsCurrent, AreCurrent}
 
 map_cond : {A B : Type 0} (f : A → B) (b : Bool) (x : A) (o : Option A) → option_map f (cond b (Some x) o) ≡ cond b (Some (f x)) (option_map f o)

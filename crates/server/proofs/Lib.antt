@@ -1,5 +1,6 @@
 mod Held
 mod Current
+mod Fits
 mod Totals
 mod Runs
 mod Parts

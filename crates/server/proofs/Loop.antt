@@ -10,8 +10,9 @@ use Rattle.server.specs.Languages.{AlwaysAnswers}
 use Rattle.server.specs.declared.serve.RunFault.{RunFault}
 use Rattle.server.specs.declared.serve.RunFault.TheVariants.{Frame, Read, Write, Memory}
 use Rattle.server.specs.Steps.{State, first_state}
-use Rattle.server.specs.Sessions.{Served, ServedInPart, Session, IsCutShort, EndsAt, Ends, run_fault}
+use Rattle.server.specs.Sessions.{Served, ServedInPart, CanServe, Session, IsCutShort, EndsAt, Ends, run_fault}
 use Rattle.server.proofs.Runs.{served_then, served_nothing}
+use Rattle.server.proofs.Fits.{run_serves, first_serves}
 use Rattle.server.proofs.Parts.{part_nothing, part_then}
 
 -- the answers to the whole frames read so far are written
@@ -20,7 +21,7 @@ pub record IsReady (file : FileGrammar) (input_old input_new : Option (List ℕ)
   pub contents : List (List ℕ)
   pub was_read : Consumes input_old input_new bytes
   pub split : Splits bytes contents tail
-  pub served : Served file output_old output_new first_state contents None state
+  pub served : Served output_old output_new (first_state file) contents None state
   pub reads : input_failures ≡ 0
   pub writes : output_failures ≡ 0
   pub goes_on : IsOpen tail
@@ -31,7 +32,7 @@ pub record Fed (file : FileGrammar) (input_old input_new output_old output_new :
   pub contents : List (List ℕ)
   pub was_read : Consumes input_old input_new bytes
   pub split : Splits bytes contents tail
-  pub served : Served file output_old output_new first_state contents stop state
+  pub served : Served output_old output_new (first_state file) contents stop state
 
 consumes_then : (a b c : Option (List ℕ)) (xs ys : List ℕ) → Consumes a b xs → Consumes b c ys → Consumes a c (xs ++ ys)
 consumes_then None b c xs ys g h = tt
@@ -49,14 +50,18 @@ consumes_kept (Some ls) None c xs g k = absurd g
 consumes_kept (Some ls) (Some bs) None xs g k = absurd k
 consumes_kept (Some ls) (Some bs) (Some cs) xs g k = g ∙ ap (λ l. xs ++ l) (sym k)
 
-pub fed : (file : FileGrammar) (ri rm rn oo om on : Option (List ℕ)) (fi fo : ℕ) (tail new : Tail) (a b : State) (stop : Option ℕ) (piece : List ℕ) (more : List (List ℕ)) → IsReady file ri rm fi oo om fo tail a → Consumes rm rn piece → GoesOn tail piece more new → Served file om on a more stop b → Fed file ri rn oo on new b stop
+pub fed : (file : FileGrammar) (ri rm rn oo om on : Option (List ℕ)) (fi fo : ℕ) (tail new : Tail) (a b : State) (stop : Option ℕ) (piece : List ℕ) (more : List (List ℕ)) → IsReady file ri rm fi oo om fo tail a → Consumes rm rn piece → GoesOn tail piece more new → Served om on a more stop b → Fed file ri rn oo on new b stop
 fed file ri rm rn oo om on fi fo tail new a b stop piece more ready read goes served = record {
   bytes = ready.bytes ++ piece;
   contents = ready.contents ++ more;
   was_read = consumes_then ri rm rn ready.bytes piece ready.was_read read;
   split = goes ready.bytes ready.contents ready.split;
-  served = served_then file oo om on first_state a b ready.contents more stop ready.served served;
+  served = served_then oo om on (first_state file) a b ready.contents more stop ready.served served;
 }
+
+-- what was read so far has been answered, so what comes can be
+pub can_serve : (file : FileGrammar) → AlwaysAnswers file → (ri rm oo om : Option (List ℕ)) (fi fo : ℕ) (tail : Tail) (a : State) → IsReady file ri rm fi oo om fo tail a → CanServe a
+can_serve file total ri rm oo om fi fo tail a ready = run_serves ready.contents (first_state file) ready.served.answers None a ready.served.run (first_serves file total)
 
 -- ---- the ends of a session
 
@@ -68,7 +73,7 @@ faulty : (file : FileGrammar) (ri rn oo on : Option (List ℕ)) (tail : Tail) (s
 faulty file ri rn oo on tail state stop f fault ends = record { bytes = f.bytes; contents = f.contents; tail = tail; answers = f.served.answers; stop = stop; after = state; was_read = f.was_read; split = f.split; run = f.served.run; written = f.served.written; ends = ends }
 
 -- a session of which a front of the answers is written
-cut_short : (file : FileGrammar) (e : RunFault) (failures : ℕ) (ri rn oo on : Option (List ℕ)) (tail : Tail) (bytes : List ℕ) (contents : List (List ℕ)) → IsCutShort e failures → Consumes ri rn bytes → Splits bytes contents tail → ServedInPart file oo on first_state contents → Session file ri rn oo on (Err e)
+cut_short : (file : FileGrammar) (e : RunFault) (failures : ℕ) (ri rn oo on : Option (List ℕ)) (tail : Tail) (bytes : List ℕ) (contents : List (List ℕ)) → IsCutShort e failures → Consumes ri rn bytes → Splits bytes contents tail → ServedInPart oo on (first_state file) contents → Session file ri rn oo on (Err e)
 cut_short file (Frame fault) failures ri rn oo on tail bytes contents cut read split p = absurd cut
 cut_short file Read failures ri rn oo on tail bytes contents cut read split p = absurd cut
 cut_short file Write failures ri rn oo on tail bytes contents cut read split p = record { bytes = bytes; contents = contents; tail = tail; answers = p.answers; stop = p.stop; after = p.after; was_read = read; split = split; run = p.run; written = p.written; ends = tt }
@@ -76,7 +81,7 @@ cut_short file Memory failures ri rn oo on tail bytes contents cut read split p 
 
 -- the input fails
 pub read_fails : (file : FileGrammar) (ri rm rn oo om : Option (List ℕ)) (fi fo : ℕ) (tail : Tail) (a : State) → IsReady file ri rm fi oo om fo tail a → Keeps rm rn → Session file ri rn oo om (Err Read)
-read_fails file ri rm rn oo om fi fo tail a ready kept = record { bytes = ready.bytes; contents = ready.contents; tail = tail; answers = ready.served.answers; stop = None; after = a; was_read = consumes_kept ri rm rn ready.bytes ready.was_read kept; split = ready.split; run = ready.served.run; written = ready.served.written; ends = refl }
+read_fails file ri rm rn oo om fi fo tail a ready kept = record { bytes = ready.bytes; contents = ready.contents; tail = tail; answers = ready.served.answers; stop = None; after = a; was_read = consumes_kept ri rm rn ready.bytes ready.was_read kept; split = ready.split; run = ready.served.run; written = ready.served.written; ends = (refl, ready.goes_on) }
 
 consumes_no_more : (a b c : Option (List ℕ)) (xs : List ℕ) → Consumes a b xs → Consumes b c [] → Consumes a c xs
 consumes_no_more None b c xs g h = tt
@@ -109,10 +114,10 @@ pub stream_fails : (file : FileGrammar) (ri rn oo on : Option (List ℕ)) (tail 
 stream_fails file ri rn oo on tail b fault is f = let ends = finish_faulty tail fault is in faulty file ri rn oo on tail b None f fault (refl, ends.0, λ o. absurd (ends.1 o))
 
 -- the output fails, or memory is refused, while a piece is answered
-pub answering_fails : (file : FileGrammar) (e : RunFault) (failures : ℕ) (ri rm rn oo om on : Option (List ℕ)) (fi fo : ℕ) (tail new : Tail) (a : State) (piece : List ℕ) (more : List (List ℕ)) → IsCutShort e failures → IsReady file ri rm fi oo om fo tail a → Consumes rm rn piece → GoesOn tail piece more new → ServedInPart file om on a more → Session file ri rn oo on (Err e)
+pub answering_fails : (file : FileGrammar) (e : RunFault) (failures : ℕ) (ri rm rn oo om on : Option (List ℕ)) (fi fo : ℕ) (tail new : Tail) (a : State) (piece : List ℕ) (more : List (List ℕ)) → IsCutShort e failures → IsReady file ri rm fi oo om fo tail a → Consumes rm rn piece → GoesOn tail piece more new → ServedInPart om on a more → Session file ri rn oo on (Err e)
 answering_fails file e failures ri rm rn oo om on fi fo tail new a piece more cut ready read goes p =
     cut_short file e failures ri rn oo on new (ready.bytes ++ piece) (ready.contents ++ more) cut (consumes_then ri rm rn ready.bytes piece ready.was_read read) (goes ready.bytes ready.contents ready.split)
-    (part_then file oo om on first_state a ready.contents more ready.served p)
+    (part_then oo om on (first_state file) a ready.contents more ready.served p)
 
 -- what a piece makes of the tail where it is refused for this fault
 abbrev pub Refuses : FrameFault → Tail → List ℕ → Tail → Type 0
@@ -123,7 +128,7 @@ pub feeding_fails : (file : FileGrammar) → AlwaysAnswers file → (fault : Fra
 feeding_fails file total fault ri rm rn oo om fi fo tail new a piece ready read refuses contents other goes = by fault refuses
   where
     told : (f : FrameFault) → GoesOn tail piece [] new × (new ≡ Faulty f) → Session file ri rn oo om (Err (Frame f))
-    told f h = stream_fails file ri rn oo om new a f (sym (ap fault_of h.1)) (fed file ri rm rn oo om om fi fo tail new a a None piece [] ready read h.0 (served_nothing file om a))
+    told f h = stream_fails file ri rn oo om new a f (sym (ap fault_of h.1)) (fed file ri rm rn oo om om fi fo tail new a a None piece [] ready read h.0 (served_nothing om a))
 
     by : (f : FrameFault) → Refuses f tail piece new → Session file ri rn oo om (Err (run_fault f))
     by frame.BadField r = told frame.BadField (r (λ e. cc))
@@ -132,7 +137,7 @@ feeding_fails file total fault ri rm rn oo om fi fo tail new a piece ready read 
     by frame.BadLength r = told frame.BadLength (r (λ e. cc))
     by frame.BadCharset r = told frame.BadCharset (r (λ e. cc))
     by frame.Truncated r = told frame.Truncated (r (λ e. cc))
-    by frame.Memory r = answering_fails file Memory 0 ri rm rn oo om om fi fo tail other a piece contents refl ready read goes (part_nothing file total om a contents)
+    by frame.Memory r = answering_fails file Memory 0 ri rm rn oo om om fi fo tail other a piece contents refl ready read goes (part_nothing om a (can_serve file total ri rm oo om fi fo tail a ready) contents)
     by frame.LongHeader r = told frame.LongHeader (r (λ e. cc))
 
 pub is_open : (t : Tail) → None ≡ fault_of t → IsOpen t
@@ -143,13 +148,13 @@ pub nothing_read : Splits [] [] (Open [])
 nothing_read = (refl, tt)
 
 -- before the first read
-pub at_start : (file : FileGrammar) (input output : Option (List ℕ)) (input_failures output_failures : ℕ) (tail : Tail) (state : State) → input_failures ≡ 0 → output_failures ≡ 0 → tail ≡ Open [] → state ≡ first_state → IsReady file input input input_failures output output output_failures tail state
+pub at_start : (file : FileGrammar) (input output : Option (List ℕ)) (input_failures output_failures : ℕ) (tail : Tail) (state : State) → input_failures ≡ 0 → output_failures ≡ 0 → tail ≡ Open [] → state ≡ (first_state file) → IsReady file input input input_failures output output output_failures tail state
 at_start file input output input_failures output_failures tail state reads writes new first = record {
   bytes = [];
   contents = [];
   was_read = consumes_nothing input;
   split = subst (λ (t : Tail). Splits [] [] t) (sym new) (refl, tt);
-  served = subst (λ (s : State). Served file output output first_state [] None s) (sym first) (served_nothing file output first_state);
+  served = subst (λ (s : State). Served output output (first_state file) [] None s) (sym first) (served_nothing output (first_state file));
   reads = reads;
   writes = writes;
   goes_on = subst (λ (t : Tail). IsOpen t) (sym new) tt;

@@ -1,12 +1,11 @@
 -- Sessions that are cut short: a front of the answers of a run is written.
 use Rattle.std.proofs.Common.{ℕ, List, [], ◌++◌, refl, ap, sym, subst, ◌∙◌, append_assoc, append-nil}
-use Rattle.std.specs.Prelude.{Option, Some, None, Result, Ok, Err, OnErr}
+use Rattle.std.specs.Prelude.{◌≡◌, Option, Some, None, Result, Ok, Err, OnErr}
 use Rattle.std.specs.Io.KnownBytes.{Appends, Keeps}
-use Rattle.grammar.specs.Grammars.{FileGrammar}
-use Rattle.server.specs.Languages.{AlwaysAnswers}
 use Rattle.server.specs.Steps.{State}
 use Rattle.server.specs.Runs.{bytes_of}
-use Rattle.server.specs.Sessions.{AppendsFront, Served, ServedInPart}
+use Rattle.server.specs.Sessions.{AppendsFront, Served, ServedInPart, HasServed, CanServe, IsCutShort}
+use Rattle.server.specs.declared.serve.RunFault.{RunFault}
 use Rattle.server.proofs.Totals.{some_run}
 use Rattle.server.proofs.Runs.{run_then, run_on, appends_then, appends_nothing, bytes_then}
 
@@ -35,15 +34,15 @@ front_all old new xs w = (xs, [], sym (append-nil xs), w)
 pub front_nothing : (o : Option (List ℕ)) (xs : List ℕ) → AppendsFront o o xs
 front_nothing o xs = ([], xs, refl, appends_nothing o)
 
-pub part_nothing : (file : FileGrammar) → AlwaysAnswers file → (o : Option (List ℕ)) (a : State) (cs : List (List ℕ)) → ServedInPart file o o a cs
-part_nothing file total o a cs = let r = some_run file total a cs in record { answers = r.0; stop = r.1; after = r.2; run = r.3; written = front_nothing o (bytes_of r.0) }
+pub part_nothing : (o : Option (List ℕ)) (a : State) → CanServe a → (cs : List (List ℕ)) → ServedInPart o o a cs
+part_nothing o a can cs = let r = some_run a can cs in record { answers = r.0; stop = r.1; after = r.2; run = r.3; written = front_nothing o (bytes_of r.0) }
 
-pub part_all : (file : FileGrammar) (old new : Option (List ℕ)) (a c : State) (cs : List (List ℕ)) (stop : Option ℕ) → Served file old new a cs stop c → ServedInPart file old new a cs
-part_all file old new a c cs stop s = record { answers = s.answers; stop = stop; after = c; run = s.run; written = front_all old new (bytes_of s.answers) s.written }
+pub part_all : (old new : Option (List ℕ)) (a c : State) (cs : List (List ℕ)) (stop : Option ℕ) → Served old new a cs stop c → ServedInPart old new a cs
+part_all old new a c cs stop s = record { answers = s.answers; stop = stop; after = c; run = s.run; written = front_all old new (bytes_of s.answers) s.written }
 
-pub part_on : (file : FileGrammar) → AlwaysAnswers file → (old new : Option (List ℕ)) (a : State) (cs ds : List (List ℕ)) → ServedInPart file old new a cs → ServedInPart file old new a (cs ++ ds)
-part_on file total old new a cs ds p =
-    let r = run_on file total a p.after cs ds p.answers p.stop p.run in
+pub part_on : (old new : Option (List ℕ)) (a : State) → CanServe a → (cs ds : List (List ℕ)) → ServedInPart old new a cs → ServedInPart old new a (cs ++ ds)
+part_on old new a can cs ds p =
+    let r = run_on a p.after can cs ds p.answers p.stop p.run in
     record {
       answers = p.answers ++ r.0;
       stop = r.1;
@@ -52,14 +51,23 @@ part_on file total old new a cs ds p =
       written = subst (AppendsFront old new) (sym (bytes_then p.answers r.0)) (front_of_more old new (bytes_of p.answers) (bytes_of r.0) p.written);
     }
 
-pub part_then : (file : FileGrammar) (old mid new : Option (List ℕ)) (a b : State) (cs ds : List (List ℕ)) → Served file old mid a cs None b → ServedInPart file mid new b ds → ServedInPart file old new a (cs ++ ds)
-part_then file old mid new a b cs ds s p = record {
+pub part_then : (old mid new : Option (List ℕ)) (a b : State) (cs ds : List (List ℕ)) → Served old mid a cs None b → ServedInPart mid new b ds → ServedInPart old new a (cs ++ ds)
+part_then old mid new a b cs ds s p = record {
   answers = s.answers ++ p.answers;
   stop = p.stop;
   after = p.after;
-  run = run_then file a b p.after cs ds s.answers p.answers p.stop s.run p.run;
+  run = run_then a b p.after cs ds s.answers p.answers p.stop s.run p.run;
   written = subst (AppendsFront old new) (sym (bytes_then s.answers p.answers)) (front_behind old mid new (bytes_of s.answers) (bytes_of p.answers) s.written p.written);
 }
 
-pub part_kept : (file : FileGrammar) (old mid new : Option (List ℕ)) (a c : State) (cs : List (List ℕ)) (stop : Option ℕ) → Served file old mid a cs stop c → Keeps mid new → ServedInPart file old new a cs
-part_kept file old mid new a c cs stop s k = record { answers = s.answers; stop = stop; after = c; run = s.run; written = front_all old new (bytes_of s.answers) (appends_kept old mid new (bytes_of s.answers) s.written k) }
+pub part_kept : (old mid new : Option (List ℕ)) (a c : State) (cs : List (List ℕ)) (stop : Option ℕ) → Served old mid a cs stop c → Keeps mid new → ServedInPart old new a cs
+part_kept old mid new a c cs stop s k = record { answers = s.answers; stop = stop; after = c; run = s.run; written = front_all old new (bytes_of s.answers) (appends_kept old mid new (bytes_of s.answers) s.written k) }
+
+-- answering that was cut short
+pub cut_off : (old new : Option (List ℕ)) (failures : ℕ) (before : State) (contents : List (List ℕ)) (result : Result (Option ℕ) RunFault) (after : State) (e : RunFault) → result ≡ Err e → IsCutShort e failures → ServedInPart old new before contents → HasServed old new failures before contents result after
+cut_off old new failures before contents result after e same cut part =
+    subst (λ (r : Result (Option ℕ) RunFault). HasServed old new failures before contents r after) (sym same) (record { written = tt; part = part; device = cut })
+
+-- what was passed on was written
+pub served_kept : (old mid new : Option (List ℕ)) (a c : State) (cs : List (List ℕ)) (stop : Option ℕ) → Served old mid a cs stop c → Keeps mid new → Served old new a cs stop c
+served_kept old mid new a c cs stop s k = record { answers = s.answers; run = s.run; written = appends_kept old mid new (bytes_of s.answers) s.written k }

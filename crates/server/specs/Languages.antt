@@ -2,7 +2,7 @@
 --     IsLanguageOf text file      the text is a grammar file that defines this, and a language can be made of it
 --     IsLoadFault text fault      the text defines no language, for this cause, the first in the order of the tests
 --     IsParsed g kinds cells parse      the verdict that was reached is that on these kinds
---     AlwaysAnswers file      each text has tokens, and each list of kinds a verdict
+--     AlwaysAnswers file      each text has tokens, each list of kinds a verdict, and there is one of each
 use Rattle.std.specs.Prelude.{◌≡◌, ℕ, ◌<◌, List, length, Some}
 use Rattle.definitions.specs.declared.Kind.{Kind}
 use Rattle.definitions.specs.Items.{HasMoreSetsThan, HasNoConflict}
@@ -52,6 +52,8 @@ pub record IsParsed (g : Grammar) (kinds : List Kind) (cells : List Cell) (parse
   pub verdict : IsVerdict g kinds (verdict_in cells parse.verdict)
   pub node : HasNode (length cells) parse.verdict
 
+-- where no set has a conflict there is one verdict, and there is always one list of tokens
 pub record AlwaysAnswers (file : FileGrammar) : Type 0 where
   pub tokens : (t : List ℕ) → IsText t → (xs : List Token) × AreTokens file.patterns t xs
   pub verdicts : (kinds : List Kind) → (v : Answer) × IsVerdict file.grammar kinds v
+  pub free : HasNoConflict file.grammar

@@ -1,5 +1,6 @@
 pub mod Documents
 pub mod Languages
+pub mod Answers
 pub mod Steps
 pub mod Runs
 pub mod Sessions

@@ -1,20 +1,19 @@
 -- Runs of the server over the contents of frames.
---     Run file old contents answers stop new      steps by the language of a grammar file on the contents in turn, up to the first that stops the server
+--     Run old contents answers stop new      steps on the contents in turn, up to the first that stops the server
 --     bytes_of answers      the answers as JSON texts, each in a frame
 use Rattle.std.specs.Prelude.{◌≡◌, ℕ, List, [], ◌∷◌, ◌++◌, flat_map, Option, Some, MatchOption}
 use Rattle.serde_json.specs.Written.{compact_text}
 use Rattle.frames.specs.Write.{frame}
-use Rattle.grammar.specs.Grammars.{FileGrammar}
 use Rattle.rpc.specs.Reading.{hearing}
 use Rattle.rpc.specs.Replies.{Answer, reply_data}
 use Rattle.server.specs.Steps.{State, Step, Ignores}
 
-abbrev pub Run : FileGrammar → State → List (List ℕ) → List Answer → Option ℕ → State → Type 0
-Run file old [] answers stop new = Ignores old answers stop new
-Run file old (content ∷ contents) answers stop new =
-    (first : List Answer) × (halt : Option ℕ) × (mid : State) × Step file old (hearing content) first halt mid
+abbrev pub Run : State → List (List ℕ) → List Answer → Option ℕ → State → Type 0
+Run old [] answers stop new = Ignores old answers stop new
+Run old (content ∷ contents) answers stop new =
+    (first : List Answer) × (halt : Option ℕ) × (mid : State) × Step old (hearing content) first halt mid
     × MatchOption halt
-    ((rest : List Answer) × (answers ≡ first ++ rest) × Run file mid contents rest stop new)
+    ((rest : List Answer) × (answers ≡ first ++ rest) × Run mid contents rest stop new)
     (λ status. (answers ≡ first) × (stop ≡ Some status) × (new ≡ mid))
 
 abbrev pub bytes_of : List Answer → List ℕ

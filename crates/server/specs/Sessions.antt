@@ -1,8 +1,11 @@
 -- A whole session, from the bytes that are read to the bytes that are written.
---     Served file old new before contents stop after      the answers of a run over the contents were written
---     ServedInPart file old new before contents      a front of such answers was written, where a device failed or memory was refused
+--     Served old new before contents stop after      the answers of a run over the contents were written
+--     ServedInPart old new before contents      a front of such answers was written, where a device failed or memory was refused
+--     HasServed ..      what comes of answering some contents: all answers are written, or a front of them
+--     CanServe state      there are answers in this state, and in all that come behind it
 --     Session ..      what `run` answers and writes
-use Rattle.std.specs.Prelude.{◌≡◌, ℕ, ◌⊎◌, List, ◌++◌, Option, Some, None, Result, Ok, Err}
+use Rattle.std.specs.Prelude.{◌≡◌, ℕ, ◌⊎◌, List, ◌++◌, Option, Some, None, Result, Ok, Err, true, IfOk, OnErr, MatchResult}
+use Rattle.std.specs.FinMap.{get}
 use Rattle.std.specs.Io.KnownBytes.{Consumes, Appends, IsAtEnd}
 use Rattle.frames.specs.Frames.{Tail, IsOpen, Splits, finish_of}
 use Rattle.frames.specs.declared.fault.FrameFault.{FrameFault}
@@ -11,6 +14,8 @@ use Rattle.grammar.specs.Grammars.{FileGrammar}
 use Rattle.rpc.specs.Replies.{Answer}
 use Rattle.server.specs.declared.serve.RunFault.{RunFault}
 use Rattle.server.specs.declared.serve.RunFault.TheVariants.{Frame, Read, Write, Memory}
+use Rattle.server.specs.Documents.{OpenDocument, Held, fits}
+use Rattle.server.specs.Languages.{AlwaysAnswers}
 use Rattle.server.specs.Steps.{State, first_state}
 use Rattle.server.specs.Runs.{Run, bytes_of}
 
@@ -18,16 +23,16 @@ use Rattle.server.specs.Runs.{Run, bytes_of}
 abbrev pub AppendsFront : Option (List ℕ) → Option (List ℕ) → List ℕ → Type 0
 AppendsFront old new bytes = (front rest : List ℕ) × (bytes ≡ front ++ rest) × Appends old new front
 
-pub record Served (file : FileGrammar) (old new : Option (List ℕ)) (before : State) (contents : List (List ℕ)) (stop : Option ℕ) (after : State) : Type 0 where
+pub record Served (old new : Option (List ℕ)) (before : State) (contents : List (List ℕ)) (stop : Option ℕ) (after : State) : Type 0 where
   pub answers : List Answer
-  pub run : Run file before contents answers stop after
+  pub run : Run before contents answers stop after
   pub written : Appends old new (bytes_of answers)
 
-pub record ServedInPart (file : FileGrammar) (old new : Option (List ℕ)) (before : State) (contents : List (List ℕ)) : Type 0 where
+pub record ServedInPart (old new : Option (List ℕ)) (before : State) (contents : List (List ℕ)) : Type 0 where
   pub answers : List Answer
   pub stop : Option ℕ
   pub after : State
-  pub run : Run file before contents answers stop after
+  pub run : Run before contents answers stop after
   pub written : AppendsFront old new (bytes_of answers)
 
 -- all answers are written at the end of the input, at `exit`, where the stream is faulty and where a read fails; where a write fails or
@@ -43,7 +48,7 @@ IsWritten (Err Memory) old new bytes = AppendsFront old new bytes
 abbrev pub Ends : Result ℕ RunFault → Option (List ℕ) → Tail → Option ℕ → Type 0
 Ends (Ok status) left tail stop = (stop ≡ Some status) ⊎ ((stop ≡ None) × IsAtEnd left × (finish_of tail ≡ Ok tt) × (status ≡ 1))
 Ends (Err (Frame fault)) left tail stop = (stop ≡ None) × (finish_of tail ≡ Err fault) × (IsOpen tail → IsAtEnd left)
-Ends (Err Read) left tail stop = stop ≡ None
+Ends (Err Read) left tail stop = (stop ≡ None) × IsOpen tail
 Ends (Err Write) left tail stop = Unit {0}
 Ends (Err Memory) left tail stop = Unit {0}
 
@@ -57,7 +62,7 @@ pub record Session (file : FileGrammar) (input_old input_new output_old output_n
   pub after : State
   pub was_read : Consumes input_old input_new bytes
   pub split : Splits bytes contents tail
-  pub run : Run file first_state contents answers stop after
+  pub run : Run (first_state file) contents answers stop after
   pub written : IsWritten outcome output_old output_new (bytes_of answers)
   pub ends : Ends outcome input_new tail stop
 
@@ -75,6 +80,21 @@ IsCutShort (Frame fault) failures = ⊥
 IsCutShort Read failures = ⊥
 IsCutShort Write failures = failures ≡ 1
 IsCutShort Memory failures = failures ≡ 0
+
+-- each document's text fits
+abbrev pub AllFit : Held → Type 0
+AllFit documents = (uri : List ℕ) (document : OpenDocument) → get documents uri ≡ Some document → fits document.text ≡ true
+
+pub record CanServe (state : State) : Type 0 where
+  pub always : AlwaysAnswers state.file
+  pub fit : AllFit state.documents
+
+-- all answers to these contents are written, and the output hasn't failed; or a front of them, because a write failed or memory was
+-- refused
+pub record HasServed (old new : Option (List ℕ)) (failures : ℕ) (before : State) (contents : List (List ℕ)) (result : Result (Option ℕ) RunFault) (after : State) : Type 0 where
+  pub written : IfOk result (λ stop. Served old new before contents stop after)
+  pub part : OnErr result (ServedInPart old new before contents)
+  pub device : MatchResult result (λ _. failures ≡ 0) (λ e. IsCutShort e failures)
 
 -- want of memory in the frames is want of memory
 abbrev pub run_fault : FrameFault → RunFault

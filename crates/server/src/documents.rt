@@ -4,48 +4,11 @@ ghost use Rattle.std.specs.Prelude.{◌≡◌, ◌||◌, nat_lt, is_some, option
 ghost use Rattle.std.specs.FinMap as map;
 ghost use Rattle.server.specs.Documents.{has_room, open_document, IsCurrent};
 
+use crate::document::Document;
 use crate::language::Language;
-use lexer::Tokens;
-use parser::Parse;
 use std::alloc::{AllocError, Global};
 use std::collections::BTreeMap;
 use std::marker::Model;
-use text::Text;
-use trees::Store;
-
-/// A document that is open, with the tokens of its text and their parse, whose nodes are in the store.
-#[derive(Drop)]
-pub struct Document {
-    pub version: i32,
-    pub text: Text,
-    pub tokens: Tokens,
-    pub store: Store,
-    pub parse: Parse,
-}
-
-impl Document {
-    /// A document of this text. Refuses for memory alone.
-    pub fn of(
-        alloc: Global,
-        language: &Language,
-        version: i32,
-        text: Text,
-    ) -> Result<Document, AllocError>
-        ensures is { IfOk result (λ d. open_document d ≡ record { version = version; text = text }) }
-        ensures current { IfOk result (IsCurrent language.now) }
-    {
-        let (tokens, kinds) = language.scan(alloc, &text)?;
-        let mut store = Store::new(alloc);
-        let parse = language.parse(alloc, &mut store, &kinds)?;
-        Ok(Document {
-            version,
-            text,
-            tokens,
-            store,
-            parse,
-        })
-    }
-}
 
 /// How many documents are held at most.
 pub const MOST_DOCUMENTS: usize = 64;

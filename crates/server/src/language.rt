@@ -1,8 +1,8 @@
 //! The language of a grammar file: its grammar, the automaton of its token rules, and its tables.
 
 ghost use Rattle.std.specs.Prelude.{◌≡◌, IfOk, IfErr};
+ghost use Rattle.lexer.specs.Rescans.{significant_kinds};
 ghost use Rattle.lexer.specs.Tokens.{AreTokensOf};
-ghost use Rattle.server.specs.Documents.{kinds_of};
 ghost use Rattle.server.specs.Languages.{IsLanguageOf, IsLoadFault, IsParsed, AlwaysAnswers};
 
 use crate::significant::Significant;
@@ -105,8 +105,9 @@ impl Language {
         text: &Text,
     ) -> Result<(Tokens, Significant), AllocError>
         ensures tokens { IfOk result (λ r. AreTokensOf self.now.patterns self.now.skips text.now r.0.items) }
-        ensures kinds { IfOk result (λ r. r.1.kinds.items ≡ kinds_of r.0.items) }
+        ensures kinds { IfOk result (λ r. r.1.kinds.items ≡ significant_kinds r.0.items) }
     {
+        // The read opens the invariant of the text.
         let _length = text.len();
         let (tokens, kinds) = Tokens::scan_with_kinds(
             alloc,
@@ -129,13 +130,14 @@ impl Language {
         Parse::whole(alloc, &self.tables, store, kinds)
     }
 
-    /// Each text has tokens, and each list of kinds a verdict.
+    /// Each text has tokens, and each list of kinds a verdict; no set of the grammar has a conflict.
     pub(crate) fn always_answers(&self)
         ensures { AlwaysAnswers self.now }
     {
         each_text_has_tokens();
         each_list_has_a_verdict();
         self.tables.moves_are_decided();
+        // The reads open the invariants of the tables and of the language.
         let _start = self.tables.start();
         let _automaton = &self.automaton;
     }

@@ -1,6 +1,7 @@
 //! The server: phases, documents, and the loop from bytes to bytes (LSP 3.17).
 #![tactic(auto)]
 
+mod document;
 mod documents;
 mod language;
 mod laws;
@@ -9,8 +10,6 @@ mod significant;
 mod state;
 
 pub use language::{Language, LoadFault};
-pub use laws::{
-    each_answer_is_one, each_text_has_a_fresh_server, each_text_is_its_edits, every_answer_is_fresh,
-};
+pub use laws::{each_text_is_its_edits, every_answer_is_fresh};
 pub use serve::{RunFault, run};
 pub use state::{Out, Phase, Server};

@@ -1,17 +1,17 @@
 //! The loop from bytes to bytes.
 
 ghost use Rattle.std.specs.Prelude.{◌≡◌, ◌↔◌, ◌∷◌, [], Err, map, IfOk, IfErr, OnOk, OnErr, IsErrOf};
-ghost use Rattle.std.specs.Io.KnownBytes.{Appends};
+ghost use Rattle.std.specs.Io.KnownBytes.{Appends, Keeps};
 ghost use Rattle.frames.specs.Contents.{contents};
 ghost use Rattle.rpc.specs.Replies.{reply_view};
-ghost use Rattle.server.specs.Languages.{AlwaysAnswers};
-ghost use Rattle.server.specs.Steps.{state_view, file_of};
+ghost use Rattle.server.specs.Steps.{state_view};
 ghost use Rattle.server.specs.Runs.{bytes_of};
-ghost use Rattle.server.specs.Fresh.{EveryAnswerIsFresh};
-ghost use Rattle.server.specs.Sessions.{AppendsFront, Served, ServedInPart, Session, IsCutShort, EndsAt, run_fault};
+ghost use Rattle.server.specs.Fresh.{EveryAnswerIsFresh, EachTextIsItsEdits};
+ghost use Rattle.server.specs.Sessions.{AppendsFront, CanServe, HasServed, Session, IsCutShort, EndsAt, run_fault};
 ghost use Rattle.server.specs.declared.serve.RunFault.TheVariants.{Memory};
 
 use crate::language::Language;
+use crate::laws::{each_text_is_its_edits, every_answer_is_fresh};
 use crate::state::Server;
 use frames::{Decoder, Frame, FrameFault, Input, Output, write_frame};
 use rpc::{Reply, read, to_bytes};
@@ -70,12 +70,13 @@ fn serve<W: Output>(
     content: &[u8],
 ) -> Result<Option<u8>, RunFault>
     requires output { W.failures output.old ≡ 0 }
-    requires answers { AlwaysAnswers (file_of server.old) }
-    ensures file { file_of server.new ≡ file_of server.old }
-    ensures served { IfOk result (λ stop. Served (file_of server.old) (W.contents output.old) (W.contents output.new) (state_view server.old) (content.now ∷ []) stop (state_view server.new)) }
-    ensures part { OnErr result (ServedInPart (file_of server.old) (W.contents output.old) (W.contents output.new) (state_view server.old) (content.now ∷ [])) }
-    ensures works { OnOk result (W.failures output.new ≡ 0) }
-    ensures fault { IfErr result (λ e. IsCutShort e (W.failures output.new)) }
+    requires server { CanServe (state_view server.old) }
+    ensures {
+        let old = W.contents output.old in
+        let new = W.contents output.new in
+        let after = state_view server.new in
+        HasServed old new (W.failures output.new) (state_view server.old) (content.now ∷ []) result after
+    }
 {
     let message = read(alloc, content);
     let out = server.handle(alloc, message)?;
@@ -91,12 +92,13 @@ fn serve_all<W: Output>(
     frames: &[Frame],
 ) -> Result<Option<u8>, RunFault>
     requires output { W.failures output.old ≡ 0 }
-    requires answers { AlwaysAnswers (file_of server.old) }
-    ensures file { file_of server.new ≡ file_of server.old }
-    ensures served { IfOk result (λ stop. Served (file_of server.old) (W.contents output.old) (W.contents output.new) (state_view server.old) (contents frames.now) stop (state_view server.new)) }
-    ensures part { OnErr result (ServedInPart (file_of server.old) (W.contents output.old) (W.contents output.new) (state_view server.old) (contents frames.now)) }
-    ensures works { OnOk result (W.failures output.new ≡ 0) }
-    ensures fault { IfErr result (λ e. IsCutShort e (W.failures output.new)) }
+    requires server { CanServe (state_view server.old) }
+    ensures {
+        let old = W.contents output.old in
+        let new = W.contents output.new in
+        let after = state_view server.new in
+        HasServed old new (W.failures output.new) (state_view server.old) (contents frames.now) result after
+    }
 {
     for frame in frames {
         if let Some(status) = serve(alloc, server, output, &frame.content)? {
@@ -106,24 +108,15 @@ fn serve_all<W: Output>(
     Ok(None)
 }
 
-/// Answers the contents of some frames, and passes the answers on.
-fn serve_piece<W: Output>(
-    alloc: Global,
-    server: &mut Server,
-    output: &mut W,
-    frames: &[Frame],
-) -> Result<Option<u8>, RunFault>
-    requires output { W.failures output.old ≡ 0 }
-    requires answers { AlwaysAnswers (file_of server.old) }
-    ensures file { file_of server.new ≡ file_of server.old }
-    ensures served { IfOk result (λ stop. Served (file_of server.old) (W.contents output.old) (W.contents output.new) (state_view server.old) (contents frames.now) stop (state_view server.new)) }
-    ensures part { OnErr result (ServedInPart (file_of server.old) (W.contents output.old) (W.contents output.new) (state_view server.old) (contents frames.now)) }
+/// Passes the answers on.
+fn flush<W: Output>(output: &mut W) -> Result<(), RunFault>
+    requires { W.failures output.old ≡ 0 }
+    ensures kept { Keeps (W.contents output.old) (W.contents output.new) }
     ensures works { OnOk result (W.failures output.new ≡ 0) }
     ensures fault { IfErr result (λ e. IsCutShort e (W.failures output.new)) }
 {
-    let stop = serve_all(alloc, server, output, frames)?;
     match output.flush() {
-        Ok(()) => Ok(stop),
+        Ok(()) => Ok(()),
         Err(_) => Err(RunFault::Write),
     }
 }
@@ -157,15 +150,22 @@ pub fn run<R: Input, W: Output>(
     requires input { R.failures input.old ≡ 0 }
     requires output { W.failures output.old ≡ 0 }
     // What is read and written is a session, whatever ends it.
-    ensures session { Session language (R.remaining input.old) (R.remaining input.new) (W.contents output.old) (W.contents output.new) result }
-    // In each session an answer about an open document is the one that a fresh server gives on its text.
+    ensures session {
+        let old = W.contents output.old in
+        let new = W.contents output.new in
+        Session language (R.remaining input.old) (R.remaining input.new) old new result
+    }
+    // In each session the one answer about an open document is that of a fresh server on its text.
     ensures fresh { EveryAnswerIsFresh language }
-
+    // The text of an open document is its edits, applied in turn.
+    ensures edits { EachTextIsItsEdits }
     // A device fault is answered exactly where the device failed.
     ensures read { IsErrOf result RunFault.Read ↔ R.failures input.new ≡ 1 }
     ensures write { IsErrOf result RunFault.Write ↔ W.failures output.new ≡ 1 }
 {
     language.always_answers();
+    every_answer_is_fresh(&language);
+    each_text_is_its_edits();
     let mut decoder = Decoder::new(alloc);
     let mut server = Server::new(alloc, language);
     let mut buffer = [0; BUFFER_LEN];
@@ -179,7 +179,9 @@ pub fn run<R: Input, W: Output>(
         }
         match decoder.feed(alloc, &buffer[..count]) {
             Ok(frames) => {
-                if let Some(status) = serve_piece(alloc, &mut server, output, &frames)? {
+                let stop = serve_all(alloc, &mut server, output, &frames)?;
+                flush(output)?;
+                if let Some(status) = stop {
                     return Ok(status);
                 }
                 if let Some(fault) = decoder.fault() {

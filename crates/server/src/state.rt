@@ -1,22 +1,21 @@
 //! One step: phases and documents.
 
-ghost use Rattle.std.specs.Prelude.{◌≡◌, [], ◌∷◌, Some, None, false, true, map, option_map, IfOk, IfSome, OnOk, OnErr, IsErr, string_bytes, encode_utf8_all};
+ghost use Rattle.std.specs.Prelude.{◌≡◌, [], ◌∷◌, Some, None, false, true, map, option_map, IfOk, IfErr, OnOk, OnErr, IsErr, string_bytes};
 ghost use Rattle.std.specs.Str.{chars};
 ghost use Rattle.std.specs.FinMap.{get, insert};
 ghost use Rattle.rpc.specs.Messages.{id_view, call_view, note_view, change_view, heard_of};
 ghost use Rattle.rpc.specs.declared.reply.Refusal.TheVariants.{DocumentNotOpen};
-ghost use Rattle.rpc.specs.Replies.{row_view, reply_view, told_error};
-ghost use Rattle.lexer.specs.Tokens.{plain};
+ghost use Rattle.rpc.specs.Replies.{reply_view, told_error};
 ghost use Rattle.server.specs.Documents.{open_document, IsCurrent};
-ghost use Rattle.server.specs.Steps.{state_view, file_of, first_state, edited, text_answer, rows, TokensAnswer, TreeAnswer, opened, changed_document, exit_status, unknown_in, params_in, Asks, Tells, StepOn, Ignores};
+ghost use Rattle.server.specs.Answers.{question_view, IsAnswer};
+ghost use Rattle.server.specs.Steps.{state_view, first_state, opened, changed_document, exit_status, unknown_in, params_in, Asks, Tells, StepOn};
 
-use crate::documents::{Document, Documents};
+use crate::document::{Document, Question};
+use crate::documents::Documents;
 use crate::language::Language;
-use parser::Verdict;
-use rpc::{Call, Change, Id, Message, Note, Refusal, Reply, Row, RpcFault};
+use rpc::{Call, Change, Id, Message, Note, Refusal, Reply, RpcFault};
 use std::alloc::{AllocError, Global};
-use text::{Text, TextFault};
-use views::{token_rows, tree_text};
+use text::TextFault;
 
 /// Where the session stands (LSP 3.17, "Server lifecycle").
 #[derive(Clone, Copy, Debug, PartialEq, Eq)]
@@ -72,16 +71,6 @@ fn exit_status(phase: Phase) -> u8
     }
 }
 
-fn no_reply(alloc: Global) -> Out
-    ensures replies { result.replies.items ≡ [] }
-    ensures stop { result.stop ≡ None }
-{
-    Out {
-        replies: Vec::new(alloc),
-        stop: None,
-    }
-}
-
 fn one_reply(alloc: Global, reply: Reply) -> Result<Out, AllocError>
     ensures replies { IfOk result (λ out. map reply_view out.replies.items ≡ reply_view reply ∷ []) }
     ensures stop { IfOk result (λ out. out.stop ≡ None) }
@@ -94,6 +83,15 @@ fn one_reply(alloc: Global, reply: Reply) -> Result<Out, AllocError>
     })
 }
 
+fn refused(alloc: Global, id: Option<Id>, refusal: Refusal) -> Result<Out, AllocError>
+    ensures replies {
+        IfOk result (λ out. map reply_view out.replies.items ≡ told_error (option_map id_view id) refusal ∷ [])
+    }
+    ensures stop { IfOk result (λ out. out.stop ≡ None) }
+{
+    one_reply(alloc, Reply::Error { id, refusal })
+}
+
 /// The reply to a question about a document that is not open.
 fn not_open(id: Id) -> Reply
     ensures { reply_view result ≡ told_error (Some (id_view id)) DocumentNotOpen }
@@ -104,106 +102,10 @@ fn not_open(id: Id) -> Reply
     }
 }
 
-fn text_answer(alloc: Global, id: Id, document: Option<&Document>) -> Result<Reply, AllocError>
-    ensures { IfOk result (λ reply. reply_view reply ≡ text_answer (id_view id) (option_map (λ d. open_document d.now) document.entry)) }
-{
-    match document {
-        Some(document) => Ok(Reply::Text {
-            id,
-            version: document.version,
-            text: document.text.to_string(alloc)?,
-        }),
-        None => Ok(not_open(id)),
-    }
-}
-
-/// The rows of a document's tokens, with names of their own.
-fn rows(alloc: Global, language: &Language, document: &Document) -> Result<Vec<Row>, AllocError>
-    ensures { IfOk result (λ told. map row_view told.items ≡ rows language.now document.now.text (map plain document.now.tokens.items)) }
-{
-    let found = token_rows(alloc, language.grammar(), &document.text, &document.tokens)?;
-    let mut told = Vec::with_capacity(alloc, found.len())?;
-    for row in &found {
-        told.push(Row {
-            name: String::from_str(alloc, row.name)?,
-            range: row.range,
-        })?;
-    }
-    Ok(told)
-}
-
-fn tokens_answer(
-    alloc: Global,
-    language: &Language,
-    id: Id,
-    document: Option<&Document>,
-) -> Result<Reply, AllocError>
-    requires { IfSome document (λ d. IsCurrent language.now d.now) }
-    ensures { IfOk result (λ reply. TokensAnswer language.now (id_view id) (option_map (λ d. open_document d.now) document.entry) (reply_view reply)) }
-{
-    match document {
-        Some(document) => Ok(Reply::Tokens {
-            id,
-            rows: rows(alloc, language, document)?,
-        }),
-        None => Ok(not_open(id)),
-    }
-}
-
-/// The answer about the tree of an open document.
-fn tree_of(
-    alloc: Global,
-    language: &Language,
-    id: Id,
-    document: &Document,
-) -> Result<Reply, AllocError>
-    requires { IsCurrent language.now document.now }
-    ensures { IfOk result (λ reply. TreeAnswer language.now (id_view id) (Some (open_document document.now)) (reply_view reply)) }
-{
-    match document.parse.verdict() {
-        Verdict::Tree(root) => Ok(Reply::Tree {
-            id,
-            text: tree_text(alloc, language.grammar(), &document.store, root)?,
-        }),
-        Verdict::FaultAt(_) | Verdict::FaultAtEnd => Ok(Reply::Null { id }),
-    }
-}
-
-fn tree_answer(
-    alloc: Global,
-    language: &Language,
-    id: Id,
-    document: Option<&Document>,
-) -> Result<Reply, AllocError>
-    requires { IfSome document (λ d. IsCurrent language.now d.now) }
-    ensures { IfOk result (λ reply. TreeAnswer language.now (id_view id) (option_map (λ d. open_document d.now) document.entry) (reply_view reply)) }
-{
-    match document {
-        Some(document) => tree_of(alloc, language, id, document),
-        None => Ok(not_open(id)),
-    }
-}
-
-/// The text after the changes in turn; `None` where one of the texts on the way would be too large.
-fn edited(alloc: Global, text: &Text, changes: &[Change]) -> Result<Option<Text>, AllocError>
-    ensures { IfOk result (λ new. new ≡ edited text.now (map change_view changes.now)) }
-{
-    let mut new = text.copy(alloc)?;
-    for change in changes {
-        match new.change(alloc, change.range, change.text.as_str()) {
-            Ok(()) => {}
-            Err(TextFault::TooLarge) => return Ok(None),
-            Err(TextFault::NoMemory) => return Err(AllocError),
-        }
-    }
-    Ok(Some(new))
-}
-
 impl Server {
     /// A server that no message has reached.
     pub fn new(alloc: Global, language: Language) -> Server
-        ensures state { state_view result ≡ first_state }
-        ensures file { file_of result ≡ language }
+        ensures state { state_view result ≡ first_state language }
         ensures works { result.has_failed ≡ false }
     {
         Server {
@@ -213,12 +115,36 @@ impl Server {
         }
     }
 
+    /// The reply to a question about the document of this URI.
+    fn answer(
+        &self,
+        alloc: Global,
+        id: Id,
+        uri: &str,
+        question: Question,
+    ) -> Result<Reply, AllocError>
+        ensures {
+            IfOk result (λ reply.
+                let held = self.now.documents in
+                IsAnswer held.file (id_view id) (get held.documents uri.now) (question_view question) (reply_view reply))
+        }
+    {
+        match self.documents.get(uri) {
+            Some(document) => document.answer(alloc, self.documents.language(), id, question),
+            None => Ok(not_open(id)),
+        }
+    }
+
     /// A request that fits its method.
     fn ask(&mut self, alloc: Global, id: Id, call: Call) -> Result<Out, AllocError>
-        ensures file { file_of self.new ≡ file_of self.old }
-        ensures asks { IfOk result (λ out. Asks (file_of self.old) self.old.phase (state_view self.old) (id_view id) (call_view call) (map reply_view out.replies.items) out.stop (state_view self.new)) }
+        ensures {
+            IfOk result (λ out.
+                let replies = map reply_view out.replies.items in
+                let old = state_view self.old in
+                Asks self.old.phase old (id_view id) (call_view call) replies out.stop (state_view self.new))
+        }
     {
-        let refusal = match (self.phase, call) {
+        let (uri, question) = match (self.phase, call) {
             (Phase::New, Call::Initialize) => {
                 self.phase = Phase::Ready;
                 return one_reply(alloc, Reply::Capabilities { id });
@@ -227,46 +153,37 @@ impl Server {
                 self.phase = Phase::Down;
                 return one_reply(alloc, Reply::Null { id });
             }
-            (Phase::Ready, Call::Text { uri }) => {
-                let reply = text_answer(alloc, id, self.documents.get(uri.as_str()))?;
-                return one_reply(alloc, reply);
+            (Phase::New, _) => return refused(alloc, Some(id), Refusal::NotInitialized),
+            (Phase::Ready, Call::Initialize) | (Phase::Down, _) => {
+                return refused(alloc, Some(id), Refusal::InvalidRequest);
             }
-            (Phase::Ready, Call::Tokens { uri }) => {
-                let document = self.documents.get(uri.as_str());
-                let reply = tokens_answer(alloc, self.documents.language(), id, document)?;
-                return one_reply(alloc, reply);
-            }
-            (Phase::Ready, Call::Tree { uri }) => {
-                let document = self.documents.get(uri.as_str());
-                let reply = tree_answer(alloc, self.documents.language(), id, document)?;
-                return one_reply(alloc, reply);
-            }
-            (Phase::New, _) => Refusal::NotInitialized,
-            (Phase::Ready, Call::Initialize) | (Phase::Down, _) => Refusal::InvalidRequest,
+            (Phase::Ready, Call::Text { uri }) => (uri, Question::Text),
+            (Phase::Ready, Call::Tokens { uri }) => (uri, Question::Tokens),
+            (Phase::Ready, Call::Tree { uri }) => (uri, Question::Tree),
         };
-        one_reply(
-            alloc,
-            Reply::Error {
-                id: Some(id),
-                refusal,
-            },
-        )
+        let reply = self.answer(alloc, id, uri.as_str(), question)?;
+        one_reply(alloc, reply)
     }
 
-    /// Holds a document of this text under this URI.
-    fn hold(
-        &mut self,
-        alloc: Global,
-        uri: String,
-        version: i32,
-        text: Text,
-    ) -> Result<(), AllocError>
+    /// Holds what a document was opened or changed to, if its text fits.
+    fn hold(&mut self, uri: String, document: Result<Document, TextFault>) -> Result<(), AllocError>
+        requires { IfOk document (IsCurrent self.old.documents.file) }
         ensures phase { self.new.phase ≡ self.old.phase }
-        ensures file { file_of self.new ≡ file_of self.old }
-        ensures documents { OnOk result (self.new.documents.documents ≡ insert self.old.documents.documents (string_bytes uri) (record { version = version; text = text })) }
+        ensures file { self.new.documents.file ≡ self.old.documents.file }
+        ensures held {
+            OnOk result (IfOk document (λ d.
+                self.new.documents.documents ≡ insert self.old.documents.documents (string_bytes uri) (open_document d)))
+        }
+        ensures large {
+            OnOk result (OnErr document (self.new.documents.documents ≡ self.old.documents.documents))
+        }
+        ensures memory { OnOk result (IfErr document (λ e. e ≡ TextFault.TooLarge)) }
     {
-        let document = Document::of(alloc, self.documents.language(), version, text)?;
-        self.documents.insert(uri, document)
+        match document {
+            Ok(document) => self.documents.insert(uri, document),
+            Err(TextFault::TooLarge) => Ok(()),
+            Err(TextFault::NoMemory) => Err(AllocError),
+        }
     }
 
     /// `textDocument/didOpen`.
@@ -278,17 +195,17 @@ impl Server {
         text: String,
     ) -> Result<(), AllocError>
         ensures phase { self.new.phase ≡ self.old.phase }
-        ensures file { file_of self.new ≡ file_of self.old }
-        ensures documents { OnOk result (self.new.documents.documents ≡ opened self.old.documents.documents (string_bytes uri) version (chars (string_bytes text))) }
+        ensures file { self.new.documents.file ≡ self.old.documents.file }
+        ensures documents {
+            let documents = self.old.documents.documents in
+            OnOk result (self.new.documents.documents ≡ opened documents (string_bytes uri) version (chars (string_bytes text)))
+        }
     {
         if !self.documents.has_room(uri.as_str()) {
             return Ok(());
         }
-        match Text::open(alloc, text.as_str()) {
-            Ok(text) => self.hold(alloc, uri, version, text),
-            Err(TextFault::TooLarge) => Ok(()),
-            Err(TextFault::NoMemory) => Err(AllocError),
-        }
+        let document = Document::open(alloc, self.documents.language(), version, text.as_str());
+        self.hold(uri, document)
     }
 
     /// `textDocument/didChange`.
@@ -300,31 +217,31 @@ impl Server {
         changes: Vec<Change>,
     ) -> Result<(), AllocError>
         ensures phase { self.new.phase ≡ self.old.phase }
-        ensures file { file_of self.new ≡ file_of self.old }
-        ensures documents { OnOk result (self.new.documents.documents ≡ changed_document self.old.documents.documents (string_bytes uri) version (map change_view changes.items) (get self.old.documents.documents (string_bytes uri))) }
-    {
-        let text = match self.documents.get(uri.as_str()) {
-            Some(document) => edited(alloc, &document.text, &changes)?,
-            None => None,
-        };
-        match text {
-            Some(text) => self.hold(alloc, uri, version, text),
-            None => Ok(()),
+        ensures file { self.new.documents.file ≡ self.old.documents.file }
+        ensures documents {
+            let documents = self.old.documents.documents in
+            let old = get documents (string_bytes uri) in
+            OnOk result (self.new.documents.documents ≡ changed_document documents (string_bytes uri) version (map change_view changes.items) old)
         }
+    {
+        let Some(document) = self.documents.get(uri.as_str()) else {
+            return Ok(());
+        };
+        let document = document.change(alloc, self.documents.language(), version, &changes);
+        self.hold(uri, document)
     }
 
     /// A notification that fits its method, or one that doesn't.
     fn tell(&mut self, alloc: Global, note: Note) -> Result<Out, AllocError>
-        ensures file { file_of self.new ≡ file_of self.old }
-        ensures tells { IfOk result (λ out. Tells self.old.phase (state_view self.old) (note_view note) (map reply_view out.replies.items) out.stop (state_view self.new)) }
+        ensures {
+            IfOk result (λ out.
+                let replies = map reply_view out.replies.items in
+                Tells self.old.phase (state_view self.old) (note_view note) replies out.stop (state_view self.new))
+        }
     {
+        let mut stop = None;
         match (self.phase, note) {
-            (phase, Note::Exit) => {
-                return Ok(Out {
-                    replies: Vec::new(alloc),
-                    stop: Some(exit_status(phase)),
-                });
-            }
+            (phase, Note::Exit) => stop = Some(exit_status(phase)),
             (Phase::Ready, Note::DidOpen { uri, version, text }) => {
                 self.open(alloc, uri, version, text)?;
             }
@@ -335,42 +252,52 @@ impl Server {
                     version,
                     changes,
                 },
-            ) => {
-                self.change(alloc, uri, version, changes)?;
-            }
+            ) => self.change(alloc, uri, version, changes)?,
             _ => {}
         }
-        Ok(no_reply(alloc))
+        Ok(Out {
+            replies: Vec::new(alloc),
+            stop,
+        })
     }
 
     /// The step on a message.
     fn step(&mut self, alloc: Global, message: Result<Message, RpcFault>) -> Result<Out, AllocError>
-        ensures file { file_of self.new ≡ file_of self.old }
-        ensures step { IfOk result (λ out. StepOn (file_of self.old) (heard_of message) (state_view self.old) (map reply_view out.replies.items) out.stop (state_view self.new)) }
+        ensures {
+            IfOk result (λ out.
+                let replies = map reply_view out.replies.items in
+                StepOn (heard_of message) (state_view self.old) replies out.stop (state_view self.new))
+        }
     {
-        let (id, refusal) = match message {
-            Ok(Message::Request(id, call)) => return self.ask(alloc, id, call),
-            Ok(Message::Notice(note)) => return self.tell(alloc, note),
-            Ok(Message::Ignored) => return Ok(no_reply(alloc)),
-            Err(RpcFault::Parse) => (None, Refusal::ParseError),
-            Err(RpcFault::Invalid { id }) => (id, Refusal::InvalidRequest),
-            Err(RpcFault::Unknown { id }) => (Some(id), unknown_in(self.phase)),
+        match message {
+            Ok(Message::Request(id, call)) => self.ask(alloc, id, call),
+            Ok(Message::Notice(note)) => self.tell(alloc, note),
+            Ok(Message::Ignored) => Ok(Out {
+                replies: Vec::new(alloc),
+                stop: None,
+            }),
+            Err(RpcFault::Parse) => refused(alloc, None, Refusal::ParseError),
+            Err(RpcFault::Invalid { id }) => refused(alloc, id, Refusal::InvalidRequest),
+            Err(RpcFault::Unknown { id }) => refused(alloc, Some(id), unknown_in(self.phase)),
             Err(RpcFault::Params { id, initialize }) => {
-                (Some(id), params_in(self.phase, initialize))
+                refused(alloc, Some(id), params_in(self.phase, initialize))
             }
-            Err(RpcFault::Memory) => return Err(AllocError),
-        };
-        one_reply(alloc, Reply::Error { id, refusal })
+            Err(RpcFault::Memory) => Err(AllocError),
+        }
     }
 
-    /// Takes one message, or what stands in its place. Once memory was refused the server has failed, and refuses every message.
+    /// Takes one message, or what stands in its place. Once memory was refused the server has failed, and refuses every
+    /// message.
     pub fn handle(
         &mut self,
         alloc: Global,
         message: Result<Message, RpcFault>,
     ) -> Result<Out, AllocError>
-        ensures file { file_of self.new ≡ file_of self.old }
-        ensures step { IfOk result (λ out. StepOn (file_of self.old) (heard_of message) (state_view self.old) (map reply_view out.replies.items) out.stop (state_view self.new)) }
+        ensures step {
+            IfOk result (λ out.
+                let replies = map reply_view out.replies.items in
+                StepOn (heard_of message) (state_view self.old) replies out.stop (state_view self.new))
+        }
         ensures failed { self.old.has_failed ≡ true → IsErr result }
         ensures err { OnErr result (self.new.has_failed ≡ true) }
         ensures ok { OnOk result (self.new.has_failed ≡ false) }

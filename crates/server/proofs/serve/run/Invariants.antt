@@ -1,13 +1,14 @@
 use Rattle.std.proofs.Common.{◌≡◌}
-use Rattle.server.specs.Steps.{state_view, file_of}
+use Rattle.server.specs.Steps.{state_view}
 use Rattle.server.proofs.Loop.{IsReady}
 use Rattle.server.proofs.serve.run.Given as goal
 
 abbrev pub invariant-loop-count : goal.invariant-loop-count
-invariant-loop-count g l = record {
-  ready : IsReady l.fn.language (g.R.Input.remaining l.fn.input) (g.R.Input.remaining l.input) (g.R.Input.failures l.input) (g.W.Output.contents l.fn.output) (g.W.Output.contents l.output) (g.W.Output.failures l.output) l.decoder (state_view l.server);
-  file : file_of l.server ≡ l.fn.language;
-}
+invariant-loop-count g l =
+    let read = g.R.Input.remaining in
+    let told = g.W.Output.contents in
+    let works = g.R.Input.failures l.input in
+    IsReady l.fn.language (read l.fn.input) (read l.input) works (told l.fn.output) (told l.output) (g.W.Output.failures l.output) l.decoder (state_view l.server)
 
 abbrev pub decreases-loop-count : goal.decreases-loop-count
 decreases-loop-count g l = g.R.Input.reads_left l.input

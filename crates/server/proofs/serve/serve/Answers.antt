@@ -1,39 +1,58 @@
-use Rattle.std.proofs.Common.{[], ◌∷◌, map}
+use Rattle.std.proofs.Common.{ℕ, List, [], ◌∷◌, map, subst, sym}
+use Rattle.std.specs.Prelude.{Option}
+use Rattle.std.proofs.lemmas.Result.{err_from_is_err_and}
 use Rattle.rpc.specs.Messages.{heard_of}
 use Rattle.rpc.specs.Reading.{hearing}
 use Rattle.rpc.specs.Replies.{reply_view}
-use Rattle.server.specs.Steps.{state_view, file_of}
-use Rattle.server.specs.Sessions.{ServedInPart}
+use Rattle.server.specs.declared.serve.RunFault.{RunFault}
+use Rattle.server.specs.Runs.{Run}
+use Rattle.server.specs.Steps.{State, state_view}
+use Rattle.server.specs.Sessions.{ServedInPart, IsCutShort}
 use Rattle.server.proofs.Runs.{step_heard, one_run}
-use Rattle.server.proofs.Parts.{on_err, part_nothing}
+use Rattle.server.proofs.Parts.{cut_off, part_nothing}
 use Rattle.server.proofs.serve.serve.Goals as goal
 
-pub returns-clause-served : goal.returns-clause-served
-returns-clause-served g c =
+pub returns : goal.returns
+returns g c =
     let answers = map reply_view c.in_ok-out.out.replies.items in
     let before = state_view c.args.server.now in
     let after = state_view c.handle.new.self in
+    let step = step_heard (heard_of c.read-message.result) (hearing c.args.content.now) before answers c.in_ok-out.out.stop after c.read-message.ensures c.in_ok-out.ensures.step in
     record {
-      answers = answers;
-      run = one_run (file_of c.args.server.now) c.args.content.now before answers c.in_ok-out.out.stop after
-          (step_heard (file_of c.args.server.now) (heard_of c.read-message.result) (hearing c.args.content.now) before answers c.in_ok-out.out.stop after c.read-message.ensures c.in_ok-out.ensures.step);
-      written = rw c.deref.ensures.value at c.in_ok-write_replies.ensures.written;
+      written = record {
+        answers = answers;
+        run = one_run c.args.content.now before answers c.in_ok-out.out.stop after step;
+        written = rw c.deref.ensures.value at c.in_ok-write_replies.ensures.written;
+      };
+      part = tt;
+      device = c.in_ok-write_replies.ensures.works;
     }
 
-pub returns-in_err-out-clause-part : goal.returns-in_err-out-clause-part
-returns-in_err-out-clause-part g c = on_err _ _ (part_nothing (file_of c.args.server.now) c.requires.answers (g.W.Output.contents c.args.output.now) (state_view c.args.server.now) (c.args.content.now ∷ []))
+pub returns-in_err-out : goal.returns-in_err-out
+returns-in_err-out g c =
+    let told = g.W.Output.contents c.args.output.now in
+    let failures = g.W.Output.failures c.args.output.now in
+    let before = state_view c.args.server.now in
+    let p = err_from_is_err_and c.from_residual.result c.from_residual.ensures.1 in
+    let cut : IsCutShort p.0 failures = subst (λ (e : RunFault). IsCutShort e failures) (sym p.2) c.requires.output in
+    cut_off told told failures before (c.args.content.now ∷ []) _ _ p.0 p.1 cut (part_nothing told before c.requires.server (c.args.content.now ∷ []))
 
-pub returns-in_err-write_replies-clause-part : goal.returns-in_err-write_replies-clause-part
-returns-in_err-write_replies-clause-part g c =
+pub returns-in_err-write_replies : goal.returns-in_err-write_replies
+returns-in_err-write_replies g c =
+    let old = g.W.Output.contents c.args.output.now in
+    let new = g.W.Output.contents c.write_replies.new.output in
+    let failures = g.W.Output.failures c.write_replies.new.output in
     let answers = map reply_view c.in_ok-out.out.replies.items in
     let before = state_view c.args.server.now in
     let after = state_view c.handle.new.self in
-    let part : ServedInPart (file_of c.args.server.now) (g.W.Output.contents c.args.output.now) (g.W.Output.contents c.write_replies.new.output) before (c.args.content.now ∷ []) = record {
+    let p = err_from_is_err_and c.from_residual-in_err-write_replies.result c.from_residual-in_err-write_replies.ensures.1 in
+    let cut : IsCutShort p.0 failures = subst (λ (e : RunFault). IsCutShort e failures) (sym p.2) c.in_err-write_replies.ensures.fault in
+    let step = step_heard (heard_of c.read-message.result) (hearing c.args.content.now) before answers c.in_ok-out.out.stop after c.read-message.ensures c.in_ok-out.ensures.step in
+    let part : ServedInPart old new before (c.args.content.now ∷ []) = record {
       answers = answers;
       stop = c.in_ok-out.out.stop;
       after = after;
-      run = one_run (file_of c.args.server.now) c.args.content.now before answers c.in_ok-out.out.stop after
-          (step_heard (file_of c.args.server.now) (heard_of c.read-message.result) (hearing c.args.content.now) before answers c.in_ok-out.out.stop after c.read-message.ensures c.in_ok-out.ensures.step);
+      run = one_run c.args.content.now before answers c.in_ok-out.out.stop after step;
       written = rw c.deref.ensures.value at c.in_err-write_replies.ensures.front;
     } in
-    on_err _ _ part
+    cut_off old new failures before (c.args.content.now ∷ []) _ _ p.0 p.1 cut part

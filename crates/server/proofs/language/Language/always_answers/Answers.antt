@@ -15,5 +15,6 @@ returns c =
     let always : AlwaysAnswers file = record {
       tokens = λ t text. c.each_text_has_tokens.ensures file.patterns c.self.inside.automaton t c.self.invariant.0 text;
       verdicts = λ kinds. c.each_list_has_a_verdict.ensures file.grammar accepted decided kinds;
+      free = accepted.free;
     } in
     subst (λ (f : FileGrammar). AlwaysAnswers f) c.self.view_is always

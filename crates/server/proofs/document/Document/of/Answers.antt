@@ -1,6 +1,6 @@
 use Rattle.std.proofs.Common.{subst}
 use Rattle.server.specs.Languages.{IsParsed}
-use Rattle.server.proofs.documents.Document.of.Goals as goal
+use Rattle.server.proofs.document.Document.of.Goals as goal
 
 pub returns-clause-current : goal.returns-clause-current
 returns-clause-current c = record {
