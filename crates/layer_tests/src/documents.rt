@@ -154,9 +154,10 @@ fn each_call_answers(rt: HostRuntime) -> Result<(), Fail> {
     assert_eq!(rt; text.bytes(), 10);
     text.replace(alloc, 1, 3, "bc")?;
     assert_eq!(rt; text.to_string(alloc)?.as_str(), "abc\n\u{1f600}z");
-    let copy = text.copy(alloc)?;
-    assert_eq!(rt; copy.to_string(alloc)?.as_str(), "abc\n\u{1f600}z");
-    assert_eq!(rt; copy.bytes(), text.bytes());
+    let changed = text.changed(alloc, None, "q")?;
+    assert_eq!(rt; changed.to_string(alloc)?.as_str(), "q");
+    assert_eq!(rt; text.to_string(alloc)?.as_str(), "abc\n\u{1f600}z");
+    assert_eq!(rt; text.at(4), '\u{1f600}');
     let mut rest = text.chars_from(4);
     assert_eq!(rt;
         (rest.next(), rest.next(), rest.next()),

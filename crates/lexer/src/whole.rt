@@ -19,10 +19,7 @@ impl<'a> Source for Whole<'a> {
     }
 
     fn get(&self, i: usize) -> char {
-        match self.0.chars_from(i).next() {
-            Some(c) => c,
-            None => '\0',
-        }
+        self.0.at(i)
     }
 
     ghost inside = { λ s i h. h };

@@ -225,17 +225,6 @@ impl Text {
         }
     }
 
-    /// The same text once more.
-    pub fn copy(&self, alloc: Global) -> Result<Text, AllocError>
-        ensures { IfOk result (λ copy. copy ≡ self.now) }
-    {
-        let characters = Vec::from_slice(alloc, &self.characters)?;
-        Ok(Text {
-            characters,
-            bytes: self.bytes,
-        })
-    }
-
     /// The whole text in UTF-8.
     pub fn to_string(&self, alloc: Global) -> Result<String, AllocError>
         ensures { IfOk result (λ string. string_bytes string ≡ encode_utf8_all self.now) }
