@@ -9,7 +9,7 @@ mod whole;
 
 pub use definitions::{Edit, Kind, KindSplice};
 pub use dfa::Source;
-pub use laws::each_text_has_tokens;
+pub use laws::{each_text_has_tokens, equal_tokens_are_the_same};
 pub use sums::{Sums, Token};
 pub use tokens::Tokens;
 pub use whole::Whole;

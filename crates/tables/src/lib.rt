@@ -10,6 +10,7 @@ mod first;
 mod goto;
 mod input;
 mod kernels;
+pub mod laws;
 mod moves;
 mod progress;
 mod rows;
