@@ -1,4 +1,4 @@
-// The parts of the alphabet that no rule tells apart.
+//! The parts of the alphabet that no rule tells apart.
 ghost use Rattle.std.specs.Prelude.{◌≡◌, ℕ, ◌++◌, All, Contains, IfOk};
 ghost use Rattle.definitions.specs.Text.{IsCharacter};
 ghost use Rattle.dfa.specs.Alphabet.{all_cuts, class_cuts, cut, cuts, literal_cuts};
@@ -11,7 +11,8 @@ use std::alloc::{AllocError, Global};
 /// Adds where an interval cuts the alphabet: at its first character, and at the one behind its last, if there is one.
 fn cut(first: char, last: char, out: &mut Vec<char>) -> Result<(), AllocError>
     ensures cuts { IfOk result (λ _. out.new.items ≡ out.old.items ++ cut first last) }
-    ensures characters { IfOk result (λ _. All IsCharacter out.old.items → All IsCharacter out.new.items) }
+    ensures characters { IfOk result (λ _. All IsCharacter out.old.items
+        → All IsCharacter out.new.items) }
 {
     out.push(first)?;
     // The surrogates behind it are no characters.
@@ -26,7 +27,8 @@ fn cut(first: char, last: char, out: &mut Vec<char>) -> Result<(), AllocError>
 /// Adds the cuts of each character of a literal.
 fn literal_cuts(characters: &[char], out: &mut Vec<char>) -> Result<(), AllocError>
     ensures cuts { IfOk result (λ _. out.new.items ≡ out.old.items ++ literal_cuts characters.now) }
-    ensures characters { IfOk result (λ _. All IsCharacter out.old.items → All IsCharacter out.new.items) }
+    ensures characters { IfOk result (λ _. All IsCharacter out.old.items
+        → All IsCharacter out.new.items) }
 {
     for c in characters {
         cut(*c, *c, out)?;
@@ -37,7 +39,8 @@ fn literal_cuts(characters: &[char], out: &mut Vec<char>) -> Result<(), AllocErr
 /// Adds the cuts of each interval of a class, which are the same where it is negated.
 fn class_cuts(intervals: &[Interval], out: &mut Vec<char>) -> Result<(), AllocError>
     ensures cuts { IfOk result (λ _. out.new.items ≡ out.old.items ++ class_cuts intervals.now) }
-    ensures characters { IfOk result (λ _. All IsCharacter out.old.items → All IsCharacter out.new.items) }
+    ensures characters { IfOk result (λ _. All IsCharacter out.old.items
+        → All IsCharacter out.new.items) }
 {
     for i in intervals {
         cut(i.first, i.last, out)?;
@@ -48,7 +51,8 @@ fn class_cuts(intervals: &[Interval], out: &mut Vec<char>) -> Result<(), AllocEr
 /// Adds the cuts of the intervals of the expression.
 fn cuts(e: &Expression, out: &mut Vec<char>) -> Result<(), AllocError>
     ensures cuts { IfOk result (λ _. out.new.items ≡ out.old.items ++ cuts e.now) }
-    ensures characters { IfOk result (λ _. All IsCharacter out.old.items → All IsCharacter out.new.items) }
+    ensures characters { IfOk result (λ _. All IsCharacter out.old.items
+        → All IsCharacter out.new.items) }
 {
     match e {
         Expression::Literal(characters) => literal_cuts(characters, out)?,
@@ -77,7 +81,8 @@ fn all_cuts(alloc: Global, patterns: &[Pattern]) -> Result<Vec<char>, AllocError
 /// The first characters of the parts, but for the first part: within a part no rule tells characters apart.
 pub fn starts(alloc: Global, patterns: &[Pattern]) -> Result<Vec<char>, AllocError>
     ensures ascending { IfOk result (λ starts. IsAscending starts.items) }
-    ensures cuts { IfOk result (λ starts. (x : ℕ) → Contains (all_cuts patterns.now) x → Contains starts.items x) }
+    ensures cuts { IfOk result (λ starts. (x : ℕ) → Contains (all_cuts patterns.now) x
+        → Contains starts.items x) }
     ensures characters { IfOk result (λ starts. All IsCharacter starts.items) }
 {
     let mut starts = all_cuts(alloc, patterns)?;

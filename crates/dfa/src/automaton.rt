@@ -1,4 +1,4 @@
-// The table of an automaton, and its longest matches.
+//! The table of an automaton, and its longest matches.
 ghost use Rattle.std.specs.Prelude.{◌≡◌, ℕ, ◌+◌, ◌-◌, ◌^◌, ◌<◌, ◌≤◌, drop, slice_index_or, length, List, IfSome};
 ghost use Rattle.definitions.specs.declared.expression.Expression.{Expression};
 ghost use Rattle.definitions.specs.Tokens.{IsPiece, IsReach};
@@ -95,7 +95,7 @@ impl Automaton {
         ensures is { result ≡ 0 }
         ensures inside { result < length self.now.accepts }
     {
-        // The read opens the invariant, by which there is a state.
+        // The read opens the invariant.
         let _accepts = &self.accepts;
         0
     }
@@ -116,12 +116,15 @@ impl Automaton {
         requires within { from ≤ length (S.text source.now) }
         requires small { length (S.text source.now) < 2 ^ 64 - 1 }
         requires window { (rules : List Expression) × IsAutomaton rules self.now
-            × ((i : ℕ) → IsWithinReach rules (S.text source.now) from i → S.in_window source.now i) }
+            × ((i : ℕ) → IsWithinReach rules (S.text source.now) from i
+            → S.in_window source.now i) }
         ensures piece { (rules : List Expression) → IsAutomaton rules self.now
-            → from < length (S.text source.now) → IsPiece rules (drop from (S.text source.now)) (kind_of result.rule) result.length }
+            → from < length (S.text source.now)
+            → IsPiece rules (drop from (S.text source.now)) (kind_of result.rule) result.length }
         ensures reach { (rules : List Expression) → IsAutomaton rules self.now
             → IsReach rules (drop from (S.text source.now)) result.reach }
-        ensures at_end { from ≡ length (S.text source.now) → (result.rule ≡ None) × (result.length ≡ 0) }
+        ensures at_end { from ≡ length (S.text source.now) → (result.rule ≡ None)
+            × (result.length ≡ 0) }
         ensures inside { from + result.length ≤ length (S.text source.now) }
         ensures nonempty { from < length (S.text source.now) → 1 ≤ result.length }
         ensures near { result.reach ≤ length (S.text source.now) + 1 }

@@ -1,4 +1,4 @@
-// The automaton of a list of rules.
+//! The automaton of a list of rules.
 ghost use Rattle.std.specs.Prelude.{◌≡◌, ℕ, ◌<◌, length, slice_index_or, IfOk, IfErr};
 ghost use Rattle.dfa.specs.Positions.{HasMoreStatesThan};
 ghost use Rattle.dfa.specs.Marks.{all_positions, unmarked};
@@ -45,7 +45,8 @@ impl<T: Drop> From<AllocFailed<T>> for DfaFault {
 /// The part of each of the first 128 characters.
 fn ascii_parts(alloc: Global, starts: &[char]) -> Result<Vec<usize>, AllocError>
     requires { IsAscending starts.now }
-    ensures { IfOk result (λ parts. (length parts.items ≡ 128) × ((c : ℕ) → c < 128 → slice_index_or parts.items c 0 ≡ part starts.now c)) }
+    ensures { IfOk result (λ parts. (length parts.items ≡ 128) × ((c : ℕ) → c < 128
+        → slice_index_or parts.items c 0 ≡ part starts.now c)) }
 {
     let mut parts = Vec::new(alloc);
     for code in 0..128 {

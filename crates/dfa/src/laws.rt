@@ -10,8 +10,10 @@ ghost use Rattle.dfa.specs.declared.build.DfaFault.{DfaFault};
 
 /// A nonempty text begins a text of a well-made expression exactly where its last character can stand at some position.
 pub fn positions_are_of_fronts()
-    ensures front { (e : Expression) (p : ℕ) (u : List ℕ) → IsWellMade e → CanStandAt e p u → IsFront e u }
-    ensures stands { (e : Expression) (u : List ℕ) → IsFront e u → 1 ≤ length u → (p : ℕ) × CanStandAt e p u }
+    ensures front { (e : Expression) (p : ℕ) (u : List ℕ) → IsWellMade e → CanStandAt e p u
+        → IsFront e u }
+    ensures stands { (e : Expression) (u : List ℕ) → IsFront e u → 1 ≤ length u → (p : ℕ)
+        × CanStandAt e p u }
 {}
 
 /// Matches and faults are equal by `==` exactly where they are the same: no part of them is left out.

@@ -1,4 +1,4 @@
-// The positions of expressions: which of them follow a set, whether a text can end at one, and which hold a character.
+//! The positions of expressions: which of them follow a set, whether a text can end at one, and which hold a character.
 ghost use Rattle.std.specs.Prelude.{◌≡◌, ◌+◌, ◌<◌, ◌≤◌, ◌^◌, ◌++◌, length, IfOk};
 ghost use Rattle.definitions.specs.Patterns.{is_member};
 ghost use Rattle.dfa.specs.Positions.{positions};
@@ -78,8 +78,10 @@ pub fn follow(
     out: &mut Vec<bool>,
 ) -> Result<bool, AllocError>
     requires { length out.old.items + positions e.now ≤ length marks.now }
-    ensures length { IfOk result (λ _. length out.new.items ≡ length out.old.items + positions e.now) }
-    ensures next { IfOk result (λ _. out.new.items ≡ out.old.items ++ next marks.now (length out.old.items) start e.now) }
+    ensures length { IfOk result (λ _. length out.new.items ≡ length out.old.items + positions
+        e.now) }
+    ensures next { IfOk result
+        (λ _. out.new.items ≡ out.old.items ++ next marks.now (length out.old.items) start e.now) }
     ensures end { IfOk result (λ end. end ≡ ends marks.now (length out.old.items) start e.now) }
 {
     match e {
@@ -124,9 +126,12 @@ fn follow_literal(
     out: &mut Vec<bool>,
 ) -> Result<bool, AllocError>
     requires { length out.old.items + length characters.now ≤ length marks.now }
-    ensures length { IfOk result (λ _. length out.new.items ≡ length out.old.items + length characters.now) }
-    ensures next { IfOk result (λ _. out.new.items ≡ out.old.items ++ literal_next marks.now (length out.old.items) start characters.now) }
-    ensures end { IfOk result (λ end. end ≡ literal_end marks.now (length out.old.items) start characters.now) }
+    ensures length { IfOk result
+        (λ _. length out.new.items ≡ length out.old.items + length characters.now) }
+    ensures next { IfOk result (λ _. out.new.items ≡ out.old.items ++ literal_next marks.now
+        (length out.old.items) start characters.now) }
+    ensures end { IfOk result (λ end. end ≡ literal_end marks.now (length out.old.items) start
+        characters.now) }
 {
     let mut before = start;
     for _c in characters {
@@ -183,7 +188,8 @@ fn literal_holders(
 ) -> Result<(), AllocError>
     requires { at.old + length characters.now < 2 ^ 64 }
     ensures past { IfOk result (λ _. at.new ≡ at.old + length characters.now) }
-    ensures holders { IfOk result (λ _. out.new.items ≡ out.old.items ++ literal_holders c at.old characters.now) }
+    ensures holders { IfOk result (λ _. out.new.items ≡ out.old.items ++ literal_holders c at.old
+        characters.now) }
 {
     for d in characters {
         if *d == c {

@@ -1,4 +1,4 @@
-// The states of an automaton: sets of positions.
+//! The states of an automaton: sets of positions.
 ghost use Rattle.std.specs.Prelude.{◌≡◌, ℕ, ◌+◌, ◌<◌, ◌≤◌, ◌^◌, ◌∷◌, ◌++◌, [], false, length, map, List, Option, slice_index_or, IfOk, IfErr};
 ghost use Rattle.definitions.specs.declared.expression.Expression.{Expression};
 ghost use Rattle.dfa.specs.Alphabet.{representative};
@@ -53,7 +53,9 @@ pub fn part_holders(
 ) -> Result<Vec<Holders>, AllocError>
     requires { all_positions patterns.now < 2 ^ 64 }
     ensures length { IfOk result (λ parts. length parts.items ≡ length starts.now + 1) }
-    ensures each { IfOk result (λ parts. (k : ℕ) → k ≤ length starts.now → slice_index_or parts.items k [] ≡ all_holders (representative starts.now k) 0 patterns.now) }
+    ensures each { IfOk result (λ parts. (k : ℕ) → k ≤ length starts.now
+        → slice_index_or parts.items k [] ≡ all_holders (representative starts.now k) 0
+        patterns.now) }
 {
     let mut parts = Vec::new(alloc);
     parts.push(holders_of(alloc, patterns, '\0')?)?;
@@ -65,7 +67,8 @@ pub fn part_holders(
 
 /// The marks of a set of positions.
 fn marks_of(blank: &Vec<bool>, set: &[usize]) -> Result<Vec<bool>, AllocError>
-    requires within { (k : ℕ) → k < length set.now → slice_index_or set.now k 0 < length blank.now.items }
+    requires within { (k : ℕ) → k < length set.now
+        → slice_index_or set.now k 0 < length blank.now.items }
     requires blank { (p : ℕ) → slice_index_or blank.now.items p false ≡ false }
     ensures length { IfOk result (λ marks. length marks.items ≡ length blank.now.items) }
     ensures marks { IfOk result (λ marks. AreMarksOf set.now marks.items) }
@@ -110,7 +113,8 @@ fn first_end(patterns: &[Pattern], marks: &[bool]) -> Option<usize>
 
 /// The marked positions among the holders.
 fn kept(alloc: Global, marks: &[bool], holders: &Holders) -> Result<Vec<usize>, AllocError>
-    requires { (k : ℕ) → k < length holders.now → slice_index_or holders.now k 0 < length marks.now }
+    requires { (k : ℕ) → k < length holders.now
+        → slice_index_or holders.now k 0 < length marks.now }
     ensures { IfOk result (λ set. set.items ≡ kept marks.now holders.now) }
 {
     let mut set = Vec::new(alloc);
@@ -127,7 +131,8 @@ fn number(sets: &mut IndexSet<Vec<usize>>, set: Vec<usize>) -> Result<u16, DfaFa
     ensures placed { Placed (members sets.old.keys) (members sets.new.keys) set.items }
     ensures number { IfOk result (λ n. IsNumber (members sets.new.keys) n set.items × (n < 4096)) }
     ensures many { IfErr result (λ e. e ≡ TooManyStates → 4096 < length (members sets.new.keys)) }
-    ensures bound { IfOk result (λ _. length (members sets.old.keys) ≤ 4096 → length (members sets.new.keys) ≤ 4096) }
+    ensures bound { IfOk result (λ _. length (members sets.old.keys) ≤ 4096
+        → length (members sets.new.keys) ≤ 4096) }
 {
     let Ok((number, _)) = sets.insert_full(set) else {
         return Err(DfaFault::Memory);
@@ -153,7 +158,8 @@ pub struct States {
 impl States {
     /// The start alone.
     pub fn new(alloc: Global) -> Result<States, DfaFault>
-        ensures states { IfOk result (λ s. (rules : List Expression) → AreStates rules (members s.sets.keys)) }
+        ensures states { IfOk result (λ s. (rules : List Expression)
+            → AreStates rules (members s.sets.keys)) }
         ensures sets { IfOk result (λ s. length (members s.sets.keys) ≡ 1) }
         ensures next { IfOk result (λ s. s.next.items ≡ []) }
         ensures accepts { IfOk result (λ s. s.accepts.items ≡ []) }
@@ -177,14 +183,22 @@ impl States {
         marks: &[bool],
         parts: &[Holders],
     ) -> Result<(), DfaFault>
-        requires within { (k i : ℕ) → k < length parts.now → i < length (slice_index_or parts.now k []) → slice_index_or (slice_index_or parts.now k []) i 0 < length marks.now }
+        requires within { (k i : ℕ) → k < length parts.now
+            → i < length (slice_index_or parts.now k [])
+            → slice_index_or (slice_index_or parts.now k []) i 0 < length marks.now }
         ensures accepts { self.new.accepts ≡ self.old.accepts }
         ensures states { (rules : List Expression) → AreStates rules (members self.old.sets.keys)
-            → ((k : ℕ) → k < length parts.now → IsReached rules (kept marks.now (slice_index_or parts.now k []))) → AreStates rules (members self.new.sets.keys) }
+            → ((k : ℕ) → k < length parts.now
+            → IsReached rules (kept marks.now (slice_index_or parts.now k [])))
+            → AreStates rules (members self.new.sets.keys) }
         ensures grows { Grows (members self.old.sets.keys) (members self.new.sets.keys) }
-        ensures bound { IfOk result (λ _. length (members self.old.sets.keys) ≤ 4096 → length (members self.new.sets.keys) ≤ 4096) }
-        ensures entries { IfOk result (λ _. AreEntries self.old.next.items self.new.next.items (members self.new.sets.keys) marks.now parts.now (length parts.now)) }
-        ensures many { IfErr result (λ e. e ≡ TooManyStates → 4096 < length (members self.new.sets.keys)) }
+        ensures bound { IfOk result (λ _. length (members self.old.sets.keys) ≤ 4096
+            → length (members self.new.sets.keys) ≤ 4096) }
+        ensures entries { IfOk result
+            (λ _. AreEntries self.old.next.items self.new.next.items (members self.new.sets.keys)
+            marks.now parts.now (length parts.now)) }
+        ensures many { IfErr result (λ e. e ≡ TooManyStates
+            → 4096 < length (members self.new.sets.keys)) }
     {
         for holders in parts {
             let set = kept(alloc, marks, holders)?;
@@ -210,11 +224,16 @@ impl States {
         requires blank { blank.now.items ≡ unmarked (all_positions patterns.now) }
         requires more { length self.old.accepts.items < length (members self.old.sets.keys) }
         ensures states { AreStates patterns.now (members self.new.sets.keys) }
-        ensures rows { IfOk result (λ _. (starts : List ℕ) → ArePartsOf patterns.now starts parts.now
-            → AreRows patterns.now starts (members self.old.sets.keys) self.old.next.items self.old.accepts.items
-            → AreRows patterns.now starts (members self.new.sets.keys) self.new.next.items self.new.accepts.items) }
-        ensures count { IfOk result (λ _. length self.new.accepts.items ≡ length self.old.accepts.items + 1) }
-        ensures many { IfErr result (λ e. e ≡ TooManyStates → 4096 < length (members self.new.sets.keys)) }
+        ensures rows { IfOk result (λ _. (starts : List ℕ)
+            → ArePartsOf patterns.now starts parts.now
+            → AreRows patterns.now starts (members self.old.sets.keys) self.old.next.items
+            self.old.accepts.items
+            → AreRows patterns.now starts (members self.new.sets.keys) self.new.next.items
+            self.new.accepts.items) }
+        ensures count { IfOk result
+            (λ _. length self.new.accepts.items ≡ length self.old.accepts.items + 1) }
+        ensures many { IfErr result (λ e. e ≡ TooManyStates
+            → 4096 < length (members self.new.sets.keys)) }
     {
         let at = self.accepts.len();
         let set = &self.sets[at];
@@ -235,11 +254,16 @@ impl States {
         parts: &[Holders],
     ) -> Result<(), DfaFault>
         requires parts { (starts : List ℕ) × ArePartsOf patterns.now starts parts.now }
-        requires rows { (starts : List ℕ) → ArePartsOf patterns.now starts parts.now → AreRows patterns.now starts (members self.old.sets.keys) self.old.next.items self.old.accepts.items }
+        requires rows { (starts : List ℕ) → ArePartsOf patterns.now starts parts.now
+            → AreRows patterns.now starts (members self.old.sets.keys) self.old.next.items
+            self.old.accepts.items }
         requires blank { blank.now.items ≡ unmarked (all_positions patterns.now) }
-        ensures rows { IfOk result (λ _. (starts : List ℕ) → ArePartsOf patterns.now starts parts.now
-            → AreRows patterns.now starts (members self.new.sets.keys) self.new.next.items self.new.accepts.items) }
-        ensures all { IfOk result (λ _. length (members self.new.sets.keys) ≤ length self.new.accepts.items) }
+        ensures rows { IfOk result (λ _. (starts : List ℕ)
+            → ArePartsOf patterns.now starts parts.now
+            → AreRows patterns.now starts (members self.new.sets.keys) self.new.next.items
+            self.new.accepts.items) }
+        ensures all { IfOk result
+            (λ _. length (members self.new.sets.keys) ≤ length self.new.accepts.items) }
         ensures many { IfErr result (λ e. e ≡ TooManyStates → HasMoreStatesThan patterns.now 4096) }
     {
         'rows: while self.accepts.len() < self.sets.len() {

@@ -38,7 +38,8 @@ pub fn token_at<S: Source>(
     requires sound { IsAutomaton grammar.now.patterns automaton.now }
     requires small { length (S.text source.now) ≤ 1048576 }
     requires within { at < length (S.text source.now) }
-    requires window { (i : ℕ) → IsWithinReach grammar.now.patterns (S.text source.now) at i → S.in_window source.now i }
+    requires window { (i : ℕ) → IsWithinReach grammar.now.patterns (S.text source.now) at i
+        → S.in_window source.now i }
     ensures token { IsToken grammar.now.patterns (drop at (S.text source.now)) (plain result) }
     ensures marked { result.skipped ≡ is_skipped grammar.now.skips result.kind }
     ensures born { result.born ≡ born }
@@ -69,7 +70,9 @@ fn scan_piece<S: Source>(
     requires small { length (S.text source.now) ≤ 1048576 }
     requires within { from < length (S.text source.now) }
     requires window { (i : ℕ) → i < length (S.text source.now) → S.in_window source.now i }
-    ensures next { IfOk result (λ r. AreNext grammar.now.patterns grammar.now.skips (S.text source.now) from r.0.items r.1) }
+    ensures next { IfOk result
+        (λ r. AreNext grammar.now.patterns grammar.now.skips (S.text source.now) from r.0.items
+        r.1) }
     ensures some { IfOk result (λ r. from < r.1) }
 {
     let mut made = Vec::with_capacity(alloc, PIECE_LEN)?;
@@ -115,7 +118,9 @@ pub fn scan_all<S: Source>(
     requires sound { IsAutomaton grammar.now.patterns automaton.now }
     requires small { length (S.text source.now) ≤ 1048576 }
     requires window { (i : ℕ) → i < length (S.text source.now) → S.in_window source.now i }
-    ensures next { IfOk result (λ r. AreNext grammar.now.patterns grammar.now.skips (S.text source.now) 0 r.0 (length (S.text source.now))) }
+    ensures next { IfOk result
+        (λ r. AreNext grammar.now.patterns grammar.now.skips (S.text source.now) 0 r.0
+        (length (S.text source.now))) }
     ensures kinds { IfOk result (λ r. r.1.items ≡ significant_kinds r.0) }
 {
     let mut list = Seq::new();

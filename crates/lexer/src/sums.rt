@@ -6,10 +6,15 @@ use seqtree::{Goal, Measured, Monoid};
 /// skipped.
 #[derive(Clone, Copy, Debug, PartialEq, Eq)]
 pub struct Token {
+    /// The number of the edit.
     pub born: u64,
+    /// The rule that it matches, or that it matches none.
     pub kind: Kind,
+    /// How many characters it has.
     pub length: u32,
+    /// On how many characters from its start on it rests.
     pub reach: u32,
+    /// Whether its rule is one of those that a parser does not see.
     pub skipped: bool,
 }
 
@@ -17,9 +22,13 @@ pub struct Token {
 /// a start and a reach, which is 0 for no token.
 #[derive(Clone, Copy, Debug, PartialEq, Eq)]
 pub struct Sums {
+    /// How many tokens.
     pub count: u32,
+    /// How many of them are not skipped.
     pub significant: u32,
+    /// How many characters they have.
     pub characters: u32,
+    /// The greatest sum of a start and a reach.
     pub end: u32,
 }
 

@@ -21,7 +21,9 @@ use std::marker::Model;
 /// The tokens of a text.
 #[derive(Drop)]
 pub struct Tokens {
+    /// The tokens, in order.
     items: Seq<Token>,
+    /// How many of them the last scan or rescan made.
     scanned: usize,
 }
 
@@ -46,7 +48,8 @@ impl Tokens {
         requires sound { IsAutomaton grammar.now.patterns automaton.now }
         requires small { length (S.text source.now) ≤ 1048576 }
         requires window { (i : ℕ) → i < length (S.text source.now) → S.in_window source.now i }
-        ensures tokens { IfOk result (λ r. AreTokensOf grammar.now.patterns grammar.now.skips (S.text source.now) r.items) }
+        ensures tokens { IfOk result
+            (λ r. AreTokensOf grammar.now.patterns grammar.now.skips (S.text source.now) r.items) }
         ensures born { IfOk result (λ r. All (λ x. x.born ≡ 0) r.items) }
         ensures scanned { IfOk result (λ r. r.scanned ≡ length r.items) }
     {
@@ -65,7 +68,9 @@ impl Tokens {
         requires sound { IsAutomaton grammar.now.patterns automaton.now }
         requires small { length (S.text source.now) ≤ 1048576 }
         requires window { (i : ℕ) → i < length (S.text source.now) → S.in_window source.now i }
-        ensures tokens { IfOk result (λ r. AreTokensOf grammar.now.patterns grammar.now.skips (S.text source.now) r.0.items) }
+        ensures tokens { IfOk result
+            (λ r. AreTokensOf grammar.now.patterns grammar.now.skips (S.text source.now)
+            r.0.items) }
         ensures born { IfOk result (λ r. All (λ x. x.born ≡ 0) r.0.items) }
         ensures scanned { IfOk result (λ r. r.0.scanned ≡ length r.0.items) }
         ensures kinds { IfOk result (λ r. r.1.items ≡ significant_kinds r.0.items) }
@@ -143,12 +148,21 @@ impl Tokens {
     ) -> Result<KindSplice, AllocError>
         requires sound { IsAutomaton grammar.now.patterns automaton.now }
         requires small { length (S.text source.now) ≤ 1048576 }
-        requires edited { IsEdited grammar.now.patterns grammar.now.skips edit self.old.items (S.text source.now) }
-        requires window { (i : ℕ) → IsNeeded grammar.now.patterns edit self.old.items (S.text source.now) i → S.in_window source.now i }
-        ensures tokens { IfOk result (λ _. AreTokensOf grammar.now.patterns grammar.now.skips (S.text source.now) self.new.items) }
+        requires edited { IsEdited grammar.now.patterns grammar.now.skips edit self.old.items
+            (S.text source.now) }
+        requires window { (i : ℕ)
+            → IsNeeded grammar.now.patterns edit self.old.items (S.text source.now) i
+            → S.in_window source.now i }
+        ensures tokens { IfOk result
+            (λ _. AreTokensOf grammar.now.patterns grammar.now.skips (S.text source.now)
+            self.new.items) }
         ensures kept { IfOk result (λ _. AreRescanned edit self.old.items self.new.items) }
-        ensures splice { IfOk result (λ s. plain_splice s ≡ splice grammar.now.skips edit (plain_all self.old.items) (plain_all self.new.items)) }
-        ensures scanned { IfOk result (λ _. self.new.scanned ≡ length (made edit (plain_all self.old.items) (plain_all self.new.items))) }
+        ensures splice { IfOk result
+            (λ s. plain_splice s ≡ splice grammar.now.skips edit (plain_all self.old.items)
+            (plain_all self.new.items)) }
+        ensures scanned { IfOk result
+            (λ _. self.new.scanned ≡ length (made edit (plain_all self.old.items) (plain_all
+            self.new.items))) }
         ensures err { OnErr result (self.new ≡ self.old) }
     {
         let (front, end) = kept_front(&self.items, edit);
@@ -165,7 +179,8 @@ impl Tokens {
 /// How many tokens the edit keeps in front, and the offset behind them.
 fn kept_front(items: &Seq<Token>, edit: Edit) -> (usize, usize)
     requires { Fits items.now }
-    ensures front { (rules : List Expression) (t : List ℕ) → AreTokens rules t (plain_all items.now) → result.0 ≡ front edit (plain_all items.now) }
+    ensures front { (rules : List Expression) (t : List ℕ) → AreTokens rules t (plain_all items.now)
+        → result.0 ≡ front edit (plain_all items.now) }
     ensures end { result.1 ≡ characters (take result.0 items.now) }
     ensures within { result.0 ≤ length items.now }
 {
@@ -176,7 +191,9 @@ fn kept_front(items: &Seq<Token>, edit: Edit) -> (usize, usize)
 /// The old token that starts at this offset, or the count of tokens at the end of the text.
 fn place_at(items: &Seq<Token>, offset: usize) -> Option<usize>
     requires { Fits items.now }
-    ensures { MatchOption result ((j : ℕ) → j ≤ length items.now → characters (take j items.now) ≢ offset) (λ j. (j ≤ length items.now) × (characters (take j items.now) ≡ offset)) }
+    ensures { MatchOption result ((j : ℕ) → j ≤ length items.now
+        → characters (take j items.now) ≢ offset) (λ j. (j ≤ length items.now)
+        × (characters (take j items.now) ≡ offset)) }
 {
     let (place, before) = items.locate(&AfterCharacter { offset });
     if before.characters as usize == offset {
@@ -192,7 +209,9 @@ fn rejoined(items: &Seq<Token>, edit: Edit, at: usize) -> Option<usize>
     requires inserted { edit.inserted ≤ 1048576 }
     requires removed { edit.at + edit.removed ≤ 2 ^ 30 }
     requires small { at ≤ 1048576 }
-    ensures { MatchOption result (is_rejoined edit (plain_all items.now) at ≡ false) (λ j. (is_rejoined edit (plain_all items.now) at ≡ true) × (j ≤ length items.now) × (characters (take j items.now) + edit.inserted ≡ at + edit.removed)) }
+    ensures { MatchOption result (is_rejoined edit (plain_all items.now) at ≡ false)
+        (λ j. (is_rejoined edit (plain_all items.now) at ≡ true) × (j ≤ length items.now)
+        × (characters (take j items.now) + edit.inserted ≡ at + edit.removed)) }
 {
     if at < edit.at + edit.inserted {
         return None;
@@ -213,10 +232,13 @@ fn remake<S: Source>(
     requires sound { IsAutomaton grammar.now.patterns automaton.now }
     requires small { length (S.text source.now) ≤ 1048576 }
     requires fits { Fits items.now }
-    requires edited { IsEdited grammar.now.patterns grammar.now.skips edit items.now (S.text source.now) }
-    requires window { (i : ℕ) → IsNeeded grammar.now.patterns edit items.now (S.text source.now) i → S.in_window source.now i }
+    requires edited { IsEdited grammar.now.patterns grammar.now.skips edit items.now
+        (S.text source.now) }
+    requires window { (i : ℕ) → IsNeeded grammar.now.patterns edit items.now (S.text source.now) i
+        → S.in_window source.now i }
     requires front { from ≡ front_end edit items.now }
-    ensures { IfOk result (λ r. IsRemade grammar.now.patterns grammar.now.skips edit items.now (S.text source.now) r.0.items r.1) }
+    ensures { IfOk result (λ r. IsRemade grammar.now.patterns grammar.now.skips edit items.now
+        (S.text source.now) r.0.items r.1) }
 {
     let mut made = Vec::new(alloc);
     let mut at = from;
@@ -264,7 +286,8 @@ fn is_same(a: Kind, b: Kind) -> bool
 fn has_kind(items: &Seq<Token>, number: usize, kind: Kind) -> bool
     requires fits { Fits items.now }
     requires within { number < count_by is_significant items.now }
-    ensures { result ≡ same_kind (slice_index_or (significant_kinds items.now) number Invalid) kind }
+    ensures { result ≡ same_kind (slice_index_or (significant_kinds items.now) number Invalid)
+        kind }
 {
     let (place, _) = items.locate(&AfterSignificant { count: number });
     match items.get(place) {
@@ -277,7 +300,8 @@ fn has_kind(items: &Seq<Token>, number: usize, kind: Kind) -> bool
 fn has_kinds(items: &Seq<Token>, from: usize, kinds: &[Kind]) -> bool
     requires fits { Fits items.now }
     requires within { from + length kinds.now ≤ count_by is_significant items.now }
-    ensures { result ≡ same_kinds (take (length kinds.now) (drop from (significant_kinds items.now))) kinds.now }
+    ensures { result ≡ same_kinds (take (length kinds.now) (drop from (significant_kinds
+        items.now))) kinds.now }
 {
     for (i, kind) in kinds.iter().enumerate() {
         if !has_kind(items, from + i, *kind) {

@@ -58,7 +58,8 @@ impl Input {
 
     /// Takes the first tree away.
     pub fn take(&mut self) -> Option<Child>
-        ensures { MatchOption result ((self.old ≡ []) × (self.new ≡ [])) (λ c. self.old ≡ c ∷ self.new) }
+        ensures { MatchOption result ((self.old ≡ []) × (self.new ≡ []))
+            (λ c. self.old ≡ c ∷ self.new) }
     {
         self.items.pop()
     }
@@ -105,8 +106,10 @@ impl Input {
 
     /// Puts the list back of which the first tree was opened: that tree, where there was one, and the list's length are given.
     pub fn close(&mut self, first: Option<Child>, len: usize) -> Result<(), AllocError>
-        requires { (before : List Child) × IsOpened before self.old × (len ≡ length before) × BeginsWith before first }
-        ensures { (before : List Child) → IsOpened before self.old → len ≡ length before → BeginsWith before first → IfOk result (λ _. self.new ≡ before) }
+        requires { (before : List Child) × IsOpened before self.old × (len ≡ length before)
+            × BeginsWith before first }
+        ensures { (before : List Child) → IsOpened before self.old → len ≡ length before
+            → BeginsWith before first → IfOk result (λ _. self.new ≡ before) }
     {
         if let Some(child) = first {
             self.keep(len - 1);

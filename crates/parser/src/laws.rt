@@ -10,7 +10,8 @@ ghost use Rattle.parser.specs.declared.parse.Verdict.{Verdict as Answer};
 
 /// For a grammar that has tables, each list of kinds has a verdict: a tree, or a fault.
 pub fn each_list_has_a_verdict()
-    ensures { (g : Grammar) → IsAccepted g → AreMovesDecided g → (kinds : List Kind) → (v : Verdict) × IsVerdict g kinds v }
+    ensures { (g : Grammar) → IsAccepted g → AreMovesDecided g → (kinds : List Kind) → (v : Verdict)
+        × IsVerdict g kinds v }
 {}
 
 /// The parser's verdicts are equal by `==` exactly where they are the same: no part of them is left out.

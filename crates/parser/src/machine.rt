@@ -48,7 +48,8 @@ impl Machine {
     pub fn new(alloc: Global, tables: &Tables) -> Result<Machine, AllocError>
         ensures accepted { IsAccepted tables.now.grammar }
         ensures stack { IfOk result (λ m. m.stack.items ≡ []) }
-        ensures states { IfOk result (λ m. (start : ℕ) × IsStateOf tables.now [] start × (m.states.items ≡ start ∷ [])) }
+        ensures states { IfOk result (λ m. (start : ℕ) × IsStateOf tables.now [] start
+            × (m.states.items ≡ start ∷ [])) }
         ensures read { IfOk result (λ m. m.read ≡ 0) }
     {
         let start = tables.start();
@@ -64,14 +65,17 @@ impl Machine {
     /// The state above the stack.
     pub fn state(&self) -> usize
         requires { 0 < length self.now.states.items }
-        ensures { result ≡ slice_index_or self.now.states.items (length self.now.states.items - 1) 0 }
+        ensures { result ≡ slice_index_or self.now.states.items (length self.now.states.items - 1)
+            0 }
     {
         self.states[self.states.len() - 1]
     }
 
     fn push(&mut self, child: Child, state: usize) -> Result<(), AllocError>
-        ensures stack { IfOk result (λ _. self.new.stack.items ≡ self.old.stack.items ++ child ∷ []) }
-        ensures states { IfOk result (λ _. self.new.states.items ≡ self.old.states.items ++ state ∷ []) }
+        ensures stack { IfOk result
+            (λ _. self.new.stack.items ≡ self.old.stack.items ++ child ∷ []) }
+        ensures states { IfOk result
+            (λ _. self.new.states.items ≡ self.old.states.items ++ state ∷ []) }
         ensures read { self.new.read ≡ self.old.read }
     {
         self.stack.push(child)?;
@@ -87,13 +91,22 @@ impl Machine {
         kinds: &K,
         id: NodeId,
     ) -> Option<usize>
-        requires states { HasStates tables.now (plain_of store.now self.now.stack.items) self.now.states.items }
+        requires states { HasStates tables.now (plain_of store.now self.now.stack.items)
+            self.now.states.items }
         requires inside { id.index < length store.now }
-        requires root { (left : ℕ) × IsTree tables.now.grammar (plain (tree store.now (Child.Node id))) (Nonterminal left) }
+        requires root { let meant = plain (tree store.now (Child.Node id)) in
+            (left : ℕ) × IsTree tables.now.grammar meant (Nonterminal left) }
         requires not_empty { 0 < length (yield (plain (tree store.now (Child.Node id)))) }
-        requires fits { self.now.read + length (yield (plain (tree store.now (Child.Node id)))) ≤ length (K.kinds kinds.now) }
-        ensures { MatchOption result (CanReuse tables.now.grammar (plain_of store.now self.now.stack.items) (plain (tree store.now (Child.Node id))) (drop (self.now.read + length (yield (plain (tree store.now (Child.Node id))))) (K.kinds kinds.now)) → ⊥) (λ next. IsReusable tables.now store.now (plain_of store.now self.now.stack.items) (K.kinds kinds.now) self.now.read id next) }
+        requires fits { self.now.read + length (yield (plain (tree store.now (Child.Node id))))
+            ≤ length (K.kinds kinds.now) }
+        ensures { let stack = plain_of store.now self.now.stack.items in
+            let meant = plain (tree store.now (Child.Node id)) in
+            let all = K.kinds kinds.now in
+            let behind = drop (self.now.read + length (yield meant)) all in
+            MatchOption result (CanReuse tables.now.grammar stack meant behind → ⊥)
+            (λ next. IsReusable tables.now store.now stack all self.now.read id next) }
     {
+        // The read opens what the trait says of the kinds.
         let _count = kinds.len();
         let (root, _) = tables.production(store.production(id));
         let Some(next) = tables.goto(self.state(), root) else {
@@ -115,14 +128,26 @@ impl Machine {
         kinds: &K,
         input: &mut Input,
     ) -> Result<Front, AllocError>
-        requires states { HasStates tables.now (plain_of store.now self.now.stack.items) self.now.states.items }
-        requires input { IsInput tables.now.grammar store.now input.old (K.kinds kinds.now) self.now.read }
+        requires states { HasStates tables.now (plain_of store.now self.now.stack.items)
+            self.now.states.items }
+        requires input { IsInput tables.now.grammar store.now input.old (K.kinds kinds.now)
+            self.now.read }
         requires full { IsFull store.now input.old }
-        ensures input { IfOk result (λ _. IsInput tables.now.grammar store.now input.new (K.kinds kinds.now) self.now.read) }
+        ensures input { IfOk result
+            (λ _. IsInput tables.now.grammar store.now input.new (K.kinds kinds.now)
+            self.now.read) }
         ensures opened { IfOk result (λ _. IsOpened input.old input.new) }
-        ensures offers { IfOk result (λ _. Offers tables.now.grammar (plain_of store.now self.now.stack.items) (input_of store.now input.new (K.kinds kinds.now) self.now.read) (input_of store.now input.old (K.kinds kinds.now) self.now.read)) }
-        ensures older { IfOk result (λ _. (number : ℕ) → NoneIsMadeBy number (all_trees store.now input.old) → NoneIsMadeBy number (all_trees store.now input.new)) }
-        ensures offer { IfOk result (λ f. IsOffer tables.now store.now (plain_of store.now self.now.stack.items) (K.kinds kinds.now) self.now.read input.new f) }
+        ensures offers { let stack = plain_of store.now self.now.stack.items in
+            let all = K.kinds kinds.now in
+            IfOk result (λ _. Offers tables.now.grammar stack
+            (input_of store.now input.new all self.now.read)
+            (input_of store.now input.old all self.now.read)) }
+        ensures older { IfOk result (λ _. (number : ℕ)
+            → NoneIsMadeBy number (all_trees store.now input.old)
+            → NoneIsMadeBy number (all_trees store.now input.new)) }
+        ensures offer { let stack = plain_of store.now self.now.stack.items in
+            let all = K.kinds kinds.now in
+            IfOk result (λ f. IsOffer tables.now store.now stack all self.now.read input.new f) }
     {
         'edge: while let Some(child) = input.first() {
             match child {
@@ -152,15 +177,26 @@ impl Machine {
         production: usize,
         number: u64,
     ) -> Result<(), AllocError>
-        requires states { HasStates tables.now (plain_of store.old self.old.stack.items) self.old.states.items }
+        requires states { HasStates tables.now (plain_of store.old self.old.stack.items)
+            self.old.states.items }
         requires below { AreBelow (length store.old) self.old.stack.items }
-        requires called { (look : Option TokenKind) × (symbols : List Symbol) × HaveRoots tables.now.grammar (plain_of store.old self.old.stack.items) symbols × HasMove tables.now.grammar symbols look (ReduceMove production) }
-        ensures reduced { (look : Option TokenKind) (symbols : List Symbol) → HaveRoots tables.now.grammar (plain_of store.old self.old.stack.items) symbols → HasMove tables.now.grammar symbols look (ReduceMove production) → IfOk result (λ _. Reduces tables.now.grammar (plain_of store.old self.old.stack.items) look (plain_of store.new self.new.stack.items)) }
-        ensures states { IfOk result (λ _. HasStates tables.now (plain_of store.new self.new.stack.items) self.new.states.items) }
+        requires called { (look : Option TokenKind) × (symbols : List Symbol)
+            × HaveRoots tables.now.grammar (plain_of store.old self.old.stack.items) symbols
+            × HasMove tables.now.grammar symbols look (ReduceMove production) }
+        ensures reduced { let stack = plain_of store.old self.old.stack.items in
+            (look : Option TokenKind) (symbols : List Symbol)
+            → HaveRoots tables.now.grammar stack symbols
+            → HasMove tables.now.grammar symbols look (ReduceMove production)
+            → IfOk result (λ _. Reduces tables.now.grammar stack look
+            (plain_of store.new self.new.stack.items)) }
+        ensures states { IfOk result
+            (λ _. HasStates tables.now (plain_of store.new self.new.stack.items)
+            self.new.states.items) }
         ensures read { self.new.read ≡ self.old.read }
         ensures grown { take (length store.old) store.new ≡ store.old }
         ensures room { IfOk result (λ _. length store.old < 2 ^ 64) }
-        ensures made { IfOk result (λ _. HasMade store.old self.old.stack.items production number store.new self.new.stack.items) }
+        ensures made { IfOk result (λ _. HasMade store.old self.old.stack.items production number
+            store.new self.new.stack.items) }
     {
         let (left, size) = tables.production(production);
         let below = self.stack.len() - size;
@@ -186,9 +222,16 @@ impl Machine {
         number: u64,
     ) -> Result<Verdict, AllocError>
         requires accepted { IsAccepted tables.now.grammar }
-        requires so_far { SoFar tables.now (input_of store.old input (K.kinds kinds.now) 0) (K.kinds kinds.now) (length store.old) number store.old self.old.stack.items self.old.states.items self.old.read input }
-        ensures stops { IfOk result (λ v. IsStoppedAt tables.now (K.kinds kinds.now) store.new v self.new.stack.items self.new.states.items) }
-        ensures so_far { IfOk result (λ _. (rest : List Child) × SoFar tables.now (input_of store.old input (K.kinds kinds.now) 0) (K.kinds kinds.now) (length store.old) number store.new self.new.stack.items self.new.states.items self.new.read rest) }
+        requires so_far { SoFar tables.now (input_of store.old input (K.kinds kinds.now) 0)
+            (K.kinds kinds.now) (length store.old) number store.old self.old.stack.items
+            self.old.states.items self.old.read input }
+        ensures stops { IfOk result
+            (λ v. IsStoppedAt tables.now (K.kinds kinds.now) store.new v self.new.stack.items
+            self.new.states.items) }
+        ensures so_far { IfOk result (λ _. (rest : List Child)
+            × SoFar tables.now (input_of store.old input (K.kinds kinds.now) 0) (K.kinds kinds.now)
+            (length store.old) number store.new self.new.stack.items self.new.states.items
+            self.new.read rest) }
         ensures grown { take (length store.old) store.new ≡ store.old }
     {
         let count = kinds.len();

@@ -32,10 +32,15 @@ pub enum Verdict {
 /// and the store that has its nodes.
 #[derive(Drop)]
 pub struct Parse {
+    /// The tree, or the fault.
     verdict: Verdict,
+    /// The trees with which the machine stopped.
     stack: Vec<Child>,
+    /// The state above the stack.
     state: usize,
+    /// How many branches the trees of the stack have.
     branches: usize,
+    /// How many branches the parse made.
     built: usize,
 }
 
@@ -72,9 +77,12 @@ pub(crate) fn parsed<K: Kinds>(
     requires input { IsInput tables.now.grammar store.old input (K.kinds kinds.now) 0 }
     requires older { NoneIsMadeBy number (all_trees store.old input) }
     ensures parse { IfOk result (λ p. IsParseOf tables.now (K.kinds kinds.now) store.new p) }
-    ensures run { IfOk result (λ p. IsMadeByRun tables.now (input_of store.old input (K.kinds kinds.now) 0) (K.kinds kinds.now) (length store.old) number store.new p.stack) }
+    ensures run { IfOk result
+        (λ p. IsMadeByRun tables.now (input_of store.old input (K.kinds kinds.now) 0)
+        (K.kinds kinds.now) (length store.old) number store.new p.stack) }
     ensures grown { take (length store.old) store.new ≡ store.old }
-    ensures branches { IfOk result (λ p. p.branches ≡ min most (all_branches (plain_of store.new p.stack))) }
+    ensures branches { IfOk result
+        (λ p. p.branches ≡ min most (all_branches (plain_of store.new p.stack))) }
     ensures built { IfOk result (λ p. length store.new ≡ length store.old + p.built) }
     ensures room { IfOk result (λ _. length store.new < 2 ^ 64) }
 {
@@ -105,8 +113,10 @@ impl Parse {
         ensures parse { IfOk result (λ p. IsParseOf tables.now (K.kinds kinds.now) store.new p) }
         ensures stamps { IfOk result (λ p. AreMadeBy 0 (forest_in store.new p.stack)) }
         ensures grown { take (length store.old) store.new ≡ store.old }
-        ensures count { IfOk result (λ p. length store.new ≡ length store.old + all_branches (plain_of store.new p.stack)) }
-        ensures branches { IfOk result (λ p. p.branches ≡ all_branches (plain_of store.new p.stack)) }
+        ensures count { IfOk result
+            (λ p. length store.new ≡ length store.old + all_branches (plain_of store.new p.stack)) }
+        ensures branches { IfOk result
+            (λ p. p.branches ≡ all_branches (plain_of store.new p.stack)) }
         ensures built { IfOk result (λ p. p.built ≡ all_branches (plain_of store.new p.stack)) }
         ensures kept { KeepsTrees (length store.old) store.old store.new }
         ensures refused { OnErr result (store.new ≡ store.old) }
@@ -148,8 +158,10 @@ impl Parse {
     /// What may stand at the fault, behind the tokens before it: the token rules in file order, and then the end. Where there is
     /// a tree, nothing may. The tables are those of the parse. It takes no memory.
     pub fn expected<'a>(&self, tables: &'a Tables) -> Expected<'a>
-        requires { (kinds : List Kind) × (cells : List Cell) × IsParseOf tables.now kinds cells self.now }
-        ensures { (kinds : List Kind) (cells : List Cell) → IsParseOf tables.now kinds cells self.now
+        requires { (kinds : List Kind) × (cells : List Cell)
+            × IsParseOf tables.now kinds cells self.now }
+        ensures { (kinds : List Kind) (cells : List Cell)
+            → IsParseOf tables.now kinds cells self.now
             → AreExpectedAt tables.now.grammar kinds (verdict_in cells self.now.verdict) result }
     {
         match self.verdict {

@@ -1,4 +1,4 @@
-// The closure of a set of items.
+//! The closure of a set of items.
 ghost use Rattle.std.specs.Prelude.{◌≡◌, ◌<◌, ◌≤◌, ◌+◌, ◌∷◌, ◌++◌, ◌↔◌, ℕ, Bool, true, false, List, [], ◌⊎◌, slice_index_or, slice_set, Option, Some, None, length, drop, All, Contains, IfOk, OnOk, IfSome};
 ghost use Rattle.definitions.specs.declared.Symbol.{Symbol};
 ghost use Rattle.definitions.specs.declared.Symbol.TheVariants.{Nonterminal};
@@ -21,14 +21,18 @@ use std::marker::Model;
 /// A nonterminal that is wanted, and the place of what may follow it.
 #[derive(Clone, Copy)]
 pub struct Want {
+    /// The number of the nonterminal.
     nonterminal: usize,
+    /// The place of the lookahead: the end before the token rules.
     place: usize,
 }
 
 /// What is wanted, in the order in which it came up, and as marks.
 #[derive(Drop)]
 pub struct Wanted {
+    /// In the order in which it came up.
     list: Vec<Want>,
+    /// For each nonterminal, the places of the lookaheads with which it is wanted.
     rows: Vec<Marks>,
 }
 
@@ -61,7 +65,8 @@ fn place_in(input: &Input, look: Option<usize>) -> Option<usize>
 
 /// The only lookahead that may follow these symbols, where they are none or begin with a token rule.
 fn only_look(symbols: &[Symbol], look: Option<usize>) -> Option<Option<usize>>
-    ensures { IfSome result (λ a. (g : Grammar) (b : Option ℕ) → MayFollow g symbols.now look b ↔ (b ≡ a)) }
+    ensures { IfSome result (λ a. (g : Grammar) (b : Option ℕ) → MayFollow g symbols.now look b
+        ↔ (b ≡ a)) }
 {
     if symbols.is_empty() {
         return Some(look);
@@ -115,7 +120,8 @@ impl Wanted {
         requires nonterminal { want.nonterminal < length self.old.rows }
         requires place { want.place < length (slice_index_or self.old.rows want.nonterminal []) }
         ensures list { OnOk result (self.new.list ≡ self.old.list ++ want ∷ []) }
-        ensures rows { OnOk result (self.new.rows ≡ slice_set self.old.rows want.nonterminal (slice_set (slice_index_or self.old.rows want.nonterminal []) want.place true)) }
+        ensures rows { OnOk result (self.new.rows ≡ slice_set self.old.rows want.nonterminal
+            (slice_set (slice_index_or self.old.rows want.nonterminal []) want.place true)) }
     {
         self.list.push(want)?;
         self.rows[want.nonterminal].mark(want.place);
@@ -129,7 +135,8 @@ impl Wanted {
         ensures wants { OnOk result (AreWants input.now self.new) }
         ensures grows { OnOk result (Grows self.old self.new) }
         ensures done { OnOk result (marked self.new.rows nonterminal place ≡ true) }
-        ensures only { OnOk result ((n k : ℕ) → marked self.new.rows n k ≡ true → (marked self.old.rows n k ≡ true) ⊎ ((n ≡ nonterminal) × (k ≡ place))) }
+        ensures only { OnOk result ((n k : ℕ) → marked self.new.rows n k ≡ true
+            → (marked self.old.rows n k ≡ true) ⊎ ((n ≡ nonterminal) × (k ≡ place))) }
     {
         if self.has(input, nonterminal, place) {
             return Ok(());
@@ -154,8 +161,12 @@ impl Wanted {
         requires known { All (IsKnown input.now) after.now }
         ensures wants { OnOk result (AreWants input.now self.new) }
         ensures grows { OnOk result (Grows self.old self.new) }
-        ensures asked { OnOk result ((k : ℕ) → k < input.now.grammar.rules + 1 → MayFollow input.now.grammar after.now look (look_of k) → marked self.new.rows nonterminal k ≡ true) }
-        ensures only { OnOk result ((n k : ℕ) → marked self.new.rows n k ≡ true → (marked self.old.rows n k ≡ true) ⊎ ((n ≡ nonterminal) × MayFollow input.now.grammar after.now look (look_of k))) }
+        ensures asked { OnOk result ((k : ℕ) → k < input.now.grammar.rules + 1
+            → MayFollow input.now.grammar after.now look (look_of k)
+            → marked self.new.rows nonterminal k ≡ true) }
+        ensures only { OnOk result ((n k : ℕ) → marked self.new.rows n k ≡ true
+            → (marked self.old.rows n k ≡ true) ⊎ ((n ≡ nonterminal)
+            × MayFollow input.now.grammar after.now look (look_of k))) }
     {
         'looks: for place in 0..input.rules() + 1 {
             if first.sees(input, after, look, look_of(place)) {
@@ -176,8 +187,10 @@ impl Wanted {
         requires nonterminal { nonterminal < input.now.nonterminals }
         ensures wants { OnOk result (AreWants input.now self.new) }
         ensures grows { OnOk result (Grows self.old self.new) }
-        ensures done { OnOk result ((k : ℕ) → k < input.now.grammar.rules + 1 → look_of k ≡ look → marked self.new.rows nonterminal k ≡ true) }
-        ensures only { OnOk result ((n k : ℕ) → marked self.new.rows n k ≡ true → (marked self.old.rows n k ≡ true) ⊎ ((n ≡ nonterminal) × (look_of k ≡ look))) }
+        ensures done { OnOk result ((k : ℕ) → k < input.now.grammar.rules + 1 → look_of k ≡ look
+            → marked self.new.rows nonterminal k ≡ true) }
+        ensures only { OnOk result ((n k : ℕ) → marked self.new.rows n k ≡ true
+            → (marked self.old.rows n k ≡ true) ⊎ ((n ≡ nonterminal) × (look_of k ≡ look))) }
     {
         match place_in(input, look) {
             Some(place) => self.want(input, nonterminal, place),
@@ -201,8 +214,12 @@ impl Wanted {
         requires known { All (IsKnown input.now) after.now }
         ensures wants { OnOk result (AreWants input.now self.new) }
         ensures grows { OnOk result (Grows self.old self.new) }
-        ensures asked { OnOk result ((k : ℕ) → k < input.now.grammar.rules + 1 → MayFollow input.now.grammar after.now look (look_of k) → marked self.new.rows nonterminal k ≡ true) }
-        ensures only { OnOk result ((n k : ℕ) → marked self.new.rows n k ≡ true → (marked self.old.rows n k ≡ true) ⊎ ((n ≡ nonterminal) × MayFollow input.now.grammar after.now look (look_of k))) }
+        ensures asked { OnOk result ((k : ℕ) → k < input.now.grammar.rules + 1
+            → MayFollow input.now.grammar after.now look (look_of k)
+            → marked self.new.rows nonterminal k ≡ true) }
+        ensures only { OnOk result ((n k : ℕ) → marked self.new.rows n k ≡ true
+            → (marked self.old.rows n k ≡ true) ⊎ ((n ≡ nonterminal)
+            × MayFollow input.now.grammar after.now look (look_of k))) }
     {
         match only_look(after, look) {
             Some(only) => self.want_with(input, nonterminal, only)?,
@@ -226,7 +243,8 @@ impl Wanted {
         ensures wants { OnOk result (AreWants input.now self.new) }
         ensures grows { OnOk result (Grows self.old self.new) }
         ensures asked { OnOk result (Asks input.now self.new.rows symbols.now look) }
-        ensures only { OnOk result ((n k : ℕ) → marked self.new.rows n k ≡ true → (marked self.old.rows n k ≡ true) ⊎ IsAsked input.now.grammar symbols.now look n k) }
+        ensures only { OnOk result ((n k : ℕ) → marked self.new.rows n k ≡ true
+            → (marked self.old.rows n k ≡ true) ⊎ IsAsked input.now.grammar symbols.now look n k) }
     {
         if symbols.is_empty() {
             return Ok(());
@@ -249,8 +267,11 @@ impl Wanted {
         requires want { want.nonterminal < input.now.nonterminals }
         ensures wants { OnOk result (AreWants input.now self.new) }
         ensures grows { OnOk result (Grows self.old self.new) }
-        ensures expands { OnOk result (Expands input.now self.new.rows want.nonterminal want.place) }
-        ensures only { OnOk result ((n k : ℕ) → marked self.new.rows n k ≡ true → (marked self.old.rows n k ≡ true) ⊎ IsExpanded input.now.grammar want.nonterminal want.place n k) }
+        ensures expands { OnOk result (Expands input.now self.new.rows want.nonterminal
+            want.place) }
+        ensures only { OnOk result ((n k : ℕ) → marked self.new.rows n k ≡ true
+            → (marked self.old.rows n k ≡ true)
+            ⊎ IsExpanded input.now.grammar want.nonterminal want.place n k) }
     {
         'productions: for p in input.of_left(want.nonterminal) {
             self.ask(input, first, input.right(*p), look_of(want.place))?;
@@ -266,8 +287,11 @@ impl Wanted {
         requires item { IsItem input.now item }
         ensures wants { OnOk result (AreWants input.now self.new) }
         ensures grows { OnOk result (Grows self.old self.new) }
-        ensures asked { OnOk result (Asks input.now self.new.rows (behind input.now.grammar item) item.look) }
-        ensures only { OnOk result ((n k : ℕ) → marked self.new.rows n k ≡ true → (marked self.old.rows n k ≡ true) ⊎ IsAsked input.now.grammar (behind input.now.grammar item) item.look n k) }
+        ensures asked { OnOk result (Asks input.now self.new.rows (behind input.now.grammar item)
+            item.look) }
+        ensures only { OnOk result ((n k : ℕ) → marked self.new.rows n k ≡ true
+            → (marked self.old.rows n k ≡ true)
+            ⊎ IsAsked input.now.grammar (behind input.now.grammar item) item.look n k) }
     {
         match item.production {
             None => {
@@ -295,8 +319,10 @@ fn wants_of(
     requires first { AreFirst input.now first.now }
     requires items { All (IsItem input.now) kernel.now }
     ensures wants { IfOk result (AreWants input.now) }
-    ensures asked { IfOk result (λ w. All (λ i. Asks input.now w.rows (behind input.now.grammar i) i.look) kernel.now) }
-    ensures closed { IfOk result (λ w. (n k : ℕ) → marked w.rows n k ≡ true → Expands input.now w.rows n k) }
+    ensures asked { IfOk result (λ w. All
+        (λ i. Asks input.now w.rows (behind input.now.grammar i) i.look) kernel.now) }
+    ensures closed { IfOk result (λ w. (n k : ℕ) → marked w.rows n k ≡ true
+        → Expands input.now w.rows n k) }
     ensures wanted { IfOk result (λ w. AreWanted input.now.grammar kernel.now w.rows) }
 {
     let mut all = Wanted::new(alloc, input)?;
@@ -321,9 +347,13 @@ fn add_items(input: &Input, all: &Wanted, p: usize, items: &mut Vec<Item>) -> Re
     requires before { All (IsBefore p 0) items.old.items }
     ensures rising { OnOk result (IsRising items.new.items) }
     ensures before { OnOk result (All (IsBefore (p + 1) 0) items.new.items) }
-    ensures kept { OnOk result ((i : Item) → Contains items.old.items i → Contains items.new.items i) }
-    ensures added { OnOk result ((k : ℕ) → k < input.now.grammar.rules + 1 → marked all.now.rows (left_of input.now.grammar p) k ≡ true → Contains items.new.items (beginning_of p k)) }
-    ensures only { OnOk result ((i : Item) → Contains items.new.items i → Contains items.old.items i ⊎ IsBeginning all.now.rows (left_of input.now.grammar p) p i) }
+    ensures kept { OnOk result ((i : Item) → Contains items.old.items i
+        → Contains items.new.items i) }
+    ensures added { OnOk result ((k : ℕ) → k < input.now.grammar.rules + 1
+        → marked all.now.rows (left_of input.now.grammar p) k ≡ true
+        → Contains items.new.items (beginning_of p k)) }
+    ensures only { OnOk result ((i : Item) → Contains items.new.items i → Contains items.old.items i
+        ⊎ IsBeginning all.now.rows (left_of input.now.grammar p) p i) }
 {
     let left = input.left(p);
     'looks: for place in 0..input.rules() + 1 {
@@ -342,7 +372,8 @@ fn add_items(input: &Input, all: &Wanted, p: usize, items: &mut Vec<Item>) -> Re
 fn wanted_productions(input: &Input, all: &Wanted) -> usize
     requires { AreWants input.now all.now }
     ensures at_most { result ≤ length input.now.grammar.productions }
-    ensures some { (n k : ℕ) → marked all.now.rows n k ≡ true → result ≡ length input.now.grammar.productions }
+    ensures some { (n k : ℕ) → marked all.now.rows n k ≡ true
+        → result ≡ length input.now.grammar.productions }
 {
     if all.len() == 0 { 0 } else { input.len() }
 }
@@ -359,9 +390,14 @@ fn items_of(
     requires inside { All IsInside kernel.now }
     requires rising { IsRising kernel.now }
     ensures rising { IfOk result (λ items. IsRising items.items) }
-    ensures kept { IfOk result (λ items. (i : Item) → Contains kernel.now i → Contains items.items i) }
-    ensures added { IfOk result (λ items. (p k : ℕ) → p < length input.now.grammar.productions → k < input.now.grammar.rules + 1 → marked all.now.rows (left_of input.now.grammar p) k ≡ true → Contains items.items (beginning_of p k)) }
-    ensures only { IfOk result (λ items. (i : Item) → Contains items.items i → Contains kernel.now i ⊎ ((p : ℕ) × (p < length input.now.grammar.productions) × IsBeginning all.now.rows (left_of input.now.grammar p) p i)) }
+    ensures kept { IfOk result (λ items. (i : Item) → Contains kernel.now i
+        → Contains items.items i) }
+    ensures added { IfOk result (λ items. (p k : ℕ) → p < length input.now.grammar.productions
+        → k < input.now.grammar.rules + 1 → marked all.now.rows (left_of input.now.grammar p) k
+        ≡ true → Contains items.items (beginning_of p k)) }
+    ensures only { IfOk result (λ items. (i : Item) → Contains items.items i → Contains kernel.now i
+        ⊎ ((p : ℕ) × (p < length input.now.grammar.productions)
+        × IsBeginning all.now.rows (left_of input.now.grammar p) p i)) }
 {
     let mut items = Vec::from_slice(alloc, kernel)?;
     let count = wanted_productions(input, all);
@@ -385,7 +421,9 @@ pub fn close(
     requires rising { IsRising kernel.now }
     ensures rising { IfOk result (λ items. IsRising items.items) }
     ensures known { IfOk result (λ items. All (IsItem input.now) items.items) }
-    ensures valid { IfOk result (λ items. (prefix : List Symbol) → AllProductive input.now.grammar → HasKernel input.now.grammar kernel.now prefix → HasSet input.now.grammar items.items prefix) }
+    ensures valid { IfOk result (λ items. (prefix : List Symbol) → AllProductive input.now.grammar
+        → HasKernel input.now.grammar kernel.now prefix
+        → HasSet input.now.grammar items.items prefix) }
 {
     let all = wants_of(alloc, input, first, kernel)?;
     let items = items_of(alloc, input, &all, kernel)?;

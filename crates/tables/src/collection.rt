@@ -1,4 +1,4 @@
-// The canonical collection: the sets of items, and where each symbol leads from each.
+//! The canonical collection: the sets of items, and where each symbol leads from each.
 ghost use Rattle.std.specs.Prelude.{◌≡◌, ◌<◌, ◌≤◌, ◌+◌, ◌∷◌, ◌++◌, List, [], None, All, IfOk, OnOk, length, slice_index_or};
 ghost use Rattle.definitions.specs.declared.Symbol.{Symbol};
 ghost use Rattle.tables.specs.Collection.{kernel_at, AreStates, Placed, GoesOn, IsStep, IsRow, IsOrdered, IsReached};
@@ -20,14 +20,18 @@ use std::marker::Model;
 /// The set and the symbol from which a set was first reached.
 #[derive(Clone, Copy)]
 pub struct Origin {
+    /// The earlier set.
     from: usize,
+    /// The symbol that leads from it.
     symbol: Symbol,
 }
 
 /// The sets found so far, by their kernels, and how each of them was first reached.
 #[derive(Drop)]
 pub struct States {
+    /// The kernel of each set.
     kernels: Kernels,
+    /// How each set was first reached.
     origins: Vec<Origin>,
 }
 
@@ -61,12 +65,14 @@ impl States {
         Ok(States { kernels, origins })
     }
 
+    /// How many sets there are so far.
     pub fn len(&self) -> usize
         ensures { result ≡ length self.now.kernels }
     {
         self.kernels.len()
     }
 
+    /// The kernel of a set.
     pub fn kernel(&self, state: usize) -> &[Item]
         requires { state < length self.now.kernels }
         ensures { result.now ≡ kernel_at self.now.kernels state }
@@ -77,7 +83,8 @@ impl States {
     /// The state with this kernel, which is added where it is new.
     fn place(&mut self, kernel: Vec<Item>, from: usize, symbol: Symbol) -> Result<usize, AllocError>
         requires { length self.old.origins ≡ length self.old.kernels }
-        ensures place { IfOk result (λ s. (s < length self.new.kernels) × (kernel_at self.new.kernels s ≡ kernel.items)) }
+        ensures place { IfOk result (λ s. (s < length self.new.kernels)
+            × (kernel_at self.new.kernels s ≡ kernel.items)) }
         ensures placed { OnOk result (Placed self.old self.new kernel.items from symbol) }
     {
         let state = self.kernels.place(kernel)?;
@@ -101,7 +108,9 @@ impl States {
         requires from { from < length self.old.kernels }
         requires known { All (IsItem input.now) items.now }
         requires rising { IsRising items.now }
-        requires set { (prefix : List Symbol) → HasKernel input.now.grammar (kernel_at self.old.kernels from) prefix → HasSet input.now.grammar items.now prefix }
+        requires set { (prefix : List Symbol)
+            → HasKernel input.now.grammar (kernel_at self.old.kernels from) prefix
+            → HasSet input.now.grammar items.now prefix }
         ensures states { OnOk result (AreStates input.now self.new) }
         ensures goes_on { OnOk result (GoesOn self.old.kernels self.new.kernels) }
         ensures step { IfOk result (IsStep input.now.grammar self.new.kernels from symbol) }
@@ -127,7 +136,9 @@ impl States {
         requires from { from < length self.old.kernels }
         requires known { All (IsItem input.now) items.now }
         requires rising { IsRising items.now }
-        requires set { (prefix : List Symbol) → HasKernel input.now.grammar (kernel_at self.old.kernels from) prefix → HasSet input.now.grammar items.now prefix }
+        requires set { (prefix : List Symbol)
+            → HasKernel input.now.grammar (kernel_at self.old.kernels from) prefix
+            → HasSet input.now.grammar items.now prefix }
         ensures states { OnOk result (AreStates input.now self.new) }
         ensures goes_on { OnOk result (GoesOn self.old.kernels self.new.kernels) }
         ensures row { IfOk result (IsRow input.now self.new.kernels from) }
@@ -153,7 +164,8 @@ impl States {
     ) -> Result<Vec<Symbol>, AllocError>
         requires states { AreStates input.now self.now }
         requires state { state < length self.now.kernels }
-        ensures { IfOk result (λ prefix. HasKernel input.now.grammar (kernel_at self.now.kernels state) prefix.items) }
+        ensures { IfOk result (λ prefix. HasKernel input.now.grammar (kernel_at self.now.kernels
+            state) prefix.items) }
     {
         let mut symbols = Vec::new(alloc);
         let mut at = state;
@@ -166,6 +178,7 @@ impl States {
         Ok(symbols)
     }
 
+    /// The kernels alone.
     pub fn into_kernels(self) -> Kernels
         ensures { result ≡ self.kernels }
     {

@@ -1,4 +1,4 @@
-// What is told of a conflict.
+//! What is told of a conflict.
 ghost use Rattle.std.specs.Prelude.{◌≡◌, ◌≢◌, true, false, IfOk};
 ghost use Rattle.tables.specs.Actions.{IsClashAt};
 ghost use Rattle.tables.specs.Collection.{AreStates};
@@ -17,9 +17,13 @@ use std::alloc::{AllocError, Global};
 /// is at the end of its right side; where both are, its production is the earlier one, the added start production before all.
 #[derive(Debug, Drop)]
 pub struct Conflict {
+    /// Symbols for which both items are valid.
     pub prefix: Vec<Symbol>,
+    /// The token rule at which both call for a move, or none at the end.
     pub look: Option<usize>,
+    /// An item at the end of its right side.
     pub first: Item,
+    /// The other item.
     pub second: Item,
 }
 
@@ -43,8 +47,10 @@ fn is_in_order(input: &Input, clash: Clash) -> bool
     requires one { IsItem input.now clash.one }
     requires two { IsItem input.now clash.two }
     requires differ { Differ input.now.grammar clash }
-    ensures yes { result ≡ true → IsInOrder (item_of input.now.grammar clash.one) (item_of input.now.grammar clash.two) }
-    ensures no { result ≡ false → IsInOrder (item_of input.now.grammar clash.two) (item_of input.now.grammar clash.one) }
+    ensures yes { result ≡ true
+        → IsInOrder (item_of input.now.grammar clash.one) (item_of input.now.grammar clash.two) }
+    ensures no { result ≡ false
+        → IsInOrder (item_of input.now.grammar clash.two) (item_of input.now.grammar clash.one) }
 {
     if input.next(clash.one).is_some() {
         return false;

@@ -1,4 +1,4 @@
-// The moves of a state.
+//! The moves of a state.
 ghost use Rattle.std.specs.Prelude.{◌≡◌, ◌<◌, ◌+◌, Some, None, Option, ℕ, true, false, All, Contains, IfOk, IfSome, length, slice_index_or, take, is_some};
 ghost use Rattle.definitions.specs.Items.{Move as LrMove, CallsFor, kind_of};
 ghost use Rattle.tables.specs.declared.input.Item.{Item};
@@ -23,12 +23,14 @@ pub enum Move {
     Shift(usize),
     /// Reduce by the production with this number.
     Reduce(usize),
+    /// All kinds are a sentence.
     Accept,
 }
 
 /// The moves of one state, by the place of what is next: the token rules, then the end.
 #[derive(Drop)]
 pub struct Moves {
+    /// The move at each place, if there is one.
     row: Vec<Option<Move>>,
 }
 
@@ -44,8 +46,11 @@ impl Model for Moves {
 /// Two items of a set that call for different moves at a lookahead.
 #[derive(Clone, Copy)]
 pub struct Clash {
+    /// The lookahead, or none at the end.
     pub look: Option<usize>,
+    /// The item that was met first.
     pub one: Item,
+    /// The other item.
     pub two: Item,
 }
 
@@ -72,7 +77,9 @@ fn place_called(input: &Input, item: Item) -> Option<usize>
     requires sound { IsSound input.now }
     requires item { IsItem input.now item }
     ensures below { IfSome result (λ k. k < input.now.grammar.rules + 1) }
-    ensures place { (look : Option ℕ) (move : LrMove) → CallsFor (item_of input.now.grammar item) (kind_of look) move → result ≡ Some (place_in input.now.grammar look) }
+    ensures place { (look : Option ℕ) (move : LrMove)
+        → CallsFor (item_of input.now.grammar item) (kind_of look) move
+        → result ≡ Some (place_in input.now.grammar look) }
 {
     match input.next(item) {
         Some(Symbol::Rule(a)) => Some(a),
@@ -89,7 +96,9 @@ fn looks_called(alloc: Global, input: &Input, items: &[Item]) -> Result<Marks, A
     requires sound { IsSound input.now }
     requires known { All (IsItem input.now) items.now }
     ensures length { IfOk result (λ m. length m ≡ input.now.grammar.rules + 1) }
-    ensures marked { IfOk result (λ m. (i : Item) (look : Option ℕ) (move : LrMove) → Contains items.now i → CallsFor (item_of input.now.grammar i) (kind_of look) move → slice_index_or m (place_in input.now.grammar look) false ≡ true) }
+    ensures marked { IfOk result (λ m. (i : Item) (look : Option ℕ) (move : LrMove)
+        → Contains items.now i → CallsFor (item_of input.now.grammar i) (kind_of look) move
+        → slice_index_or m (place_in input.now.grammar look) false ≡ true) }
 {
     let mut marks = Marks::blank(alloc, input.rules() + 1)?;
     'items: for item in items {
@@ -153,11 +162,13 @@ impl Moves {
     /// The rules that have a move, where there are as many as this, and the end if it has one.
     pub fn expected(&self, rules: usize) -> Expected<'_>
         requires { length self.now ≡ rules + 1 }
-        ensures { result ≡ in_file_order (rules_with_move 0 (take rules self.now)) (is_some (slice_index_or self.now rules None)) }
+        ensures { result ≡ in_file_order (rules_with_move 0 (take rules self.now))
+            (is_some (slice_index_or self.now rules None)) }
     {
         Expected::new(&self.row[..rules], self.row[rules].is_some())
     }
 
+    /// The move at a place of the row.
     pub fn at(&self, place: usize) -> Option<Move>
         requires { place < length self.now }
         ensures { result ≡ slice_index_or self.now place None }

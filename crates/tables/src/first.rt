@@ -1,4 +1,4 @@
-// Which nonterminals can vanish, and with which token rules they can begin.
+//! Which nonterminals can vanish, and with which token rules they can begin.
 ghost use Rattle.std.specs.Prelude.{◌≡◌, ◌<◌, ◌≤◌, ◌↔◌, ℕ, Bool, true, false, List, [], Option, Some, None, length, All, IsTrue, IfOk, IfSome, slice_index_or, slice_set};
 ghost use Rattle.definitions.specs.declared.Symbol.{Symbol};
 ghost use Rattle.definitions.specs.Trees.{HasProduction};
@@ -27,6 +27,7 @@ impl Model for Marks {
 }
 
 impl Marks {
+    /// So many numbers, none of which is marked.
     pub fn blank(alloc: Global, n: usize) -> Result<Marks, AllocError>
         ensures length { IfOk result (λ m. length m ≡ n) }
         ensures blank { IfOk result (λ m. (i : ℕ) → slice_index_or m i false ≡ false) }
@@ -35,6 +36,7 @@ impl Marks {
         Ok(Marks { bits })
     }
 
+    /// Whether the number is marked.
     pub fn has(&self, i: usize) -> bool
         requires { i < length self.now }
         ensures { result ≡ slice_index_or self.now i false }
@@ -42,6 +44,7 @@ impl Marks {
         self.bits[i]
     }
 
+    /// Marks the number.
     pub fn mark(&mut self, i: usize)
         requires { i < length self.old }
         ensures { self.new ≡ slice_set self.old i true }
@@ -158,6 +161,7 @@ fn fixpoint(
     Ok(marks)
 }
 
+/// Whether two lookaheads are the same.
 pub fn is_same(one: Option<usize>, two: Option<usize>) -> bool
     ensures same { result ≡ true → one ≡ two }
     ensures other { result ≡ false → one ≡ two → ⊥ }
@@ -174,7 +178,9 @@ pub fn is_same(one: Option<usize>, two: Option<usize>) -> bool
 /// Which nonterminals can vanish, and for each token rule, which can begin with it.
 #[derive(Drop)]
 pub struct First {
+    /// The nonterminals that can vanish.
     vanishing: Marks,
+    /// For each token rule the nonterminals that can begin with it.
     beginning: Vec<Marks>,
 }
 
@@ -187,6 +193,7 @@ impl Model for First {
 }
 
 impl First {
+    /// The sets of a grammar, each as the least that its productions allow.
     pub fn new(alloc: Global, input: &Input) -> Result<First, AllocError>
         requires { IsSound input.now }
         ensures { IfOk result (AreFirst input.now) }

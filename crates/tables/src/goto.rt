@@ -1,4 +1,4 @@
-// Where a symbol leads from a set of items.
+//! Where a symbol leads from a set of items.
 ghost use Rattle.std.specs.Prelude.{◌≡◌, ◌+◌, ◌++◌, ◌∷◌, [], List, Some, true, false, All, IfOk, Contains};
 ghost use Rattle.definitions.specs.declared.Symbol.{Symbol};
 ghost use Rattle.definitions.specs.Derivations.{first};
@@ -52,8 +52,11 @@ pub fn shifted(
     ensures inside { IfOk result (λ kernel. All IsInside kernel.items) }
     ensures rising { IfOk result (λ kernel. IsRising kernel.items) }
     ensures known { IfOk result (λ kernel. All (IsItem input.now) kernel.items) }
-    ensures shifted { IfOk result (λ kernel. Shifted input.now.grammar items.now symbol kernel.items) }
-    ensures valid { IfOk result (λ kernel. (prefix : List Symbol) → HasSet input.now.grammar items.now prefix → HasKernel input.now.grammar kernel.items (prefix ++ symbol ∷ [])) }
+    ensures shifted { IfOk result
+        (λ kernel. Shifted input.now.grammar items.now symbol kernel.items) }
+    ensures valid { IfOk result (λ kernel. (prefix : List Symbol)
+        → HasSet input.now.grammar items.now prefix
+        → HasKernel input.now.grammar kernel.items (prefix ++ symbol ∷ [])) }
 {
     let mut kernel = Vec::new(alloc);
     'items: for item in items {

@@ -1,4 +1,4 @@
-// The grammar, its items, and what stands behind an item's place.
+//! The grammar, its items, and what stands behind an item's place.
 ghost use Rattle.std.specs.Prelude.{◌≡◌, ◌<◌, ℕ, [], ◌∷◌, ◌++◌, IfOk, OnOk, All, Contains, length, slice_index_or};
 ghost use Rattle.definitions.specs.Derivations.{first};
 ghost use Rattle.definitions.specs.Sentences.{AllProductive};
@@ -14,7 +14,9 @@ use std::marker::Model;
 /// A production: a nonterminal, and the symbols that may stand for it.
 #[derive(Drop)]
 pub struct Production {
+    /// The number of the nonterminal.
     left: usize,
+    /// What may stand for it.
     right: Vec<Symbol>,
 }
 
@@ -44,10 +46,15 @@ impl Model for Numbers {
 /// and for each nonterminal, the numbers of those that have it on the left.
 #[derive(Drop)]
 pub struct Input {
+    /// The number of the start nonterminal.
     start: usize,
+    /// How many token and skip rules there are.
     rules: usize,
+    /// How many nonterminals there are.
     nonterminals: usize,
+    /// The productions in file order.
     productions: Vec<Production>,
+    /// For each nonterminal the numbers of the productions that have it on the left.
     by_left: Vec<Numbers>,
 }
 
@@ -64,8 +71,11 @@ impl Model for Input {
 /// An item: its production, the place in the right side, and its lookahead. None is the added start production, and the end.
 #[derive(Clone, Copy, Debug, PartialEq, Eq, Hash)]
 pub struct Item {
+    /// The number of the production.
     pub production: Option<usize>,
+    /// How many symbols of the right side stand before the place.
     pub at: usize,
+    /// The token rule that may follow.
     pub look: Option<usize>,
 }
 
@@ -119,7 +129,8 @@ fn by_left(
     nonterminals: usize,
     productions: &[Production],
 ) -> Result<Vec<Numbers>, AllocError>
-    requires { (p : ℕ) → p < length productions.now → (production_in productions.now p).left < nonterminals }
+    requires { (p : ℕ) → p < length productions.now
+        → (production_in productions.now p).left < nonterminals }
     ensures { IfOk result (λ rows. AreByLeft productions.now nonterminals rows.items) }
 {
     let mut rows = no_numbers(alloc, nonterminals)?;
@@ -155,18 +166,21 @@ impl Input {
         })
     }
 
+    /// The number of the start nonterminal.
     pub fn start(&self) -> usize
         ensures { result ≡ self.now.grammar.start }
     {
         self.start
     }
 
+    /// The number of token and skip rules.
     pub fn rules(&self) -> usize
         ensures { result ≡ self.now.grammar.rules }
     {
         self.rules
     }
 
+    /// The number of nonterminals.
     pub fn nonterminals(&self) -> usize
         ensures { result ≡ self.now.nonterminals }
     {
@@ -180,6 +194,7 @@ impl Input {
         self.productions.len()
     }
 
+    /// The left side of a production.
     pub fn left(&self, p: usize) -> usize
         requires { p < length self.now.grammar.productions }
         ensures { result ≡ left_of self.now.grammar p }
@@ -187,6 +202,7 @@ impl Input {
         self.productions[p].left
     }
 
+    /// The right side of a production.
     pub fn right(&self, p: usize) -> &[Symbol]
         requires { p < length self.now.grammar.productions }
         ensures { result.now ≡ right_of self.now.grammar p }
@@ -197,8 +213,10 @@ impl Input {
     /// The numbers of the productions of a nonterminal.
     pub fn of_left(&self, nonterminal: usize) -> &[usize]
         requires { nonterminal < self.now.nonterminals }
-        ensures theirs { All (λ p. (p < length self.now.grammar.productions) × (left_of self.now.grammar p ≡ nonterminal)) result.now }
-        ensures all { (p : ℕ) → p < length self.now.grammar.productions → left_of self.now.grammar p ≡ nonterminal → Contains result.now p }
+        ensures theirs { All (λ p. (p < length self.now.grammar.productions)
+            × (left_of self.now.grammar p ≡ nonterminal)) result.now }
+        ensures all { (p : ℕ) → p < length self.now.grammar.productions
+            → left_of self.now.grammar p ≡ nonterminal → Contains result.now p }
     {
         self.by_left[nonterminal].list()
     }

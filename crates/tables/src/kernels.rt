@@ -1,4 +1,4 @@
-// The kernels of the sets of items.
+//! The kernels of the sets of items.
 ghost use Rattle.std.specs.Prelude.{◌≡◌, ◌<◌, ◌⊎◌, ◌∷◌, ◌++◌, [], length, slice_index_or, IfOk, OnOk};
 ghost use Rattle.tables.specs.Collection.{IsAbsent};
 
@@ -10,6 +10,7 @@ use std::marker::Model;
 /// The kernels of the sets found so far, each once, in the order in which they came up.
 #[derive(Drop)]
 pub struct Kernels {
+    /// The kernels, each found by its hash.
     set: IndexSet<Vec<Item>>,
 }
 
@@ -23,6 +24,7 @@ impl Model for Kernels {
 }
 
 impl Kernels {
+    /// No kernel.
     pub fn new(alloc: Global) -> Kernels
         ensures { result ≡ [] }
     {
@@ -31,12 +33,14 @@ impl Kernels {
         }
     }
 
+    /// How many kernels there are.
     pub fn len(&self) -> usize
         ensures { result ≡ length self.now }
     {
         self.set.len()
     }
 
+    /// The kernel with this number.
     pub fn kernel(&self, state: usize) -> &[Item]
         requires { state < length self.now }
         ensures { result.now ≡ slice_index_or self.now state [] }
@@ -46,8 +50,10 @@ impl Kernels {
 
     /// The place of a kernel, which is added at the end where it is new.
     pub fn place(&mut self, kernel: Vec<Item>) -> Result<usize, AllocError>
-        ensures place { IfOk result (λ s. (s < length self.new) × (slice_index_or self.new s [] ≡ kernel.items)) }
-        ensures list { OnOk result ((self.new ≡ self.old) ⊎ ((self.new ≡ self.old ++ kernel.items ∷ []) × IsAbsent self.old kernel.items)) }
+        ensures place { IfOk result (λ s. (s < length self.new)
+            × (slice_index_or self.new s [] ≡ kernel.items)) }
+        ensures list { OnOk result ((self.new ≡ self.old)
+            ⊎ ((self.new ≡ self.old ++ kernel.items ∷ []) × IsAbsent self.old kernel.items)) }
     {
         match self.set.insert_full(kernel) {
             Ok((state, _)) => Ok(state),

@@ -1,4 +1,4 @@
-// What a set of items calls for.
+//! What a set of items calls for.
 ghost use Rattle.std.specs.Prelude.{◌≡◌, Some, None, true, false, All, Contains, Option, ℕ};
 ghost use Rattle.tables.specs.declared.input.Item.{Item};
 ghost use Rattle.tables.specs.Sets.{IsItem};

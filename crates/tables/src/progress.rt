@@ -1,4 +1,4 @@
-// The rows and the moves of the states so far.
+//! The rows and the moves of the states so far.
 ghost use Rattle.std.specs.Prelude.{◌≡◌, ◌+◌, ◌<◌, ◌∷◌, ◌++◌, [], None, OnOk, length};
 ghost use Rattle.definitions.specs.Sentences.{AllProductive};
 ghost use Rattle.tables.specs.Actions.{AddsMoves, AreMade};
@@ -18,15 +18,20 @@ use std::marker::Model;
 /// A state, and two of its items that conflict.
 #[derive(Clone, Copy)]
 pub struct ClashAt {
+    /// The number of the state.
     pub state: usize,
+    /// The two items.
     pub clash: Clash,
 }
 
 /// The rows and the moves of the first states, and the first conflict, behind which the moves are not complete.
 #[derive(Drop)]
 pub struct Progress {
+    /// Where each symbol leads from each of the states.
     pub rows: Vec<Row>,
+    /// The moves of the states.
     pub moves: Vec<Moves>,
+    /// The first conflict, if there was one.
     pub clash: Option<ClashAt>,
 }
 
@@ -39,6 +44,7 @@ impl Model for Progress {
 }
 
 impl Progress {
+    /// No state yet.
     pub fn new(alloc: Global) -> Progress
         ensures { result ≡ record { rows = []; moves = []; clash = None } }
     {
@@ -49,6 +55,7 @@ impl Progress {
         }
     }
 
+    /// How many states have their row.
     pub fn len(&self) -> usize
         ensures { result ≡ length self.now.rows }
     {

@@ -1,4 +1,4 @@
-// Where the symbols lead from a state.
+//! Where the symbols lead from a state.
 ghost use Rattle.std.specs.Prelude.{◌≡◌, ◌<◌, None, length, slice_index_or};
 
 use std::marker::Model;
@@ -6,6 +6,7 @@ use std::marker::Model;
 /// The states that one state leads to, by the number of the symbol.
 #[derive(Drop)]
 pub struct Row {
+    /// For each number of a symbol the state, if there is one.
     to: Vec<Option<usize>>,
 }
 
@@ -18,6 +19,7 @@ impl Model for Row {
 }
 
 impl Row {
+    /// The row with these entries.
     pub fn new(to: Vec<Option<usize>>) -> Row
         ensures { result ≡ to.items }
     {

@@ -1,4 +1,4 @@
-// The numbers of symbols, and the symbols behind the places of items.
+//! The numbers of symbols, and the symbols behind the places of items.
 ghost use Rattle.std.specs.Prelude.{◌≡◌, ◌<◌, ◌+◌, Some, true, false, All, Contains, IfOk, length, slice_index_or};
 ghost use Rattle.definitions.specs.declared.Symbol.{Symbol};
 ghost use Rattle.definitions.specs.Derivations.{first};
@@ -40,8 +40,11 @@ fn number_of(input: &Input, symbol: Symbol) -> usize
 pub fn symbols_behind(alloc: Global, input: &Input, items: &[Item]) -> Result<Marks, AllocError>
     requires sound { IsSound input.now }
     requires known { All (IsItem input.now) items.now }
-    ensures length { IfOk result (λ m. length m ≡ input.now.grammar.rules + input.now.nonterminals) }
-    ensures marked { IfOk result (λ m. (i : Item) (s : Symbol) → Contains items.now i → first (behind input.now.grammar i) ≡ Some s → slice_index_or m (number input.now.grammar s) false ≡ true) }
+    ensures length { IfOk result
+        (λ m. length m ≡ input.now.grammar.rules + input.now.nonterminals) }
+    ensures marked { IfOk result (λ m. (i : Item) (s : Symbol) → Contains items.now i
+        → first (behind input.now.grammar i) ≡ Some s
+        → slice_index_or m (number input.now.grammar s) false ≡ true) }
 {
     let mut marks = Marks::blank(alloc, input.rules() + input.nonterminals())?;
     'items: for item in items {

@@ -1,4 +1,4 @@
-// The tables.
+//! The tables.
 ghost use Rattle.std.specs.Prelude.{◌≡◌, ◌<◌, ◌≤◌, ◌∷◌, ◌++◌, ◌↔◌, ℕ, List, [], Option, Some, None, true, MatchOption, IfOk, IfErr, length};
 ghost use Rattle.definitions.specs.declared.Kind.{Kind};
 ghost use Rattle.definitions.specs.declared.Kind.TheVariants.{Rule as Token};
@@ -42,15 +42,20 @@ pub enum TableFault {
     TooManySets,
     /// Two items of a set call for different moves.
     Conflict(Conflict),
+    /// Memory was refused.
     Memory,
 }
 
 /// Canonical LR(1) tables of a grammar (Knuth 1965).
 #[derive(Drop)]
 pub struct Tables {
+    /// The grammar.
     input: Input,
+    /// The kernel of the set of each state; the first is that of the empty prefix.
     kernels: Kernels,
+    /// Where each symbol leads from each state.
     rows: Vec<Row>,
+    /// What each state does at each kind that may come next.
     moves: Vec<Moves>,
 }
 
@@ -140,6 +145,7 @@ impl Tables {
         ensures start { IsStateOf self.now [] result }
         ensures accepted { IsAccepted self.now.grammar }
     {
+        // The read opens the invariant.
         let _kernels = &self.kernels;
         0
     }
@@ -147,8 +153,11 @@ impl Tables {
     /// The move of a state where this kind, or the end, is next.
     pub fn action(&self, state: usize, look: Option<Kind>) -> Option<Move>
         requires { state < length self.now.kernels }
-        ensures is { (prefix : List Symbol) → IsStateOf self.now prefix state → IsAction self.now.grammar prefix look result }
-        ensures shifts { (prefix : List Symbol) (a to : ℕ) → IsStateOf self.now prefix state → look ≡ Some (Token a) → result ≡ Some (Move.Shift to) → IsStateOf self.now (prefix ++ (Terminal a ∷ [])) to }
+        ensures is { (prefix : List Symbol) → IsStateOf self.now prefix state
+            → IsAction self.now.grammar prefix look result }
+        ensures shifts { (prefix : List Symbol) (a to : ℕ) → IsStateOf self.now prefix state
+            → look ≡ Some (Token a) → result ≡ Some (Move.Shift to)
+            → IsStateOf self.now (prefix ++ (Terminal a ∷ [])) to }
     {
         let moves = &self.moves[state];
         match look {
@@ -169,9 +178,11 @@ impl Tables {
     /// The state that a nonterminal leads to, if some item calls for it there.
     pub fn goto(&self, state: usize, nonterminal: usize) -> Option<usize>
         requires { state < length self.now.kernels }
-        ensures { (prefix : List Symbol) → IsStateOf self.now prefix state → let g = self.now.grammar in
+        ensures { (prefix : List Symbol) → IsStateOf self.now prefix state
+            → let g = self.now.grammar in
             let next = prefix ++ (Nonterminal nonterminal ∷ []) in
-            MatchOption result (HasItem g next → ⊥) (λ to. HasItem g next × IsStateOf self.now next to) }
+            MatchOption result (HasItem g next → ⊥)
+            (λ to. HasItem g next × IsStateOf self.now next to) }
     {
         if nonterminal < self.input.nonterminals() {
             self.rows[state].to(self.input.rules() + nonterminal)
@@ -184,7 +195,8 @@ impl Tables {
     /// the kinds that were read. It takes no memory.
     pub fn expects(&self, state: usize) -> Expected<'_>
         requires { state < length self.now.kernels }
-        ensures { (x : List Kind) (stack : List Tree) (prefix : List Symbol) → IsStateOf self.now prefix state
+        ensures { (x : List Kind) (stack : List Tree) (prefix : List Symbol)
+            → IsStateOf self.now prefix state
             → IsStackAfter self.now.grammar x stack → HaveRoots self.now.grammar stack prefix
             → AreExpected self.now.grammar x result }
     {
@@ -195,13 +207,15 @@ impl Tables {
     pub fn moves_are_decided(&self)
         ensures { AreMovesDecided self.now.grammar }
     {
+        // The read opens the invariant.
         let _rows = &self.rows;
     }
 
     /// The left side of a production, and the length of its right side.
     pub fn production(&self, p: usize) -> (usize, usize)
         requires { p < length self.now.grammar.productions }
-        ensures { (right : List Symbol) × HasProduction self.now.grammar p result.0 right × (length right ≡ result.1) }
+        ensures { (right : List Symbol) × HasProduction self.now.grammar p result.0 right
+            × (length right ≡ result.1) }
     {
         (self.input.left(p), self.input.right(p).len())
     }
