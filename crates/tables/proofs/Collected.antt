@@ -6,7 +6,7 @@ use Rattle.definitions.specs.Items.{Item as LrItem, IsValid, HaveSameItems, Move
 use Rattle.definitions.proofs.Ordered.{Contains-cases}
 use Rattle.theory.specs.Closure.{ByRules, Start, Goto, Close}
 use Rattle.theory.proofs.Rules.{rules_valid, valid_rules}
-use Rattle.theory.proofs.Sets.{kernel_tells}
+use Rattle.theory.proofs.Sets.{kernel_tells, not_empty}
 use Rattle.theory.specs.Closure.{IsKernel}
 use Rattle.tables.specs.declared.input.Item.{Item}
 use Rattle.tables.specs.declared.moves.Call.{Call}
@@ -14,7 +14,6 @@ use Rattle.tables.specs.declared.moves.Decision.TheVariants.{Nothing, Agreed, Co
 use Rattle.tables.specs.Sets.{item_of}
 use Rattle.tables.specs.States.{HasKernel, HasSet}
 use Rattle.tables.specs.Moves.{move_of, IsDecision}
-use Rattle.tables.proofs.Moved.{nothing_ends}
 
 abbrev pub start_item : Item
 start_item = record { production = None; at = 0; look = None }
@@ -22,7 +21,7 @@ start_item = record { production = None; at = 0; look = None }
 module _ (g : Grammar) where
   only_start : {full : List Symbol} {k : LrItem} → ByRules g full k → IsKernel k → full ≡ [] → item_of g start_item ≡ k
   only_start Start kernel e = refl
-  only_start (Goto {prefix = one} {s = t} r) kernel e = absurd (nothing_ends g one t e)
+  only_start (Goto {prefix = one} {s = t} r) kernel e = absurd (not_empty g one t e)
   only_start (Close r h f) kernel e = absurd (⊎_elim (λ x. cc x) (λ x. x refl) kernel)
 
   -- the kernel of the empty prefix

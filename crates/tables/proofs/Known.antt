@@ -7,7 +7,8 @@ use Rattle.definitions.specs.declared.Symbol.{Symbol}
 use Rattle.definitions.specs.declared.Symbol.TheVariants.{Rule as Terminal, Nonterminal}
 use Rattle.theory.specs.First.{Begins, At_once, Within, Behind}
 use Rattle.tables.specs.declared.input.Item.{Item}
-use Rattle.tables.specs.Input.{Shape, IsSound, IsKnown, left_of, right_of}
+use Rattle.grammar.specs.Grammars.{left_of, right_of}
+use Rattle.tables.specs.Input.{Shape, IsSound, IsKnown}
 use Rattle.theory.specs.First.{MayFollow}
 use Rattle.tables.specs.Sets.{side, behind, IsItem, IsIn, Kernel, Closed, look_of, marked, Asks, Expands, beginning_of, IsBeginning, AreWanted}
 use Rattle.tables.proofs.Numbers.{has_production}

@@ -1,17 +1,17 @@
 -- The kernel behind a symbol is that of the longer prefix.
-use Rattle.std.proofs.Common.{◌≡◌, ◌+◌, ◌<◌, ◌^◌, ℕ, zero, suc, List, [], ◌∷◌, ◌++◌, Option, Some, None, refl, sym, ap, ◌∙◌, subst, length, take, drop, Contains, ⊎_elim, arith}
+use Rattle.std.proofs.Common.{◌≡◌, ◌+◌, ◌<◌, ◌^◌, ℕ, zero, suc, List, [], ◌∷◌, ◌++◌, Option, Some, None, refl, sym, ap, ◌∙◌, subst, length, take, drop, Contains, arith}
 use Rattle.std.specs.Prelude.{IfSome}
-use mathlib.Core.List.{head-eq_of_cons-eq, tail-eq_of_cons-eq}
+use mathlib.Core.List.{tail-eq_of_cons-eq}
 use Rattle.definitions.specs.declared.Symbol.{Symbol}
 use Rattle.definitions.specs.Trees.{Grammar}
 use Rattle.definitions.specs.Derivations.{first}
 use Rattle.definitions.specs.Items.{Item as LrItem, IsValid}
-use Rattle.theory.specs.Closure.{ByRules, Start, Goto, Close}
-use Rattle.theory.proofs.Lists.{ends_equal}
+use Rattle.theory.specs.Closure.{ByRules, Goto}
 use Rattle.theory.proofs.Rules.{rules_valid, valid_rules}
-use Rattle.theory.specs.Closure.{IsKernel}
+use Rattle.theory.proofs.Sets.{Back, goto_back}
 use Rattle.tables.specs.declared.input.Item.{Item}
-use Rattle.tables.specs.Input.{Shape, IsSound, left_of, right_of}
+use Rattle.grammar.specs.Grammars.{left_of, right_of}
+use Rattle.tables.specs.Input.{Shape, IsSound}
 use Rattle.tables.specs.Sets.{side, behind, item_of, IsItem}
 use Rattle.tables.specs.States.{HasKernel, HasSet, Shifted, step}
 use Rattle.tables.proofs.Numbers.{has_production}
@@ -44,31 +44,6 @@ module _ (g : Shape) (sound : IsSound g) where
   step_known i s h e = let l = (parts i.at (side g.grammar i.production) s e).below in record { production = h.production; at = omega (arith, l); look = h.look }
 
 module _ (g : Grammar) where
-  pub nothing_ends : (before : List Symbol) (s : Symbol) → before ++ (s ∷ []) ≡ [] → ⊥
-  nothing_ends [] s e = cc e
-  nothing_ends (b ∷ before) s e = cc e
-
-  pub record Back (prefix : List Symbol) (s : Symbol) (k : LrItem) : Type 0 where
-    pub from : LrItem
-    pub rest : List Symbol
-    pub rules : ByRules g prefix from
-    pub after : from.after ≡ s ∷ rest
-    pub is : record { production = from.production; before = from.before ++ (s ∷ []); after = rest; look = from.look } ≡ k
-
-  pub goto_back : {full : List Symbol} {k : LrItem} → ByRules g full k → IsKernel k → (prefix : List Symbol) (s : Symbol) → full ≡ prefix ++ (s ∷ []) → Back prefix s k
-  goto_back Start kernel prefix s e = absurd (nothing_ends prefix s (sym e))
-  goto_back (Goto {prefix = one} {production = q} {before = before} {s = t} {after = after} {look = look} r) kernel prefix s e =
-      let p = ends_equal one prefix (t ∷ []) (s ∷ []) refl e in
-      let same = head-eq_of_cons-eq p.1 in
-      record {
-        from = record { production = q; before = before; after = t ∷ after; look = look };
-        rest = after;
-        rules = subst (λ l. ByRules g l (record { production = q; before = before; after = t ∷ after; look = look })) p.0 r;
-        after = ap (λ y. y ∷ after) same;
-        is = ap (λ y. record { production = q; before = before ++ (y ∷ []); after = after; look = look }) (sym same);
-      }
-  goto_back (Close {p = p} r h f) kernel prefix s e = absurd (⊎_elim (λ x. cc x) (λ x. x refl) kernel)
-
   module _ (items kernel : List Item) (s : Symbol) (prefix : List Symbol) (sh : Shifted g items s kernel) (set : HasSet g items prefix) where
     step_valid : (j : Item) → Contains items j → first (behind g j) ≡ Some s → IsValid g (prefix ++ (s ∷ [])) (item_of g (step j))
     step_valid j c f =
@@ -79,7 +54,7 @@ module _ (g : Grammar) where
         let after : drop (j.at + 1) (side g j.production) ≡ p.rest = subst (λ m. drop m (side g j.production) ≡ p.rest) n p.after in
         rules_valid g (subst (λ y. ByRules g (prefix ++ (s ∷ [])) (record { production = j.production; before = y; after = drop (j.at + 1) (side g j.production); look = j.look })) (sym before) (subst (λ y. ByRules g (prefix ++ (s ∷ [])) (record { production = j.production; before = take j.at (side g j.production) ++ (s ∷ []); after = y; look = j.look })) (sym after) (Goto r)))
 
-    step_is : (k : LrItem) (b : Back prefix s k) (j : Item) → item_of g j ≡ b.from → first (behind g j) ≡ Some s → item_of g (step j) ≡ k
+    step_is : (k : LrItem) (b : Back g prefix s k) (j : Item) → item_of g j ≡ b.from → first (behind g j) ≡ Some s → item_of g (step j) ≡ k
     step_is k b j e f =
         let p = parts j.at (side g j.production) s f in
         let n = one_more j.at in
@@ -97,7 +72,7 @@ module _ (g : Grammar) where
     moved = record {
       sound = λ i c. let x = sh.each i c in subst (λ y. IsValid g (prefix ++ (s ∷ [])) (item_of g y)) x.3 (step_valid x.0 x.1 x.2);
       complete = λ k is v.
-          let b = goto_back (valid_rules g (prefix ++ (s ∷ [])) k v) is prefix s refl in
+          let b = goto_back g (valid_rules g (prefix ++ (s ∷ [])) k v) is prefix s refl in
           let x = set.complete b.from (rules_valid g b.rules) in
           let f : first (behind g x.0) ≡ Some s = ap (λ y. first y.after) x.2 ∙ ap first b.after in
           (step x.0, sh.all x.0 x.1 f, step_is k b x.0 x.2 f);

@@ -14,7 +14,8 @@ use Rattle.theory.proofs.Sound.{right_trees}
 use Rattle.theory.proofs.Simulation.{roots-trees}
 use Rattle.theory.proofs.FirstLemmas.{HasTrees, first_of_rules, first_by_rules}
 use Rattle.tables.specs.declared.input.Item.{Item}
-use Rattle.tables.specs.Input.{Shape, IsSound, left_of, right_of}
+use Rattle.grammar.specs.Grammars.{left_of, right_of}
+use Rattle.tables.specs.Input.{Shape, IsSound}
 use Rattle.theory.specs.First.{MayFollow}
 use Rattle.tables.specs.Sets.{side, item_of, IsItem, IsIn, Kernel, Closed}
 use Rattle.tables.specs.States.{HasKernel, HasSet}

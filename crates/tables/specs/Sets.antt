@@ -7,7 +7,8 @@ use Rattle.definitions.specs.Trees.{Grammar}
 use Rattle.definitions.specs.Items.{Item as LrItem}
 use Rattle.tables.specs.declared.input.Item.{Item}
 use Rattle.tables.specs.declared.closure.Want.{Want}
-use Rattle.tables.specs.Input.{Shape, left_of, right_of}
+use Rattle.grammar.specs.Grammars.{left_of, right_of}
+use Rattle.tables.specs.Input.{Shape}
 use Rattle.tables.specs.First.{unmarked}
 use Rattle.theory.specs.First.{MayFollow}
 

@@ -3,7 +3,8 @@ ghost use Rattle.std.specs.Prelude.{◌≡◌, ◌<◌, ℕ, [], ◌∷◌, ◌+
 ghost use Rattle.definitions.specs.Derivations.{first};
 ghost use Rattle.definitions.specs.Sentences.{AllProductive};
 ghost use Rattle.definitions.specs.Trees.{HasDistinctProductions};
-ghost use Rattle.tables.specs.Input.{IsSound, AreByLeft, production_in, left_of, right_of};
+ghost use Rattle.grammar.specs.Grammars.{left_of, right_of};
+ghost use Rattle.tables.specs.Input.{IsSound, AreByLeft, production_in};
 ghost use Rattle.tables.specs.Sets.{IsItem, behind};
 
 use definitions::Symbol;

@@ -1,7 +1,7 @@
 use Rattle.std.proofs.Common.{◌≡◌, ◌∷◌, ◌++◌, [], true, false, Some, Contains, ap, sym, subst, inr, ⊎_elim, arith, ◌∙◌}
 use Rattle.std.proofs.lemmas.Bool.{cases_eq}
 use Rattle.std.proofs.lemmas.List.Elements.{Contains-push, Contains-push_cases, Contains-append_left}
-use Rattle.tables.specs.Input.{left_of}
+use Rattle.grammar.specs.Grammars.{left_of}
 use Rattle.tables.specs.Sets.{marked, beginning_of}
 use Rattle.tables.proofs.Ordered.{rising_more, all_before_more, all_before_same, all_before_next}
 use Rattle.tables.proofs.closure.add_items.Goals as goal

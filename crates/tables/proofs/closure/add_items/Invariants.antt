@@ -1,7 +1,7 @@
 use Rattle.std.proofs.Common.{◌≡◌, ◌<◌, ◌⊎◌, ℕ, Contains, true, All}
 use Rattle.tables.specs.declared.input.Item.{Item}
 use Rattle.tables.specs.Order.{IsRising, IsBefore}
-use Rattle.tables.specs.Input.{left_of}
+use Rattle.grammar.specs.Grammars.{left_of}
 use Rattle.tables.specs.Sets.{marked, beginning_of, IsBeginning}
 use Rattle.tables.proofs.closure.add_items.Given as goal
 

@@ -1,6 +1,6 @@
 use Rattle.std.proofs.Common.{rules, ◌≡◌, ◌<◌, true, length, Contains, sym, subst, inr, ⊎_elim, arith}
 use Rattle.std.proofs.lemmas.Bool.{cases_eq}
-use Rattle.tables.specs.Input.{left_of}
+use Rattle.grammar.specs.Grammars.{left_of}
 use Rattle.tables.specs.Sets.{marked, beginning_of}
 use Rattle.tables.proofs.closure.items_of.Goals as goal
 

@@ -3,7 +3,7 @@ use Rattle.std.proofs.lemmas.List.{take_more}
 use Rattle.std.proofs.Math.Seq.{take-length}
 use Rattle.definitions.specs.Sentences.{AllProductive}
 use Rattle.definitions.specs.Trees.{Production}
-use Rattle.tables.specs.Input.{production_of}
+use Rattle.grammar.specs.Grammars.{production_of}
 use Rattle.tables.proofs.FromFile.{all_productive}
 use Rattle.tables.proofs.input.Input.of.Goals as goal
 
