@@ -47,7 +47,8 @@ fn split(alloc: Global, bytes: &[u8]) -> Result<Found, AllocError>
     ensures used { IfOk result (λ found. found.used ≤ length bytes.now) }
     ensures fault { IfOk result (λ found. IfSome found.fault IsStreamFault) }
     ensures split { IfOk result (λ found.
-        Splits bytes.now (contents found.frames.items) (tail_of (drop found.used bytes.now) found.fault)) }
+        let rest = drop found.used bytes.now in
+        Splits bytes.now (contents found.frames.items) (tail_of rest found.fault)) }
     ensures tail { IfOk result (λ found.
         let rest = drop found.used bytes.now in IsTail rest (tail_of rest found.fault)) }
     ensures awaited { IfOk result (λ found. Awaits (drop found.used bytes.now) found.awaited) }

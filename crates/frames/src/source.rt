@@ -24,7 +24,8 @@ pub trait Input {
         ensures bound { IfOk result (λ n. n ≤ length buf.new) }
         ensures bytes { ReadConsumes (remaining self.old) (remaining self.new) result buf.new }
         ensures reads { OnOk result (reads_left self.old ≡ reads_left self.new + 1) }
-        ensures cause { MatchResult result (λ _. failures self.new ≡ 0) (λ _. failures self.new ≡ 1) };
+        ensures cause { MatchResult result
+            (λ _. failures self.new ≡ 0) (λ _. failures self.new ≡ 1) };
 }
 
 /// Rust's `Read` as an input. Every error is a fault, also one that says to try again.

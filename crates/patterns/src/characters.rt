@@ -54,7 +54,9 @@ fn escaped(text: &[char], place: usize) -> Option<(char, usize)>
     requires { place < length text.now }
     ensures { MatchOption result
         (escape place (drop (place + 1) text.now) ≡ BadEscape place ∷ [])
-        (λ r. (place < r.1) × (r.1 ≤ length text.now) × (escape place (drop (place + 1) text.now) ≡ Escaped place r.0 ∷ written r.1 (drop r.1 text.now))) }
+        (λ r. (place < r.1) × (r.1 ≤ length text.now) ×
+        (escape place (drop (place + 1) text.now)
+        ≡ Escaped place r.0 ∷ written r.1 (drop r.1 text.now))) }
 {
     let code = *text.get(place + 1)?;
     match code {
@@ -72,7 +74,9 @@ fn by_number(text: &[char], place: usize) -> Option<(char, usize)>
     requires { place + 2 ≤ length text.now }
     ensures { MatchOption result
         (braced place (drop (place + 2) text.now) ≡ BadEscape place ∷ [])
-        (λ r. (place < r.1) × (r.1 ≤ length text.now) × (braced place (drop (place + 2) text.now) ≡ Escaped place r.0 ∷ written r.1 (drop r.1 text.now))) }
+        (λ r. (place < r.1) × (r.1 ≤ length text.now) ×
+        (braced place (drop (place + 2) text.now)
+        ≡ Escaped place r.0 ∷ written r.1 (drop r.1 text.now))) }
 {
     if *text.get(place + 2)? != '{' {
         return None;

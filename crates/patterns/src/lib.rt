@@ -54,10 +54,10 @@ impl Model for Pattern {
 impl Pattern {
     /// The pattern that `text` spells.
     ///
-    /// Refuses a text that spells none with its first fault, read from the left, at a place in characters from the start:
-    /// `Syntax` at the first character with which no pattern goes on, or at the end; `EmptyClass` at the `[` of a class with no
-    /// member; `ReversedRange` at the first character of a range; `EmptyLiteral` at its first quote; `MatchesEmpty` at 0, where
-    /// nothing else is wrong. `Memory`, at 0, says that memory was refused.
+    /// Refuses a text that spells none with its first fault, read from the left, at a place in characters from the
+    /// start: `Syntax` at the first character with which no pattern goes on, or at the end; `EmptyClass` at the `[` of a
+    /// class with no member; `ReversedRange` at the first character of a range; `EmptyLiteral` at its first quote;
+    /// `MatchesEmpty` at 0, where nothing else is wrong. `Memory`, at 0, says that memory was refused.
     pub fn read(alloc: Global, text: &str) -> Result<Pattern, PatternFault>
         ensures pattern { IfOk result (λ p. IsPattern (chars text.now) p) }
         ensures no_fault { IfOk result (λ p. first_fault (chars text.now) ≡ None) }

@@ -60,8 +60,8 @@ impl<T: Measured> Seq<T> {
         tree::sum_of(&self.root)
     }
 
-    /// The height of the tree that the list lies in. A caller sees no tree, so the contract says what that means for a list:
-    /// at most twice as much as its length has binary digits, and enough for a tree to hold its items.
+    /// The height of the tree that the list lies in. A caller sees no tree, so the contract says what that means for a
+    /// list: at most twice as much as its length has binary digits, and enough for a tree to hold its items.
     pub fn height(&self) -> u8
         ensures low { result ≤ 2 * digits (length self.now) }
         ensures high { length self.now < 2 ^ result }

@@ -60,7 +60,13 @@ impl Model for Node {
 
     ghost Value = { Cell };
 
-    ghost view = { λ n. record { production = n.production; born = n.born; tokens = n.tokens; size = n.size; children = n.children.items } };
+    ghost view = { λ n. record {
+      production = n.production;
+      born = n.born;
+      tokens = n.tokens;
+      size = n.size;
+      children = n.children.items;
+    } };
 }
 
 /// The nodes of trees, each behind those of its children.
