@@ -1,5 +1,12 @@
 //! What the commands do, over the bytes of files.
 
+ghost use Rattle.std.specs.Prelude.{◌≡◌, List, map, IfOk, IfErr};
+ghost use Rattle.definitions.specs.declared.Symbol.{Symbol};
+ghost use Rattle.grammar.specs.Notes.{AreNotes, symbol_name};
+ghost use Rattle.server.specs.Languages.{IsLanguageOf};
+ghost use Rattle.commands.specs.Status.{status_of};
+ghost use Rattle.commands.specs.Report.{report};
+
 use crate::fault::Fault;
 use definitions::Kind;
 use grammar::Grammar;
@@ -16,7 +23,9 @@ pub struct Printed {
 }
 
 /// What is printed of a fault.
-fn refusal(alloc: Global, fault: &Fault) -> Result<Printed, AllocError> {
+fn refusal(alloc: Global, fault: &Fault) -> Result<Printed, AllocError>
+    ensures { IfOk result (λ printed. printed.status ≡ status_of fault.now) }
+{
     Ok(Printed {
         out: Vec::new(alloc),
         err: format!(in alloc; "{fault}\n")?.into_bytes(),
@@ -33,7 +42,9 @@ fn look_of<'a>(grammar: &'a Grammar, conflict: &Conflict) -> &'a str {
 }
 
 /// The fault that is printed where a grammar file defines no language.
-fn fault_of(alloc: Global, fault: LoadFault) -> Result<Fault, AllocError> {
+fn fault_of(alloc: Global, fault: LoadFault) -> Result<Fault, AllocError>
+    ensures { IfOk result (λ fault. status_of fault ≡ 2) }
+{
     match fault {
         LoadFault::Grammar(fault) => Ok(Fault::Grammar(fault)),
         LoadFault::TooManyStates => Ok(Fault::TooManyStates),
@@ -46,8 +57,12 @@ fn fault_of(alloc: Global, fault: LoadFault) -> Result<Fault, AllocError> {
     }
 }
 
-/// The language of a grammar file of these bytes, or what is printed where it defines none. Refuses for memory alone.
-pub fn load(alloc: Global, bytes: &[u8]) -> Result<Result<Language, Printed>, AllocError> {
+/// The language of a grammar file of these bytes, or what is printed, with status 2, where it defines none. Refuses for
+/// memory alone.
+pub fn load(alloc: Global, bytes: &[u8]) -> Result<Result<Language, Printed>, AllocError>
+    ensures language { IfOk result (λ loaded. IfOk loaded (IsLanguageOf bytes.now)) }
+    ensures refused { IfOk result (λ loaded. IfErr loaded (λ printed. printed.status ≡ 2)) }
+{
     let Ok(text) = str::from_utf8(bytes) else {
         return Ok(Err(refusal(alloc, &Fault::NotUtf8)?));
     };
@@ -60,8 +75,14 @@ pub fn load(alloc: Global, bytes: &[u8]) -> Result<Result<Language, Printed>, Al
     }
 }
 
-/// What `lrls check` prints of a grammar: a line for each name that no derivation from the start uses, and `ok`.
-pub fn check(alloc: Global, language: &Language) -> Result<Printed, AllocError> {
+/// What `lrls check` prints of a grammar: a line for each name that no derivation from the start uses, and `ok`. Refuses for
+/// memory alone.
+pub fn check(alloc: Global, language: &Language) -> Result<Printed, AllocError>
+    ensures out { IfOk result (λ printed.
+        (notes : List Symbol) × AreNotes language.now language.now.defined notes
+        × (printed.out.items ≡ report (map (symbol_name language.now) notes))) }
+    ensures status { IfOk result (λ printed. printed.status ≡ 0) }
+{
     let mut out = String::new(alloc);
     for name in language.grammar().notes() {
         out.push_str("note: unreachable ")?;

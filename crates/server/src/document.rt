@@ -47,7 +47,8 @@ impl Document {
         version: i32,
         text: &str,
     ) -> Result<Document, TextFault>
-        ensures is { IfOk result (λ d. open_document d ≡ record { version = version; text = chars text.now }) }
+        ensures is { IfOk result (λ d.
+            open_document d ≡ record { version = version; text = chars text.now }) }
         ensures fits { IfOk result (λ _. fits (chars text.now) ≡ true) }
         ensures current { IfOk result (IsCurrent language.now) }
         ensures too_large { (result ≡ Err TextFault.TooLarge) ↔ (fits (chars text.now) ≡ false) }
@@ -66,9 +67,11 @@ impl Document {
         changes: &[Change],
     ) -> Result<Document, TextFault>
         ensures version { IfOk result (λ d. d.version ≡ version) }
-        ensures text { IfOk result (λ d. edited self.now.text (map change_view changes.now) ≡ Some d.text) }
+        ensures text { let text = edited self.now.text (map change_view changes.now) in
+            IfOk result (λ d. text ≡ Some d.text) }
         ensures current { IfOk result (IsCurrent language.now) }
-        ensures too_large { result ≡ Err TextFault.TooLarge → edited self.now.text (map change_view changes.now) ≡ None }
+        ensures too_large { result ≡ Err TextFault.TooLarge
+            → edited self.now.text (map change_view changes.now) ≡ None }
     {
         let text = edited(alloc, &self.text, changes)?;
         Ok(Document::of(alloc, language, version, text)?)
@@ -105,11 +108,9 @@ impl Document {
         question: Question,
     ) -> Result<Reply, AllocError>
         requires { IsCurrent language.now self.now }
-        ensures {
-            IfOk result (λ reply.
-                let document = Some (open_document self.now) in
-                IsAnswer language.now (id_view id) document (question_view question) (reply_view reply))
-        }
+        ensures { IfOk result (λ reply.
+            let document = Some (open_document self.now) in
+            IsAnswer language.now (id_view id) document (question_view question) (reply_view reply)) }
     {
         match question {
             Question::Text => Ok(Reply::Text {
@@ -127,10 +128,8 @@ impl Document {
 
     /// The names and ranges of the tokens.
     fn rows(&self, alloc: Global, language: &Language) -> Result<Vec<Row>, AllocError>
-        ensures {
-            IfOk result (λ told.
-                map row_view told.items ≡ rows language.now self.now.text (map plain self.now.tokens.items))
-        }
+        ensures { IfOk result (λ told.
+            map row_view told.items ≡ rows language.now self.now.text (map plain self.now.tokens.items)) }
     {
         let found = token_rows(alloc, language.grammar(), &self.text, &self.tokens)?;
         let mut told = Vec::with_capacity(alloc, found.len())?;
@@ -146,11 +145,9 @@ impl Document {
     /// The reply that tells the tree, or that there is none.
     fn tree(&self, alloc: Global, language: &Language, id: Id) -> Result<Reply, AllocError>
         requires { IsCurrent language.now self.now }
-        ensures {
-            IfOk result (λ reply.
-                let document = Some (open_document self.now) in
-                IsAnswer language.now (id_view id) document (question_view Question.Tree) (reply_view reply))
-        }
+        ensures { IfOk result (λ reply.
+            let document = Some (open_document self.now) in
+            IsAnswer language.now (id_view id) document (question_view Question.Tree) (reply_view reply)) }
     {
         match self.parse.verdict() {
             Verdict::Tree(root) => Ok(Reply::Tree {
@@ -165,9 +162,8 @@ impl Document {
 /// The text after the changes in turn. `TooLarge` where one of the texts on the way would be.
 fn edited(alloc: Global, text: &Text, changes: &[Change]) -> Result<Text, TextFault>
     ensures text { IfOk result (λ new. edited text.now (map change_view changes.now) ≡ Some new) }
-    ensures large {
-        result ≡ Err TextFault.TooLarge → edited text.now (map change_view changes.now) ≡ None
-    }
+    ensures large { result ≡ Err TextFault.TooLarge
+        → edited text.now (map change_view changes.now) ≡ None }
 {
     let Some((first, others)) = changes.split_first() else {
         return same(alloc, text);
@@ -190,9 +186,8 @@ fn same(alloc: Global, text: &Text) -> Result<Text, TextFault>
 /// The text after more changes in turn, made on the text itself.
 fn edited_on(alloc: Global, mut text: Text, changes: &[Change]) -> Result<Text, TextFault>
     ensures text { IfOk result (λ new. edited text (map change_view changes.now) ≡ Some new) }
-    ensures large {
-        result ≡ Err TextFault.TooLarge → edited text (map change_view changes.now) ≡ None
-    }
+    ensures large { result ≡ Err TextFault.TooLarge
+        → edited text (map change_view changes.now) ≡ None }
 {
     for change in changes {
         text.change(alloc, change.range, change.text.as_str())?;

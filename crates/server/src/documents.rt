@@ -56,7 +56,8 @@ impl Documents {
 
     /// The document of this URI, if one is held.
     pub fn get(&self, uri: &str) -> Option<&Document>
-        ensures is { option_map (λ d. open_document d.now) result ≡ map.get self.now.documents uri.now }
+        ensures is { let held = map.get self.now.documents uri.now in
+            option_map (λ d. open_document d.now) result ≡ held }
         ensures current { IfSome result (λ d. IsCurrent self.now.file d.now) }
     {
         self.by_uri.get(uri)
@@ -72,7 +73,9 @@ impl Documents {
     /// Holds the document under this URI, in the place of the one before.
     pub fn insert(&mut self, uri: String, document: Document) -> Result<(), AllocError>
         requires { IsCurrent self.old.file document }
-        ensures ok { OnOk result (self.new.documents ≡ map.insert self.old.documents (string_bytes uri) (open_document document)) }
+        ensures ok { let old = self.old.documents in
+            let held = map.insert old (string_bytes uri) (open_document document) in
+            OnOk result (self.new.documents ≡ held) }
         ensures err { OnErr result (self.new.documents ≡ self.old.documents) }
         ensures file { self.new.file ≡ self.old.file }
     {

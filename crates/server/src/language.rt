@@ -104,7 +104,8 @@ impl Language {
         alloc: Global,
         text: &Text,
     ) -> Result<(Tokens, Significant), AllocError>
-        ensures tokens { IfOk result (λ r. AreTokensOf self.now.patterns self.now.skips text.now r.0.items) }
+        ensures tokens { IfOk result (λ r.
+            AreTokensOf self.now.patterns self.now.skips text.now r.0.items) }
         ensures kinds { IfOk result (λ r. r.1.kinds.items ≡ significant_kinds r.0.items) }
     {
         // The read opens the invariant of the text.

@@ -47,8 +47,10 @@ fn write_replies<W: Output>(
     replies: &[Reply],
 ) -> Result<(), RunFault>
     requires { W.failures output.old ≡ 0 }
-    ensures written { OnOk result (Appends (W.contents output.old) (W.contents output.new) (bytes_of (map reply_view replies.now))) }
-    ensures front { OnErr result (AppendsFront (W.contents output.old) (W.contents output.new) (bytes_of (map reply_view replies.now))) }
+    ensures written { let bytes = bytes_of (map reply_view replies.now) in
+        OnOk result (Appends (W.contents output.old) (W.contents output.new) bytes) }
+    ensures front { let bytes = bytes_of (map reply_view replies.now) in
+        OnErr result (AppendsFront (W.contents output.old) (W.contents output.new) bytes) }
     ensures works { OnOk result (W.failures output.new ≡ 0) }
     ensures fault { IfErr result (λ e. IsCutShort e (W.failures output.new)) }
 {
@@ -71,12 +73,10 @@ fn serve<W: Output>(
 ) -> Result<Option<u8>, RunFault>
     requires output { W.failures output.old ≡ 0 }
     requires server { CanServe (state_view server.old) }
-    ensures {
-        let old = W.contents output.old in
+    ensures { let old = W.contents output.old in
         let new = W.contents output.new in
         let after = state_view server.new in
-        HasServed old new (W.failures output.new) (state_view server.old) (content.now ∷ []) result after
-    }
+        HasServed old new (W.failures output.new) (state_view server.old) (content.now ∷ []) result after }
 {
     let message = read(alloc, content);
     let out = server.handle(alloc, message)?;
@@ -93,12 +93,10 @@ fn serve_all<W: Output>(
 ) -> Result<Option<u8>, RunFault>
     requires output { W.failures output.old ≡ 0 }
     requires server { CanServe (state_view server.old) }
-    ensures {
-        let old = W.contents output.old in
+    ensures { let old = W.contents output.old in
         let new = W.contents output.new in
         let after = state_view server.new in
-        HasServed old new (W.failures output.new) (state_view server.old) (contents frames.now) result after
-    }
+        HasServed old new (W.failures output.new) (state_view server.old) (contents frames.now) result after }
 {
     for frame in frames {
         if let Some(status) = serve(alloc, server, output, &frame.content)? {
@@ -150,11 +148,9 @@ pub fn run<R: Input, W: Output>(
     requires input { R.failures input.old ≡ 0 }
     requires output { W.failures output.old ≡ 0 }
     // What is read and written is a session, whatever ends it.
-    ensures session {
-        let old = W.contents output.old in
+    ensures session { let old = W.contents output.old in
         let new = W.contents output.new in
-        Session language (R.remaining input.old) (R.remaining input.new) old new result
-    }
+        Session language (R.remaining input.old) (R.remaining input.new) old new result }
     // In each session the one answer about an open document is that of a fresh server on its text.
     ensures fresh { EveryAnswerIsFresh language }
     // The text of an open document is its edits, applied in turn.

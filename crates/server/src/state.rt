@@ -84,9 +84,8 @@ fn one_reply(alloc: Global, reply: Reply) -> Result<Out, AllocError>
 }
 
 fn refused(alloc: Global, id: Option<Id>, refusal: Refusal) -> Result<Out, AllocError>
-    ensures replies {
-        IfOk result (λ out. map reply_view out.replies.items ≡ told_error (option_map id_view id) refusal ∷ [])
-    }
+    ensures replies { IfOk result (λ out.
+        map reply_view out.replies.items ≡ told_error (option_map id_view id) refusal ∷ []) }
     ensures stop { IfOk result (λ out. out.stop ≡ None) }
 {
     one_reply(alloc, Reply::Error { id, refusal })
@@ -123,11 +122,10 @@ impl Server {
         uri: &str,
         question: Question,
     ) -> Result<Reply, AllocError>
-        ensures {
-            IfOk result (λ reply.
-                let held = self.now.documents in
-                IsAnswer held.file (id_view id) (get held.documents uri.now) (question_view question) (reply_view reply))
-        }
+        ensures { IfOk result (λ reply.
+            let held = self.now.documents in
+            let document = get held.documents uri.now in
+            IsAnswer held.file (id_view id) document (question_view question) (reply_view reply)) }
     {
         match self.documents.get(uri) {
             Some(document) => document.answer(alloc, self.documents.language(), id, question),
@@ -137,12 +135,10 @@ impl Server {
 
     /// A request that fits its method.
     fn ask(&mut self, alloc: Global, id: Id, call: Call) -> Result<Out, AllocError>
-        ensures {
-            IfOk result (λ out.
-                let replies = map reply_view out.replies.items in
-                let old = state_view self.old in
-                Asks self.old.phase old (id_view id) (call_view call) replies out.stop (state_view self.new))
-        }
+        ensures { IfOk result (λ out.
+            let replies = map reply_view out.replies.items in
+            let old = state_view self.old in
+            Asks self.old.phase old (id_view id) (call_view call) replies out.stop (state_view self.new)) }
     {
         let (uri, question) = match (self.phase, call) {
             (Phase::New, Call::Initialize) => {
@@ -170,13 +166,11 @@ impl Server {
         requires { IfOk document (IsCurrent self.old.documents.file) }
         ensures phase { self.new.phase ≡ self.old.phase }
         ensures file { self.new.documents.file ≡ self.old.documents.file }
-        ensures held {
-            OnOk result (IfOk document (λ d.
-                self.new.documents.documents ≡ insert self.old.documents.documents (string_bytes uri) (open_document d)))
-        }
-        ensures large {
-            OnOk result (OnErr document (self.new.documents.documents ≡ self.old.documents.documents))
-        }
+        ensures held { OnOk result (IfOk document (λ d.
+            let old = self.old.documents.documents in
+            self.new.documents.documents ≡ insert old (string_bytes uri) (open_document d))) }
+        ensures large { let old = self.old.documents.documents in
+            OnOk result (OnErr document (self.new.documents.documents ≡ old)) }
         ensures memory { OnOk result (IfErr document (λ e. e ≡ TextFault.TooLarge)) }
     {
         match document {
@@ -196,10 +190,9 @@ impl Server {
     ) -> Result<(), AllocError>
         ensures phase { self.new.phase ≡ self.old.phase }
         ensures file { self.new.documents.file ≡ self.old.documents.file }
-        ensures documents {
-            let documents = self.old.documents.documents in
-            OnOk result (self.new.documents.documents ≡ opened documents (string_bytes uri) version (chars (string_bytes text)))
-        }
+        ensures documents { let old = self.old.documents.documents in
+            let text = chars (string_bytes text) in
+            OnOk result (self.new.documents.documents ≡ opened old (string_bytes uri) version text) }
     {
         if !self.documents.has_room(uri.as_str()) {
             return Ok(());
@@ -218,11 +211,11 @@ impl Server {
     ) -> Result<(), AllocError>
         ensures phase { self.new.phase ≡ self.old.phase }
         ensures file { self.new.documents.file ≡ self.old.documents.file }
-        ensures documents {
-            let documents = self.old.documents.documents in
-            let old = get documents (string_bytes uri) in
-            OnOk result (self.new.documents.documents ≡ changed_document documents (string_bytes uri) version (map change_view changes.items) old)
-        }
+        ensures documents { let old = self.old.documents.documents in
+            let uri = string_bytes uri in
+            let changes = map change_view changes.items in
+            OnOk result (
+            self.new.documents.documents ≡ changed_document old uri version changes (get old uri)) }
     {
         let Some(document) = self.documents.get(uri.as_str()) else {
             return Ok(());
@@ -233,11 +226,9 @@ impl Server {
 
     /// A notification that fits its method, or one that doesn't.
     fn tell(&mut self, alloc: Global, note: Note) -> Result<Out, AllocError>
-        ensures {
-            IfOk result (λ out.
-                let replies = map reply_view out.replies.items in
-                Tells self.old.phase (state_view self.old) (note_view note) replies out.stop (state_view self.new))
-        }
+        ensures { IfOk result (λ out.
+            let replies = map reply_view out.replies.items in
+            Tells self.old.phase (state_view self.old) (note_view note) replies out.stop (state_view self.new)) }
     {
         let mut stop = None;
         match (self.phase, note) {
@@ -263,11 +254,9 @@ impl Server {
 
     /// The step on a message.
     fn step(&mut self, alloc: Global, message: Result<Message, RpcFault>) -> Result<Out, AllocError>
-        ensures {
-            IfOk result (λ out.
-                let replies = map reply_view out.replies.items in
-                StepOn (heard_of message) (state_view self.old) replies out.stop (state_view self.new))
-        }
+        ensures { IfOk result (λ out.
+            let replies = map reply_view out.replies.items in
+            StepOn (heard_of message) (state_view self.old) replies out.stop (state_view self.new)) }
     {
         match message {
             Ok(Message::Request(id, call)) => self.ask(alloc, id, call),
@@ -293,11 +282,9 @@ impl Server {
         alloc: Global,
         message: Result<Message, RpcFault>,
     ) -> Result<Out, AllocError>
-        ensures step {
-            IfOk result (λ out.
-                let replies = map reply_view out.replies.items in
-                StepOn (heard_of message) (state_view self.old) replies out.stop (state_view self.new))
-        }
+        ensures step { IfOk result (λ out.
+            let replies = map reply_view out.replies.items in
+            StepOn (heard_of message) (state_view self.old) replies out.stop (state_view self.new)) }
         ensures failed { self.old.has_failed ≡ true → IsErr result }
         ensures err { OnErr result (self.new.has_failed ≡ true) }
         ensures ok { OnOk result (self.new.has_failed ≡ false) }
