@@ -49,6 +49,21 @@ fn expected(alloc: Global, tables: &Tables, state: usize) -> Result<Vec<Option<u
     Ok(looks)
 }
 
+/// Just these may come next in a state of the tables of sums.
+fn expects(
+    rt: &impl Abort,
+    alloc: Global,
+    tables: &Tables,
+    state: usize,
+    wanted: &[Option<usize>],
+) -> Result<(), Fail>
+    requires { (prefix : List GrammarSymbol) × IsStateOf tables.now prefix state }
+{
+    let looks = expected(alloc, tables, state)?;
+    assert!(rt; looks.as_slice() == wanted);
+    Ok(())
+}
+
 #[test]
 fn expects_what_sums_go_on_with(rt: HostRuntime) -> Result<(), Fail> {
     let alloc = rt.alloc();
@@ -58,102 +73,94 @@ fn expects_what_sums_go_on_with(rt: HostRuntime) -> Result<(), Fail> {
     let open = shift(&rt, &tables, start, 2);
     let inner = shift(&rt, &tables, open, 0);
     let operand = [Some(0), Some(2)];
-    assert_eq!(rt;
-        expected(alloc, &tables, start)?.as_slice(),
-        operand.as_slice()
-    );
-    assert_eq!(rt;
-        expected(alloc, &tables, open)?.as_slice(),
-        operand.as_slice()
-    );
-    assert_eq!(rt;
-        expected(alloc, &tables, number)?.as_slice(),
-        [Some(1), None].as_slice()
-    );
-    assert_eq!(rt;
-        expected(alloc, &tables, inner)?.as_slice(),
-        [Some(1), Some(3)].as_slice()
-    );
-    Ok(())
+    expects(&rt, alloc, &tables, start, &operand)?;
+    expects(&rt, alloc, &tables, open, &operand)?;
+    expects(&rt, alloc, &tables, number, &[Some(1), None])?;
+    expects(&rt, alloc, &tables, inner, &[Some(1), Some(3)])
+}
+
+/// The moves of a state: each row is a lookahead and its move.
+fn moves(rt: &impl Abort, tables: &Tables, state: usize, rows: &[(Option<Kind>, Option<Move>)])
+    requires { (prefix : List GrammarSymbol) × IsStateOf tables.now prefix state }
+{
+    for (look, wanted) in rows {
+        assert!(rt; tables.action(state, *look) == *wanted);
+    }
 }
 
 #[test]
 fn moves_in_sums(rt: HostRuntime) -> Result<(), Fail> {
     let tables = tables(rt.alloc(), SUMS)?;
     let start = tables.start();
-    assert_eq!(rt; tables.action(start, None), None);
-    assert_eq!(rt; tables.action(start, Some(Kind::Invalid)), None);
-    assert!(rt; tables.goto(start, 0).is_some() && tables.goto(start, 1).is_some());
-    assert_eq!(rt; tables.goto(start, 7), None);
-    let number = shift(&rt, &tables, start, 0);
-    assert_eq!(rt; tables.action(number, None), Some(Move::Reduce(2)));
-    assert_eq!(rt;
-        tables.action(number, Some(Kind::Rule(1))),
-        Some(Move::Reduce(2))
+    moves(
+        &rt,
+        &tables,
+        start,
+        &[(None, None), (Some(Kind::Invalid), None)],
     );
-    assert_eq!(rt; tables.action(number, Some(Kind::Rule(3))), None);
+    for (nonterminal, is_there) in [(0, true), (1, true), (7, false)] {
+        assert!(rt; tables.goto(start, nonterminal).is_some() == is_there);
+    }
+    let number = shift(&rt, &tables, start, 0);
+    let reduced = Some(Move::Reduce(2));
+    let rows = [
+        (None, reduced),
+        (Some(Kind::Rule(1)), reduced),
+        (Some(Kind::Rule(3)), None),
+    ];
+    moves(&rt, &tables, number, &rows);
     Ok(())
+}
+
+/// The conflict is behind this prefix, at this lookahead, and is that of items (production, place), which have its lookahead.
+fn is_conflict(
+    rt: &impl Abort,
+    conflict: &Conflict,
+    prefix: &[Symbol],
+    look: Option<usize>,
+    items: [(Option<usize>, usize); 2],
+) {
+    assert!(rt; conflict.prefix.as_slice() == prefix);
+    assert!(rt; conflict.look == look);
+    for ((production, at), item) in items.iter().zip([conflict.first, conflict.second]) {
+        let wanted = Item {
+            production: *production,
+            at: *at,
+            look,
+        };
+        assert!(rt; item == wanted);
+    }
 }
 
 #[test]
 fn tells_a_conflict_of_reductions(rt: HostRuntime) -> Result<(), Fail> {
     let conflict = conflict(rt.alloc(), TWO_AHEAD)?;
-    assert_eq!(rt; conflict.prefix.as_slice(), [Symbol::Rule(3)].as_slice());
-    assert_eq!(rt; conflict.look, Some(0));
-    let first = Item {
-        production: Some(2),
-        at: 1,
-        look: Some(0),
-    };
-    let second = Item {
-        production: Some(3),
-        at: 1,
-        look: Some(0),
-    };
-    assert_eq!(rt; conflict.first, first);
-    assert_eq!(rt; conflict.second, second);
+    let items = [(Some(2), 1), (Some(3), 1)];
+    is_conflict(&rt, &conflict, &[Symbol::Rule(3)], Some(0), items);
     Ok(())
 }
 
 #[test]
 fn tells_the_conflict_of_choices(rt: HostRuntime) -> Result<(), Fail> {
     let conflict = conflict(rt.alloc(), CHOICES)?;
-    let length = conflict.prefix.len();
-    assert!(rt; length >= 2);
-    assert_eq!(rt; conflict.prefix[length - 2], Symbol::Rule(0));
-    assert_eq!(rt; conflict.prefix[length - 1], Symbol::Nonterminal(0));
-    assert_eq!(rt; conflict.look, Some(1));
+    let choice = [Symbol::Rule(0), Symbol::Nonterminal(0)];
+    assert!(rt; conflict.prefix.as_slice().ends_with(&choice));
+    assert!(rt; conflict.look == Some(1));
     let first = Item {
         production: Some(0),
         at: 2,
         look: Some(1),
     };
-    assert_eq!(rt; conflict.first, first);
-    assert_eq!(rt; conflict.second.production, Some(1));
-    assert_eq!(rt; conflict.second.at, 2);
+    assert!(rt; conflict.first == first);
+    assert!(rt; (conflict.second.production, conflict.second.at) == (Some(1), 2));
     Ok(())
 }
 
 #[test]
 fn tells_the_added_start_first(rt: HostRuntime) -> Result<(), Fail> {
     let conflict = conflict(rt.alloc(), LOOP)?;
-    assert_eq!(rt;
-        conflict.prefix.as_slice(),
-        [Symbol::Nonterminal(0)].as_slice()
-    );
-    assert_eq!(rt; conflict.look, None);
-    let first = Item {
-        production: None,
-        at: 1,
-        look: None,
-    };
-    let second = Item {
-        production: Some(0),
-        at: 1,
-        look: None,
-    };
-    assert_eq!(rt; conflict.first, first);
-    assert_eq!(rt; conflict.second, second);
+    let items = [(None, 1), (Some(0), 1)];
+    is_conflict(&rt, &conflict, &[Symbol::Nonterminal(0)], None, items);
     Ok(())
 }
 

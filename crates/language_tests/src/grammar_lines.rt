@@ -19,11 +19,10 @@ fn reads_lines(rt: HostRuntime) -> Result<(), Fail> {
     let Ok(file) = read_file(rt.alloc(), SUMS) else {
         panic!(rt; "no file");
     };
-    assert_eq!(rt; file.statements.len(), 5);
-    assert_eq!(rt; file.patterns.len(), 2);
-    assert_eq!(rt; file.names.nonterminals.as_slice(), ["Sum"].as_slice());
-    assert_eq!(rt; file.names.nonterminals.number("Sum"), 0);
-    assert_eq!(rt; file.names.rules.number("WS"), 1);
+    assert!(rt; (file.statements.len(), file.patterns.len()) == (5, 2));
+    let names = &file.names;
+    assert!(rt; names.nonterminals.as_slice() == ["Sum"].as_slice());
+    assert!(rt; (names.nonterminals.number("Sum"), names.rules.number("WS")) == (0, 1));
     Ok(())
 }
 

@@ -23,37 +23,50 @@ fn expect_answers(rt: &impl Abort, alloc: Global, rows: &[(&str, &str)]) -> Resu
 }
 
 #[test]
-fn reads_sums(rt: HostRuntime) -> Result<(), Fail> {
+fn counts_the_names_of_sums(rt: HostRuntime) -> Result<(), Fail> {
     let grammar = Grammar::read(rt.alloc(), SUMS)?;
-    assert_eq!(rt; grammar.rules(), 5);
-    assert_eq!(rt; grammar.patterns().len(), 5);
-    assert_eq!(rt; grammar.kind_name(Kind::Rule(1)), "PLUS");
-    assert_eq!(rt; grammar.kind_name(Kind::Rule(4)), "WS");
-    assert!(rt; grammar.is_skipped(Kind::Rule(4)) && !grammar.is_skipped(Kind::Rule(3)));
-    assert_eq!(rt; grammar.nonterminals(), 2);
-    assert_eq!(rt; grammar.start(), 0);
-    assert_eq!(rt; grammar.productions(), 4);
-    assert!(rt; grammar.is_fold(1) && !grammar.is_fold(0));
+    let rules = (grammar.rules(), grammar.patterns().len());
+    assert!(rt; rules == (5, 5));
+    let others = (
+        grammar.nonterminals(),
+        grammar.start(),
+        grammar.productions(),
+    );
+    assert!(rt; others == (2, 0, 4));
+    Ok(())
+}
+
+#[test]
+fn tells_names_and_marks_of_sums(rt: HostRuntime) -> Result<(), Fail> {
+    let grammar = Grammar::read(rt.alloc(), SUMS)?;
+    for (rule, name, is_skipped) in [(1, "PLUS", false), (3, "RP", false), (4, "WS", true)] {
+        let kind = Kind::Rule(rule);
+        assert!(rt; grammar.kind_name(kind) == name, "at {rule}");
+        assert!(rt; grammar.is_skipped(kind) == is_skipped, "at {rule}");
+    }
+    for (number, name, is_fold) in [(0, "Sum", false), (1, "Atom", true)] {
+        assert!(rt; number < grammar.nonterminals());
+        assert!(rt; grammar.nonterminal_name(number) == name, "at {number}");
+        assert!(rt; grammar.is_fold(number) == is_fold, "at {number}");
+    }
     Ok(())
 }
 
 #[test]
 fn numbers_the_symbols_of_sums(rt: HostRuntime) -> Result<(), Fail> {
     let grammar = Grammar::read(rt.alloc(), SUMS)?;
-    assert!(rt; 1 < grammar.nonterminals() && 3 < grammar.productions());
-    assert_eq!(rt; grammar.nonterminal_name(0), "Sum");
-    assert_eq!(rt; grammar.nonterminal_name(1), "Atom");
-    assert_eq!(rt; grammar.left(0), 0);
-    assert_eq!(rt; grammar.left(3), 1);
-    let sum = [
-        Symbol::Nonterminal(0),
-        Symbol::Rule(1),
-        Symbol::Nonterminal(1),
+    let (sum, atom) = (Symbol::Nonterminal(0), Symbol::Nonterminal(1));
+    let rows: [(usize, usize, &[Symbol]); 4] = [
+        (0, 0, &[sum, Symbol::Rule(1), atom]),
+        (1, 0, &[atom]),
+        (2, 1, &[Symbol::Rule(0)]),
+        (3, 1, &[Symbol::Rule(2), sum, Symbol::Rule(3)]),
     ];
-    assert_eq!(rt; grammar.right(0), sum.as_slice());
-    assert_eq!(rt; grammar.right(2), [Symbol::Rule(0)].as_slice());
-    let nested = [Symbol::Rule(2), Symbol::Nonterminal(0), Symbol::Rule(3)];
-    assert_eq!(rt; grammar.right(3), nested.as_slice());
+    for (production, left, right) in rows {
+        assert!(rt; production < grammar.productions());
+        assert!(rt; grammar.left(production) == left, "at {production}");
+        assert!(rt; grammar.right(production) == right, "at {production}");
+    }
     Ok(())
 }
 

@@ -79,9 +79,12 @@ fn rows_of_a_million_tokens(rt: HostRuntime) -> Result<(), Fail> {
     let rows = token_rows(alloc, &grammar, &text, &tokens)?;
     assert_eq!(rt; rows.len(), 1_000_000);
     for (i, (name, from)) in [(0, ("NUM", 0)), (999_999, ("PLUS", 999_999))] {
-        let row = line(alloc, rows[i].name, rows[i].range)?;
+        let Some(row) = rows.get(i) else {
+            panic!(rt; "no row {i}");
+        };
+        let told = line(alloc, row.name, row.range)?;
         let wanted = format!(in alloc; "{name} 0:{from} 0:{};", i + 1)?;
-        assert_eq!(rt; row.as_str(), wanted.as_str());
+        assert!(rt; told.as_str() == wanted.as_str(), "at {i}");
     }
     Ok(())
 }

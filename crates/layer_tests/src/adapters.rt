@@ -27,13 +27,17 @@ fn writers_are_outputs(rt: HostRuntime) -> Result<(), Fail> {
     let mut output = WriteOutput::new(&mut taken);
     let outcome = write_frame(&mut output, b"{}");
     assert!(rt; outcome.is_ok());
-    assert_eq!(rt; taken.as_slice(), b"Content-Length: 2\r\n\r\n{}".as_slice());
+    assert!(rt; taken.as_slice() == b"Content-Length: 2\r\n\r\n{}".as_slice());
+    Ok(())
+}
+
+#[test]
+fn a_full_writer_is_a_fault(rt: HostRuntime) {
     let mut room = [0; 20];
     let mut output = WriteOutput::new(room.as_mut_slice());
     let outcome = write_frame(&mut output, b"{}");
     assert!(rt; outcome.is_err());
-    assert_eq!(rt; &room, b"Content-Length: 2\r\n\r");
-    Ok(())
+    assert!(rt; &room == b"Content-Length: 2\r\n\r");
 }
 
 /// Fails at its first call, and works at all others, each of which takes or gives one byte. Its calls are counted.

@@ -87,37 +87,36 @@ fn put(
     seq.replace(from, to, items).len()
 }
 
+/// The list of 3, 1, 4, 1, 5, 9, 2 and 6.
+fn digits(rt: &impl Abort, alloc: Global) -> Result<Seq<Number>, Fail> {
+    let mut seq = Seq::new();
+    assert!(rt; (seq.len(), seq.height()) == (0, 0));
+    let items = slots_of(alloc, &[3, 1, 4, 1, 5, 9, 2, 6])?;
+    assert!(rt; put(rt, &mut seq, 0, 0, items) == 0);
+    Ok(seq)
+}
+
 #[test]
 fn each_call_answers(rt: HostRuntime) -> Result<(), Fail> {
-    let alloc = rt.alloc();
-    let mut seq = Seq::new();
-    assert_eq!(rt; (seq.len(), seq.height()), (0, 0));
-    let removed = put(
-        &rt,
-        &mut seq,
-        0,
-        0,
-        slots_of(alloc, &[3, 1, 4, 1, 5, 9, 2, 6])?,
-    );
-    assert_eq!(rt; removed, 0);
-    assert_eq!(rt; seq.len(), 8);
-    assert_eq!(rt; seq.height(), 4);
-    assert_eq!(rt; seq.total(), Greatest { value: 9 });
-    assert_eq!(rt; seq.get(4), Some(&Number { value: 5 }));
-    assert_eq!(rt; seq.get(8), None);
-    assert_eq!(rt;
-        seq.locate(&AtLeast { value: 5 }),
-        (4, Greatest { value: 4 })
-    );
-    assert_eq!(rt;
-        seq.locate(&AtLeast { value: 10 }),
-        (8, Greatest { value: 9 })
-    );
-    let removed = put(&rt, &mut seq, 4, 6, slots_of(alloc, &[7])?);
-    assert_eq!(rt; removed, 2);
+    let seq = digits(&rt, rt.alloc())?;
+    assert!(rt; (seq.len(), seq.height(), seq.total().value) == (8, 4, 9));
+    assert!(rt; seq.get(4) == Some(&Number { value: 5 }));
+    assert!(rt; seq.get(8) == None);
+    for (value, at, before) in [(5, 4, 4), (10, 8, 9)] {
+        let found = seq.locate(&AtLeast { value });
+        assert!(rt; found == (at, Greatest { value: before }), "at {value}");
+    }
+    Ok(())
+}
+
+#[test]
+fn a_part_is_replaced(rt: HostRuntime) -> Result<(), Fail> {
+    let mut seq = digits(&rt, rt.alloc())?;
+    let items = slots_of(rt.alloc(), &[7])?;
+    assert!(rt; put(&rt, &mut seq, 4, 6, items) == 2);
     let mut rest = seq.iter_from(3);
-    assert_eq!(rt; rest.next(), Some(&Number { value: 1 }));
-    assert_eq!(rt; rest.next(), Some(&Number { value: 7 }));
+    assert!(rt; rest.next() == Some(&Number { value: 1 }));
+    assert!(rt; rest.next() == Some(&Number { value: 7 }));
     Ok(())
 }
 

@@ -4,61 +4,89 @@ use rpc::{
     Call, Id, Malformed, Message, Note, Position, Range, Refusal, Reply, Row, RpcFault,
     one_hearing, read, some_hearing, to_bytes,
 };
+use std::alloc::Global;
+use std::process::Abort;
 use std::test::Fail;
 
+/// The reply has these bytes, so many.
+fn has_bytes(
+    rt: &impl Abort,
+    alloc: Global,
+    reply: &Reply,
+    content: &str,
+    len: usize,
+) -> Result<(), Fail> {
+    let bytes = to_bytes(alloc, reply)?;
+    assert!(rt; bytes.as_slice() == content.as_bytes(), "at {content}");
+    assert!(rt; bytes.len() == len, "at {content}");
+    Ok(())
+}
+
 #[test]
-fn replies_have_their_bytes(rt: HostRuntime) -> Result<(), Fail> {
-    let alloc = rt.alloc();
-    let replies = [
+fn results_have_their_bytes(rt: HostRuntime) -> Result<(), Fail> {
+    let rows = [
         (
             Reply::Capabilities { id: Id::Number(1) },
             r#"{"id":1,"jsonrpc":"2.0","result":{"capabilities":{"foldingRangeProvider":true,"positionEncoding":"utf-16","selectionRangeProvider":true,"textDocumentSync":{"change":2,"openClose":true}}}}"#,
             187,
         ),
         (
-            Reply::Text {
-                id: Id::Number(2),
-                version: 2,
-                text: String::from_str(alloc, "2")?,
-            },
-            r#"{"id":2,"jsonrpc":"2.0","result":{"text":"2","version":2}}"#,
-            58,
-        ),
-        (
-            Reply::Tokens {
-                id: Id::Number(2),
-                rows: vec![in alloc;
-                    Row {
-                        name: String::from_str(alloc, "NUM")?,
-                        range: Range {
-                            start: Position {
-                                line: 0,
-                                character: 1,
-                            },
-                            end: Position {
-                                line: 1,
-                                character: 0,
-                            },
-                        },
-                    },
-                ]?,
-            },
-            r#"{"id":2,"jsonrpc":"2.0","result":[["NUM",0,1,1,0]]}"#,
-            51,
-        ),
-        (
-            Reply::Tree {
-                id: Id::Number(2),
-                text: String::from_str(alloc, "(L)")?,
-            },
-            r#"{"id":2,"jsonrpc":"2.0","result":"(L)"}"#,
-            39,
-        ),
-        (
             Reply::Null { id: Id::Number(3) },
             r#"{"id":3,"jsonrpc":"2.0","result":null}"#,
             38,
         ),
+    ];
+    for (reply, content, len) in &rows {
+        has_bytes(&rt, rt.alloc(), reply, content, *len)?;
+    }
+    Ok(())
+}
+
+#[test]
+fn texts_have_their_bytes(rt: HostRuntime) -> Result<(), Fail> {
+    let alloc = rt.alloc();
+    let text = Reply::Text {
+        id: Id::Number(2),
+        version: 2,
+        text: String::from_str(alloc, "2")?,
+    };
+    let content = r#"{"id":2,"jsonrpc":"2.0","result":{"text":"2","version":2}}"#;
+    has_bytes(&rt, alloc, &text, content, 58)?;
+    let tree = Reply::Tree {
+        id: Id::Number(2),
+        text: String::from_str(alloc, "(L)")?,
+    };
+    let content = r#"{"id":2,"jsonrpc":"2.0","result":"(L)"}"#;
+    has_bytes(&rt, alloc, &tree, content, 39)
+}
+
+#[test]
+fn rows_have_their_bytes(rt: HostRuntime) -> Result<(), Fail> {
+    let alloc = rt.alloc();
+    let start = Position {
+        line: 0,
+        character: 1,
+    };
+    let end = Position {
+        line: 1,
+        character: 0,
+    };
+    let mut rows = Vec::new(alloc);
+    rows.push(Row {
+        name: String::from_str(alloc, "NUM")?,
+        range: Range { start, end },
+    })?;
+    let reply = Reply::Tokens {
+        id: Id::Number(2),
+        rows,
+    };
+    let content = r#"{"id":2,"jsonrpc":"2.0","result":[["NUM",0,1,1,0]]}"#;
+    has_bytes(&rt, alloc, &reply, content, 51)
+}
+
+#[test]
+fn errors_have_their_bytes(rt: HostRuntime) -> Result<(), Fail> {
+    let rows = [
         (
             Reply::Error {
                 id: Some(Id::Number(7)),
@@ -76,10 +104,8 @@ fn replies_have_their_bytes(rt: HostRuntime) -> Result<(), Fail> {
             75,
         ),
     ];
-    for (reply, content, len) in &replies {
-        let bytes = to_bytes(alloc, reply)?;
-        assert_eq!(rt; bytes.as_slice(), content.as_bytes());
-        assert_eq!(rt; bytes.len(), *len);
+    for (reply, content, len) in &rows {
+        has_bytes(&rt, rt.alloc(), reply, content, *len)?;
     }
     Ok(())
 }

@@ -159,7 +159,7 @@ fn converses(
     let output = framed(alloc, answers)?;
     let (outcome, record) = run_on(alloc, &input, WHOLE, &[])?;
     assert_eq!(rt; outcome, wanted);
-    assert_eq!(rt; record.taken.as_slice(), output.as_slice());
+    assert!(rt; record.taken.as_slice() == output.as_slice());
     Ok(())
 }
 
@@ -308,7 +308,7 @@ fn is_answered(
     let output = framed(alloc, &[CAPABILITIES, answer.as_str()])?;
     let (outcome, record) = run_by(alloc, language, &input, WHOLE, &[])?;
     assert_eq!(rt; outcome, Ok(1));
-    assert_eq!(rt; record.taken.as_slice(), output.as_slice(), "at {text}");
+    assert!(rt; record.taken.as_slice() == output.as_slice(), "at {text}");
     Ok(())
 }
 
@@ -398,7 +398,7 @@ fn no_65th_document_is_held(rt: HostRuntime) -> Result<(), Fail> {
     let (outcome, record) = run_on(alloc, &input, WHOLE, &[])?;
     assert_eq!(rt; outcome, Ok(1));
     let output = framed(alloc, &[CAPABILITIES, NOT_OPEN])?;
-    assert_eq!(rt; record.taken.as_slice(), output.as_slice());
+    assert!(rt; record.taken.as_slice() == output.as_slice());
     Ok(())
 }
 
@@ -427,7 +427,7 @@ fn streams_end_and_fail(rt: HostRuntime) -> Result<(), Fail> {
             };
             let (outcome, record) = run_on(alloc, input, way, &[])?;
             assert_eq!(rt; outcome, wanted);
-            assert_eq!(rt; record.taken.as_slice(), output);
+            assert!(rt; record.taken.as_slice() == output);
         }
     }
     Ok(())
@@ -518,7 +518,7 @@ fn a_content_of_the_greatest_length_is_answered(rt: HostRuntime) -> Result<(), F
     let output = framed(alloc, &[CAPABILITIES])?;
     let (outcome, record) = run_on(alloc, &input, WHOLE, &[])?;
     assert_eq!(rt; outcome, Ok(1));
-    assert_eq!(rt; record.taken.as_slice(), output.as_slice());
+    assert!(rt; record.taken.as_slice() == output.as_slice());
     Ok(())
 }
 
@@ -534,6 +534,6 @@ fn a_hundred_thousand_reads_of_one_byte(rt: HostRuntime) -> Result<(), Fail> {
     let outcome = run(alloc, sums(alloc)?, &mut input, &mut output);
     assert_eq!(rt; outcome, Ok(1));
     let wanted = framed(alloc, &[CAPABILITIES])?;
-    assert_eq!(rt; taken.as_slice(), wanted.as_slice());
+    assert!(rt; taken.as_slice() == wanted.as_slice());
     Ok(())
 }
