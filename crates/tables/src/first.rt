@@ -166,13 +166,7 @@ pub fn is_same(one: Option<usize>, two: Option<usize>) -> bool
     ensures same { result ≡ true → one ≡ two }
     ensures other { result ≡ false → one ≡ two → ⊥ }
 {
-    match one {
-        None => two.is_none(),
-        Some(a) => match two {
-            None => false,
-            Some(b) => a == b,
-        },
-    }
+    one == two
 }
 
 /// Which nonterminals can vanish, and for each token rule, which can begin with it.

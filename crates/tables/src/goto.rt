@@ -16,16 +16,7 @@ fn is_symbol(one: Symbol, two: Symbol) -> bool
     ensures same { result ≡ true → one ≡ two }
     ensures other { result ≡ false → one ≡ two → ⊥ }
 {
-    match one {
-        Symbol::Rule(a) => match two {
-            Symbol::Rule(b) => a == b,
-            Symbol::Nonterminal(_) => false,
-        },
-        Symbol::Nonterminal(a) => match two {
-            Symbol::Rule(_) => false,
-            Symbol::Nonterminal(b) => a == b,
-        },
-    }
+    one == two
 }
 
 fn stands_before(input: &Input, item: Item, symbol: Symbol) -> bool

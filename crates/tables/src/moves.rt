@@ -55,20 +55,7 @@ fn is_call(one: Call, two: Call) -> bool
     ensures same { result ≡ true → one ≡ two }
     ensures other { result ≡ false → one ≡ two → ⊥ }
 {
-    match one {
-        Call::Shift => match two {
-            Call::Shift => true,
-            _ => false,
-        },
-        Call::Accept => match two {
-            Call::Accept => true,
-            _ => false,
-        },
-        Call::Reduce(p) => match two {
-            Call::Reduce(q) => p == q,
-            _ => false,
-        },
-    }
+    one == two
 }
 
 /// What all items call for, or two that call for different moves.
