@@ -14,6 +14,8 @@ mod measured_lists;
 #[cfg(test)]
 mod messages;
 #[cfg(test)]
+mod text_pieces;
+#[cfg(test)]
 mod token_patterns;
 #[cfg(test)]
 mod tree_stores;

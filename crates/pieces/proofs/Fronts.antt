@@ -1,0 +1,134 @@
+-- The position of the end of a front of a text: what lies behind its last break, given what follows it.
+use Rattle.std.specs.Prelude.{◌≡◌, ℕ, zero, suc, ◌+◌, ◌-◌, ◌≤◌, Bool, true, false, List, [], ◌∷◌, ◌++◌, length, take, drop, take_while, slice_index_or}
+use Rattle.std.proofs.Common.{arith, refl, sym, ap, subst, ◌∙◌, cond}
+use Rattle.std.proofs.lemmas.Bool.{le-leb}
+use Rattle.std.proofs.lemmas.List.{length-drop}
+use Rattle.std.proofs.lemmas.List.Sums.{take_while-cons}
+use Rattle.definitions.specs.declared.Unit.{Unit as Encoding}
+use Rattle.definitions.specs.Text.{ends_break, break_ends, line_of, line_start, line_from, units, position}
+use Rattle.definitions.proofs.RoundTrip.{ended, ended-cons, none_ended, line_start-le}
+use Rattle.definitions.proofs.InLine.{in_line}
+
+-- how many breaks end in t, where r follows
+abbrev pub ended_in : List ℕ → List ℕ → ℕ
+ended_in [] r = 0
+ended_in (c ∷ t) r = cond (ends_break c (t ++ r)) 1 0 + ended_in t r
+
+abbrev whole_if_none : ℕ → List ℕ → List ℕ → List ℕ
+whole_if_none zero whole rest = whole
+whole_if_none (suc n) whole rest = rest
+
+-- what stands in t behind the last of them
+abbrev pub behind_in : List ℕ → List ℕ → List ℕ
+behind_in [] r = []
+behind_in (c ∷ t) r = whole_if_none (ended_in (c ∷ t) r) (c ∷ t) (behind_in t r)
+
+pub ended-front : (p : ℕ) (t r : List ℕ) → ended (p + length t) (break_ends p (t ++ r)) ≡ ended_in t r
+unfolding break_ends
+ended-front p [] r = none_ended (p + 0) p r (omega arith)
+ended-front p (c ∷ t) r = go (ends_break c (t ++ r)) (subst (λ o. ended o (break_ends (p + 1) (t ++ r)) ≡ ended_in t r) same (ended-front (p + 1) t r))
+  where
+    same : p + 1 + length t ≡ p + suc (length t)
+    same = omega arith
+
+    go : (b : Bool) → ended (p + suc (length t)) (break_ends (p + 1) (t ++ r)) ≡ ended_in t r → ended (p + suc (length t)) (cond b ((p + 1) ∷ break_ends (p + 1) (t ++ r)) (break_ends (p + 1) (t ++ r))) ≡ cond b 1 0 + ended_in t r
+    go false e = omega (arith, e)
+    go true e = ended-cons (p + suc (length t)) (p + 1) (break_ends (p + 1) (t ++ r)) true (le-leb _ _ (omega arith)) ∙ omega (arith, e)
+
+-- where no break ends in t, all of it is behind the last one
+pub behind-none : (t r : List ℕ) → ended_in t r ≡ 0 → behind_in t r ≡ t
+behind-none [] r e = refl
+behind-none (c ∷ t) r e = ap (λ n. whole_if_none n (c ∷ t) (behind_in t r)) e
+
+pub behind-some : (c : ℕ) (t r : List ℕ) → 1 ≤ ended_in (c ∷ t) r → behind_in (c ∷ t) r ≡ behind_in t r
+behind-some c t r l = go (ended_in (c ∷ t) r) l
+  where
+    go : (n : ℕ) → 1 ≤ n → whole_if_none n (c ∷ t) (behind_in t r) ≡ behind_in t r
+    go zero l = absurd (omega (arith, l))
+    go (suc n) l = refl
+
+-- where the last line of t begins, and what stands in t from there on
+record Begins (p start : ℕ) (t tail : List ℕ) : Type 0 where
+  from : p ≤ start
+  rest : drop (start - p) t ≡ tail
+
+begins : (s p d : ℕ) (t r : List ℕ) → 1 ≤ ended_in t r → Begins p (slice_index_or (s ∷ break_ends p (t ++ r)) (ended_in t r) d) t (behind_in t r)
+unfolding break_ends
+begins s p d [] r l = absurd (omega (arith, l))
+begins s p d (c ∷ t) r l = subst (Begins p (slice_index_or (s ∷ break_ends p (c ∷ t ++ r)) (ended_in (c ∷ t) r) d) (c ∷ t)) (sym (behind-some c t r l)) (go (ends_break c (t ++ r)) l (λ v k. begins v (p + 1) d t r k))
+  where
+    rest : List ℕ
+    rest = break_ends (p + 1) (t ++ r)
+
+    later : (start : ℕ) → Begins (p + 1) start t (behind_in t r) → Begins p start (c ∷ t) (behind_in t r)
+    later start h =
+        let up : p + 1 ≤ start = h.from in
+        let same : start - p ≡ suc (start - (p + 1)) = omega (arith, up) in
+        record { from = omega (arith, up); rest = ap (λ n. drop n (c ∷ t)) same ∙ h.rest }
+
+    first : (n : ℕ) → ended_in t r ≡ n → (1 ≤ ended_in t r → Begins (p + 1) (slice_index_or ((p + 1) ∷ rest) (ended_in t r) d) t (behind_in t r)) → Begins p (slice_index_or ((p + 1) ∷ rest) n d) (c ∷ t) (behind_in t r)
+    first zero e ih =
+        let one : p + 1 - p ≡ 1 = omega arith in
+        record { from = omega arith; rest = ap (λ n. drop n (c ∷ t)) one ∙ sym (behind-none t r e) }
+    first (suc n) e ih = subst (λ n. Begins p (slice_index_or ((p + 1) ∷ rest) n d) (c ∷ t) (behind_in t r)) e (later (slice_index_or ((p + 1) ∷ rest) (ended_in t r) d) (ih (omega (arith, e))))
+
+    go : (b : Bool) → 1 ≤ cond b 1 0 + ended_in t r → ((v : ℕ) → 1 ≤ ended_in t r → Begins (p + 1) (slice_index_or (v ∷ rest) (ended_in t r) d) t (behind_in t r)) → Begins p (slice_index_or (s ∷ cond b ((p + 1) ∷ rest) rest) (cond b 1 0 + ended_in t r) d) (c ∷ t) (behind_in t r)
+    go false l ih =
+        let same : 0 + ended_in t r ≡ ended_in t r = omega arith in
+        subst (λ n. Begins p (slice_index_or (s ∷ rest) n d) (c ∷ t) (behind_in t r)) (sym same) (later (slice_index_or (s ∷ rest) (ended_in t r) d) (ih s (omega (arith, l))))
+    go true l ih =
+        let same : 1 + ended_in t r ≡ suc (ended_in t r) = omega arith in
+        subst (λ n. Begins p (slice_index_or (s ∷ (p + 1) ∷ rest) n d) (c ∷ t) (behind_in t r)) (sym same) (first (ended_in t r) refl (ih (p + 1)))
+
+-- a line is taken up to the end of a front as it is taken of the front alone
+front_line : (a b : List ℕ) → take (length a) (take_while in_line (a ++ b)) ≡ take_while in_line a
+front_line [] b = refl
+front_line (c ∷ a) b = ap (take (suc (length a))) (take_while-cons in_line c (a ++ b)) ∙ go (in_line c) (front_line a b) ∙ sym (take_while-cons in_line c a)
+  where
+    go : (q : Bool) → take (length a) (take_while in_line (a ++ b)) ≡ take_while in_line a → take (suc (length a)) (cond q (c ∷ take_while in_line (a ++ b)) []) ≡ cond q (c ∷ take_while in_line a) []
+    go true e = ap (λ l. c ∷ l) e
+    go false e = refl
+
+drop_front : (n : ℕ) (a b : List ℕ) → n ≤ length a → drop n (a ++ b) ≡ drop n a ++ b
+drop_front zero a b l = refl
+drop_front (suc n) [] b l = absurd (omega (arith, l))
+drop_front (suc n) (c ∷ a) b l = drop_front n a b (omega (arith, l))
+
+length_drop : (n : ℕ) (a : List ℕ) → n ≤ length a → length (drop n a) ≡ length a - n
+length_drop n a l = length-drop n a
+
+pub line-front : (t r : List ℕ) → line_of (t ++ r) (length t) ≡ ended_in t r
+unfolding line_of
+line-front t r =
+    let same : length t ≡ 0 + length t = omega arith in
+    ap (λ o. ended o (break_ends 0 (t ++ r))) same ∙ ended-front 0 t r
+
+start_in : (t r : List ℕ) → Begins 0 (line_start (t ++ r) (line_of (t ++ r) (length t))) t (behind_in t r)
+unfolding line_start
+start_in t r = subst (λ n. Begins 0 (slice_index_or (0 ∷ break_ends 0 (t ++ r)) n (length (t ++ r))) t (behind_in t r)) (sym (line-front t r)) (go (ended_in t r) refl)
+  where
+    go : (n : ℕ) → ended_in t r ≡ n → Begins 0 (slice_index_or (0 ∷ break_ends 0 (t ++ r)) (ended_in t r) (length (t ++ r))) t (behind_in t r)
+    go zero e = subst (λ n. Begins 0 (slice_index_or (0 ∷ break_ends 0 (t ++ r)) n (length (t ++ r))) t (behind_in t r)) (sym e) (record { from = omega arith; rest = sym (behind-none t r e) })
+    go (suc n) e = begins 0 0 (length (t ++ r)) t r (omega (arith, e))
+
+-- The position of the end of a front: as many breaks as end in it, and the units of what stands behind them
+pub position-front : (encoding : Encoding) (t r : List ℕ) → position encoding (t ++ r) (length t) ≡ record { line = ended_in t r; character = units encoding (take_while in_line (behind_in t r)) }
+unfolding position line_from
+position-front encoding t r = λ i. record { line = line-front t r i; character = ap (units encoding) counted i }
+  where
+    start : ℕ
+    start = line_start (t ++ r) (line_of (t ++ r) (length t))
+
+    within : start ≤ length t
+    within = line_start-le (t ++ r) (length t)
+
+    whole : start ≡ start - 0
+    whole = omega arith
+
+    counted : take (length t - start) (take_while in_line (drop start (t ++ r))) ≡ take_while in_line (behind_in t r)
+    counted =
+        ap (λ l. take (length t - start) (take_while in_line l)) (drop_front start t r within)
+        ∙ ap (λ n. take n (take_while in_line (drop start t ++ r))) (sym (length_drop start t within))
+        ∙ front_line (drop start t) r
+        ∙ ap (λ n. take_while in_line (drop n t)) whole
+        ∙ ap (take_while in_line) (start_in t r).rest

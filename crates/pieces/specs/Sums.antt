@@ -1,0 +1,99 @@
+-- What a part of a text adds up to, by the definitions of lines and positions, and what the sums of two parts join to.
+--     sums_of t      the sum of the text t
+--     joined a b      the sum of what has the sum a and, behind it, of what has the sum b
+use Rattle.std.specs.Prelude.{ℕ, zero, suc, ◌-◌, ◌^◌, Bool, false, not, ◌||◌, ◌&&◌, ◌==◌, nat_lt, if◌then◌else◌, List, [], ◌∷◌, ◌++◌, length}
+use Rattle.seqtree.specs.Saturated.{saturated}
+use Rattle.definitions.specs.declared.Position.{Position}
+use Rattle.definitions.specs.declared.Unit.{Unit as Encoding}
+use Rattle.definitions.specs.declared.Unit.TheVariants.{Utf8, Utf16, Utf32}
+use Rattle.definitions.specs.Text.{carriage_return, line_feed, begins_with, unit, units, position}
+use Rattle.pieces.specs.declared.sums.Units.{Units}
+use Rattle.pieces.specs.declared.sums.Counts.{Counts}
+use Rattle.pieces.specs.declared.sums.Sums.{Sums}
+use Rattle.pieces.specs.declared.sums.Sums.TheVariants.{Empty, Filled}
+use Rattle.pieces.specs.declared.sums.AfterCharacter.{AfterCharacter}
+use Rattle.pieces.specs.declared.sums.AfterPosition.{AfterPosition}
+
+-- whether the text ends with the character c
+abbrev pub ends_with : ℕ → List ℕ → Bool
+ends_with c [] = false
+ends_with c (d ∷ []) = c == d
+ends_with c (d ∷ e ∷ t) = ends_with c (e ∷ t)
+
+-- the position of the end of a text, where a `\n` comes next: a `\r` at the end of the text is no break there
+abbrev pub end_before_feed : Encoding → List ℕ → Position
+end_before_feed encoding t = position encoding (t ++ line_feed ∷ []) (length t)
+
+abbrev pub counts_of : List ℕ → Counts
+counts_of t =
+    record {
+      characters = length t;
+      bytes = units Utf8 t;
+      breaks = (end_before_feed Utf8 t).line;
+      behind =
+          record { utf8 = (end_before_feed Utf8 t).character; utf16 = (end_before_feed Utf16 t).character; utf32 = (end_before_feed Utf32 t).character };
+      begins_with_feed = begins_with line_feed t;
+      ends_with_return = ends_with carriage_return t;
+    }
+
+abbrev pub sums_of : List ℕ → Sums
+sums_of [] = Empty
+sums_of (c ∷ t) = Filled (counts_of (c ∷ t))
+
+-- the units that a character alone counts for in its line: a `\r` and a `\n` count for none
+abbrev pub shown_units : ℕ → Units
+shown_units c =
+    if c == line_feed || c == carriage_return
+    then record { utf8 = 0; utf16 = 0; utf32 = 0 }
+    else record { utf8 = unit Utf8 c; utf16 = unit Utf16 c; utf32 = unit Utf32 c }
+
+-- the greatest number that is stored
+abbrev pub most : ℕ
+most = 2 ^ 32 - 1
+
+abbrev pub sum : ℕ → ℕ → ℕ
+sum a b = saturated most a b
+
+abbrev pub units_joined : Units → Units → Units
+units_joined a b = record { utf8 = sum a.utf8 b.utf8; utf16 = sum a.utf16 b.utf16; utf32 = sum a.utf32 b.utf32 }
+
+abbrev pub count_of : Encoding → Units → ℕ
+count_of Utf8 a = a.utf8
+count_of Utf16 a = a.utf16
+count_of Utf32 a = a.utf32
+
+-- how many breaks end behind a, where b follows: those in b, and that of a `\r` at the end of a where b does not begin with `\n`
+abbrev pub later_breaks : Counts → Counts → ℕ
+later_breaks a b = sum (if a.ends_with_return && not b.begins_with_feed then 1 else 0) b.breaks
+
+-- the units behind the last break, where so many breaks end behind the first part
+abbrev pub behind_joined : ℕ → Units → Units → Units
+behind_joined zero a b = units_joined a b
+behind_joined (suc n) a b = b
+
+abbrev pub counts_joined : Counts → Counts → Counts
+counts_joined a b =
+    record {
+      characters = sum a.characters b.characters;
+      bytes = sum a.bytes b.bytes;
+      breaks = sum a.breaks (later_breaks a b);
+      behind = behind_joined (later_breaks a b) a.behind b.behind;
+      begins_with_feed = a.begins_with_feed;
+      ends_with_return = b.ends_with_return;
+    }
+
+abbrev pub joined : Sums → Sums → Sums
+joined Empty b = b
+joined (Filled a) Empty = Filled a
+joined (Filled a) (Filled b) = Filled (counts_joined a b)
+
+abbrev pub is_after_character : AfterCharacter → Sums → Bool
+is_after_character g Empty = false
+is_after_character g (Filled a) = nat_lt g.offset a.characters
+
+-- the end of the part has a greater position: a later line, or the same line and more units
+abbrev pub is_after_position : AfterPosition → Sums → Bool
+is_after_position g Empty = false
+is_after_position g (Filled a) =
+    nat_lt g.position.line a.breaks
+    || ((a.breaks == g.position.line && nat_lt g.position.line most) && nat_lt g.position.character (count_of g.unit a.behind))

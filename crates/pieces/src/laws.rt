@@ -1,0 +1,13 @@
+//! What is proved of sums, as contracts of functions that do nothing.
+
+ghost use Rattle.std.specs.Prelude.{◌≡◌, ◌≤◌, ◌++◌, ℕ, List};
+ghost use Rattle.definitions.specs.Text.{units};
+ghost use Rattle.definitions.specs.declared.Unit.TheVariants.{Utf8};
+ghost use Rattle.pieces.specs.Sums.{sums_of, joined, most};
+
+/// The sum of two texts, one behind the other, is that of the first joined with that of the second.
+#[tactic(auto, using(crate::proofs::Joins::sums_of_append))]
+pub fn sums_join()
+    ensures { (s t : List ℕ) → units Utf8 (s ++ t) ≤ most →
+        sums_of (s ++ t) ≡ joined (sums_of s) (sums_of t) }
+{}

@@ -1,0 +1,13 @@
+//! Pieces of texts, and their sums for lines and positions.
+#![tactic(auto)]
+
+mod cuts;
+mod laws;
+mod piece;
+mod sums;
+
+pub use cuts::pieces_of;
+pub use definitions::{Position, Unit};
+pub use laws::sums_join;
+pub use piece::{LONGEST_PIECE, Piece};
+pub use sums::{AfterCharacter, AfterPosition, Counts, Sums, Units, of_character, of_text};

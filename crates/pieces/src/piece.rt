@@ -1,0 +1,67 @@
+//! A piece of a text.
+
+ghost use Rattle.std.specs.Prelude.{◌≡◌, ◌≤◌, length, IfOk, string_bytes, encode_utf8_all};
+ghost use Rattle.std.specs.Str.{chars};
+ghost use Rattle.pieces.specs.Sums.{sums_of};
+
+use crate::sums::{Sums, of_text};
+use seqtree::Measured;
+use std::alloc::{AllocError, Global};
+use std::marker::Model;
+
+/// The most bytes that a piece may have in UTF-8.
+pub const LONGEST_PIECE: usize = 1_024;
+
+/// A part of a text: its characters, of at least one byte and at most [`LONGEST_PIECE`] in UTF-8, and their sum.
+#[derive(Drop)]
+pub struct Piece {
+    text: String,
+    sums: Sums,
+}
+
+impl Model for Piece {
+    ghost use Rattle.std.specs.Prelude.{List, ℕ, string_bytes};
+    ghost use Rattle.std.specs.Str.{chars};
+    ghost use Rattle.pieces.specs.Pieces.{IsPiece};
+
+    ghost Value = { List ℕ };
+
+    ghost view = { λ p. chars (string_bytes p.text) };
+
+    ghost invariant = { λ p. IsPiece (string_bytes p.text) p.sums };
+}
+
+impl Piece {
+    /// The piece with the characters of `text`, which must have at least one byte and at most [`LONGEST_PIECE`]. Takes
+    /// memory once, and refuses for memory alone.
+    pub fn new(alloc: Global, text: &str) -> Result<Piece, AllocError>
+        requires some { 1 ≤ length text.now }
+        requires few { length text.now ≤ LONGEST_PIECE }
+        ensures { IfOk result (λ piece. piece ≡ chars text.now) }
+    {
+        let sums = of_text(text);
+        let text = String::from_str(alloc, text)?;
+        Ok(Piece { text, sums })
+    }
+
+    /// The characters in UTF-8.
+    pub fn text(&self) -> &str
+        ensures characters { chars result.now ≡ self.now }
+        ensures some { 1 ≤ length result.now }
+        ensures few { length result.now ≤ LONGEST_PIECE }
+    {
+        self.text.as_str()
+    }
+}
+
+impl Measured for Piece {
+    ghost use Rattle.pieces.specs.Sums.{sums_of};
+
+    type Sum = Sums;
+
+    ghost measure = { sums_of };
+
+    fn sum(&self) -> Sums {
+        self.sums
+    }
+}

@@ -1,0 +1,223 @@
+//! What a part of a text adds up to, so that positions and offsets are looked up.
+
+ghost use Rattle.std.specs.Prelude.{◌≡◌, ◌≤◌, [], ◌∷◌, length};
+ghost use Rattle.std.specs.Str.{chars};
+ghost use Rattle.pieces.specs.Sums.{sums_of, most, units_joined, count_of, counts_joined, later_breaks, behind_joined, shown_units};
+
+use definitions::{Position, Unit};
+use seqtree::{Goal, Monoid};
+
+/// How many units characters have, in each unit of a position.
+#[derive(Clone, Copy, Debug, PartialEq, Eq)]
+pub struct Units {
+    pub utf8: u32,
+    pub utf16: u32,
+    pub utf32: u32,
+}
+
+impl Units {
+    /// The units of these characters and of others behind them.
+    fn with(self, others: Units) -> Units
+        ensures { result ≡ units_joined self others }
+    {
+        Units {
+            utf8: self.utf8.saturating_add(others.utf8),
+            utf16: self.utf16.saturating_add(others.utf16),
+            utf32: self.utf32.saturating_add(others.utf32),
+        }
+    }
+
+    /// How many there are in one unit.
+    pub fn of(self, unit: Unit) -> u32
+        ensures { result ≡ count_of unit self }
+    {
+        match unit {
+            Unit::Utf8 => self.utf8,
+            Unit::Utf16 => self.utf16,
+            Unit::Utf32 => self.utf32,
+        }
+    }
+}
+
+/// What the characters of a part of a text add up to. A `\r` at its end is no break yet, since a `\n` may come next.
+#[derive(Clone, Copy, Debug, PartialEq, Eq)]
+pub struct Counts {
+    /// How many characters.
+    pub characters: u32,
+    /// How many bytes in UTF-8.
+    pub bytes: u32,
+    /// How many line breaks, but for a `\r` at its end.
+    pub breaks: u32,
+    /// The units behind the last of these breaks, but for a `\r` at its end.
+    pub behind: Units,
+    /// Whether it begins with `\n`.
+    pub begins_with_feed: bool,
+    /// Whether it ends with `\r`.
+    pub ends_with_return: bool,
+}
+
+/// The sum of a part of a text.
+#[derive(Clone, Copy, Debug, PartialEq, Eq)]
+pub enum Sums {
+    /// Of no character.
+    Empty,
+    /// Of at least one.
+    Filled(Counts),
+}
+
+impl Counts {
+    /// The counts of this part and of one behind it.
+    fn with(self, other: Counts) -> Counts
+        ensures { result ≡ counts_joined self other }
+    {
+        let later = self.later_breaks(other);
+        Counts {
+            characters: self.characters.saturating_add(other.characters),
+            bytes: self.bytes.saturating_add(other.bytes),
+            breaks: self.breaks.saturating_add(later),
+            behind: behind(later, self.behind, other.behind),
+            begins_with_feed: self.begins_with_feed,
+            ends_with_return: other.ends_with_return,
+        }
+    }
+
+    /// How many breaks end behind this part, where the other one follows.
+    fn later_breaks(self, other: Counts) -> u32
+        ensures { result ≡ later_breaks self other }
+    {
+        if self.ends_with_return && !other.begins_with_feed {
+            return 1u32.saturating_add(other.breaks);
+        }
+        other.breaks
+    }
+}
+
+/// The units behind the last break of two parts, where so many breaks end behind the first part.
+#[tactic(auto, using(crate::specs::Laws::behind_later))]
+fn behind(later: u32, first: Units, second: Units) -> Units
+    ensures { result ≡ behind_joined later first second }
+{
+    if later == 0 {
+        first.with(second)
+    } else {
+        second
+    }
+}
+
+impl Monoid for Sums {
+    ghost use Rattle.pieces.specs.declared.sums.Sums.TheVariants.{Empty};
+    ghost use Rattle.pieces.specs.Sums.{joined};
+    ghost use Rattle.pieces.specs.Laws.{sums_laws};
+
+    ghost empty = { Empty };
+
+    ghost op = { joined };
+
+    ghost laws = { sums_laws };
+
+    fn zero() -> Sums {
+        Sums::Empty
+    }
+
+    fn join(&self, other: &Sums) -> Sums {
+        match (*self, *other) {
+            (Sums::Empty, sum) => sum,
+            (sum, Sums::Empty) => sum,
+            (Sums::Filled(a), Sums::Filled(b)) => Sums::Filled(a.with(b)),
+        }
+    }
+}
+
+/// The sum of one character.
+#[tactic(auto, using(crate::proofs::Joins::sums_of_one))]
+pub fn of_character(c: char) -> Sums
+    ensures { result ≡ sums_of (c ∷ []) }
+{
+    Sums::Filled(Counts {
+        characters: 1,
+        bytes: c.len_utf8() as u32,
+        breaks: if c == '\n' { 1 } else { 0 },
+        behind: shown_units(c),
+        begins_with_feed: c == '\n',
+        ends_with_return: c == '\r',
+    })
+}
+
+/// The sum of the characters of `text`.
+pub fn of_text(text: &str) -> Sums
+    requires { length text.now ≤ most }
+    ensures { result ≡ sums_of (chars text.now) }
+{
+    let mut sums = Sums::Empty;
+    for c in text.chars() {
+        sums = sums.join(&of_character(c));
+    }
+    sums
+}
+
+/// The units that a character alone counts for in its line: a `\r` and a `\n` count for none.
+fn shown_units(c: char) -> Units
+    ensures { result ≡ shown_units c }
+{
+    if c == '\n' || c == '\r' {
+        return Units {
+            utf8: 0,
+            utf16: 0,
+            utf32: 0,
+        };
+    }
+    Units {
+        utf8: c.len_utf8() as u32,
+        utf16: c.len_utf16() as u32,
+        utf32: 1,
+    }
+}
+
+/// Looks for the part that holds the character at this offset.
+#[derive(Clone, Copy, Debug, PartialEq, Eq)]
+pub struct AfterCharacter {
+    pub offset: usize,
+}
+
+impl Goal<Sums> for AfterCharacter {
+    ghost use Rattle.pieces.specs.Sums.{is_after_character};
+    ghost use Rattle.pieces.specs.Laws.{after_character_stays};
+
+    ghost reaches = { is_after_character };
+
+    ghost stays = { after_character_stays };
+
+    fn reached(&self, sum: &Sums) -> bool {
+        match sum {
+            Sums::Empty => false,
+            Sums::Filled(counts) => self.offset < counts.characters as usize,
+        }
+    }
+}
+
+/// Looks for the first part that goes on past this position: where a later line begins in it, or where its characters
+/// of the line have more units.
+#[derive(Clone, Copy, Debug, PartialEq, Eq)]
+pub struct AfterPosition {
+    pub unit: Unit,
+    pub position: Position,
+}
+
+impl Goal<Sums> for AfterPosition {
+    ghost use Rattle.pieces.specs.Sums.{is_after_position};
+    ghost use Rattle.pieces.specs.Laws.{after_position_stays};
+
+    ghost reaches = { is_after_position };
+
+    ghost stays = { after_position_stays };
+
+    fn reached(&self, sum: &Sums) -> bool {
+        let Sums::Filled(counts) = *sum else {
+            return false;
+        };
+        let line = self.position.line;
+        // A count that is full no longer tells lines apart.
+        let same = counts.breaks == line && line < u32::MAX;
+        line < counts.breaks || (same && self.position.character < counts.behind.of(self.unit))
+    }
+}
