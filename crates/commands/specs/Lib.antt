@@ -1,1 +1,3 @@
+pub mod Parsing
+pub mod Reporting
 pub mod Status

@@ -9,6 +9,8 @@ use std::alloc::{AllocError, Global};
 pub enum Task {
     /// Check the grammar in the file of this path.
     Check(String),
+    /// Parse by the grammar in the first file the text in the second one.
+    Parse(String, String),
     /// Serve an editor by the grammar in the file of this path.
     Serve(String),
 }
@@ -19,17 +21,18 @@ fn with_grammar<'a>(alloc: Global, name: &'a str) -> Result<Command<'a>, AllocEr
     Command::new(alloc, name).arg(grammar)
 }
 
-/// `lrls check GRAMMAR` and `lrls serve GRAMMAR`, as the words say them.
+/// `lrls check GRAMMAR`, `lrls parse GRAMMAR TEXT` and `lrls serve GRAMMAR`, as the words say them.
 fn command<'a>(alloc: Global) -> Result<Command<'a>, AllocError> {
     Command::new(alloc, "lrls")
         .subcommand_required(true)
         .subcommand(with_grammar(alloc, "check")?)?
+        .subcommand(with_grammar(alloc, "parse")?.arg(Arg::new(alloc, "TEXT").required(true))?)?
         .subcommand(with_grammar(alloc, "serve")?)
 }
 
-/// The path that a command was given.
-fn path_of(alloc: Global, matches: &ArgMatches) -> Result<Option<String>, AllocError> {
-    match matches.get_str("GRAMMAR") {
+/// The path that a command was given under this name.
+fn path_of(alloc: Global, matches: &ArgMatches, name: &str) -> Result<Option<String>, AllocError> {
+    match matches.get_str(name) {
         Some(path) => Ok(Some(String::from_str(alloc, path)?)),
         None => Ok(None),
     }
@@ -38,8 +41,20 @@ fn path_of(alloc: Global, matches: &ArgMatches) -> Result<Option<String>, AllocE
 /// The command that was matched.
 fn matched(alloc: Global, matches: &ArgMatches) -> Result<Option<Task>, AllocError> {
     match matches.subcommand() {
-        Some(("check", check)) => Ok(path_of(alloc, check)?.map(Task::Check)),
-        Some(("serve", serve)) => Ok(path_of(alloc, serve)?.map(Task::Serve)),
+        Some(("check", check)) => Ok(path_of(alloc, check, "GRAMMAR")?.map(Task::Check)),
+        Some(("parse", parse)) => parsing(alloc, parse),
+        Some(("serve", serve)) => Ok(path_of(alloc, serve, "GRAMMAR")?.map(Task::Serve)),
+        _ => Ok(None),
+    }
+}
+
+/// The two paths that `parse` was given.
+fn parsing(alloc: Global, matches: &ArgMatches) -> Result<Option<Task>, AllocError> {
+    match (
+        path_of(alloc, matches, "GRAMMAR")?,
+        path_of(alloc, matches, "TEXT")?,
+    ) {
+        (Some(grammar), Some(text)) => Ok(Some(Task::Parse(grammar, text))),
         _ => Ok(None),
     }
 }

@@ -27,6 +27,11 @@ pub enum Fault {
     Conflict(String),
     #[error("lrls: grammar is not UTF-8")]
     NotUtf8,
+    #[error("lrls: text is not UTF-8")]
+    TextNotUtf8,
+    /// The text has more than 1,048,576 bytes.
+    #[error("lrls: text too large")]
+    TextTooLarge,
     /// The file of this path can't be read.
     #[error("lrls: cannot read {0}")]
     CannotRead(String),
@@ -52,8 +57,13 @@ impl Fault {
             | Fault::TooManySets
             | Fault::Conflict(_)
             | Fault::NotUtf8 => 2,
-            Fault::CannotRead(_) | Fault::NoMemory | Fault::Frame(_) | Fault::Read | Fault::Write =>
-                1,
+            Fault::TextNotUtf8
+            | Fault::TextTooLarge
+            | Fault::CannotRead(_)
+            | Fault::NoMemory
+            | Fault::Frame(_)
+            | Fault::Read
+            | Fault::Write => 1,
         }
     }
 }

@@ -7,4 +7,4 @@ mod printed;
 
 pub use command_line::{Task, words};
 pub use fault::Fault;
-pub use printed::{Printed, check, load};
+pub use printed::{Printed, check, load, parse};

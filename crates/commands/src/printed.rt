@@ -1,15 +1,19 @@
 //! What the commands do, over the bytes of files.
 
-ghost use Rattle.std.specs.Prelude.{◌≡◌, IfOk, IfErr};
+ghost use Rattle.std.specs.Prelude.{◌≡◌, ◌++◌, [], IfOk, IfErr, OnOk, string_bytes};
+ghost use Rattle.std.specs.Str.{chars};
 ghost use Rattle.server.specs.Languages.{IsLanguageOf};
+ghost use Rattle.commands.specs.Parsing.{IsParsed, Prints, fault_line, place_text};
+ghost use Rattle.commands.specs.Reporting.{IsChecked, note_line};
 ghost use Rattle.commands.specs.Status.{status_of};
 
 use crate::fault::Fault;
-use definitions::Kind;
+use definitions::{Diagnostic, Kind, Position};
 use grammar::Grammar;
-use server::{Language, LoadFault};
+use server::{Document, Language, LoadFault, Outcome};
 use std::alloc::{AllocError, Global};
 use tables::Conflict;
+use text::TextFault;
 
 /// What a command prints on standard output and standard error, and the exit status.
 #[derive(Debug, Drop)]
@@ -21,7 +25,8 @@ pub struct Printed {
 
 /// What is printed of a fault.
 fn refusal(alloc: Global, fault: &Fault) -> Result<Printed, AllocError>
-    ensures { IfOk result (λ printed. printed.status ≡ status_of fault.now) }
+    ensures status { IfOk result (λ printed. printed.status ≡ status_of fault.now) }
+    ensures out { IfOk result (λ printed. printed.out.items ≡ []) }
 {
     Ok(Printed {
         out: Vec::new(alloc),
@@ -57,7 +62,7 @@ fn fault_of(alloc: Global, fault: LoadFault) -> Result<Fault, AllocError>
 /// The language of a grammar file of these bytes, or what is printed, with status 2, where it defines none. Refuses for
 /// memory alone.
 pub fn load(alloc: Global, bytes: &[u8]) -> Result<Result<Language, Printed>, AllocError>
-    ensures language { IfOk result (λ loaded. IfOk loaded (IsLanguageOf bytes.now)) }
+    ensures language { IfOk result (λ loaded. IfOk loaded (λ l. IsLanguageOf bytes.now l.file)) }
     ensures refused { IfOk result (λ loaded. IfErr loaded (λ printed. printed.status ≡ 2)) }
 {
     let Ok(text) = str::from_utf8(bytes) else {
@@ -72,16 +77,24 @@ pub fn load(alloc: Global, bytes: &[u8]) -> Result<Result<Language, Printed>, Al
     }
 }
 
+/// Writes the line of a name that no derivation from the start uses.
+fn write_note(out: &mut String, name: &str) -> Result<(), AllocError>
+    ensures { OnOk result (string_bytes out.new ≡ string_bytes out.old ++ note_line (chars name.now)) }
+{
+    out.push_str("note: unreachable ")?;
+    out.push_str(name)?;
+    out.push_str("\n")?;
+    Ok(())
+}
+
 /// What `lrls check` prints of a grammar: a line for each name that no derivation from the start uses, and `ok`. Refuses for
 /// memory alone.
 pub fn check(alloc: Global, language: &Language) -> Result<Printed, AllocError>
-    ensures { IfOk result (λ printed. printed.status ≡ 0) }
+    ensures { IfOk result (IsChecked language.now.file) }
 {
     let mut out = String::new(alloc);
     for name in language.grammar().notes() {
-        out.push_str("note: unreachable ")?;
-        out.push_str(name)?;
-        out.push('\n')?;
+        write_note(&mut out, name)?;
     }
     out.push_str("ok\n")?;
     Ok(Printed {
@@ -89,4 +102,54 @@ pub fn check(alloc: Global, language: &Language) -> Result<Printed, AllocError>
         err: Vec::new(alloc),
         status: 0,
     })
+}
+
+/// A position, as `L:C`.
+fn place_text(alloc: Global, position: Position) -> Result<String, AllocError>
+    ensures { IfOk result (λ text. string_bytes text ≡ place_text position) }
+{
+    format!(in alloc; "{}:{}", position.line, position.character)
+}
+
+/// The line that tells a fault.
+fn fault_line(alloc: Global, fault: &Diagnostic) -> Result<String, AllocError>
+    ensures { IfOk result (λ line. string_bytes line ≡ fault_line fault.now) }
+{
+    let start = place_text(alloc, fault.range.start)?;
+    let end = place_text(alloc, fault.range.end)?;
+    let message = fault.message.as_str();
+    format!(in alloc; "{start}-{end}: {message}\n")
+}
+
+/// What is printed of what a text comes to.
+fn outcome(alloc: Global, outcome: Outcome) -> Result<Printed, AllocError>
+    ensures { IfOk result (λ printed. Prints outcome printed) }
+{
+    let (line, status) = match outcome {
+        Outcome::Tree(mut text) => {
+            text.push('\n')?;
+            (text, 0)
+        }
+        Outcome::Fault(fault) => (fault_line(alloc, &fault)?, 1),
+    };
+    Ok(Printed {
+        out: line.into_bytes(),
+        err: Vec::new(alloc),
+        status,
+    })
+}
+
+/// What `lrls parse` prints of a text of these bytes: the text of its tree, or its fault, with status 1. A text that isn't
+/// UTF-8 or has more than 1,048,576 bytes is refused with status 1. Refuses for memory alone.
+pub fn parse(alloc: Global, language: &Language, bytes: &[u8]) -> Result<Printed, AllocError>
+    ensures { IfOk result (IsParsed language.now.file bytes.now) }
+{
+    let Ok(text) = str::from_utf8(bytes) else {
+        return refusal(alloc, &Fault::TextNotUtf8);
+    };
+    match Document::open(alloc, language, 0, text) {
+        Ok(document) => outcome(alloc, document.outcome(alloc, language)?),
+        Err(TextFault::TooLarge) => refusal(alloc, &Fault::TextTooLarge),
+        Err(TextFault::NoMemory) => Err(AllocError),
+    }
 }

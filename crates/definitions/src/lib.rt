@@ -58,3 +58,10 @@ pub enum Symbol {
     Rule(usize),
     Nonterminal(usize),
 }
+
+/// What is told of the fault of a text: where it stands, and why (LSP 3.17, "Diagnostic").
+#[derive(Debug, Drop)]
+pub struct Diagnostic {
+    pub range: Range,
+    pub message: String,
+}

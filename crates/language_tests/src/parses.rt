@@ -110,6 +110,7 @@ fn the_nodes_of_a_sum(rt: HostRuntime) -> Result<(), Fail> {
     };
     let parse = Parse::whole(alloc, &tables, &mut store, &kinds)?;
     assert_eq!(rt; parse.counts(), (4, 4));
+    assert_eq!(rt; parse.number(), 0);
     assert_node(&rt, &store, 0, 2, &[Child::Token(NUM)]);
     assert_node(&rt, &store, 1, 1, &[node(0)]);
     assert_node(&rt, &store, 2, 2, &[Child::Token(NUM)]);
@@ -126,6 +127,7 @@ fn older_nodes_stay(rt: HostRuntime) -> Result<(), Fail> {
     let parse = Parse::whole(alloc, &tables, &mut store, &Listed { kinds: &[NUM] })?;
     assert_eq!(rt; store.len(), 3);
     assert_eq!(rt; parse.counts(), (2, 2));
+    assert_eq!(rt; parse.number(), 0);
     assert!(rt; older.index < store.len());
     assert_eq!(rt; store.born(older), 9);
     Ok(())

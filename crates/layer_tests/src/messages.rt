@@ -1,7 +1,7 @@
 //! The messages that contents are heard as, and the bytes of replies.
 
 use rpc::{
-    Call, Id, Malformed, Message, Note, Position, Range, Refusal, Reply, Row, RpcFault,
+    Call, Diagnostic, Id, Malformed, Message, Note, Position, Range, Refusal, Reply, Row, RpcFault,
     one_hearing, read, some_hearing, to_bytes,
 };
 use std::alloc::Global;
@@ -84,6 +84,114 @@ fn rows_have_their_bytes(rt: HostRuntime) -> Result<(), Fail> {
     has_bytes(&rt, alloc, &reply, content, 51)
 }
 
+/// The range on line 0 from one character to another.
+fn on_line(from: u32, to: u32) -> Range {
+    Range {
+        start: Position {
+            line: 0,
+            character: from,
+        },
+        end: Position {
+            line: 0,
+            character: to,
+        },
+    }
+}
+
+#[test]
+fn folds_have_their_bytes(rt: HostRuntime) -> Result<(), Fail> {
+    let alloc = rt.alloc();
+    let mut pairs = Vec::new(alloc);
+    pairs.push((0, 2))?;
+    pairs.push((1, 3))?;
+    let some = Reply::Folds {
+        id: Id::Number(2),
+        pairs,
+    };
+    let content =
+        r#"{"id":2,"jsonrpc":"2.0","result":[{"endLine":2,"startLine":0},{"endLine":3,"startLine":1}]}"#;
+    has_bytes(&rt, alloc, &some, content, 91)?;
+    let none = Reply::Folds {
+        id: Id::Text(String::from_str(alloc, "a")?),
+        pairs: Vec::new(alloc),
+    };
+    let content = r#"{"id":"a","jsonrpc":"2.0","result":[]}"#;
+    has_bytes(&rt, alloc, &none, content, 38)
+}
+
+#[test]
+fn selections_have_their_bytes(rt: HostRuntime) -> Result<(), Fail> {
+    let alloc = rt.alloc();
+    let mut inner = Vec::new(alloc);
+    inner.push(on_line(1, 2))?;
+    inner.push(on_line(0, 3))?;
+    let mut outer = Vec::new(alloc);
+    outer.push(on_line(0, 3))?;
+    let mut selections = Vec::new(alloc);
+    selections.push(inner)?;
+    selections.push(outer)?;
+    let some = Reply::Selections {
+        id: Id::Number(2),
+        selections,
+    };
+    let content =
+        r#"{"id":2,"jsonrpc":"2.0","result":[{"parent":{"range":{"end":{"character":3,"line":0},"start":{"character":0,"line":0}}},"range":{"end":{"character":2,"line":0},"start":{"character":1,"line":0}}},{"range":{"end":{"character":3,"line":0},"start":{"character":0,"line":0}}}]}"#;
+    has_bytes(&rt, alloc, &some, content, 272)?;
+    let none = Reply::Selections {
+        id: Id::Number(2),
+        selections: Vec::new(alloc),
+    };
+    let content = r#"{"id":2,"jsonrpc":"2.0","result":[]}"#;
+    has_bytes(&rt, alloc, &none, content, 36)
+}
+
+/// Diagnostics about `a:x`.
+fn published(
+    alloc: Global,
+    version: Option<i32>,
+    diagnostic: Option<Diagnostic>,
+) -> Result<Reply, Fail> {
+    Ok(Reply::Diagnostics {
+        uri: String::from_str(alloc, "a:x")?,
+        version,
+        diagnostic,
+    })
+}
+
+/// The fault of the empty text.
+fn unexpected_end(alloc: Global) -> Result<Option<Diagnostic>, Fail> {
+    Ok(Some(Diagnostic {
+        range: on_line(0, 0),
+        message: String::from_str(alloc, "unexpected end; expected NUM, LP")?,
+    }))
+}
+
+#[test]
+fn diagnostics_have_their_bytes(rt: HostRuntime) -> Result<(), Fail> {
+    let alloc = rt.alloc();
+    let fault = published(alloc, Some(1), unexpected_end(alloc)?)?;
+    let content =
+        r#"{"jsonrpc":"2.0","method":"textDocument/publishDiagnostics","params":{"diagnostics":[{"message":"unexpected end; expected NUM, LP","range":{"end":{"character":0,"line":0},"start":{"character":0,"line":0}},"severity":1,"source":"lrls"}],"uri":"a:x","version":1}}"#;
+    has_bytes(&rt, alloc, &fault, content, 261)?;
+    let clean = published(alloc, Some(2), None)?;
+    let content =
+        r#"{"jsonrpc":"2.0","method":"textDocument/publishDiagnostics","params":{"diagnostics":[],"uri":"a:x","version":2}}"#;
+    has_bytes(&rt, alloc, &clean, content, 112)
+}
+
+#[test]
+fn diagnostics_without_version_have_their_bytes(rt: HostRuntime) -> Result<(), Fail> {
+    let alloc = rt.alloc();
+    let fault = published(alloc, None, unexpected_end(alloc)?)?;
+    let content =
+        r#"{"jsonrpc":"2.0","method":"textDocument/publishDiagnostics","params":{"diagnostics":[{"message":"unexpected end; expected NUM, LP","range":{"end":{"character":0,"line":0},"start":{"character":0,"line":0}},"severity":1,"source":"lrls"}],"uri":"a:x"}}"#;
+    has_bytes(&rt, alloc, &fault, content, 249)?;
+    let clean = published(alloc, None, None)?;
+    let content =
+        r#"{"jsonrpc":"2.0","method":"textDocument/publishDiagnostics","params":{"diagnostics":[],"uri":"a:x"}}"#;
+    has_bytes(&rt, alloc, &clean, content, 100)
+}
+
 #[test]
 fn errors_have_their_bytes(rt: HostRuntime) -> Result<(), Fail> {
     let rows = [
@@ -157,6 +265,8 @@ fn kind(outcome: &Result<Message, RpcFault>) -> &'static str {
     match outcome {
         Ok(Message::Request(_, Call::Initialize)) => "initialize",
         Ok(Message::Request(_, Call::Shutdown)) => "shutdown",
+        Ok(Message::Request(_, Call::FoldingRange { .. })) => "foldingRange",
+        Ok(Message::Request(_, Call::SelectionRange { .. })) => "selectionRange",
         Ok(Message::Request(_, Call::Text { .. })) => "text",
         Ok(Message::Request(_, Call::Tokens { .. })) => "tokens",
         Ok(Message::Request(_, Call::Tree { .. })) => "tree",
@@ -291,6 +401,22 @@ fn methods_have_their_kinds(rt: HostRuntime) -> Result<(), Fail> {
             "tree",
         ),
         (r#""id":4,"method":"lr/tree","params":{}"#, "params"),
+        (
+            r#""id":4,"method":"textDocument/foldingRange","params":{"textDocument":{"uri":"a:x"}}"#,
+            "foldingRange",
+        ),
+        (
+            r#""id":4,"method":"textDocument/foldingRange","params":{"textDocument":"a:x"}"#,
+            "params",
+        ),
+        (
+            r#""method":"textDocument/foldingRange","params":{"textDocument":{"uri":"a:x"}}"#,
+            "ignored",
+        ),
+        (
+            r#""method":"textDocument/selectionRange","params":{"textDocument":{"uri":"a:x"},"positions":[]}"#,
+            "ignored",
+        ),
         (r#""id":4,"method":"$/x""#, "unknown"),
         (r#""id":4,"method":"exit""#, "unknown"),
         (r#""id":4,"method":"textDocument/didOpen""#, "unknown"),
@@ -459,6 +585,86 @@ fn a_change_is_told(rt: HostRuntime) -> Result<(), Fail> {
         assert_eq!(rt; change.text.as_str(), text);
         assert!(rt; change.range == place);
     }
+    Ok(())
+}
+
+/// What a request for selections with these parameters is heard as.
+fn hears_selections(
+    rt: &impl Abort,
+    alloc: Global,
+    params: &str,
+    wanted: &str,
+) -> Result<(), Fail> {
+    let content = format!(in alloc;
+        r#"{{"jsonrpc":"2.0","id":4,"method":"textDocument/selectionRange","params":{params}}}"#
+    )?;
+    let outcome = read(alloc, content.as_bytes());
+    assert_eq!(rt; kind(&outcome), wanted, "at {params}");
+    Ok(())
+}
+
+#[test]
+fn requests_for_selections_have_their_kinds(rt: HostRuntime) -> Result<(), Fail> {
+    let rows = [
+        (
+            r#"{"textDocument":{"uri":"a:x"},"positions":[]}"#,
+            "selectionRange",
+        ),
+        (
+            r#"{"textDocument":{"uri":"a:x"},"positions":[{"line":0,"character":2147483647}]}"#,
+            "selectionRange",
+        ),
+        (r#"{"textDocument":{"uri":"a:x"}}"#, "params"),
+        (r#"{"positions":[]}"#, "params"),
+        (r#"{"textDocument":{"uri":5},"positions":[]}"#, "params"),
+        (r#"{"textDocument":{"uri":"a:x"},"positions":{}}"#, "params"),
+        (
+            r#"{"textDocument":{"uri":"a:x"},"positions":{"line":0,"character":0}}"#,
+            "params",
+        ),
+        (
+            r#"{"textDocument":{"uri":"a:x"},"positions":[{"character":0}]}"#,
+            "params",
+        ),
+        (
+            r#"{"textDocument":{"uri":"a:x"},"positions":[{"line":0,"character":1.5}]}"#,
+            "params",
+        ),
+        (
+            r#"{"textDocument":{"uri":"a:x"},"positions":[{"line":2147483648,"character":0}]}"#,
+            "params",
+        ),
+        (
+            r#"{"textDocument":{"uri":"a:x"},"positions":[{"line":0,"character":0},5]}"#,
+            "params",
+        ),
+    ];
+    for (params, wanted) in rows {
+        hears_selections(&rt, rt.alloc(), params, wanted)?;
+    }
+    Ok(())
+}
+
+#[test]
+fn a_request_for_selections_is_told(rt: HostRuntime) -> Result<(), Fail> {
+    let alloc = rt.alloc();
+    let content =
+        br#"{"jsonrpc":"2.0","id":4,"method":"textDocument/selectionRange","params":{"textDocument":{"uri":"a:x"},"positions":[{"line":3,"character":4},{"line":0,"character":1}]}}"#;
+    let outcome = read(alloc, content);
+    let Ok(Message::Request(Id::Number(4), Call::SelectionRange { uri, positions })) = &outcome
+    else {
+        panic!(rt; "no request for selections");
+    };
+    assert_eq!(rt; uri.as_str(), "a:x");
+    let first = Position {
+        line: 3,
+        character: 4,
+    };
+    let second = Position {
+        line: 0,
+        character: 1,
+    };
+    assert!(rt; positions.as_slice() == [first, second].as_slice());
     Ok(())
 }
 

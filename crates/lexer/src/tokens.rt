@@ -104,7 +104,8 @@ impl Tokens {
     /// The offset at which the token at this place among all starts.
     pub fn start_of(&self, i: usize) -> usize
         requires { i < length self.now.items }
-        ensures { result ≡ characters (take i self.now.items) }
+        ensures is { result ≡ characters (take i self.now.items) }
+        ensures few { result ≤ 2 ^ 30 }
     {
         let (_, before) = self.items.locate(&AfterCount { count: i });
         before.characters as usize
@@ -275,11 +276,7 @@ fn significant_before(items: &Seq<Token>, place: usize) -> usize
 fn is_same(a: Kind, b: Kind) -> bool
     ensures { result ≡ same_kind a b }
 {
-    match (a, b) {
-        (Kind::Rule(j), Kind::Rule(k)) => j == k,
-        (Kind::Invalid, Kind::Invalid) => true,
-        _ => false,
-    }
+    a == b
 }
 
 /// Whether the significant token with this number has this kind.

@@ -1,7 +1,7 @@
-//! The program `lrls`: checks grammars, and is a language server on standard input and output.
+//! The program `lrls`: checks grammars, parses texts, and is a language server on standard input and output.
 #![tactic(auto)]
 
-use commands::{Fault, Printed, Task, check, load, words};
+use commands::{Fault, Printed, Task, check, load, parse, words};
 use frames::{ReadInput, WriteOutput};
 use server::{Language, run};
 use std::alloc::Global;
@@ -21,13 +21,19 @@ fn given_words(rt: &HostRuntime) -> Result<Vec<String>, Fault> {
     Ok(given.collect(rt.alloc())?)
 }
 
-/// The language of the grammar in the file of this path, or what is printed where there is none.
-fn loaded(rt: &HostRuntime, path: &str) -> Result<Result<Language, Printed>, Fault> {
+/// The bytes of the file of this path.
+fn bytes_of(rt: &HostRuntime, path: &str) -> Result<Vec<u8>, Fault> {
     match std::fs::read(rt, path) {
-        Ok(bytes) => Ok(load(rt.alloc(), &bytes)?),
+        Ok(bytes) => Ok(bytes),
         Err(error) if error.kind() == ErrorKind::OutOfMemory => Err(Fault::NoMemory),
         Err(_) => Err(Fault::CannotRead(String::from_str(rt.alloc(), path)?)),
     }
+}
+
+/// The language of the grammar in the file of this path, or what is printed where there is none.
+fn loaded(rt: &HostRuntime, path: &str) -> Result<Result<Language, Printed>, Fault> {
+    let bytes = bytes_of(rt, path)?;
+    Ok(load(rt.alloc(), &bytes)?)
 }
 
 /// Prints what a command answers, and answers its status.
@@ -43,6 +49,17 @@ fn print(rt: &HostRuntime, printed: &Printed) -> Result<u8, Fault> {
 fn check_file(rt: &HostRuntime, path: &str) -> Result<u8, Fault> {
     match loaded(rt, path)? {
         Ok(language) => print(rt, &check(rt.alloc(), &language)?),
+        Err(printed) => print(rt, &printed),
+    }
+}
+
+/// Parses by the grammar in the first file the text in the second one, which is read only where there is a language.
+fn parse_file(rt: &HostRuntime, grammar: &str, text: &str) -> Result<u8, Fault> {
+    match loaded(rt, grammar)? {
+        Ok(language) => {
+            let bytes = bytes_of(rt, text)?;
+            print(rt, &parse(rt.alloc(), &language, &bytes)?)
+        }
         Err(printed) => print(rt, &printed),
     }
 }
@@ -67,6 +84,7 @@ fn started(rt: &HostRuntime) -> Result<u8, Fault> {
     let given = given_words(rt)?;
     match words(rt.alloc(), &given)? {
         Some(Task::Check(path)) => check_file(rt, path.as_str()),
+        Some(Task::Parse(grammar, text)) => parse_file(rt, grammar.as_str(), text.as_str()),
         Some(Task::Serve(path)) => serve_file(rt, path.as_str()),
         None => Err(Fault::CommandLine),
     }

@@ -23,10 +23,10 @@ TellsExpected t state looks = (x : List Kind) (stack : List Tree) (prefix : List
 pub expected : (t : Sets) (kinds : List Kind) (cells : List Cell) (parse : Stop) (looks : List (Option ℕ)) → IsParseOf t kinds cells parse → (v : Verdict) → parse.verdict ≡ v → IsFault v → TellsExpected t parse.state looks → AreExpectedAt t.grammar kinds (verdict_in cells parse.verdict) looks
 expected t kinds cells parse looks h (TreeAt id) e f tells = absurd (elim f [ inl k ↦ cc k.1 | inr k ↦ cc k ])
 expected t kinds cells parse looks h (StopsAt k) e f tells =
-    let stacked = subst (λ v. AreStacked t.grammar kinds (verdict_in cells v) (plain_of cells parse.stack)) e h.stack in
+    let stacked = subst (λ v. AreStacked t.grammar kinds (verdict_in cells v) (plain_of cells parse.stack)) e h.stop.stack in
     let after = settled_after t.grammar (take k kinds) stacked.trees (plain_of cells parse.stack) stacked.are stacked.stack_is in
-    subst (λ v. AreExpectedAt t.grammar kinds (verdict_in cells v) looks) (sym e) (tells (take k kinds) (plain_of cells parse.stack) h.roots h.state after h.are_roots)
+    subst (λ v. AreExpectedAt t.grammar kinds (verdict_in cells v) looks) (sym e) (tells (take k kinds) (plain_of cells parse.stack) h.stop.roots h.stop.state after h.stop.are_roots)
 expected t kinds cells parse looks h StopsAtEnd e f tells =
-    let stacked = subst (λ v. AreStacked t.grammar kinds (verdict_in cells v) (plain_of cells parse.stack)) e h.stack in
+    let stacked = subst (λ v. AreStacked t.grammar kinds (verdict_in cells v) (plain_of cells parse.stack)) e h.stop.stack in
     let after = settled_after t.grammar kinds stacked.trees (plain_of cells parse.stack) stacked.are stacked.stack_is in
-    subst (λ v. AreExpectedAt t.grammar kinds (verdict_in cells v) looks) (sym e) (tells kinds (plain_of cells parse.stack) h.roots h.state after h.are_roots)
+    subst (λ v. AreExpectedAt t.grammar kinds (verdict_in cells v) looks) (sym e) (tells kinds (plain_of cells parse.stack) h.stop.roots h.stop.state after h.stop.are_roots)

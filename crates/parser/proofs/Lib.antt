@@ -4,6 +4,7 @@ pub mod Stamps
 pub mod Stops
 pub mod Expecting
 pub mod Total
+pub mod Expectable
 pub mod Counts
 pub mod Lists
 pub mod Inputs
@@ -13,3 +14,4 @@ pub mod Running
 pub mod Stamping
 pub mod Plain
 pub mod Again
+pub mod StackNodes

@@ -7,7 +7,7 @@ use Rattle.definitions.specs.declared.Kind.TheVariants.{Rule as Token}
 use Rattle.definitions.specs.declared.Symbol.{Symbol}
 use Rattle.definitions.specs.declared.Symbol.TheVariants.{Rule as Terminal, Nonterminal}
 use Rattle.definitions.specs.Trees.{Grammar, Tree, Leaf, Branch, HaveRoots, yield, all_kinds}
-use Rattle.definitions.specs.TreeEdits.{StampedBranch, plain, plain_all}
+use Rattle.definitions.specs.TreeEdits.{StampedBranch, StampedLeaf, plain, plain_all}
 use Rattle.definitions.specs.Sentences.{AllProductive}
 use Rattle.definitions.specs.Items.{HasMove, Shift, Reduce}
 use Rattle.theory.specs.Machine.{look_at, Reduces, Shifts, Run, IsStackAfter}
@@ -27,7 +27,9 @@ use Rattle.tables.specs.Tables.{Sets, IsStateOf}
 use Rattle.parser.specs.Machine.{plain_of, HasStates, HasMade}
 use Rattle.parser.specs.Input.{leaves, input_of, IsInput, Skips}
 use Rattle.parser.specs.Front.{Offers, IsReusable, BeginsWithNoNode}
+use Rattle.parser.specs.Parses.{all_branches_by}
 use Rattle.parser.specs.Run.{makes, AreStampedBy, NoneIsMadeBy, SoFar}
+use Rattle.parser.proofs.Counts.{by-append, by-branch, by-none}
 use Rattle.parser.proofs.Front.{after_drop, dropped, first_fits, tail_roots}
 use Rattle.parser.proofs.Moves.{Reached, states_push}
 use Rattle.parser.proofs.Reductions.{plain-append, plain-stay, below-append, below-front, made_trees}
@@ -179,6 +181,7 @@ module _ (t : Sets) (whole : List Tree) (kinds : List Kind) (before number : ℕ
         run = goes_on_join g h.run step;
         count = omega (arith, h.count, makes_join g h.run step);
         stamps = subst (AreStampedBy g (goes_on_join g h.run step) number) (sym (trees_of-append (trees_from [] cells) stack (Node id ∷ []))) stamps;
+        made = omega (arith, ap (all_branches_by number) (trees_of-append (trees_from [] cells) stack (Node id ∷ [])), by-append number (all_trees cells stack) (tree cells (Node id) ∷ []), by-none number (tree cells (Node id)) first, h.made, makes_join g h.run step);
         older = none_behind number (tree cells (Node id)) (all_trees cells rest') older;
       }
 
@@ -210,6 +213,7 @@ module _ (t : Sets) (whole : List Tree) (kinds : List Kind) (before number : ℕ
         run = goes_on_join g h.run step;
         count = omega (arith, h.count, makes_join g h.run step);
         stamps = subst (AreStampedBy g (goes_on_join g h.run step) number) (sym (trees_of-append (trees_from [] cells) stack (TokenChild k ∷ []))) (stamps_token g h.run step (λ below x m. m) number (all_trees cells stack) k h.stamps);
+        made = omega (arith, ap (all_branches_by number) (trees_of-append (trees_from [] cells) stack (TokenChild k ∷ [])), by-append number (all_trees cells stack) (StampedLeaf k ∷ []), h.made, makes_join g h.run step);
         older = behind.older number older';
       }
 
@@ -253,6 +257,7 @@ module _ (t : Sets) (whole : List Tree) (kinds : List Kind) (before number : ℕ
         run = goes_on_join g h.run step;
         count = omega (arith, h.count, makes_join g h.run step, long);
         stamps = subst (AreStampedBy g (goes_on_join g h.run step) number) (sym now_stamped) stamps;
+        made = omega (arith, ap (all_branches_by number) now_stamped, ap (all_branches_by number) parts, by-append number (all_trees cells under) (StampedBranch p number f ∷ []), by-append number (all_trees cells under) (all_trees cells made.kids), by-branch number p (all_trees cells made.kids) f (stamped-children (trees_from [] cells) made.kids), h.made, makes_join g h.run step);
         older = subst (NoneIsMadeBy number) (sym same_rest) older';
       }
 
@@ -291,6 +296,7 @@ begun t kinds number cells start input there h older = record {
   run = Ends;
   count = omega arith;
   stamps = λ lefts p born us w. absurd (nowhere_stamped w refl);
+  made = refl;
   older = older;
 }
   where

@@ -25,7 +25,7 @@ use Rattle.parser.specs.Machine.{plain_of}
 use Rattle.parser.specs.Parses.{IsStoppedAt, last_leaf}
 use Rattle.parser.proofs.Moves.{Reached, top_stands, run_on}
 
-last-append : (before : List Kind) (last : Kind) → last_leaf (before ++ (last ∷ [])) ≡ Leaf last ∷ []
+pub last-append : (before : List Kind) (last : Kind) → last_leaf (before ++ (last ∷ [])) ≡ Leaf last ∷ []
 last-append [] last = refl
 last-append (j ∷ []) last = refl
 last-append (j ∷ k ∷ before) last = last-append (k ∷ before) last

@@ -40,7 +40,7 @@ module _ (g : Grammar) where
       (shift.symbols ++ (Terminal a ∷ []), subst (λ l. HaveRoots g l (shift.symbols ++ (Terminal a ∷ []))) (sym stack_is) roots, next.2)
 
   module _ (accepted : IsAccepted g) (decided : AreMovesDecided g) where
-    stack_decided : (x : List Kind) (stack : List Tree) → IsStackAfter g x stack → (next : Option Kind) → StackHasMove g stack next ⊎ (StackHasMove g stack next → ⊥)
+    pub stack_decided : (x : List Kind) (stack : List Tree) → IsStackAfter g x stack → (next : Option Kind) → StackHasMove g stack next ⊎ (StackHasMove g stack next → ⊥)
     stack_decided x stack h next =
         let s = stack_item x stack h in
         ⊎_elim

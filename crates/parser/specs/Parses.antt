@@ -1,18 +1,20 @@
 -- What a parse tells of the kinds that it was made of.
+--     branches_by number t, all_branches_by number ts      how many branches of the tree, or of the trees, were made by this edit
 --     IsParseOf t kinds cells parse      the parse by the tables t of these kinds, with its nodes in these cells
 --     before_fault kinds v      the kinds before a fault, and none where there is a tree
 --     AreExpectedAt g kinds v looks      at a fault exactly what may stand behind the kinds before it
-use Rattle.std.specs.Prelude.{◌≡◌, ℕ, ◌-◌, ◌<◌, List, [], ◌∷◌, ◌++◌, length, take, slice_index_or, Option}
+use Rattle.std.specs.Prelude.{◌≡◌, ℕ, ◌+◌, ◌-◌, ◌<◌, ◌==◌, if◌then◌else◌, List, [], ◌∷◌, ◌++◌, length, take, slice_index_or, Option}
 use Rattle.definitions.specs.declared.Kind.{Kind}
 use Rattle.definitions.specs.declared.Symbol.{Symbol}
 use Rattle.definitions.specs.Trees.{Grammar, Tree, Leaf, HaveRoots}
-use Rattle.definitions.specs.TreeEdits.{plain}
+use Rattle.definitions.specs.Nodes.{all_branches}
+use Rattle.definitions.specs.TreeEdits.{Stamped, StampedBranch, StampedCons, StampedForest, StampedLeaf, StampedNil, plain}
 use Rattle.definitions.specs.Sentences.{IsVerdict}
 use Rattle.definitions.specs.Sentences.{Verdict as Answer, HasTree, FaultAt, FaultAtEnd}
 use Rattle.definitions.specs.DocumentNodes.{AreDocumentTrees}
 use Rattle.trees.specs.declared.store.Child.{Child}
 use Rattle.trees.specs.declared.store.Child.TheVariants.{Node}
-use Rattle.trees.specs.Cells.{Cell, AreBelow, tree}
+use Rattle.trees.specs.Cells.{Cell, AreBelow, all_trees, tree}
 use Rattle.tables.specs.Expected.{AreExpected}
 use Rattle.tables.specs.Tables.{Sets, IsStateOf}
 use Rattle.parser.specs.declared.parse.Verdict.{Verdict}
@@ -20,13 +22,14 @@ use Rattle.parser.specs.declared.parse.Verdict.TheVariants.{Tree as TreeAt, Faul
 use Rattle.parser.specs.Machine.{plain_of}
 
 -- what callers see of a parse: the verdict, the trees and the state in which the machine stopped, how many branches these
--- trees have, and how many of them the last edit built
+-- trees have, how many of them the last edit built, and that edit's number
 pub record Stop : Type 0 where
   pub verdict : Verdict
   pub stack : List Child
   pub state : ℕ
   pub branches : ℕ
   pub built : ℕ
+  pub number : ℕ
 
 -- the verdict that a program's answer means
 abbrev pub verdict_in : List Cell → Verdict → Answer
@@ -68,9 +71,25 @@ pub record IsStop (t : Sets) (kinds : List Kind) (cells : List Cell) (v : Verdic
   pub are_roots : HaveRoots t.grammar (plain_of cells children) roots
   pub state : IsStateOf t roots top
 
--- the parse of these kinds by these tables, with its nodes in these cells
-abbrev pub IsParseOf : Sets → List Kind → List Cell → Stop → Type 0
-IsParseOf t kinds cells parse = IsStop t kinds cells parse.verdict parse.stack parse.state
+-- how many branches were made by the edit of this number
+abbrev mutual
+  pub branches_by : ℕ → Stamped → ℕ
+  branches_by number (StampedLeaf k) = 0
+  branches_by number (StampedBranch p born ts) = (if born == number then 1 else 0) + branches_of_by number ts
+
+  pub branches_of_by : ℕ → StampedForest → ℕ
+  branches_of_by number StampedNil = 0
+  branches_of_by number (StampedCons t ts) = branches_by number t + branches_of_by number ts
+
+abbrev pub all_branches_by : ℕ → List Stamped → ℕ
+all_branches_by number [] = 0
+all_branches_by number (t ∷ ts) = branches_by number t + all_branches_by number ts
+
+-- the parse of these kinds by these tables, with its nodes in these cells: where it stops, and what it counts
+pub record IsParseOf (t : Sets) (kinds : List Kind) (cells : List Cell) (parse : Stop) : Type 0 where
+  pub stop : IsStop t kinds cells parse.verdict parse.stack parse.state
+  pub branches : parse.branches ≡ all_branches (plain_of cells parse.stack)
+  pub built : parse.built ≡ all_branches_by parse.number (all_trees cells parse.stack)
 
 -- the machine has stopped with this stack, under the last of these states
 abbrev pub IsStoppedAt : Sets → List Kind → List Cell → Verdict → List Child → List ℕ → Type 0

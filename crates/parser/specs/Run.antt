@@ -10,6 +10,7 @@ use Rattle.tables.specs.Tables.{Sets}
 use Rattle.parser.specs.Machine.{plain_of, HasStates}
 use Rattle.parser.specs.Input.{input_of, IsInput}
 use Rattle.parser.specs.Front.{Offers}
+use Rattle.parser.specs.Parses.{all_branches_by}
 
 -- how many branches a run makes
 abbrev pub makes : (g : Grammar) {s i s' i' : List Tree} → Goes_on g s i s' i' → ℕ
@@ -42,6 +43,7 @@ pub record SoFar (t : Sets) (whole : List Tree) (kinds : List Kind) (before numb
   pub run : Goes_on t.grammar [] whole top now
   pub count : length cells ≡ before + makes t.grammar run
   pub stamps : AreStampedBy t.grammar run number (all_trees cells stack)
+  pub made : all_branches_by number (all_trees cells stack) ≡ makes t.grammar run
   pub older : NoneIsMadeBy number (all_trees cells rest)
 
 -- a run over the whole input has come to this stack

@@ -1,11 +1,14 @@
 //! What is proved of verdicts, as contracts of functions that do nothing.
 
-ghost use Rattle.std.specs.Prelude.{◌≡◌, ◌↔◌, IsTrue, List};
+ghost use Rattle.std.specs.Prelude.{◌≡◌, ◌↔◌, ◌≤◌, ℕ, Bool, IsTrue, List, length};
 ghost use Rattle.definitions.specs.declared.Kind.{Kind};
-ghost use Rattle.definitions.specs.Trees.{Grammar};
-ghost use Rattle.definitions.specs.Sentences.{Verdict, IsVerdict};
+ghost use Rattle.definitions.specs.Answers.{Node};
+ghost use Rattle.definitions.specs.DocumentNodes.{AreDocumentTrees, IsNodeOf};
+ghost use Rattle.definitions.specs.Trees.{Grammar, Tree, all_kinds};
+ghost use Rattle.definitions.specs.Sentences.{IsExpected, IsVerdict, IsViable, Verdict};
 ghost use Rattle.tables.specs.Decidable.{AreMovesDecided};
 ghost use Rattle.tables.specs.Tables.{IsAccepted};
+ghost use Rattle.parser.specs.Parses.{AreStacked};
 ghost use Rattle.parser.specs.declared.parse.Verdict.{Verdict as Answer};
 
 /// For a grammar that has tables, each list of kinds has a verdict: a tree, or a fault.
@@ -14,7 +17,23 @@ pub fn each_list_has_a_verdict()
         × IsVerdict g kinds v }
 {}
 
+/// And each list with which a sentence begins has a list of what may follow it.
+pub fn each_viable_list_has_expected()
+    ensures { (g : Grammar) → IsAccepted g → AreMovesDecided g → (x : List Kind) → IsViable g x
+        → (rules : List ℕ) × (at_end : Bool) × IsExpected g x rules at_end }
+{}
+
 /// The parser's verdicts are equal by `==` exactly where they are the same: no part of them is left out.
 pub fn equal_verdicts_are_the_same()
     ensures { (a b : Answer) → IsTrue (⟦<crate::Verdict as PartialEq>⟧.eq a b) ↔ (a ≡ b) }
+{}
+
+/// What stands on the stack has the nodes of the document's trees, at their places, and no more kinds than the document: the
+/// last leaf before a fault is no node.
+pub fn stack_has_the_nodes_of_the_document()
+    ensures { (g : Grammar) (kinds : List Kind) (v : Verdict) (stack : List Tree)
+        → IsVerdict g kinds v → AreStacked g kinds v stack
+        → (trees : List Tree) × AreDocumentTrees g kinds v trees
+        × ((n : Node) → IsNodeOf g stack n ↔ IsNodeOf g trees n)
+        × (length (all_kinds stack) ≤ length kinds) }
 {}

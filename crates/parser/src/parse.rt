@@ -8,7 +8,7 @@ ghost use Rattle.tables.specs.Tables.{Sets};
 ghost use Rattle.parser.specs.Machine.{plain_of, AreMadeBy};
 ghost use Rattle.parser.specs.Input.{input_of, IsInput};
 ghost use Rattle.parser.specs.Run.{IsMadeByRun, NoneIsMadeBy};
-ghost use Rattle.parser.specs.Parses.{AreExpectedAt, IsParseOf, verdict_in};
+ghost use Rattle.parser.specs.Parses.{AreExpectedAt, IsParseOf, IsStop, all_branches_by, verdict_in};
 
 use crate::input::Input;
 use crate::machine::Machine;
@@ -40,8 +40,10 @@ pub struct Parse {
     state: usize,
     /// How many branches the trees of the stack have.
     branches: usize,
-    /// How many branches the parse made.
+    /// How many of these branches the last edit made.
     built: usize,
+    /// The number of that edit.
+    number: u64,
 }
 
 impl Model for Parse {
@@ -49,7 +51,7 @@ impl Model for Parse {
 
     ghost Value = { Stop };
 
-    ghost view = { λ p. record { verdict = p.verdict; stack = p.stack.items; state = p.state; branches = p.branches; built = p.built } };
+    ghost view = { λ p. record { verdict = p.verdict; stack = p.stack.items; state = p.state; branches = p.branches; built = p.built; number = p.number } };
 }
 
 /// How many branches the trees of the children have, or 18,446,744,073,709,551,615 where they have more.
@@ -76,14 +78,18 @@ pub(crate) fn parsed<K: Kinds>(
 ) -> Result<Parse, AllocError>
     requires input { IsInput tables.now.grammar store.old input (K.kinds kinds.now) 0 }
     requires older { NoneIsMadeBy number (all_trees store.old input) }
-    ensures parse { IfOk result (λ p. IsParseOf tables.now (K.kinds kinds.now) store.new p) }
+    ensures stop { IfOk result
+        (λ p. IsStop tables.now (K.kinds kinds.now) store.new p.verdict p.stack p.state) }
     ensures run { IfOk result
         (λ p. IsMadeByRun tables.now (input_of store.old input (K.kinds kinds.now) 0)
         (K.kinds kinds.now) (length store.old) number store.new p.stack) }
     ensures grown { take (length store.old) store.new ≡ store.old }
     ensures branches { IfOk result
         (λ p. p.branches ≡ min most (all_branches (plain_of store.new p.stack))) }
-    ensures built { IfOk result (λ p. length store.new ≡ length store.old + p.built) }
+    ensures built { IfOk result
+        (λ p. p.built ≡ all_branches_by p.number (all_trees store.new p.stack)) }
+    ensures number { IfOk result (λ p. p.number ≡ number) }
+    ensures count { IfOk result (λ p. length store.new ≡ length store.old + p.built) }
     ensures room { IfOk result (λ _. length store.new < 2 ^ 64) }
 {
     let before = store.len();
@@ -97,6 +103,7 @@ pub(crate) fn parsed<K: Kinds>(
         state,
         branches,
         built: store.len() - before,
+        number,
     })
 }
 
@@ -115,9 +122,8 @@ impl Parse {
         ensures grown { take (length store.old) store.new ≡ store.old }
         ensures count { IfOk result
             (λ p. length store.new ≡ length store.old + all_branches (plain_of store.new p.stack)) }
-        ensures branches { IfOk result
-            (λ p. p.branches ≡ all_branches (plain_of store.new p.stack)) }
         ensures built { IfOk result (λ p. p.built ≡ all_branches (plain_of store.new p.stack)) }
+        ensures number { IfOk result (λ p. p.number ≡ 0) }
         ensures kept { KeepsTrees (length store.old) store.old store.new }
         ensures refused { OnErr result (store.new ≡ store.old) }
     {
@@ -153,6 +159,13 @@ impl Parse {
         ensures built { result.1 ≡ self.now.built }
     {
         (self.branches, self.built)
+    }
+
+    /// The number of the last edit. A whole parse is edit 0.
+    pub fn number(&self) -> u64
+        ensures { result ≡ self.now.number }
+    {
+        self.number
     }
 
     /// What may stand at the fault, behind the tokens before it: the token rules in file order, and then the end. Where there is

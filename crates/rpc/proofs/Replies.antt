@@ -9,7 +9,7 @@ use Rattle.serde_json.specs.Written.{has_float, items_have_float}
 use Rattle.rpc.specs.declared.reply.Refusal.{Refusal}
 use Rattle.rpc.specs.declared.reply.Refusal.TheVariants.{ParseError, InvalidRequest, MethodNotFound, InvalidParams, DocumentNotOpen, NotInitialized}
 use Rattle.rpc.specs.Messages.{Ident, named, numbered}
-use Rattle.rpc.specs.Replies.{Answer, told_capabilities, told_null, told_text, told_tokens, told_tree, told_error, capabilities, id_data, maybe_id_data, row_data, result_data, reply_data, document_data, error_data, rows_data, code_of, message_text}
+use Rattle.rpc.specs.Replies.{Answer, told_capabilities, told_null, told_text, told_tokens, told_tree, told_folds, told_selections, told_diagnostics, told_error, capabilities, id_data, maybe_id_data, row_data, result_data, reply_data, document_data, rows_data, fold_data, folds_data, selection_data, selections_data, diagnostic_list, published, code_of}
 
 pub if_ok : {T E : Type 0} {P Q : T → Type 0} (r : Result T E) → ((x : T) → P x → Q x) → IfOk r P → IfOk r Q
 if_ok (Ok x) f p = f x p
@@ -31,6 +31,25 @@ rows_are_whole : (rows : List (List ℕ × Range)) → items_have_float (items_o
 rows_are_whole [] = refl
 rows_are_whole (r ∷ rows) = rows_are_whole rows
 
+folds_are_whole : (pairs : List (ℕ × ℕ)) → items_have_float (items_of (map fold_data pairs)) ≡ false
+folds_are_whole [] = refl
+folds_are_whole (p ∷ pairs) = folds_are_whole pairs
+
+selection_is_whole : (ranges : List Range) → has_float (selection_data ranges) ≡ false
+selection_is_whole [] = refl
+selection_is_whole (r ∷ []) = refl
+selection_is_whole (r ∷ s ∷ rest) = ap (λ b. b || false) (selection_is_whole (s ∷ rest))
+
+selections_are_whole : (selections : List (List Range)) → items_have_float (items_of (map selection_data selections)) ≡ false
+selections_are_whole [] = refl
+selections_are_whole (s ∷ selections) = ap (λ b. b || items_have_float (items_of (map selection_data selections))) (selection_is_whole s) ∙ selections_are_whole selections
+
+published_is_whole : (uri : List ℕ) (version : Option ℤ) (d : Option (Range × List ℕ)) → has_float (published uri version (diagnostic_list d)) ≡ false
+published_is_whole uri None None = refl
+published_is_whole uri None (Some d) = refl
+published_is_whole uri (Some version) None = ap (λ b. b || false) (integer_is_whole version)
+published_is_whole uri (Some version) (Some d) = ap (λ b. b || false) (integer_is_whole version)
+
 result_is_whole : (id outcome : Data) → has_float id ≡ false → has_float outcome ≡ false → has_float (result_data id outcome) ≡ false
 result_is_whole id outcome e f = ap (λ b. b || (has_float outcome || false)) e ∙ ap (λ b. b || false) f
 
@@ -48,4 +67,7 @@ reply_is_whole (told_null id) = result_is_whole (id_data id) null (id_is_whole i
 reply_is_whole (told_text id version text) = result_is_whole (id_data id) (document_data version text) (id_is_whole id) (ap (λ b. b || false) (integer_is_whole version))
 reply_is_whole (told_tokens id rows) = result_is_whole (id_data id) (rows_data rows) (id_is_whole id) (rows_are_whole rows)
 reply_is_whole (told_tree id text) = result_is_whole (id_data id) (string text) (id_is_whole id) refl
+reply_is_whole (told_folds id pairs) = result_is_whole (id_data id) (folds_data pairs) (id_is_whole id) (folds_are_whole pairs)
+reply_is_whole (told_selections id selections) = result_is_whole (id_data id) (selections_data selections) (id_is_whole id) (selections_are_whole selections)
+reply_is_whole (told_diagnostics uri version d) = ap (λ b. b || false) (published_is_whole uri version d)
 reply_is_whole (told_error id refusal) = ap (λ b. (b || false) || (has_float (maybe_id_data id) || false)) (refusal_is_whole refusal) ∙ ap (λ b. b || false) (maybe_id_is_whole id)

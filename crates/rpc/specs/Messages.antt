@@ -5,6 +5,7 @@
 --     id_view, call_view, change_view, malformed_view, note_view, message_view      a message and its parts as such data
 --     fault_view fault, heard_of result      what was heard, where memory was not refused
 use Rattle.std.specs.Prelude.{ℤ, ℕ, Bool, List, map, Option, Some, None, Result, Ok, Err, option_map, string_bytes}
+use Rattle.definitions.specs.declared.Position.{Position}
 use Rattle.definitions.specs.declared.Range.{Range}
 use Rattle.rpc.specs.declared.message.Id.{Id}
 use Rattle.rpc.specs.declared.message.Id.TheVariants.{Text, Number}
@@ -25,11 +26,13 @@ pub data Ident : Type 0 where
   named : List ℕ → Ident
   numbered : ℤ → Ident
 
--- what can be asked about a document
+-- what can be asked about a document; selections have the positions around which they are asked
 pub data Question : Type 0 where
   its_text : Question
   its_tokens : Question
   its_tree : Question
+  its_folds : Question
+  its_selections : List Position → Question
 
 -- what a request asks; about a document it has the document's URI
 pub data Asked : Type 0 where
@@ -82,6 +85,8 @@ call_view call.Shutdown = shutdown
 call_view (call.Text uri) = about (string_bytes uri) its_text
 call_view (call.Tokens uri) = about (string_bytes uri) its_tokens
 call_view (call.Tree uri) = about (string_bytes uri) its_tree
+call_view (call.FoldingRange uri) = about (string_bytes uri) its_folds
+call_view (call.SelectionRange uri positions) = about (string_bytes uri) (its_selections positions.items)
 
 abbrev pub change_view : Change → ChangeSaid
 change_view c = record { range = c.range; text = string_bytes c.text }

@@ -3,7 +3,7 @@
 --     value_of content      the JSON value that it is, where it is one
 --     message_of d      what a JSON value is heard as: the tests, in their order
 --     request_of method id params, notice_of method params      what a request and a notification of a method are heard as
---     id_at, uri_at, version_at, document_text, position_of, range_of, change_of, changes_at      parts of a value, where they fit
+--     id_at, uri_at, version_at, document_text, position_of, positions_at, range_of, change_of, changes_at      parts of a value, where they fit
 --     Gives result heard      what a function returned is that, where memory was not refused
 use Rattle.std.specs.Prelude.{◌≡◌, ℕ, ℤ, ◌&&◌, ◌||◌, Bool, true, false, not, if◌then◌else◌, List, [], ◌∷◌, codes, Option, Some, None, Result, IfSome, option_map, option_and_then, unwrap_or, is_some, is_none}
 use Rattle.std.specs.Str.{is_utf8, bytes_eq}
@@ -15,7 +15,7 @@ use Rattle.definitions.specs.declared.Range.{Range}
 use Rattle.rpc.specs.declared.message.Message.{Message}
 use Rattle.rpc.specs.declared.message.RpcFault.{RpcFault}
 use Rattle.rpc.specs.Fields.{integer_of, text_at, integer_at, natural_at, has_key}
-use Rattle.rpc.specs.Messages.{Ident, named, numbered, Question, its_text, its_tokens, its_tree, initialize, shutdown, about, ChangeSaid, unfit_open, unfit_change, Told, initialized, exit, open_text, change_text, malformed, request, notice, ignored, invalid, unknown, params, Heard, unread, refused, said, heard_of}
+use Rattle.rpc.specs.Messages.{Ident, named, numbered, Question, its_text, its_tokens, its_tree, its_folds, its_selections, initialize, shutdown, about, ChangeSaid, unfit_open, unfit_change, Told, initialized, exit, open_text, change_text, malformed, request, notice, ignored, invalid, unknown, params, Heard, unread, refused, said, heard_of}
 
 -- ---- parts of a value
 
@@ -52,6 +52,19 @@ position_of d = place (natural_at (codes "line") d) (natural_at (codes "characte
 abbrev pub position_at : List ℕ → Data → Option Position
 position_at key d = option_and_then position_of (get key d)
 
+-- one thing and others, where all are there
+abbrev pub first_and : {X : Type 0} → Option X → Option (List X) → Option (List X)
+first_and (Some x) (Some xs) = Some (x ∷ xs)
+first_and _ _ = None
+
+-- the positions, where each item is one
+abbrev pub positions_of : Items → Option (List Position)
+positions_of no_items = Some []
+positions_of (item d ds) = first_and (position_of d) (positions_of ds)
+
+abbrev pub positions_at : Data → Option (List Position)
+positions_at d = option_and_then positions_of (option_and_then as_array (get (codes "positions") d))
+
 abbrev pub span : Option Position → Option Position → Option Range
 span (Some start) (Some end) = Some (record { start = start; end = end })
 span _ _ = None
@@ -71,14 +84,10 @@ change_with _ _ = None
 abbrev pub change_of : Data → Option ChangeSaid
 change_of d = change_with (text_at (codes "text") d) (maybe_range (get (codes "range") d))
 
-abbrev pub change_and : Option ChangeSaid → Option (List ChangeSaid) → Option (List ChangeSaid)
-change_and (Some c) (Some cs) = Some (c ∷ cs)
-change_and _ _ = None
-
 -- the changes, where each item is one
 abbrev pub changes_of : Items → Option (List ChangeSaid)
 changes_of no_items = Some []
-changes_of (item d ds) = change_and (change_of d) (changes_of ds)
+changes_of (item d ds) = first_and (change_of d) (changes_of ds)
 
 abbrev pub changes_at : Data → Option (List ChangeSaid)
 changes_at d = option_and_then changes_of (option_and_then as_array (get (codes "contentChanges") d))
@@ -94,14 +103,21 @@ abbrev pub asked_about : Question → Ident → Option (List ℕ) → Heard
 asked_about question id (Some uri) = said (request id (about uri question))
 asked_about question id None = refused (params id false)
 
+-- the parameters have that URI, and positions in the document
+abbrev pub asked_selections : Ident → Option (List ℕ) → Option (List Position) → Heard
+asked_selections id (Some uri) (Some positions) = said (request id (about uri (its_selections positions)))
+asked_selections id _ _ = refused (params id false)
+
 abbrev pub request_of : List ℕ → Ident → Data → Heard
 request_of method id d =
     if bytes_eq method (codes "initialize") then asked_initialize id d else (
     if bytes_eq method (codes "shutdown") then said (request id shutdown) else (
+    if bytes_eq method (codes "textDocument/foldingRange") then asked_about its_folds id (uri_at d) else (
+    if bytes_eq method (codes "textDocument/selectionRange") then asked_selections id (uri_at d) (positions_at d) else (
     if bytes_eq method (codes "lr/text") then asked_about its_text id (uri_at d) else (
     if bytes_eq method (codes "lr/tokens") then asked_about its_tokens id (uri_at d) else (
     if bytes_eq method (codes "lr/tree") then asked_about its_tree id (uri_at d) else
-    refused (unknown id)))))
+    refused (unknown id)))))))
 
 -- ---- notifications (the last argument is the parameters)
 

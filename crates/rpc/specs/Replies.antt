@@ -1,30 +1,41 @@
--- Replies as JSON values (JSON-RPC 2.0, "Response object").
---     Answer, reply_view reply      a reply as plain data, without where its texts lie in memory
+-- Replies and diagnostics as JSON values (JSON-RPC 2.0, "Response object", "Notification").
+--     Answer, reply_view reply      what is sent as plain data, without where its texts lie in memory
 --     reply_data answer      its JSON value
 --     code_of refusal, message_text refusal      its number and text (JSON-RPC 2.0, "Error object"; LSP 3.17, "ErrorCodes")
-use Rattle.std.specs.Prelude.{ℕ, ℤ, negsuc, true, List, map, codes, Option, Some, None, option_map, string_bytes}
+use Rattle.std.specs.Prelude.{ℕ, ℤ, negsuc, true, List, [], ◌∷◌, map, codes, Option, Some, None, option_map, unwrap_or, string_bytes}
 use Rattle.serde_json.specs.Data.{Data, null, boolean, number, unsigned, string, array, no_items, item, object, no_members, member}
 use Rattle.serde_json.specs.View.{items_of}
 use Rattle.serde_json.specs.Find.{of_integer}
 use Rattle.rpc.specs.declared.reply.Refusal.{Refusal}
 use Rattle.rpc.specs.declared.reply.Refusal.TheVariants.{ParseError, InvalidRequest, MethodNotFound, InvalidParams, DocumentNotOpen, NotInitialized}
+use Rattle.definitions.specs.declared.Diagnostic.{Diagnostic}
+use Rattle.definitions.specs.declared.Position.{Position}
 use Rattle.definitions.specs.declared.Range.{Range}
 use Rattle.rpc.specs.declared.reply.Row.{Row}
 use Rattle.rpc.specs.declared.reply.Reply.{Reply}
-use Rattle.rpc.specs.declared.reply.Reply.TheVariants.{Capabilities, Null, Text, Tokens, Tree, Error}
+use Rattle.rpc.specs.declared.reply.Reply.TheVariants.{Capabilities, Null, Text, Tokens, Tree, Folds, Selections, Error, Diagnostics}
 use Rattle.rpc.specs.Messages.{Ident, named, numbered, id_view}
 
+-- Replies begin with the id of their request. Folds are pairs of lines; each selection is its ranges from inner to outer. Diagnostics
+-- are those of a URI, of the version that is told, if one is: a range and a message, or none.
 pub data Answer : Type 0 where
   told_capabilities : Ident → Answer
   told_null : Ident → Answer
   told_text : Ident → ℤ → List ℕ → Answer
   told_tokens : Ident → List (List ℕ × Range) → Answer
   told_tree : Ident → List ℕ → Answer
+  told_folds : Ident → List (ℕ × ℕ) → Answer
+  told_selections : Ident → List (List Range) → Answer
   told_error : Option Ident → Refusal → Answer
+  told_diagnostics : List ℕ → Option ℤ → Option (Range × List ℕ) → Answer
 
 -- a token's name in UTF-8, and its range
 abbrev pub row_view : Row → List ℕ × Range
 row_view r = (string_bytes r.name, r.range)
+
+-- a range, and the message in UTF-8
+abbrev pub diagnostic_view : Diagnostic → Range × List ℕ
+diagnostic_view d = (d.range, string_bytes d.message)
 
 abbrev pub reply_view : Reply → Answer
 reply_view (Capabilities id) = told_capabilities (id_view id)
@@ -32,6 +43,9 @@ reply_view (Null id) = told_null (id_view id)
 reply_view (Text id version text) = told_text (id_view id) version (string_bytes text)
 reply_view (Tokens id rows) = told_tokens (id_view id) (map row_view rows.items)
 reply_view (Tree id text) = told_tree (id_view id) (string_bytes text)
+reply_view (Folds id pairs) = told_folds (id_view id) pairs.items
+reply_view (Selections id selections) = told_selections (id_view id) (map (λ s. s.items) selections.items)
+reply_view (Diagnostics uri version d) = told_diagnostics (string_bytes uri) version (option_map diagnostic_view d)
 reply_view (Error id refusal) = told_error (option_map id_view id) refusal
 
 abbrev pub id_data : Ident → Data
@@ -94,6 +108,71 @@ row_data r = array
 abbrev pub rows_data : List (List ℕ × Range) → Data
 rows_data rows = array (items_of (map row_data rows))
 
+-- LSP 3.17, "FoldingRange"
+abbrev pub fold_data : ℕ × ℕ → Data
+fold_data p = object
+    (member (codes "endLine") (number (unsigned p.1))
+    (member (codes "startLine") (number (unsigned p.0)) no_members))
+
+abbrev pub folds_data : List (ℕ × ℕ) → Data
+folds_data pairs = array (items_of (map fold_data pairs))
+
+-- LSP 3.17, "Position" and "Range"
+abbrev pub position_data : Position → Data
+position_data p = object
+    (member (codes "character") (number (unsigned p.character))
+    (member (codes "line") (number (unsigned p.line)) no_members))
+
+abbrev pub range_data : Range → Data
+range_data r = object
+    (member (codes "end") (position_data r.end)
+    (member (codes "start") (position_data r.start) no_members))
+
+-- LSP 3.17, "SelectionRange"
+abbrev pub with_parent : Data → Option Data → Data
+with_parent range None = object (member (codes "range") range no_members)
+with_parent range (Some parent) = object (member (codes "parent") parent (member (codes "range") range no_members))
+
+-- each range has the next one as its parent
+abbrev pub nested : List Range → Option Data
+nested [] = None
+nested (r ∷ rest) = Some (with_parent (range_data r) (nested rest))
+
+abbrev pub selection_data : List Range → Data
+selection_data ranges = unwrap_or (nested ranges) null
+
+abbrev pub selections_data : List (List Range) → Data
+selections_data selections = array (items_of (map selection_data selections))
+
+-- LSP 3.17, "Diagnostic": severity 1 is an error
+abbrev pub diagnostic_data : Range × List ℕ → Data
+diagnostic_data d = object
+    (member (codes "message") (string d.1)
+    (member (codes "range") (range_data d.0)
+    (member (codes "severity") (number (unsigned 1))
+    (member (codes "source") (string (codes "lrls")) no_members))))
+
+abbrev pub diagnostic_list : Option (Range × List ℕ) → Data
+diagnostic_list None = array no_items
+diagnostic_list (Some d) = array (item (diagnostic_data d) no_items)
+
+-- LSP 3.17, "PublishDiagnosticsParams"
+abbrev pub published : List ℕ → Option ℤ → Data → Data
+published uri None diagnostics = object
+    (member (codes "diagnostics") diagnostics
+    (member (codes "uri") (string uri) no_members))
+published uri (Some version) diagnostics = object
+    (member (codes "diagnostics") diagnostics
+    (member (codes "uri") (string uri)
+    (member (codes "version") (number (of_integer version)) no_members)))
+
+-- JSON-RPC 2.0, "Notification"
+abbrev pub notice_data : List ℕ → Data → Data
+notice_data method parameters = object
+    (member (codes "jsonrpc") (string (codes "2.0"))
+    (member (codes "method") (string method)
+    (member (codes "params") parameters no_members)))
+
 abbrev pub result_data : Data → Data → Data
 result_data id outcome = object
     (member (codes "id") id
@@ -117,4 +196,8 @@ reply_data (told_null id) = result_data (id_data id) null
 reply_data (told_text id version text) = result_data (id_data id) (document_data version text)
 reply_data (told_tokens id rows) = result_data (id_data id) (rows_data rows)
 reply_data (told_tree id text) = result_data (id_data id) (string text)
+reply_data (told_folds id pairs) = result_data (id_data id) (folds_data pairs)
+reply_data (told_selections id selections) = result_data (id_data id) (selections_data selections)
+reply_data (told_diagnostics uri version d) =
+    notice_data (codes "textDocument/publishDiagnostics") (published uri version (diagnostic_list d))
 reply_data (told_error id refusal) = error_data (maybe_id_data id) (code_of refusal) (message_text refusal)

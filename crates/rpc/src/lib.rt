@@ -1,4 +1,5 @@
-//! Messages and replies (JSON-RPC 2.0): `read` tells which message a content is, `to_bytes` writes a reply.
+//! Messages, replies and diagnostics (JSON-RPC 2.0): `read` tells which message a content is, `to_bytes` writes what is
+//! sent.
 #![tactic(auto)]
 
 mod fields;
@@ -8,7 +9,7 @@ mod parts;
 mod reading;
 mod reply;
 
-pub use definitions::{Position, Range};
+pub use definitions::{Diagnostic, Position, Range};
 pub use laws::{one_hearing, some_hearing};
 pub use message::{Call, Change, Id, Malformed, Message, Note, RpcFault};
 pub use reading::read;

@@ -3,7 +3,7 @@
 ghost use Rattle.std.specs.Prelude.{◌≡◌};
 ghost use Rattle.rpc.specs.declared.message.RpcFault.TheVariants.{Memory};
 
-use definitions::Range;
+use definitions::{Position, Range};
 use std::alloc::{AllocError, AllocFailed};
 
 /// What a request is named by, and its reply with it (JSON-RPC 2.0, "Request object").
@@ -28,12 +28,27 @@ pub enum Call {
     Initialize,
     /// `shutdown` (LSP 3.17, "Shutdown Request").
     Shutdown,
+    /// `textDocument/foldingRange` (LSP 3.17, "Folding Range Request").
+    FoldingRange {
+        uri: String,
+    },
+    /// `textDocument/selectionRange` (LSP 3.17, "Selection Range Request").
+    SelectionRange {
+        uri: String,
+        positions: Vec<Position>,
+    },
     /// `lr/text`: the text of a document.
-    Text { uri: String },
+    Text {
+        uri: String,
+    },
     /// `lr/tokens`: the tokens of a document.
-    Tokens { uri: String },
+    Tokens {
+        uri: String,
+    },
     /// `lr/tree`: the tree of a document.
-    Tree { uri: String },
+    Tree {
+        uri: String,
+    },
 }
 
 /// A notification whose parameters don't fit.

@@ -1,10 +1,10 @@
 //! The parts of a message.
 
 ghost use Rattle.std.specs.Prelude.{◌≡◌, codes, option_map, IfOk};
-ghost use Rattle.serde_json.specs.View.{view};
+ghost use Rattle.serde_json.specs.View.{view, items_view};
 ghost use Rattle.rpc.specs.Fields.{text_at};
 ghost use Rattle.rpc.specs.Messages.{id_view};
-ghost use Rattle.rpc.specs.Reading.{ident_of, id_at, uri_at, version_at, document_text, position_of, position_at, range_of, is_text, is_reply, is_invalid};
+ghost use Rattle.rpc.specs.Reading.{ident_of, id_at, uri_at, version_at, document_text, position_of, position_at, positions_of, positions_at, range_of, is_text, is_reply, is_invalid};
 
 use crate::fields::{has_key, integer_at, integer_of, natural_at, text_at};
 use crate::message::Id;
@@ -68,6 +68,32 @@ fn position_at(value: &Value, key: &str) -> Option<Position>
     ensures { result ≡ position_at key.now (view value.now) }
 {
     position_of(value.get(key)?)
+}
+
+/// The positions, where each item is one.
+fn positions_of(alloc: Global, items: &[Value]) -> Result<Option<Vec<Position>>, AllocError>
+    ensures { IfOk result (λ positions.
+        option_map (λ v. v.items) positions ≡ positions_of (items_view items.now)) }
+{
+    let mut positions = Vec::new(alloc);
+    for item in items {
+        match position_of(item) {
+            Some(position) => positions.push(position)?,
+            None => return Ok(None),
+        }
+    }
+    Ok(Some(positions))
+}
+
+/// The positions that the parameters name, where they are a list and each item is one.
+pub fn positions_at(alloc: Global, params: &Value) -> Result<Option<Vec<Position>>, AllocError>
+    ensures { IfOk result (λ positions.
+        option_map (λ v. v.items) positions ≡ positions_at (view params.now)) }
+{
+    match params.get("positions") {
+        Some(Value::Array(items)) => positions_of(alloc, items),
+        _ => Ok(None),
+    }
 }
 
 /// A range (LSP 3.17, "Range").

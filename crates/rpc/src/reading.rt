@@ -4,12 +4,14 @@ ghost use Rattle.std.specs.Prelude.{◌≡◌, Some, codes, map, option_map, opt
 ghost use Rattle.serde_json.specs.Find.{get};
 ghost use Rattle.serde_json.specs.View.{view, items_view};
 ghost use Rattle.rpc.specs.Fields.{text_at};
-ghost use Rattle.rpc.specs.Messages.{said, refused, params, its_text, its_tokens, its_tree, id_view, change_view, note_view, message_view, fault_view, heard_of};
-ghost use Rattle.rpc.specs.Reading.{maybe_range, change_of, changes_of, changes_at, opening, changing, asked_initialize, asked_about, request_of, notice_of, of_method, message_of, uri_at, params_at, Gives, Hears};
+ghost use Rattle.rpc.specs.Messages.{said, refused, params, its_text, its_tokens, its_tree, its_folds, id_view, change_view, note_view, message_view, fault_view, heard_of};
+ghost use Rattle.rpc.specs.Reading.{maybe_range, change_of, changes_of, changes_at, opening, changing, asked_initialize, asked_about, asked_selections, request_of, notice_of, of_method, message_of, uri_at, positions_at, params_at, Gives, Hears};
 
 use crate::fields::text_at;
 use crate::message::{Call, Change, Id, Malformed, Message, Note, RpcFault};
-use crate::parts::{document_text, id_at, is_invalid, is_reply, range_of, uri_at, version_at};
+use crate::parts::{
+    document_text, id_at, is_invalid, is_reply, positions_at, range_of, uri_at, version_at,
+};
 use definitions::Range;
 use serde_json::Value;
 use std::alloc::{AllocError, Global};
@@ -159,6 +161,29 @@ fn asked_tree(alloc: Global, id: Id, params: &Value) -> Result<Message, RpcFault
     }
 }
 
+/// A `textDocument/foldingRange`, whose parameters name a document.
+fn asked_folds(alloc: Global, id: Id, params: &Value) -> Result<Message, RpcFault>
+    ensures { Gives result (asked_about its_folds (id_view id) (uri_at (view params.now))) }
+{
+    match copied_uri(alloc, params)? {
+        Some(uri) => Ok(Message::Request(id, Call::FoldingRange { uri })),
+        None => Err(misfit(id)),
+    }
+}
+
+/// A `textDocument/selectionRange`, whose parameters name a document and positions in it.
+fn asked_selections(alloc: Global, id: Id, params: &Value) -> Result<Message, RpcFault>
+    ensures { let uri = uri_at (view params.now) in
+        Gives result (asked_selections (id_view id) uri (positions_at (view params.now))) }
+{
+    match (copied_uri(alloc, params)?, positions_at(alloc, params)?) {
+        (Some(uri), Some(positions)) => {
+            Ok(Message::Request(id, Call::SelectionRange { uri, positions }))
+        }
+        _ => Err(misfit(id)),
+    }
+}
+
 /// The request of a method.
 fn request_of(alloc: Global, method: &str, id: Id, params: &Value) -> Result<Message, RpcFault>
     ensures { Gives result (request_of method.now (id_view id) (view params.now)) }
@@ -167,6 +192,10 @@ fn request_of(alloc: Global, method: &str, id: Id, params: &Value) -> Result<Mes
         asked_initialize(id, params)
     } else if method == "shutdown" {
         Ok(Message::Request(id, Call::Shutdown))
+    } else if method == "textDocument/foldingRange" {
+        asked_folds(alloc, id, params)
+    } else if method == "textDocument/selectionRange" {
+        asked_selections(alloc, id, params)
     } else if method == "lr/text" {
         asked_text(alloc, id, params)
     } else if method == "lr/tokens" {

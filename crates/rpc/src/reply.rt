@@ -5,10 +5,10 @@ ghost use Rattle.serde_json.specs.Data.{string};
 ghost use Rattle.serde_json.specs.View.{view};
 ghost use Rattle.serde_json.specs.Written.{compact_text};
 ghost use Rattle.rpc.specs.Messages.{id_view};
-ghost use Rattle.rpc.specs.Replies.{id_data, maybe_id_data, code_of, message_text, capabilities, result_data, error_data, document_data, row_data, row_view, rows_data, reply_data, reply_view};
+ghost use Rattle.rpc.specs.Replies.{id_data, maybe_id_data, code_of, message_text, capabilities, result_data, error_data, document_data, row_data, row_view, rows_data, fold_data, folds_data, position_data, range_data, with_parent, selection_data, selections_data, diagnostic_data, diagnostic_view, diagnostic_list, published, notice_data, reply_data, reply_view};
 
 use crate::message::Id;
-use definitions::Range;
+use definitions::{Diagnostic, Position, Range};
 use serde_json::{Value, json};
 use std::alloc::{AllocError, Global};
 
@@ -31,21 +31,55 @@ pub struct Row {
     pub range: Range,
 }
 
-/// What is replied to a request.
+/// What is sent: the reply to a request, or diagnostics.
 #[derive(Debug, Drop)]
 pub enum Reply {
     /// What the server can do, for `initialize` (LSP 3.17, "InitializeResult").
-    Capabilities { id: Id },
+    Capabilities {
+        id: Id,
+    },
     /// The result is `null`.
-    Null { id: Id },
+    Null {
+        id: Id,
+    },
     /// A document's text and version, for `lr/text`.
-    Text { id: Id, version: i32, text: String },
+    Text {
+        id: Id,
+        version: i32,
+        text: String,
+    },
     /// A document's tokens, for `lr/tokens`.
-    Tokens { id: Id, rows: Vec<Row> },
+    Tokens {
+        id: Id,
+        rows: Vec<Row>,
+    },
     /// The text of a document's tree, for `lr/tree`.
-    Tree { id: Id, text: String },
+    Tree {
+        id: Id,
+        text: String,
+    },
+    /// The first and last lines of what can be folded, for `textDocument/foldingRange`.
+    Folds {
+        id: Id,
+        pairs: Vec<(u32, u32)>,
+    },
+    /// For each position the ranges that can be selected around it, from inner to outer, for
+    /// `textDocument/selectionRange`.
+    Selections {
+        id: Id,
+        selections: Vec<Vec<Range>>,
+    },
+    /// The diagnostics of a document, which no request asks for (LSP 3.17, "PublishDiagnostics Notification").
+    Diagnostics {
+        uri: String,
+        version: Option<i32>,
+        diagnostic: Option<Diagnostic>,
+    },
     /// There is no id where the request's can't be read.
-    Error { id: Option<Id>, refusal: Refusal },
+    Error {
+        id: Option<Id>,
+        refusal: Refusal,
+    },
 }
 
 /// The JSON value of an id.
@@ -137,6 +171,121 @@ fn rows_value(alloc: Global, rows: &[Row]) -> Result<Value, AllocError>
     Ok(Value::Array(values))
 }
 
+/// The first and last line of what can be folded (LSP 3.17, "FoldingRange").
+fn fold_value(alloc: Global, pair: (u32, u32)) -> Result<Value, AllocError>
+    ensures { IfOk result (λ v. view v ≡ fold_data pair) }
+{
+    json!(in alloc; {"endLine": pair.1, "startLine": pair.0})
+}
+
+/// The folds, in order.
+fn folds_value(alloc: Global, pairs: &[(u32, u32)]) -> Result<Value, AllocError>
+    ensures { IfOk result (λ v. view v ≡ folds_data pairs.now) }
+{
+    let mut values = Vec::with_capacity(alloc, pairs.len())?;
+    for pair in pairs {
+        values.push(fold_value(alloc, *pair)?)?;
+    }
+    Ok(Value::Array(values))
+}
+
+/// A position (LSP 3.17, "Position").
+fn position_value(alloc: Global, position: Position) -> Result<Value, AllocError>
+    ensures { IfOk result (λ v. view v ≡ position_data position) }
+{
+    json!(in alloc; {"character": position.character, "line": position.line})
+}
+
+/// A range (LSP 3.17, "Range").
+fn range_value(alloc: Global, range: Range) -> Result<Value, AllocError>
+    ensures { IfOk result (λ v. view v ≡ range_data range) }
+{
+    let end = position_value(alloc, range.end)?;
+    let start = position_value(alloc, range.start)?;
+    json!(in alloc; {"end": end, "start": start})
+}
+
+/// A range, and those around it as its parent (LSP 3.17, "SelectionRange").
+fn with_parent(alloc: Global, range: Range, parent: Option<Value>) -> Result<Value, AllocError>
+    ensures { IfOk result (λ v. view v ≡ with_parent (range_data range) (option_map view parent)) }
+{
+    let range = range_value(alloc, range)?;
+    match parent {
+        Some(parent) => json!(in alloc; {"parent": parent, "range": range}),
+        None => json!(in alloc; {"range": range}),
+    }
+}
+
+/// Ranges from inner to outer, each with the next one as its parent.
+fn selection_value(alloc: Global, ranges: &[Range]) -> Result<Value, AllocError>
+    ensures { IfOk result (λ v. view v ≡ selection_data ranges.now) }
+{
+    let mut parent = None;
+    for i in 0..ranges.len() {
+        parent = Some(with_parent(alloc, ranges[ranges.len() - 1 - i], parent)?);
+    }
+    Ok(parent.unwrap_or(Value::Null))
+}
+
+/// The selections, in order.
+fn selections_value(alloc: Global, selections: &[Vec<Range>]) -> Result<Value, AllocError>
+    ensures { IfOk result (λ v.
+        view v ≡ selections_data (map (λ s. s.items) selections.now)) }
+{
+    let mut values = Vec::with_capacity(alloc, selections.len())?;
+    for ranges in selections {
+        values.push(selection_value(alloc, ranges)?)?;
+    }
+    Ok(Value::Array(values))
+}
+
+/// A diagnostic (LSP 3.17, "Diagnostic").
+fn diagnostic_value(alloc: Global, diagnostic: &Diagnostic) -> Result<Value, AllocError>
+    ensures { IfOk result (λ v. view v ≡ diagnostic_data (diagnostic_view diagnostic.now)) }
+{
+    let range = range_value(alloc, diagnostic.range)?;
+    let message = diagnostic.message.as_str();
+    json!(in alloc; {"message": message, "range": range, "severity": 1, "source": "lrls"})
+}
+
+/// The list of one diagnostic, or of none.
+fn diagnostic_list(alloc: Global, diagnostic: &Option<Diagnostic>) -> Result<Value, AllocError>
+    ensures { IfOk result (λ v.
+        view v ≡ diagnostic_list (option_map diagnostic_view diagnostic.now)) }
+{
+    match diagnostic {
+        Some(diagnostic) => {
+            let diagnostic = diagnostic_value(alloc, diagnostic)?;
+            json!(in alloc; [diagnostic])
+        }
+        None => json!(in alloc; []),
+    }
+}
+
+/// Diagnostics with their URI, and with their version where they have one (LSP 3.17, "PublishDiagnosticsParams").
+fn published(
+    alloc: Global,
+    uri: &str,
+    version: Option<i32>,
+    diagnostics: Value,
+) -> Result<Value, AllocError>
+    ensures { IfOk result (λ v. view v ≡ published uri.now version (view diagnostics)) }
+{
+    match version {
+        Some(version) => {
+            json!(in alloc; {"diagnostics": diagnostics, "uri": uri, "version": version})
+        }
+        None => json!(in alloc; {"diagnostics": diagnostics, "uri": uri}),
+    }
+}
+
+/// A notification (JSON-RPC 2.0, "Notification").
+fn notice_value(alloc: Global, method: &str, params: Value) -> Result<Value, AllocError>
+    ensures { IfOk result (λ v. view v ≡ notice_data method.now (view params)) }
+{
+    json!(in alloc; {"jsonrpc": "2.0", "method": method, "params": params})
+}
+
 /// A reply with a result.
 fn result_value(alloc: Global, id: Value, outcome: Value) -> Result<Value, AllocError>
     ensures { IfOk result (λ v. view v ≡ result_data (view id) (view outcome)) }
@@ -171,6 +320,23 @@ fn reply_value(alloc: Global, reply: &Reply) -> Result<Value, AllocError>
         Reply::Tree { id, text } => {
             let text = Value::String(String::from_str(alloc, text.as_str())?);
             result_value(alloc, id_value(alloc, id)?, text)
+        }
+        Reply::Folds { id, pairs } => {
+            let folds = folds_value(alloc, pairs)?;
+            result_value(alloc, id_value(alloc, id)?, folds)
+        }
+        Reply::Selections { id, selections } => {
+            let selections = selections_value(alloc, selections)?;
+            result_value(alloc, id_value(alloc, id)?, selections)
+        }
+        Reply::Diagnostics {
+            uri,
+            version,
+            diagnostic,
+        } => {
+            let list = diagnostic_list(alloc, diagnostic)?;
+            let params = published(alloc, uri.as_str(), *version, list)?;
+            notice_value(alloc, "textDocument/publishDiagnostics", params)
         }
         Reply::Error { id, refusal } => {
             let id = maybe_id_value(alloc, id)?;

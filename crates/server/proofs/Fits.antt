@@ -1,6 +1,6 @@
 -- Texts that fit, and that a session keeps its file and holds only such texts.
 use Rattle.std.proofs.Common.{◌≡◌, ◌≢◌, ◌≤◌, ◌<◌, ◌+◌, ℕ, ℤ, Bool, true, false, cond, List, [], ◌∷◌, ◌++◌, length, map, drop, get_or, string_bytes, refl, sym, ap, subst, ◌∙◌, arith, leb-true, leb-false, le-leb}
-use Rattle.std.specs.Prelude.{Option, Some, None, IfSome, MatchOption, ◌&&◌, ◌||◌, nat_lt, nat_le, is_some, encode_utf8_all}
+use Rattle.std.specs.Prelude.{Option, Some, None, option_map, IfSome, MatchOption, ◌&&◌, nat_le, encode_utf8_all}
 use Rattle.std.specs.Str.{chars, all_scalars, IsUtf8}
 use Rattle.std.specs.List.{AllByRecursion}
 use Rattle.std.proofs.lemmas.Bool.{and_from, and_parts, lt-leb}
@@ -26,7 +26,7 @@ use Rattle.server.specs.declared.state.Phase.{Phase}
 use Rattle.server.specs.declared.state.Phase.TheVariants.{New, Ready, Down}
 use Rattle.server.specs.Documents.{OpenDocument, Held, fits, edited, has_room}
 use Rattle.server.specs.Languages.{AlwaysAnswers}
-use Rattle.server.specs.Steps.{State, first_state, Asks, Tells, Step, opened, changed_document, edited_document}
+use Rattle.server.specs.Steps.{State, first_state, Asks, Holds, Tells, Step, opened, changed_document}
 use Rattle.server.specs.Runs.{Run}
 use Rattle.server.specs.Sessions.{AllFit, CanServe}
 
@@ -77,7 +77,7 @@ spelled_again t fit = chars-encodes t (and_parts _ (nat_le (length (encode_utf8_
 
 -- ---- what a look-up finds after a document was inserted
 
-same_uri : (uri : List ℕ) → eq_by_cmp (slice_cmp nat_cmp) uri uri ≡ true
+pub same_uri : (uri : List ℕ) → eq_by_cmp (slice_cmp nat_cmp) uri uri ≡ true
 same_uri uri = (eq_by_cmp_equiv nat_list_cmp_total).refl uri
 
 pub get_inserted : (documents : Held) (uri : List ℕ) (document : OpenDocument) → get (insert documents uri document) uri ≡ Some document
@@ -99,21 +99,21 @@ get_other documents uri other document apart = get-insert nat_list_cmp_total doc
 none_fits : AllFit empty
 none_fits uri document found = absurd (let e : Some document ≡ None = sym found ∙ get-empty (slice_cmp nat_cmp) uri in let f : ⊥ = cc in f)
 
-one_more_fits : (documents : Held) (uri : List ℕ) (version : ℤ) (text : List ℕ) → AllFit documents → fits text ≡ true → AllFit (insert documents uri (record { version = version; text = text }))
-one_more_fits documents uri version text all fit other document found =
-    by (eq_by_cmp (slice_cmp nat_cmp) other uri) (sym (get-insert nat_list_cmp_total documents uri (record { version = version; text = text }) other) ∙ found)
+one_more_fits : (documents : Held) (uri : List ℕ) (one : OpenDocument) → AllFit documents → fits one.text ≡ true → AllFit (insert documents uri one)
+one_more_fits documents uri one all fit other document found =
+    by (eq_by_cmp (slice_cmp nat_cmp) other uri) (sym (get-insert nat_list_cmp_total documents uri one other) ∙ found)
   where
-    by : (b : Bool) → cond b (Some (record { version = version; text = text })) (get documents other) ≡ Some document → fits document.text ≡ true
-    by true e = let same : record { version = version; text = text } ≡ document = cc in subst (λ (d : OpenDocument). fits d.text ≡ true) same fit
+    by : (b : Bool) → cond b (Some one) (get documents other) ≡ Some document → fits document.text ≡ true
+    by true e = let same : one ≡ document = cc in subst (λ (d : OpenDocument). fits d.text ≡ true) same fit
     by false e = all other document e
 
-opened_fits : (documents : Held) (uri : List ℕ) (version : ℤ) (text : List ℕ) → AllFit documents → AllFit (opened documents uri version text)
-opened_fits documents uri version text all = by (has_room uri documents) (fits text) refl
+pub opened_fits : (documents : Held) (uri : List ℕ) (version : ℤ) (text : List ℕ) (d : OpenDocument) → opened documents uri version text ≡ Some d → fits d.text ≡ true
+opened_fits documents uri version text d e = by (has_room uri documents) (fits text) refl e
   where
-    by : (r b : Bool) → fits text ≡ b → AllFit (cond r (cond b (insert documents uri (record { version = version; text = text })) documents) documents)
-    by true true e = one_more_fits documents uri version text all e
-    by true false e = all
-    by false b e = all
+    by : (r b : Bool) → fits text ≡ b → cond (r && b) (Some (record { version = version; text = text })) None ≡ Some d → fits d.text ≡ true
+    by true true fit is = let same : record { version = version; text = text } ≡ d = cc in subst (λ (x : OpenDocument). fits x.text ≡ true) same fit
+    by true false fit is = absurd (let f : ⊥ = cc in f)
+    by false b fit is = absurd (let f : ⊥ = cc in f)
 
 edited_fits : (text : List ℕ) (changes : List ChangeSaid) (new : List ℕ) → fits text ≡ true → edited text changes ≡ Some new → fits new ≡ true
 edited_fits text [] new fit e = let same : text ≡ new = cc in subst (λ t. fits t ≡ true) same fit
@@ -123,16 +123,18 @@ edited_fits text (c ∷ cs) new fit e = by (fits (changed Utf16 text c.range (ch
     by true f h more = more f h
     by false f h more = absurd (let g : ⊥ = cc in g)
 
-changed_fits : (documents : Held) (uri : List ℕ) (version : ℤ) (changes : List ChangeSaid) → AllFit documents → AllFit (changed_document documents uri version changes (get documents uri))
-changed_fits documents uri version changes all = by (get documents uri) refl
+pub changed_fits : (documents : Held) (uri : List ℕ) (version : ℤ) (changes : List ChangeSaid) → AllFit documents → (d : OpenDocument) → changed_document version changes (get documents uri) ≡ Some d → fits d.text ≡ true
+changed_fits documents uri version changes all d = by (get documents uri) refl
   where
-    by_edits : (d : OpenDocument) → fits d.text ≡ true → (o : Option (List ℕ)) → edited d.text changes ≡ o → AllFit (edited_document documents uri version o)
-    by_edits d fit None e = all
-    by_edits d fit (Some text) e = one_more_fits documents uri version text all (edited_fits d.text changes text fit e)
+    by_edits : (old : OpenDocument) → fits old.text ≡ true → (o : Option (List ℕ)) → edited old.text changes ≡ o → option_map (λ text. record { version = version; text = text }) o ≡ Some d → fits d.text ≡ true
+    by_edits old fit None e is = absurd (let f : ⊥ = cc in f)
+    by_edits old fit (Some text) e is =
+        let same : record { version = version; text = text } ≡ d = cc in
+        subst (λ (x : OpenDocument). fits x.text ≡ true) same (edited_fits old.text changes text fit e)
 
-    by : (o : Option OpenDocument) → get documents uri ≡ o → AllFit (changed_document documents uri version changes o)
-    by None e = all
-    by (Some d) e = by_edits d (all uri d e) (edited d.text changes) refl
+    by : (o : Option OpenDocument) → get documents uri ≡ o → changed_document version changes o ≡ Some d → fits d.text ≡ true
+    by None e is = absurd (let f : ⊥ = cc in f)
+    by (Some old) e is = by_edits old (all uri old e) (edited old.text changes) refl is
 
 pub found_fits : (documents : Held) (uri : List ℕ) → AllFit documents → IfSome (get documents uri) (λ d. fits d.text ≡ true)
 found_fits documents uri all = by (get documents uri) refl
@@ -154,6 +156,10 @@ same_state old new e = record { file = ap (λ (s : State). s.file) e; fit = λ a
 next_state : (old new : State) (phase : Phase) (documents : Held) → (AllFit old.documents → AllFit documents) → new ≡ record { file = old.file; phase = phase; documents = documents } → Keeps old new
 next_state old new phase documents fit e = record { file = ap (λ (s : State). s.file) e; fit = λ all. subst (λ (s : State). AllFit s.documents) (sym e) (fit all) }
 
+holds_keeps : (old : State) (uri : List ℕ) (o : Option OpenDocument) (answers : List Answer) (stop : Option ℕ) (new : State) → (AllFit old.documents → (d : OpenDocument) → o ≡ Some d → fits d.text ≡ true) → Holds old uri o answers stop new → Keeps old new
+holds_keeps old uri None answers stop new fit s = same_state old new s.2
+holds_keeps old uri (Some d) answers stop new fit s = next_state old new old.phase (insert old.documents uri d) (λ all. one_more_fits old.documents uri d all (fit all d refl)) s.4
+
 asks_keep : (phase : Phase) (old : State) (id : Ident) (asked : Asked) (answers : List Answer) (stop : Option ℕ) (new : State) → Asks phase old id asked answers stop new → Keeps old new
 asks_keep New old id initialize answers stop new s = next_state old new Ready old.documents (λ all. all) s.2
 asks_keep New old id shutdown answers stop new s = same_state old new s.2
@@ -171,8 +177,8 @@ tells_keep New old (change_text uri version changes) answers stop new s = same_s
 tells_keep New old (malformed unfit) answers stop new s = same_state old new s.2
 tells_keep Ready old initialized answers stop new s = same_state old new s.2
 tells_keep Ready old exit answers stop new s = same_state old new s.2
-tells_keep Ready old (open_text uri version text) answers stop new s = next_state old new old.phase _ (opened_fits old.documents uri version (chars text)) s.2
-tells_keep Ready old (change_text uri version changes) answers stop new s = next_state old new old.phase _ (changed_fits old.documents uri version changes) s.2
+tells_keep Ready old (open_text uri version text) answers stop new s = holds_keeps old uri _ answers stop new (λ all. opened_fits old.documents uri version (chars text)) s
+tells_keep Ready old (change_text uri version changes) answers stop new s = holds_keeps old uri _ answers stop new (changed_fits old.documents uri version changes) s
 tells_keep Ready old (malformed unfit) answers stop new s = same_state old new s.2
 tells_keep Down old initialized answers stop new s = same_state old new s.2
 tells_keep Down old exit answers stop new s = same_state old new s.2
@@ -180,7 +186,7 @@ tells_keep Down old (open_text uri version text) answers stop new s = same_state
 tells_keep Down old (change_text uri version changes) answers stop new s = same_state old new s.2
 tells_keep Down old (malformed unfit) answers stop new s = same_state old new s.2
 
-step_keeps : (old : State) (heard : Heard) (answers : List Answer) (stop : Option ℕ) (new : State) → Step old heard answers stop new → Keeps old new
+pub step_keeps : (old : State) (heard : Heard) (answers : List Answer) (stop : Option ℕ) (new : State) → Step old heard answers stop new → Keeps old new
 step_keeps old unread answers stop new s = same_state old new s.2
 step_keeps old (refused (invalid id)) answers stop new s = same_state old new s.2
 step_keeps old (refused (unknown id)) answers stop new s = same_state old new s.2

@@ -12,9 +12,9 @@ use Rattle.std.specs.declared.cmp.Ordering.TheVariants.{Less}
 use Rattle.std.specs.FinMap.{get, insert, len, contains_key, find, get-from_entries, get-insert, len-empty, len-insert, same_map, slice_cmp-IsAntisymmetric, nat_cmp-IsAntisymmetric}
 use Rattle.std.proofs.lemmas.Cmp.{nat_list_cmp_total}
 use Rattle.std.proofs.lemmas.Map.Text.{is_eq-slice_cmp}
-use Rattle.grammar.specs.Grammars.{FileGrammar}
 use Rattle.server.specs.declared.document.Document.{Document}
 use Rattle.server.specs.Documents.{OpenDocument, open_document, documents_of, entry_at, IsCurrent, AreCurrent}
+use Rattle.server.specs.Languages.{LanguageData}
 
 map_cond : {A B : Type 0} (f : A → B) (b : Bool) (x : A) (o : Option A) → option_map f (cond b (Some x) o) ≡ cond b (Some (f x)) (option_map f o)
 map_cond f true x o = refl
@@ -52,17 +52,17 @@ len_held (e ∷ es) sorted =
     omega (arith, one, len_held es sorted.1)
 
 -- one more document that is current
-pub insert_current : {Y : Type 0} (file : FileGrammar) (es fs : List (String Y × Document)) (uri : List ℕ) (document : Document) → ((q : List ℕ) → entry_at fs q ≡ cond (bytes_eq uri q) (Some document) (entry_at es q)) → AreCurrent file es → IsCurrent file document → AreCurrent file fs
-insert_current file es fs uri document differs all is q d found = by (bytes_eq uri q) (sym (differs q) ∙ found)
+pub insert_current : {Y : Type 0} (language : LanguageData) (es fs : List (String Y × Document)) (uri : List ℕ) (document : Document) → ((q : List ℕ) → entry_at fs q ≡ cond (bytes_eq uri q) (Some document) (entry_at es q)) → AreCurrent language es → IsCurrent language document → AreCurrent language fs
+insert_current language es fs uri document differs all is q d found = by (bytes_eq uri q) (sym (differs q) ∙ found)
   where
-    by : (b : Bool) → cond b (Some document) (entry_at es q) ≡ Some d → IsCurrent file d
-    by true e = let same : document ≡ d = cc in subst (λ (x : Document). IsCurrent file x) same is
+    by : (b : Bool) → cond b (Some document) (entry_at es q) ≡ Some d → IsCurrent language d
+    by true e = let same : document ≡ d = cc in subst (λ (x : Document). IsCurrent language x) same is
     by false e = all q d e
 
 -- what is found has what all have
-pub found_current : {A : Type 0} (f : A → Document) (file : FileGrammar) (result : Option A) (o : Option Document) → option_map f result ≡ o → ((d : Document) → o ≡ Some d → IsCurrent file d) → IfSome result (λ a. IsCurrent file (f a))
-found_current f file None o e all = tt
-found_current f file (Some a) o e all = all (f a) (sym e)
+pub found_current : {A : Type 0} (f : A → Document) (language : LanguageData) (result : Option A) (o : Option Document) → option_map f result ≡ o → ((d : Document) → o ≡ Some d → IsCurrent language d) → IfSome result (λ a. IsCurrent language (f a))
+found_current f language None o e all = tt
+found_current f language (Some a) o e all = all (f a) (sym e)
 
 pub map_twice : {A B C : Type 0} (f : A → B) (g : B → C) (o : Option A) → option_map (λ a. g (f a)) o ≡ option_map g (option_map f o)
 map_twice f g None = refl

@@ -1,6 +1,8 @@
 mod Held
 mod Current
+mod Holding
 mod Fits
+mod Trees
 mod Totals
 mod Runs
 mod Parts

@@ -4,9 +4,9 @@
 --     fits text      it is a text of Unicode characters, and isn't too long
 --     edited text changes      the text after the changes, each applied to the text that the one before it made
 --     has_room uri documents      this document is held already, or one more may be
---     Holding      what the grammar file defines, and the documents that are held
+--     Holding      the language, and the documents that are held
 --     documents_of entries      what the entries of a map from URIs make
---     IsCurrent file d, AreCurrent file entries      the tokens and the verdict that are kept are those of the text
+--     IsCurrent language d, AreCurrent language entries      the tokens and the parse that are kept are those of the text
 use Rattle.std.specs.Prelude.{◌≡◌, ℕ, ℤ, ◌||◌, ◌&&◌, Bool, nat_lt, nat_le, if◌then◌else◌, List, [], ◌∷◌, length, map, refl, String, Option, Some, None, string_bytes, encode_utf8_all}
 use Rattle.std.specs.Ordering.{nat_cmp}
 use Rattle.std.specs.Str.{chars, all_scalars}
@@ -17,11 +17,11 @@ use Rattle.std.specs.Map.{lookup}
 use Rattle.std.specs.BTreeMap.{is_at}
 use Rattle.definitions.specs.Text.{changed}
 use Rattle.definitions.specs.declared.Unit.TheVariants.{Utf16}
-use Rattle.grammar.specs.Grammars.{FileGrammar}
 use Rattle.lexer.specs.Rescans.{significant_kinds}
 use Rattle.lexer.specs.Tokens.{AreTokensOf}
+use Rattle.parser.specs.Parses.{IsParseOf}
 use Rattle.rpc.specs.Messages.{ChangeSaid}
-use Rattle.server.specs.Languages.{IsParsed}
+use Rattle.server.specs.Languages.{LanguageData}
 use Rattle.server.specs.declared.document.Document.{Document}
 
 pub record OpenDocument : Type 0 where
@@ -49,7 +49,7 @@ abbrev pub has_room : List ℕ → Held → Bool
 has_room uri documents = contains_key documents uri || nat_lt (len documents) 64
 
 pub record Holding : Type 0 where
-  pub file : FileGrammar
+  pub language : LanguageData
   pub documents : Held
 
 -- a document is stored as the pair of its fields
@@ -70,10 +70,11 @@ documents_of entries = from_entries (map (λ e. (string_bytes e.0, open_document
 abbrev pub entry_at : {Y : Type 0} → List (String Y × Document) → List ℕ → Option Document
 entry_at entries uri = lookup (is_at (λ k. slice_cmp nat_cmp uri (string_bytes k))) entries
 
--- the tokens and the verdict that are kept are those of the text
-pub record IsCurrent (file : FileGrammar) (d : Document) : Type 0 where
-  pub tokens : AreTokensOf file.patterns file.skips d.text d.tokens.items
-  pub parse : IsParsed file.grammar (significant_kinds d.tokens.items) d.store d.parse
+-- the tokens and the parse that are kept are those of the text, by tables of the file's grammar
+pub record IsCurrent (language : LanguageData) (d : Document) : Type 0 where
+  pub tokens : AreTokensOf language.file.patterns language.file.skips d.text d.tokens.items
+  pub parse : IsParseOf language.tables (significant_kinds d.tokens.items) d.store d.parse
+  pub grammar : language.tables.grammar ≡ language.file.grammar
 
-abbrev pub AreCurrent : {Y : Type 0} → FileGrammar → List (String Y × Document) → Type 0
-AreCurrent file entries = (uri : List ℕ) (d : Document) → entry_at entries uri ≡ Some d → IsCurrent file d
+abbrev pub AreCurrent : {Y : Type 0} → LanguageData → List (String Y × Document) → Type 0
+AreCurrent language entries = (uri : List ℕ) (d : Document) → entry_at entries uri ≡ Some d → IsCurrent language d

@@ -1,27 +1,29 @@
 -- Every answer is a fresh server's.
---     IsFresh file uri version text state      the state of a server that was just initialized and then opened this text
+--     IsFresh file uri version text published state      the state of a server that was just initialized and then opened this text, and
+--         the diagnostics that it published
 --     RepliesOnly state heard answer      on what was heard there is one reply, this one, and nothing changes
 --     EveryAnswerIsFresh file      whatever was read before: a fresh server exists with the version and the text of an open document,
---         and to each question about the document it and the server have one answer, the same
+--         and to each question about the document it and the server have one answer, the same; and the diagnostics that it published
+--         are those that the server published last
 --     EachTextIsItsEdits      a document's text after a change is its text before, edited; no other document changes
-use Rattle.std.specs.Prelude.{◌≡◌, ◌≢◌, ℕ, ℤ, List, [], ◌∷◌, Option, Some, None}
+use Rattle.std.specs.Prelude.{◌≡◌, ◌≢◌, ℕ, ℤ, List, [], ◌∷◌, ◌++◌, All, Option, Some, None}
 use Rattle.std.specs.Str.{chars}
 use Rattle.std.specs.FinMap.{get}
 use Rattle.grammar.specs.Grammars.{FileGrammar}
 use Rattle.rpc.specs.Messages.{Ident, initialize, Question, about, open_text, change_text, request, notice, said, ChangeSaid, Heard}
-use Rattle.rpc.specs.Replies.{Answer, told_capabilities}
+use Rattle.rpc.specs.Replies.{Answer, told_capabilities, told_diagnostics}
 use Rattle.server.specs.Documents.{OpenDocument, edited}
 use Rattle.server.specs.declared.state.Phase.TheVariants.{Ready}
 use Rattle.server.specs.Steps.{State, first_state, Replies, Step}
 use Rattle.server.specs.Runs.{Run}
 
-pub record IsFresh (file : FileGrammar) (uri : List ℕ) (version : ℤ) (text : List ℕ) (state : State) : Type 0 where
+pub record IsFresh (file : FileGrammar) (uri : List ℕ) (version : ℤ) (text : List ℕ) (published : Answer) (state : State) : Type 0 where
   pub id : Ident
   pub bytes : List ℕ
   pub mid : State
   pub spelled : chars bytes ≡ text
   pub initializes : Step (first_state file) (said (request id initialize)) (told_capabilities id ∷ []) None mid
-  pub opens : Step mid (said (notice (open_text uri version bytes))) [] None state
+  pub opens : Step mid (said (notice (open_text uri version bytes))) (published ∷ []) None state
 
 pub record RepliesOnly (state : State) (heard : Heard) (answer : Answer) : Type 0 where
   pub replies : Step state heard (answer ∷ []) None state
@@ -34,12 +36,24 @@ AnswerAlike uri one other = (id : Ident) (question : Question) →
     let heard = said (request id (about uri question)) in
     (answer : Answer) × RepliesOnly one heard answer × RepliesOnly other heard answer
 
+-- these are diagnostics of the document of this URI
+abbrev pub Publishes : List ℕ → Answer → Type 0
+Publishes uri (told_diagnostics other version fault) = other ≡ uri
+Publishes uri _ = ⊥
+
+-- and the last ones among these answers
+abbrev pub IsLastPublished : List ℕ → List Answer → Answer → Type 0
+IsLastPublished uri answers published =
+    (before after : List Answer) × (answers ≡ before ++ published ∷ after) × Publishes uri published
+    × All (λ a. ¬ Publishes uri a) after
+
 abbrev pub EveryAnswerIsFresh : FileGrammar → Type 0
 EveryAnswerIsFresh file =
-    (contents : List (List ℕ)) (before : List Answer) (state : State) (uri : List ℕ) (document : OpenDocument)
-    → Run (first_state file) contents before None state → state.phase ≡ Ready → get state.documents uri ≡ Some document
-    → ((fresh : State) × IsFresh file uri document.version document.text fresh)
-    × ((fresh : State) → IsFresh file uri document.version document.text fresh → AnswerAlike uri state fresh)
+    (contents : List (List ℕ)) (answers : List Answer) (state : State) (uri : List ℕ) (document : OpenDocument)
+    → Run (first_state file) contents answers None state → state.phase ≡ Ready → get state.documents uri ≡ Some document
+    → ((fresh : State) × (published : Answer) × IsFresh file uri document.version document.text published fresh)
+    × ((fresh : State) (published : Answer) → IsFresh file uri document.version document.text published fresh
+    → AnswerAlike uri state fresh × IsLastPublished uri answers published)
 
 abbrev pub EachTextIsItsEdits : Type 0
 EachTextIsItsEdits =

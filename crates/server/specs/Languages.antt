@@ -1,25 +1,26 @@
 -- The language of a grammar file.
 --     IsLanguageOf text file      the text is a grammar file that defines this, and a language can be made of it
 --     IsLoadFault text fault      the text defines no language, for this cause, the first in the order of the tests
---     IsParsed g kinds cells parse      the verdict that was reached is that on these kinds
---     AlwaysAnswers file      each text has tokens, each list of kinds a verdict, and there is one of each
-use Rattle.std.specs.Prelude.{◌≡◌, ℕ, ◌<◌, List, length, Some}
+--     LanguageData      what callers see of a language: what its file defines, and its tables
+--     AlwaysAnswers file      each text has tokens, each list of kinds a verdict, and so on to all that can be answered
+use Rattle.std.specs.Prelude.{◌≡◌, ℕ, ◌≤◌, Bool, List, [], length, Some}
 use Rattle.definitions.specs.declared.Kind.{Kind}
+use Rattle.definitions.specs.declared.Range.{Range}
+use Rattle.definitions.specs.declared.Symbol.{Symbol}
 use Rattle.definitions.specs.Items.{HasMoreSetsThan, HasNoConflict}
-use Rattle.definitions.specs.Sentences.{IsVerdict, Verdict as Answer}
+use Rattle.definitions.specs.Sentences.{IsExpected, IsVerdict, IsViable, Verdict}
+use Rattle.definitions.specs.Settled.{IsSettled}
 use Rattle.definitions.specs.Text.{IsText}
-use Rattle.definitions.specs.Tokens.{Token, AreTokens}
-use Rattle.definitions.specs.Trees.{Grammar}
+use Rattle.definitions.specs.Tokens.{Token, AreTokens, kinds}
+use Rattle.definitions.specs.Trees.{HaveRoots, Tree, all_kinds}
 use Rattle.dfa.specs.Positions.{HasMoreStatesThan}
 use Rattle.grammar.specs.Faults.{Cause, IsFault}
 use Rattle.grammar.specs.Grammars.{FileGrammar}
 use Rattle.grammar.specs.Meaning.{IsGrammarOf}
 use Rattle.grammar.specs.Told.{public_cause}
 use Rattle.tables.specs.Reports.{IsReport}
-use Rattle.trees.specs.Cells.{Cell}
-use Rattle.parser.specs.declared.parse.Verdict.{Verdict}
-use Rattle.parser.specs.declared.parse.Verdict.TheVariants.{Tree, FaultAt, FaultAtEnd}
-use Rattle.parser.specs.Parses.{Stop, verdict_in}
+use Rattle.tables.specs.Tables.{Sets}
+use Rattle.views.specs.Told.{AreFoldsOf, IsSelectionOf}
 use Rattle.server.specs.declared.language.LoadFault.{LoadFault}
 use Rattle.server.specs.declared.language.LoadFault.TheVariants as load
 
@@ -42,18 +43,20 @@ IsLoadFault text load.TooManySets = (file : FileGrammar) × HasAutomaton text fi
 IsLoadFault text (load.Conflict file conflict) = HasAutomaton text file × (HasMoreSetsThan file.grammar 8192 → ⊥) × IsReport file.grammar conflict
 IsLoadFault text load.NoMemory = Unit {0}
 
--- the tree, if there is one, is a node of the store
-abbrev pub HasNode : ℕ → Verdict → Type 0
-HasNode n (Tree id) = id.index < n
-HasNode n (FaultAt k) = Unit {0}
-HasNode n FaultAtEnd = Unit {0}
+pub record LanguageData : Type 0 where
+  pub file : FileGrammar
+  pub tables : Sets
 
-pub record IsParsed (g : Grammar) (kinds : List Kind) (cells : List Cell) (parse : Stop) : Type 0 where
-  pub verdict : IsVerdict g kinds (verdict_in cells parse.verdict)
-  pub node : HasNode (length cells) parse.verdict
-
--- where no set has a conflict there is one verdict, and there is always one list of tokens
+-- where no set has a conflict there is one verdict and one list of trees, and there is always one list of tokens
 pub record AlwaysAnswers (file : FileGrammar) : Type 0 where
   pub tokens : (t : List ℕ) → IsText t → (xs : List Token) × AreTokens file.patterns t xs
-  pub verdicts : (kinds : List Kind) → (v : Answer) × IsVerdict file.grammar kinds v
+  pub verdicts : (x : List Kind) → (v : Verdict) × IsVerdict file.grammar x v
+  pub begins : IsViable file.grammar []
+  pub settled : (x : List Kind) → IsViable file.grammar x → (lefts : List Tree) × IsSettled file.grammar x lefts
+  pub expected : (x : List Kind) → IsViable file.grammar x
+      → (rules : List ℕ) × (at_end : Bool) × IsExpected file.grammar x rules at_end
+  pub folds : (t : List ℕ) (tokens : List Token) (trees : List Tree) → (pairs : List (ℕ × ℕ)) × AreFoldsOf file t tokens trees pairs
+  pub selections : (t : List ℕ) (tokens : List Token) (trees : List Tree) (symbols : List Symbol) → AreTokens file.patterns t tokens
+      → HaveRoots file.grammar trees symbols → length (all_kinds trees) ≤ length (kinds file.skips tokens)
+      → (o : ℕ) → (ranges : List Range) × IsSelectionOf file t tokens trees o ranges
   pub free : HasNoConflict file.grammar

@@ -1,5 +1,5 @@
-pub mod Documents
 pub mod Languages
+pub mod Documents
 pub mod Answers
 pub mod Steps
 pub mod Runs

@@ -4,7 +4,7 @@
 --     Step old heard answers stop new      from old, on what was heard, the server may give these answers, stop with a status or go
 --         on, and be in the state new
 --     state_view server      a server's state
-use Rattle.std.specs.Prelude.{◌≡◌, ℕ, ℤ, Bool, true, false, if◌then◌else◌, List, [], ◌∷◌, Option, Some, None}
+use Rattle.std.specs.Prelude.{◌≡◌, ℕ, ℤ, ◌&&◌, Bool, true, false, if◌then◌else◌, List, [], ◌∷◌, Option, Some, None, option_map}
 use Rattle.std.specs.Str.{chars}
 use Rattle.std.specs.FinMap.{empty, get, insert}
 use Rattle.grammar.specs.Grammars.{FileGrammar}
@@ -13,7 +13,7 @@ use Rattle.rpc.specs.declared.reply.Refusal.TheVariants.{ParseError, InvalidRequ
 use Rattle.rpc.specs.Messages.{Ident, Asked, initialize, shutdown, about, Told, exit, open_text, change_text, request, notice, ignored, invalid, unknown, params, ChangeSaid, Heard, unread, refused, said}
 use Rattle.rpc.specs.Replies.{Answer, told_capabilities, told_null, told_error}
 use Rattle.server.specs.Documents.{OpenDocument, Held, fits, edited, has_room}
-use Rattle.server.specs.Answers.{IsAnswer}
+use Rattle.server.specs.Answers.{IsAnswer, IsPublished}
 use Rattle.server.specs.declared.state.Phase.{Phase}
 use Rattle.server.specs.declared.state.Phase.TheVariants.{New, Ready, Down}
 use Rattle.server.specs.declared.state.Server.{Server}
@@ -27,7 +27,7 @@ abbrev pub first_state : FileGrammar → State
 first_state file = record { file = file; phase = New; documents = empty }
 
 abbrev pub state_view : Server → State
-state_view s = record { file = s.documents.file; phase = s.phase; documents = s.documents.documents }
+state_view s = record { file = s.documents.language.file; phase = s.phase; documents = s.documents.documents }
 
 -- ---- what a step leaves
 
@@ -48,10 +48,12 @@ Enters old phase answer answers stop new =
 abbrev pub Ignores : State → List Answer → Option ℕ → State → Type 0
 Ignores old answers stop new = (answers ≡ []) × (stop ≡ None) × (new ≡ old)
 
--- no reply, and the documents change
-abbrev pub Holds : State → Held → List Answer → Option ℕ → State → Type 0
-Holds old documents answers stop new =
-    (answers ≡ []) × (stop ≡ None) × (new ≡ record { file = old.file; phase = old.phase; documents = documents })
+-- the document is held from now on, and its diagnostics are published; without one, nothing happens
+abbrev pub Holds : State → List ℕ → Option OpenDocument → List Answer → Option ℕ → State → Type 0
+Holds old uri None answers stop new = Ignores old answers stop new
+Holds old uri (Some d) answers stop new =
+    (published : Answer) × IsPublished old.file uri d published × (answers ≡ published ∷ []) × (stop ≡ None)
+    × (new ≡ record { file = old.file; phase = old.phase; documents = insert old.documents uri d })
 
 -- no reply, and the server stops with this status
 abbrev pub Stops : State → ℕ → List Answer → Option ℕ → State → Type 0
@@ -71,18 +73,14 @@ Asks Down old id _ answers stop new = Replies old (told_error (Some id) InvalidR
 -- ---- notifications
 
 -- a document is opened, or replaced, where there is room and its text fits
-abbrev pub opened : Held → List ℕ → ℤ → List ℕ → Held
+abbrev pub opened : Held → List ℕ → ℤ → List ℕ → Option OpenDocument
 opened documents uri version text =
-    if has_room uri documents then (if fits text then insert documents uri (record { version = version; text = text }) else documents) else documents
+    if has_room uri documents && fits text then Some (record { version = version; text = text }) else None
 
 -- an open document gets the changes, where all of them fit
-abbrev pub edited_document : Held → List ℕ → ℤ → Option (List ℕ) → Held
-edited_document documents uri version None = documents
-edited_document documents uri version (Some text) = insert documents uri (record { version = version; text = text })
-
-abbrev pub changed_document : Held → List ℕ → ℤ → List ChangeSaid → Option OpenDocument → Held
-changed_document documents uri version changes None = documents
-changed_document documents uri version changes (Some d) = edited_document documents uri version (edited d.text changes)
+abbrev pub changed_document : ℤ → List ChangeSaid → Option OpenDocument → Option OpenDocument
+changed_document version changes None = None
+changed_document version changes (Some d) = option_map (λ text. record { version = version; text = text }) (edited d.text changes)
 
 abbrev pub exit_status : Phase → ℕ
 exit_status New = 1
@@ -92,9 +90,9 @@ exit_status Down = 0
 abbrev pub Tells : Phase → State → Told → List Answer → Option ℕ → State → Type 0
 Tells phase old exit answers stop new = Stops old (exit_status phase) answers stop new
 Tells Ready old (open_text uri version text) answers stop new =
-    Holds old (opened old.documents uri version (chars text)) answers stop new
+    Holds old uri (opened old.documents uri version (chars text)) answers stop new
 Tells Ready old (change_text uri version changes) answers stop new =
-    Holds old (changed_document old.documents uri version changes (get old.documents uri)) answers stop new
+    Holds old uri (changed_document version changes (get old.documents uri)) answers stop new
 Tells _ old _ answers stop new = Ignores old answers stop new
 
 -- ---- steps

@@ -1,24 +1,32 @@
 //! A document that is open: its version and text, with the tokens of the text and their parse.
 
-ghost use Rattle.std.specs.Prelude.{◌≡◌, ◌≢◌, ◌↔◌, Some, None, Err, true, false, map, IfOk};
+ghost use Rattle.std.specs.Prelude.{◌≡◌, ◌≢◌, ◌↔◌, Option, Some, None, Err, true, false, encode_utf8_all, map, option_map, IfOk};
 ghost use Rattle.std.specs.Str.{chars};
-ghost use Rattle.rpc.specs.Messages.{id_view, change_view};
-ghost use Rattle.rpc.specs.Replies.{row_view, reply_view};
+ghost use Rattle.rpc.specs.Messages.{Ident, id_view, change_view, its_folds, its_selections};
+ghost use Rattle.rpc.specs.Replies.{diagnostic_view, row_view, reply_view, told_folds, told_selections, told_text};
 ghost use Rattle.lexer.specs.Tokens.{plain};
+ghost use Rattle.parser.specs.declared.parse.Verdict.TheVariants as Verdict;
+ghost use Rattle.trees.specs.declared.store.NodeId.{NodeId};
+ghost use Rattle.server.specs.Languages.{LanguageData};
 ghost use Rattle.server.specs.Documents.{open_document, fits, edited, IsCurrent};
-ghost use Rattle.server.specs.Answers.{rows, question_view, IsAnswer};
+ghost use Rattle.definitions.specs.Answers.{Diagnostic as Fault};
+ghost use Rattle.definitions.specs.Text.{offset};
+ghost use Rattle.definitions.specs.declared.Unit.TheVariants.{Utf16};
+ghost use Rattle.views.specs.Told.{IsDiagnosis, IsSelectionOf, trees_of_roots};
+ghost use Rattle.server.specs.Answers.{Reading, IsReading, rows, told_of, question_view, IsAnswer, IsOutcome, IsPublished};
 
 use crate::language::Language;
 use lexer::Tokens;
+use parser::laws::stack_has_the_nodes_of_the_document;
 use parser::{Parse, Verdict};
-use rpc::{Change, Id, Reply, Row};
+use rpc::{Change, Diagnostic, Id, Position, Range, Reply, Row};
 use std::alloc::{AllocError, Global};
 use text::{Text, TextFault};
 use trees::Store;
-use views::{token_rows, tree_text};
+use views::{diagnostic, folds, selection, token_rows, tree_text};
 
 /// What can be asked about a document.
-#[derive(Clone, Copy, Debug)]
+#[derive(Debug, Drop)]
 pub enum Question {
     /// `lr/text`: its version and text.
     Text,
@@ -26,6 +34,19 @@ pub enum Question {
     Tokens,
     /// `lr/tree`: its tree.
     Tree,
+    /// `textDocument/foldingRange`: the lines that can be folded.
+    Folds,
+    /// `textDocument/selectionRange`: what can be selected around each of these positions.
+    Selections(Vec<Position>),
+}
+
+/// What a text comes to.
+#[derive(Debug, Drop)]
+pub enum Outcome {
+    /// The text of its tree.
+    Tree(String),
+    /// Its fault, where it has no tree.
+    Fault(Diagnostic),
 }
 
 /// A document of a language. The tokens are those of the text, and the parse is that of the tokens.
@@ -87,6 +108,8 @@ impl Document {
         ensures is { IfOk result (λ d. open_document d ≡ record { version = version; text = text }) }
         ensures current { IfOk result (IsCurrent language.now) }
     {
+        // The read opens what a language says of its tables.
+        let _tables = language.tables();
         let (tokens, kinds) = language.scan(alloc, &text)?;
         let mut store = Store::new(alloc);
         let parse = language.parse(alloc, &mut store, &kinds)?;
@@ -105,31 +128,110 @@ impl Document {
         alloc: Global,
         language: &Language,
         id: Id,
-        question: Question,
+        question: &Question,
     ) -> Result<Reply, AllocError>
         requires { IsCurrent language.now self.now }
         ensures { IfOk result (λ reply.
             let document = Some (open_document self.now) in
-            IsAnswer language.now (id_view id) document (question_view question) (reply_view reply)) }
+            let question = question_view question.now in
+            IsAnswer language.now.file (id_view id) document question (reply_view reply)) }
     {
         match question {
-            Question::Text => Ok(Reply::Text {
-                id,
-                version: self.version,
-                text: self.text.to_string(alloc)?,
-            }),
+            Question::Text => self.told(alloc, id),
             Question::Tokens => Ok(Reply::Tokens {
                 id,
                 rows: self.rows(alloc, language)?,
             }),
             Question::Tree => self.tree(alloc, language, id),
+            Question::Folds => Ok(Reply::Folds {
+                id,
+                pairs: self.folds(alloc, language)?,
+            }),
+            Question::Selections(positions) => Ok(Reply::Selections {
+                id,
+                selections: self.selections(alloc, positions)?,
+            }),
         }
+    }
+
+    /// The fault of the text, where it has one: the first token with which no sentence goes on, or the end. The language is that
+    /// of the document. Refuses for memory alone.
+    pub fn diagnostic(
+        &self,
+        alloc: Global,
+        language: &Language,
+    ) -> Result<Option<Diagnostic>, AllocError>
+        requires { IsCurrent language.now self.now }
+        ensures told { let file = language.now.file in
+            IfOk result (λ told. (reading : Reading) × IsReading file self.now.text reading
+            × ((fault : Option Fault)
+            × IsDiagnosis file self.now.text reading.tokens reading.verdict fault
+            × (option_map diagnostic_view told ≡ option_map told_of fault))) }
+        ensures tree { IfOk result (λ told.
+            told ≡ None → (root : NodeId) × (self.now.parse.verdict ≡ Verdict.Tree root)) }
+    {
+        diagnostic(
+            alloc,
+            language.grammar(),
+            language.tables(),
+            &self.text,
+            &self.tokens,
+            &self.parse,
+        )
+    }
+
+    /// The text of the tree, or where there is none, the fault. The language is that of the document. Refuses for memory alone.
+    pub fn outcome(&self, alloc: Global, language: &Language) -> Result<Outcome, AllocError>
+        requires { IsCurrent language.now self.now }
+        ensures { IfOk result (IsOutcome language.now.file self.now.text) }
+    {
+        if let Some(fault) = self.diagnostic(alloc, language)? {
+            return Ok(Outcome::Fault(fault));
+        }
+        let Verdict::Tree(root) = self.parse.verdict() else {
+            unreachable!();
+        };
+        let text = tree_text(alloc, language.grammar(), &self.store, root)?;
+        Ok(Outcome::Tree(text))
+    }
+
+    /// The diagnostics of the document under this URI, with its version. The language is that of the document. Refuses for
+    /// memory alone.
+    pub fn published(
+        &self,
+        alloc: Global,
+        language: &Language,
+        uri: &str,
+    ) -> Result<Reply, AllocError>
+        requires { IsCurrent language.now self.now }
+        ensures { IfOk result (λ reply.
+            let document = open_document self.now in
+            IsPublished language.now.file uri.now document (reply_view reply)) }
+    {
+        Ok(Reply::Diagnostics {
+            uri: String::from_str(alloc, uri)?,
+            version: Some(self.version),
+            diagnostic: self.diagnostic(alloc, language)?,
+        })
+    }
+
+    /// The reply that tells the version and the text.
+    fn told(&self, alloc: Global, id: Id) -> Result<Reply, AllocError>
+        ensures { IfOk result (λ reply.
+            reply_view reply
+            ≡ told_text (id_view id) self.now.version (encode_utf8_all self.now.text)) }
+    {
+        Ok(Reply::Text {
+            id,
+            version: self.version,
+            text: self.text.to_string(alloc)?,
+        })
     }
 
     /// The names and ranges of the tokens.
     fn rows(&self, alloc: Global, language: &Language) -> Result<Vec<Row>, AllocError>
         ensures { IfOk result (λ told.
-            map row_view told.items ≡ rows language.now self.now.text (map plain self.now.tokens.items)) }
+            map row_view told.items ≡ rows language.now.file self.now.text (map plain self.now.tokens.items)) }
     {
         let found = token_rows(alloc, language.grammar(), &self.text, &self.tokens)?;
         let mut told = Vec::with_capacity(alloc, found.len())?;
@@ -147,7 +249,7 @@ impl Document {
         requires { IsCurrent language.now self.now }
         ensures { IfOk result (λ reply.
             let document = Some (open_document self.now) in
-            IsAnswer language.now (id_view id) document (question_view Question.Tree) (reply_view reply)) }
+            IsAnswer language.now.file (id_view id) document (question_view Question.Tree) (reply_view reply)) }
     {
         match self.parse.verdict() {
             Verdict::Tree(root) => Ok(Reply::Tree {
@@ -156,6 +258,67 @@ impl Document {
             }),
             Verdict::FaultAt(_) | Verdict::FaultAtEnd => Ok(Reply::Null { id }),
         }
+    }
+
+    /// The first and last lines of what can be folded.
+    fn folds(&self, alloc: Global, language: &Language) -> Result<Vec<(u32, u32)>, AllocError>
+        requires { IsCurrent language.now self.now }
+        ensures { let document = Some (open_document self.now) in
+            IfOk result (λ pairs. (id : Ident)
+            → IsAnswer language.now.file id document its_folds (told_folds id pairs.items)) }
+    {
+        stack_has_the_nodes_of_the_document();
+        folds(
+            alloc,
+            language.grammar(),
+            &self.text,
+            &self.tokens,
+            &self.store,
+            self.parse.stack(),
+        )
+    }
+
+    /// What can be selected around a position, from inner to outer.
+    fn selection(&self, alloc: Global, position: Position) -> Result<Vec<Range>, AllocError>
+        requires { (language : LanguageData) × IsCurrent language self.now }
+        ensures { let text = self.now.text in
+            let tokens = map plain self.now.tokens.items in
+            let trees = trees_of_roots self.now.store self.now.parse.stack in
+            let at = offset Utf16 text position in
+            (language : LanguageData) → IsCurrent language self.now
+            → IfOk result (λ ranges. IsSelectionOf language.file text tokens trees at ranges.items) }
+    {
+        stack_has_the_nodes_of_the_document();
+        selection(
+            alloc,
+            &self.text,
+            &self.tokens,
+            &self.store,
+            self.parse.stack(),
+            self.text.offset(position),
+        )
+    }
+
+    /// What can be selected around each of these positions.
+    fn selections(
+        &self,
+        alloc: Global,
+        positions: &[Position],
+    ) -> Result<Vec<Vec<Range>>, AllocError>
+        requires { (language : LanguageData) × IsCurrent language self.now }
+        ensures { let document = Some (open_document self.now) in
+            let question = its_selections positions.now in
+            (language : LanguageData) → IsCurrent language self.now
+            → IfOk result (λ found. (id : Ident)
+            → let ranges = map (λ ranges. ranges.items) found.items in
+            IsAnswer language.file id document question (told_selections id ranges)) }
+    {
+        stack_has_the_nodes_of_the_document();
+        let mut selections = Vec::with_capacity(alloc, positions.len())?;
+        for position in positions {
+            selections.push(self.selection(alloc, *position)?)?;
+        }
+        Ok(selections)
     }
 }
 

@@ -30,7 +30,7 @@ impl Model for Documents {
 
     ghost coded = { Prim.hlevel (codes, e.the_row.coded, held_code) };
 
-    ghost view = { λ d. record { file = d.language; documents = documents_of d.by_uri.entries } };
+    ghost view = { λ d. record { language = d.language; documents = documents_of d.by_uri.entries } };
 
     ghost invariant = { λ d. AreCurrent d.language d.by_uri.entries };
 }
@@ -38,7 +38,7 @@ impl Model for Documents {
 impl Documents {
     /// None is held.
     pub fn new(alloc: Global, language: Language) -> Documents
-        ensures file { result.file ≡ language }
+        ensures language { result.language ≡ language }
         ensures documents { result.documents ≡ map.empty }
     {
         Documents {
@@ -49,7 +49,7 @@ impl Documents {
 
     /// The language of the documents.
     pub fn language(&self) -> &Language
-        ensures { result.now ≡ self.now.file }
+        ensures { result.now ≡ self.now.language }
     {
         &self.language
     }
@@ -58,7 +58,7 @@ impl Documents {
     pub fn get(&self, uri: &str) -> Option<&Document>
         ensures is { let held = map.get self.now.documents uri.now in
             option_map (λ d. open_document d.now) result ≡ held }
-        ensures current { IfSome result (λ d. IsCurrent self.now.file d.now) }
+        ensures current { IfSome result (λ d. IsCurrent self.now.language d.now) }
     {
         self.by_uri.get(uri)
     }
@@ -72,12 +72,12 @@ impl Documents {
 
     /// Holds the document under this URI, in the place of the one before.
     pub fn insert(&mut self, uri: String, document: Document) -> Result<(), AllocError>
-        requires { IsCurrent self.old.file document }
+        requires { IsCurrent self.old.language document }
         ensures ok { let old = self.old.documents in
             let held = map.insert old (string_bytes uri) (open_document document) in
             OnOk result (self.new.documents ≡ held) }
         ensures err { OnErr result (self.new.documents ≡ self.old.documents) }
-        ensures file { self.new.file ≡ self.old.file }
+        ensures language { self.new.language ≡ self.old.language }
     {
         self.by_uri.insert(uri, document)?;
         Ok(())

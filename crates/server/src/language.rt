@@ -3,19 +3,22 @@
 ghost use Rattle.std.specs.Prelude.{◌≡◌, IfOk, IfErr};
 ghost use Rattle.lexer.specs.Rescans.{significant_kinds};
 ghost use Rattle.lexer.specs.Tokens.{AreTokensOf};
-ghost use Rattle.server.specs.Languages.{IsLanguageOf, IsLoadFault, IsParsed, AlwaysAnswers};
+ghost use Rattle.parser.specs.Parses.{IsParseOf};
+ghost use Rattle.server.specs.Languages.{IsLanguageOf, IsLoadFault, AlwaysAnswers};
 
 use crate::significant::Significant;
 use dfa::{Automaton, DfaFault};
 use grammar::{Grammar, GrammarCause, GrammarFault};
 use lexer::{Tokens, Whole, each_text_has_tokens};
 use parser::Parse;
-use parser::laws::each_list_has_a_verdict;
+use parser::laws::{each_list_has_a_verdict, each_viable_list_has_expected};
 use std::alloc::{AllocError, Global};
 use std::marker::Model;
 use tables::{Conflict, TableFault, Tables};
 use text::Text;
+use theory::laws::settled_unique;
 use trees::Store;
+use views::{each_offset_has_a_selection, trees_have_folds};
 
 /// What a grammar file defines, made ready for scanning and parsing.
 #[derive(Drop)]
@@ -30,13 +33,13 @@ impl Model for Language {
     ghost use Rattle.std.specs.Coded.{codes};
     ghost use Rattle.definitions.specs.contracts.expression.Expression as e;
     ghost use Rattle.dfa.specs.Table.{IsAutomaton};
-    ghost use Rattle.grammar.specs.Grammars.{FileGrammar};
+    ghost use Rattle.server.specs.Languages.{LanguageData};
 
-    ghost Value = { FileGrammar };
+    ghost Value = { LanguageData };
 
     ghost coded = { Prim.hlevel (codes, e.the_row.coded) };
 
-    ghost view = { λ l. l.grammar };
+    ghost view = { λ l. record { file = l.grammar; tables = l.tables } };
 
     ghost invariant = { λ l. IsAutomaton l.grammar.patterns l.automaton × (l.tables.grammar ≡ l.grammar.grammar) };
 }
@@ -61,7 +64,7 @@ impl Language {
     /// Told first is a fault of the file, then too many states of the automaton, then too many sets of the tables, then a
     /// conflict.
     pub fn load(alloc: Global, text: &str) -> Result<Language, LoadFault>
-        ensures language { IfOk result (IsLanguageOf text.now) }
+        ensures language { IfOk result (λ l. IsLanguageOf text.now l.file) }
         ensures fault { IfErr result (IsLoadFault text.now) }
     {
         let grammar = match Grammar::read(alloc, text) {
@@ -93,9 +96,17 @@ impl Language {
 
     /// What the file defines.
     pub fn grammar(&self) -> &Grammar
-        ensures { result.now ≡ self.now }
+        ensures { result.now ≡ self.now.file }
     {
         &self.grammar
+    }
+
+    /// The tables of the file's grammar.
+    pub(crate) fn tables(&self) -> &Tables
+        ensures is { result.now ≡ self.now.tables }
+        ensures grammar { self.now.tables.grammar ≡ self.now.file.grammar }
+    {
+        &self.tables
     }
 
     /// The tokens of a text, and the kinds of the significant ones. Refuses for memory alone.
@@ -105,7 +116,7 @@ impl Language {
         text: &Text,
     ) -> Result<(Tokens, Significant), AllocError>
         ensures tokens { IfOk result (λ r.
-            AreTokensOf self.now.patterns self.now.skips text.now r.0.items) }
+            AreTokensOf self.now.file.patterns self.now.file.skips text.now r.0.items) }
         ensures kinds { IfOk result (λ r. r.1.kinds.items ≡ significant_kinds r.0.items) }
     {
         // The read opens the invariant of the text.
@@ -126,17 +137,22 @@ impl Language {
         store: &mut Store,
         kinds: &Significant,
     ) -> Result<Parse, AllocError>
-        ensures { IfOk result (IsParsed self.now.grammar kinds.now.kinds.items store.new) }
+        ensures { IfOk result (IsParseOf self.now.tables kinds.now.kinds.items store.new) }
     {
         Parse::whole(alloc, &self.tables, store, kinds)
     }
 
-    /// Each text has tokens, and each list of kinds a verdict; no set of the grammar has a conflict.
+    /// Each text has tokens, each list of kinds a verdict, and so on to all that can be answered; no set of the grammar has a
+    /// conflict.
     pub(crate) fn always_answers(&self)
-        ensures { AlwaysAnswers self.now }
+        ensures { AlwaysAnswers self.now.file }
     {
         each_text_has_tokens();
         each_list_has_a_verdict();
+        each_viable_list_has_expected();
+        settled_unique();
+        trees_have_folds();
+        each_offset_has_a_selection();
         self.tables.moves_are_decided();
         // The reads open the invariants of the tables and of the language.
         let _start = self.tables.start();

@@ -3,17 +3,22 @@
 ghost use Rattle.server.specs.Fresh.{EveryAnswerIsFresh, EachTextIsItsEdits};
 
 use crate::language::Language;
-use definitions::laws::tokens_unique;
-use theory::laws::verdict_unique;
+use definitions::laws::{expected_unique, folds_unique, selection_unique, tokens_unique};
+use theory::laws::{document_trees_unique, verdict_unique};
 
 /// In a session by this language, whatever was read before: there is a fresh server for each open document, and to each
-/// question about the document it and the server have one answer, the same.
+/// question about the document it and the server have one answer, the same; and the diagnostics that it published are those
+/// that the server published last.
 pub fn every_answer_is_fresh(language: &Language)
-    ensures { EveryAnswerIsFresh language.now }
+    ensures { EveryAnswerIsFresh language.now.file }
 {
     language.always_answers();
     tokens_unique();
     verdict_unique();
+    document_trees_unique();
+    expected_unique();
+    folds_unique();
+    selection_unique();
 }
 
 /// A document's text after a change is its text before, edited by the changes in turn.

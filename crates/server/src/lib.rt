@@ -9,6 +9,7 @@ mod serve;
 mod significant;
 mod state;
 
+pub use document::{Document, Outcome};
 pub use language::{Language, LoadFault};
 pub use laws::{each_text_is_its_edits, every_answer_is_fresh};
 pub use serve::{RunFault, run};

@@ -150,9 +150,10 @@ pub fn run<R: Input, W: Output>(
     // What is read and written is a session, whatever ends it.
     ensures session { let old = W.contents output.old in
         let new = W.contents output.new in
-        Session language (R.remaining input.old) (R.remaining input.new) old new result }
-    // In each session the one answer about an open document is that of a fresh server on its text.
-    ensures fresh { EveryAnswerIsFresh language }
+        Session language.file (R.remaining input.old) (R.remaining input.new) old new result }
+    // In each session the one answer about an open document is that of a fresh server on its text, and so are its last
+    // diagnostics.
+    ensures fresh { EveryAnswerIsFresh language.file }
     // The text of an open document is its edits, applied in turn.
     ensures edits { EachTextIsItsEdits }
     // A device fault is answered exactly where the device failed.

@@ -1,6 +1,7 @@
 //! One step: phases and documents.
 
 ghost use Rattle.std.specs.Prelude.{◌≡◌, [], ◌∷◌, Some, None, false, true, map, option_map, IfOk, IfErr, OnOk, OnErr, IsErr, string_bytes};
+ghost use Rattle.std.specs.Result.{result_ok};
 ghost use Rattle.std.specs.Str.{chars};
 ghost use Rattle.std.specs.FinMap.{get, insert};
 ghost use Rattle.rpc.specs.Messages.{id_view, call_view, note_view, change_view, heard_of};
@@ -8,7 +9,7 @@ ghost use Rattle.rpc.specs.declared.reply.Refusal.TheVariants.{DocumentNotOpen};
 ghost use Rattle.rpc.specs.Replies.{reply_view, told_error};
 ghost use Rattle.server.specs.Documents.{open_document, IsCurrent};
 ghost use Rattle.server.specs.Answers.{question_view, IsAnswer};
-ghost use Rattle.server.specs.Steps.{state_view, first_state, opened, changed_document, exit_status, unknown_in, params_in, Asks, Tells, StepOn};
+ghost use Rattle.server.specs.Steps.{state_view, first_state, opened, changed_document, exit_status, unknown_in, params_in, Asks, Holds, Tells, StepOn};
 
 use crate::document::{Document, Question};
 use crate::documents::Documents;
@@ -71,6 +72,17 @@ fn exit_status(phase: Phase) -> u8
     }
 }
 
+/// No answer.
+fn nothing(alloc: Global) -> Out
+    ensures replies { map reply_view result.replies.items ≡ [] }
+    ensures stop { result.stop ≡ None }
+{
+    Out {
+        replies: Vec::new(alloc),
+        stop: None,
+    }
+}
+
 fn one_reply(alloc: Global, reply: Reply) -> Result<Out, AllocError>
     ensures replies { IfOk result (λ out. map reply_view out.replies.items ≡ reply_view reply ∷ []) }
     ensures stop { IfOk result (λ out. out.stop ≡ None) }
@@ -104,7 +116,7 @@ fn not_open(id: Id) -> Reply
 impl Server {
     /// A server that no message has reached.
     pub fn new(alloc: Global, language: Language) -> Server
-        ensures state { state_view result ≡ first_state language }
+        ensures state { state_view result ≡ first_state language.file }
         ensures works { result.has_failed ≡ false }
     {
         Server {
@@ -120,12 +132,13 @@ impl Server {
         alloc: Global,
         id: Id,
         uri: &str,
-        question: Question,
+        question: &Question,
     ) -> Result<Reply, AllocError>
         ensures { IfOk result (λ reply.
             let held = self.now.documents in
             let document = get held.documents uri.now in
-            IsAnswer held.file (id_view id) document (question_view question) (reply_view reply)) }
+            let question = question_view question.now in
+            IsAnswer held.language.file (id_view id) document question (reply_view reply)) }
     {
         match self.documents.get(uri) {
             Some(document) => document.answer(alloc, self.documents.language(), id, question),
@@ -156,26 +169,38 @@ impl Server {
             (Phase::Ready, Call::Text { uri }) => (uri, Question::Text),
             (Phase::Ready, Call::Tokens { uri }) => (uri, Question::Tokens),
             (Phase::Ready, Call::Tree { uri }) => (uri, Question::Tree),
+            (Phase::Ready, Call::FoldingRange { uri }) => (uri, Question::Folds),
+            (Phase::Ready, Call::SelectionRange { uri, positions }) => {
+                (uri, Question::Selections(positions))
+            }
         };
-        let reply = self.answer(alloc, id, uri.as_str(), question)?;
+        let reply = self.answer(alloc, id, uri.as_str(), &question)?;
         one_reply(alloc, reply)
     }
 
-    /// Holds what a document was opened or changed to, if its text fits.
-    fn hold(&mut self, uri: String, document: Result<Document, TextFault>) -> Result<(), AllocError>
-        requires { IfOk document (IsCurrent self.old.documents.file) }
-        ensures phase { self.new.phase ≡ self.old.phase }
-        ensures file { self.new.documents.file ≡ self.old.documents.file }
-        ensures held { OnOk result (IfOk document (λ d.
-            let old = self.old.documents.documents in
-            self.new.documents.documents ≡ insert old (string_bytes uri) (open_document d))) }
-        ensures large { let old = self.old.documents.documents in
-            OnOk result (OnErr document (self.new.documents.documents ≡ old)) }
-        ensures memory { OnOk result (IfErr document (λ e. e ≡ TextFault.TooLarge)) }
+    /// Holds what a document was opened or changed to, and publishes its diagnostics. A text that is too large changes nothing.
+    fn hold(
+        &mut self,
+        alloc: Global,
+        uri: String,
+        document: Result<Document, TextFault>,
+    ) -> Result<Out, AllocError>
+        requires { IfOk document (IsCurrent self.old.documents.language) }
+        ensures held { let held = option_map open_document (result_ok document) in
+            IfOk result (λ out.
+            let replies = map reply_view out.replies.items in
+            let old = state_view self.old in
+            Holds old (string_bytes uri) held replies out.stop (state_view self.new)) }
+        ensures fits { IfOk result (λ _. IfErr document (λ e. e ≡ TextFault.TooLarge)) }
     {
         match document {
-            Ok(document) => self.documents.insert(uri, document),
-            Err(TextFault::TooLarge) => Ok(()),
+            Ok(document) => {
+                let language = self.documents.language();
+                let published = document.published(alloc, language, uri.as_str())?;
+                self.documents.insert(uri, document)?;
+                one_reply(alloc, published)
+            }
+            Err(TextFault::TooLarge) => Ok(nothing(alloc)),
             Err(TextFault::NoMemory) => Err(AllocError),
         }
     }
@@ -187,18 +212,19 @@ impl Server {
         uri: String,
         version: i32,
         text: String,
-    ) -> Result<(), AllocError>
-        ensures phase { self.new.phase ≡ self.old.phase }
-        ensures file { self.new.documents.file ≡ self.old.documents.file }
-        ensures documents { let old = self.old.documents.documents in
-            let text = chars (string_bytes text) in
-            OnOk result (self.new.documents.documents ≡ opened old (string_bytes uri) version text) }
+    ) -> Result<Out, AllocError>
+        ensures { let old = state_view self.old in
+            let uri = string_bytes uri in
+            let held = opened old.documents uri version (chars (string_bytes text)) in
+            IfOk result (λ out.
+            let replies = map reply_view out.replies.items in
+            Holds old uri held replies out.stop (state_view self.new)) }
     {
         if !self.documents.has_room(uri.as_str()) {
-            return Ok(());
+            return Ok(nothing(alloc));
         }
         let document = Document::open(alloc, self.documents.language(), version, text.as_str());
-        self.hold(uri, document)
+        self.hold(alloc, uri, document)
     }
 
     /// `textDocument/didChange`.
@@ -208,20 +234,19 @@ impl Server {
         uri: String,
         version: i32,
         changes: Vec<Change>,
-    ) -> Result<(), AllocError>
-        ensures phase { self.new.phase ≡ self.old.phase }
-        ensures file { self.new.documents.file ≡ self.old.documents.file }
-        ensures documents { let old = self.old.documents.documents in
+    ) -> Result<Out, AllocError>
+        ensures { let old = state_view self.old in
             let uri = string_bytes uri in
-            let changes = map change_view changes.items in
-            OnOk result (
-            self.new.documents.documents ≡ changed_document old uri version changes (get old uri)) }
+            let held = changed_document version (map change_view changes.items) (get old.documents uri) in
+            IfOk result (λ out.
+            let replies = map reply_view out.replies.items in
+            Holds old uri held replies out.stop (state_view self.new)) }
     {
         let Some(document) = self.documents.get(uri.as_str()) else {
-            return Ok(());
+            return Ok(nothing(alloc));
         };
         let document = document.change(alloc, self.documents.language(), version, &changes);
-        self.hold(uri, document)
+        self.hold(alloc, uri, document)
     }
 
     /// A notification that fits its method, or one that doesn't.
@@ -230,11 +255,13 @@ impl Server {
             let replies = map reply_view out.replies.items in
             Tells self.old.phase (state_view self.old) (note_view note) replies out.stop (state_view self.new)) }
     {
-        let mut stop = None;
         match (self.phase, note) {
-            (phase, Note::Exit) => stop = Some(exit_status(phase)),
+            (phase, Note::Exit) => Ok(Out {
+                replies: Vec::new(alloc),
+                stop: Some(exit_status(phase)),
+            }),
             (Phase::Ready, Note::DidOpen { uri, version, text }) => {
-                self.open(alloc, uri, version, text)?;
+                self.open(alloc, uri, version, text)
             }
             (
                 Phase::Ready,
@@ -243,13 +270,9 @@ impl Server {
                     version,
                     changes,
                 },
-            ) => self.change(alloc, uri, version, changes)?,
-            _ => {}
+            ) => self.change(alloc, uri, version, changes),
+            _ => Ok(nothing(alloc)),
         }
-        Ok(Out {
-            replies: Vec::new(alloc),
-            stop,
-        })
     }
 
     /// The step on a message.
@@ -261,10 +284,7 @@ impl Server {
         match message {
             Ok(Message::Request(id, call)) => self.ask(alloc, id, call),
             Ok(Message::Notice(note)) => self.tell(alloc, note),
-            Ok(Message::Ignored) => Ok(Out {
-                replies: Vec::new(alloc),
-                stop: None,
-            }),
+            Ok(Message::Ignored) => Ok(nothing(alloc)),
             Err(RpcFault::Parse) => refused(alloc, None, Refusal::ParseError),
             Err(RpcFault::Invalid { id }) => refused(alloc, id, Refusal::InvalidRequest),
             Err(RpcFault::Unknown { id }) => refused(alloc, Some(id), unknown_in(self.phase)),

@@ -13,6 +13,9 @@ fn told(alloc: Global, line: &str) -> Result<Option<String>, Fail> {
     }
     match words(alloc, &given)? {
         Some(Task::Check(path)) => Ok(Some(format!(in alloc; "check of {path}")?)),
+        Some(Task::Parse(grammar, text)) => Ok(Some(format!(in alloc;
+            "parse by {grammar} of {text}"
+        )?)),
         Some(Task::Serve(path)) => Ok(Some(format!(in alloc; "serve by {path}")?)),
         None => Ok(None),
     }
@@ -24,6 +27,7 @@ fn commands_name_their_grammar(rt: HostRuntime) -> Result<(), Fail> {
     for (line, wanted) in [
         ("serve grammars/g0.lr", "serve by grammars/g0.lr"),
         ("check grammars/g0.lr", "check of grammars/g0.lr"),
+        ("parse g0.lr a/sum.txt", "parse by g0.lr of a/sum.txt"),
     ] {
         match told(alloc, line)? {
             Some(task) => assert_eq!(rt; task.as_str(), wanted),
@@ -45,7 +49,9 @@ fn other_words_are_refused(rt: HostRuntime) -> Result<(), Fail> {
         "help",
         "check",
         "check a b",
-        "parse a b",
+        "parse",
+        "parse a",
+        "parse a b c",
     ];
     for line in lines {
         assert!(rt; told(alloc, line)?.is_none(), "at {line}");
@@ -67,6 +73,8 @@ fn faults_have_their_texts(rt: HostRuntime) -> Result<(), Fail> {
             2,
         ),
         (Fault::NotUtf8, "lrls: grammar is not UTF-8", 2),
+        (Fault::TextNotUtf8, "lrls: text is not UTF-8", 1),
+        (Fault::TextTooLarge, "lrls: text too large", 1),
         (
             Fault::CannotRead(String::from_str(alloc, "a/b")?),
             "lrls: cannot read a/b",

@@ -7,7 +7,8 @@ use std::process::Abort;
 use std::test::Fail;
 use worked::{CHOICES, LISTS, LOOP, NOT_LALR, SUMS, TWO_AHEAD, long_sides};
 
-fn language(alloc: Global, file: &str) -> Result<Language, Fail> {
+/// The language of a grammar file.
+pub fn language(alloc: Global, file: &str) -> Result<Language, Fail> {
     match load(alloc, file.as_bytes())? {
         Ok(language) => Ok(language),
         Err(_) => Err(AllocError.into()),
@@ -17,11 +18,6 @@ fn language(alloc: Global, file: &str) -> Result<Language, Fail> {
 /// The language of the grammar of sums.
 pub fn sums(alloc: Global) -> Result<Language, Fail> {
     language(alloc, SUMS)
-}
-
-/// The language of the grammar of lists of words and strings.
-pub fn lists(alloc: Global) -> Result<Language, Fail> {
-    language(alloc, LISTS)
 }
 
 /// `check` prints this of a file, and ends with this status.

@@ -7,6 +7,16 @@ mod command_lines;
 #[cfg(test)]
 mod devices;
 #[cfg(test)]
+mod documents;
+#[cfg(test)]
 mod grammar_checks;
 #[cfg(test)]
+mod parses;
+#[cfg(test)]
+mod phases;
+#[cfg(test)]
 mod sessions;
+#[cfg(test)]
+mod talks;
+#[cfg(test)]
+mod views;

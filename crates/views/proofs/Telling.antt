@@ -24,10 +24,10 @@ pub record IsTold (f : FileGrammar) (t : List ℕ) (items : List Token) (rows : 
   pub spelled : map row_bytes rows ≡ map in_utf8 (map row_of rows)
 
 -- the walk has the position of the offset
-position-place : (t : List ℕ) (at : Place) (o : ℕ) → at.text ≡ t → at.offset ≡ min o (length t) → position Utf16 at.text at.offset ≡ position Utf16 t o
+pub position-place : (t : List ℕ) (at : Place) (o : ℕ) → at.text ≡ t → at.offset ≡ min o (length t) → position Utf16 at.text at.offset ≡ position Utf16 t o
 position-place t at o e p = ap (λ u. position Utf16 u at.offset) e ∙ ap (position Utf16 t) p ∙ position-min Utf16 t o
 
-min-more : (n o k : ℕ) → min (min o n + k) n ≡ min (o + k) n
+pub min-more : (n o k : ℕ) → min (min o n + k) n ≡ min (o + k) n
 min-more n o k = omega arith
 
 pub told_none : (f : FileGrammar) (t : List ℕ) (items : List Token) (at : Place) → at.text ≡ t → at.offset ≡ 0 → IsTold f t items [] at items

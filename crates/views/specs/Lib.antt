@@ -1,1 +1,6 @@
+pub mod Around
+pub mod Diagnostics
+pub mod Folds
+pub mod NodesFrom
+pub mod Told
 pub mod Views

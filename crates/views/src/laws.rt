@@ -1,6 +1,14 @@
-//! What is proved of rows, as a contract of a function that does nothing.
+//! What is proved of rows, folds and selections, as contracts of functions that do nothing.
 
-ghost use Rattle.std.specs.Prelude.{◌≡◌, ◌↔◌, IsTrue};
+ghost use Rattle.std.specs.Prelude.{◌≡◌, ◌≤◌, ◌↔◌, ℕ, Bool, List, length, IsTrue};
+ghost use Rattle.definitions.specs.declared.Range.{Range};
+ghost use Rattle.definitions.specs.declared.Symbol.{Symbol};
+ghost use Rattle.definitions.specs.Answers.{AreFolds};
+ghost use Rattle.definitions.specs.DocumentNodes.{IsNodeOf};
+ghost use Rattle.definitions.specs.Tokens.{AreTokens, Placed, Token, kinds};
+ghost use Rattle.definitions.specs.Trees.{Grammar, HaveRoots, Tree, all_kinds};
+ghost use Rattle.grammar.specs.Grammars.{FileGrammar};
+ghost use Rattle.views.specs.Told.{IsSelectionOf};
 ghost use Rattle.views.specs.declared.rows.Row.{Row};
 ghost use Rattle.views.specs.Views.{row_bytes};
 
@@ -8,4 +16,20 @@ ghost use Rattle.views.specs.Views.{row_bytes};
 pub fn equal_rows_tell_the_same()
     ensures { (a b : Row) →
         IsTrue (⟦<crate::Row<'static> as PartialEq>⟧.eq a b) ↔ (row_bytes a ≡ row_bytes b) }
+{}
+
+/// All trees have folds, and `definitions` has it that they have one list of them.
+pub fn trees_have_folds()
+    ensures { (g : Grammar) (trees : List Tree) (t : List ℕ) (tokens : List Placed)
+        (folds : List Bool) →
+        (pairs : List (ℕ × ℕ)) × AreFolds t tokens folds (IsNodeOf g trees) pairs }
+{}
+
+/// Each offset has a selection, and `definitions` has it that it has no other.
+pub fn each_offset_has_a_selection()
+    ensures { (file : FileGrammar) (t : List ℕ) (tokens : List Token) (trees : List Tree)
+        (symbols : List Symbol) → AreTokens file.patterns t tokens
+        → HaveRoots file.grammar trees symbols
+        → length (all_kinds trees) ≤ length (kinds file.skips tokens)
+        → (o : ℕ) → (ranges : List Range) × IsSelectionOf file t tokens trees o ranges }
 {}

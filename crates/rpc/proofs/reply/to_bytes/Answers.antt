@@ -1,5 +1,4 @@
 use Rattle.std.proofs.Common.{◌≡◌, subst, ap, ◌∙◌}
-use Rattle.std.specs.Prelude.{Result, Ok, Err, IfOk}
 use Rattle.serde_json.specs.Data.{Data}
 use Rattle.serde_json.specs.Written.{compact_text, has_float}
 use Rattle.rpc.specs.Replies.{reply_view}

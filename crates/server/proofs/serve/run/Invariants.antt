@@ -1,4 +1,3 @@
-use Rattle.std.proofs.Common.{◌≡◌}
 use Rattle.server.specs.Steps.{state_view}
 use Rattle.server.proofs.Loop.{IsReady}
 use Rattle.server.proofs.serve.run.Given as goal
@@ -8,7 +7,7 @@ invariant-loop-count g l =
     let read = g.R.Input.remaining in
     let told = g.W.Output.contents in
     let works = g.R.Input.failures l.input in
-    IsReady l.fn.language (read l.fn.input) (read l.input) works (told l.fn.output) (told l.output) (g.W.Output.failures l.output) l.decoder (state_view l.server)
+    IsReady l.fn.language.file (read l.fn.input) (read l.input) works (told l.fn.output) (told l.output) (g.W.Output.failures l.output) l.decoder (state_view l.server)
 
 abbrev pub decreases-loop-count : goal.decreases-loop-count
 decreases-loop-count g l = g.R.Input.reads_left l.input

@@ -39,12 +39,14 @@ returns-in-Ok-clause-count g c =
 pub returns-in-Ok-clause-built : goal.returns-in-Ok-clause-built
 returns-in-Ok-clause-built g c =
     let count = returns-in-Ok-clause-count g c in
-    omega (arith, c.in-Ok.ensures.built, count)
+    omega (arith, c.in-Ok.ensures.count, count)
 
-pub returns-in-Ok-clause-branches : goal.returns-in-Ok-clause-branches
-returns-in-Ok-clause-branches g c =
-    let built = returns-in-Ok-clause-built g c in
-    omega (arith, c.in-Ok.ensures.branches, built, c.in-Ok.ensures.built, c.in-Ok.ensures.room)
+pub returns-in-Ok-clause-parse : goal.returns-in-Ok-clause-parse
+returns-in-Ok-clause-parse g c = record {
+  stop = c.in-Ok.ensures.stop;
+  branches = let built = returns-in-Ok-clause-built g c in omega (arith, c.in-Ok.ensures.branches, built, c.in-Ok.ensures.count, c.in-Ok.ensures.room);
+  built = c.in-Ok.ensures.built;
+}
 
 pub returns-in-Ok-clause-kept : goal.returns-in-Ok-clause-kept
 returns-in-Ok-clause-kept g c = trees_stay c.args.store.now c.parsed.new.store c.parsed.ensures.grown

@@ -1,9 +1,10 @@
 use Rattle.std.proofs.Common.{subst}
-use Rattle.server.specs.Languages.{IsParsed}
+use Rattle.parser.specs.Parses.{IsParseOf}
 use Rattle.server.proofs.document.Document.of.Goals as goal
 
 pub returns-clause-current : goal.returns-clause-current
 returns-clause-current c = record {
   tokens = c.in_ok-tokens.ensures.tokens;
-  parse = subst (λ kinds. IsParsed c.args.language.now.grammar kinds c.parse.new.store c.in_ok-parse.parse) c.in_ok-tokens.ensures.kinds c.in_ok-parse.ensures;
+  parse = subst (λ kinds. IsParseOf c.args.language.now.tables kinds c.parse.new.store c.in_ok-parse.parse) c.in_ok-tokens.ensures.kinds c.in_ok-parse.ensures;
+  grammar = c.tables-tables.ensures.grammar;
 }

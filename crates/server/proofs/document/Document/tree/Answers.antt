@@ -12,12 +12,12 @@ use Rattle.server.proofs.document.Document.tree.Goals as goal
 
 pub returns-in_ok-tree_text-in-Tree : goal.returns-in_ok-tree_text-in-Tree
 returns-in_ok-tree_text-in-Tree c =
-    let file = c.args.language.now in
+    let language = c.args.language.now in
     let document = c.args.self.now in
     let id = id_view c.args.id in
     let bytes = c.in_ok-tree_text-in-Tree.ensures.bytes ∙ ap (λ f. encode_utf8_all (text_of f (plain (tree document.store (Node c.in-Tree.root))))) c.grammar.ensures in
-    tree_answered file document id (told_tree id (string_bytes c.in_ok-tree_text-in-Tree.field-0)) c.requires
-    (ap (told_tree id) bytes ∙ ap (λ v. tree_answer file id (verdict_in document.store v)) (sym c.in-Tree.is ∙ c.verdict.ensures))
+    tree_answered language document id (told_tree id (string_bytes c.in_ok-tree_text-in-Tree.field-0)) c.requires
+    (ap (told_tree id) bytes ∙ ap (λ v. tree_answer language.file id (verdict_in document.store v)) (sym c.in-Tree.is ∙ c.verdict.ensures))
 
 pub returns-in-FaultAt : goal.returns-in-FaultAt
 returns-in-FaultAt c = fault_answered c.args.language.now c.args.self.now (id_view c.args.id) c.verdict.result c.requires c.in-FaultAt.is c.verdict.ensures

@@ -12,4 +12,4 @@ returns-clause-is c =
 
 pub returns-clause-current : goal.returns-clause-current
 returns-clause-current c =
-    found_current (λ d. d.now) c.args.self.now.file c.get.result _ c.get.ensures.value (λ d found. subst (λ h. IsCurrent h.file d) c.self.view_is (c.self.invariant c.args.uri.now d found))
+    found_current (λ d. d.now) c.args.self.now.language c.get.result _ c.get.ensures.value (λ d found. subst (λ h. IsCurrent h.language d) c.self.view_is (c.self.invariant c.args.uri.now d found))

@@ -17,7 +17,7 @@ invariant_of-self-2 c =
     insert_current c.self.inside.language c.self.inside.by_uri.entries c.insert.new.self.entries (string_bytes c.args.uri) c.args.document
     (btree_map_updates_text (string_bytes c.args.uri) c.self.inside.by_uri c.insert.new.self (Some c.args.document) c.in_ok-insert.ensures.updates)
     c.self.invariant
-    (subst (λ h. IsCurrent h.file c.args.document) (sym c.self.view_is) c.requires)
+    (subst (λ h. IsCurrent h.language c.args.document) (sym c.self.view_is) c.requires)
 
 pub invariant_of-self : goal.invariant_of-self
 invariant_of-self c = subst (λ entries. AreCurrent c.self.inside.language entries) (sym c.in_err-insert.ensures.err) c.self.invariant

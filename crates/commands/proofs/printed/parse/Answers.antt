@@ -1,0 +1,17 @@
+use Rattle.std.proofs.Common.{◌≡◌, ℕ, List, true, inr, subst, ap, ◌∙◌}
+use Rattle.std.specs.Str.{chars}
+use Rattle.server.specs.declared.document.Outcome.{Outcome}
+use Rattle.server.specs.Answers.{IsOutcome}
+use Rattle.server.specs.Documents.{OpenDocument, fits}
+use Rattle.commands.proofs.Cases.{if_ok}
+use Rattle.commands.proofs.printed.parse.Goals as goal
+
+pub returns-in_ok-outcome-in-Ok-open : goal.returns-in_ok-outcome-in-Ok-open
+returns-in_ok-outcome-in-Ok-open c =
+    let file = c.args.language.now.file in
+    let same = c.in-Ok.ensures.cases.0 in
+    let come : Outcome = c.in_ok-outcome-in-Ok-open.field-0 in
+    let fit : fits (chars c.args.bytes.now) ≡ true = subst (λ (bytes : List ℕ). fits (chars bytes) ≡ true) same c.in-Ok-open.ensures.fits in
+    let text = ap (λ (d : OpenDocument). d.text) c.in-Ok-open.ensures.is ∙ ap chars same in
+    let is : IsOutcome file (chars c.args.bytes.now) come = subst (λ (t : List ℕ). IsOutcome file t come) text c.in_ok-outcome-in-Ok-open.ensures in
+    if_ok c.outcome-in-Ok-open.result (λ printed prints. inr (inr (c.in-Ok.ensures.cases.1, fit, (come, is, prints)))) c.outcome-in-Ok-open.ensures

@@ -1,0 +1,34 @@
+-- What `lrls parse` prints of a text.
+--     fault_line d      `L:C-L:C: MESSAGE` and the end of the line
+--     IsParsed file bytes printed      a file of these bytes comes to this: refused as no UTF-8 or as too large, or the text of its tree,
+--         or its fault
+use Rattle.std.specs.Prelude.{◌≡◌, ◌⊎◌, ℕ, ◌++◌, true, false, List, [], codes, decimal, string_bytes}
+use Rattle.std.specs.Str.{IsUtf8, chars}
+use Rattle.definitions.specs.declared.Diagnostic.{Diagnostic}
+use Rattle.definitions.specs.declared.Position.{Position}
+use Rattle.grammar.specs.Grammars.{FileGrammar}
+use Rattle.server.specs.declared.document.Outcome.{Outcome}
+use Rattle.server.specs.declared.document.Outcome.TheVariants.{Tree, Fault}
+use Rattle.server.specs.Answers.{IsOutcome}
+use Rattle.server.specs.Documents.{fits}
+use Rattle.commands.specs.declared.printed.Printed.{Printed}
+
+abbrev pub place_text : Position → List ℕ
+place_text p = decimal p.line ++ (codes ":" ++ decimal p.character)
+
+abbrev pub fault_line : Diagnostic → List ℕ
+fault_line d =
+    place_text d.range.start ++ (codes "-" ++ (place_text d.range.end ++ (codes ": " ++ (string_bytes d.message ++ codes "\n"))))
+
+abbrev pub Prints : Outcome → Printed → Type 0
+Prints (Tree text) printed = (printed.out.items ≡ string_bytes text ++ codes "\n") × (printed.status ≡ 0)
+Prints (Fault d) printed = (printed.out.items ≡ fault_line d) × (printed.status ≡ 1)
+
+abbrev pub PrintsNothing : Printed → Type 0
+PrintsNothing printed = (printed.out.items ≡ []) × (printed.status ≡ 1)
+
+abbrev pub IsParsed : FileGrammar → List ℕ → Printed → Type 0
+IsParsed file bytes printed =
+    (¬ IsUtf8 bytes × PrintsNothing printed)
+    ⊎ (IsUtf8 bytes × (fits (chars bytes) ≡ false) × PrintsNothing printed)
+    ⊎ (IsUtf8 bytes × (fits (chars bytes) ≡ true) × ((outcome : Outcome) × IsOutcome file (chars bytes) outcome × Prints outcome printed))

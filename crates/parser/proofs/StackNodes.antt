@@ -1,0 +1,51 @@
+-- The nodes and the kinds of what stands on the stack.
+use Rattle.std.proofs.Common.{◌≡◌, ◌↔◌, ◌⊎◌, ℕ, ◌≤◌, List, [], ◌∷◌, ◌++◌, length, take, refl, sym, ap, ◌∙◌, subst, inl, inr, ⊎_elim, arith, length-take}
+use Rattle.std.proofs.lemmas.List.{append-nil}
+use Rattle.definitions.specs.declared.Kind.{Kind}
+use Rattle.definitions.specs.Trees.{Grammar, Tree, Forest, Leaf, Branch, all_kinds, yield}
+use Rattle.definitions.specs.Sentences.{Verdict, HasTree, FaultAt, FaultAtEnd, IsVerdict}
+use Rattle.definitions.specs.Settled.{IsSettled}
+use Rattle.definitions.specs.Nodes.{StandsIn}
+use Rattle.definitions.specs.DocumentNodes.{IsNodeOf}
+use Rattle.definitions.specs.Answers.{Node}
+use Rattle.theory.proofs.Exact.{stands_split}
+use Rattle.theory.proofs.Made.{not_in_leaf}
+use Rattle.theory.proofs.Sound.{kinds-append}
+use Rattle.theory.proofs.Stack.{nowhere, stands_in_front}
+use Rattle.parser.specs.Parses.{AreStacked, last_leaf}
+use Rattle.parser.proofs.Stops.{last-append}
+
+leaf_cases : (x : List Kind) → (last_leaf x ≡ []) ⊎ ((k : Kind) × (last_leaf x ≡ Leaf k ∷ []))
+leaf_cases [] = inl refl
+leaf_cases (k ∷ []) = inr (k, refl)
+leaf_cases (j ∷ k ∷ x) = leaf_cases (k ∷ x)
+
+-- a branch of a list with a leaf behind it stands in the list
+before_leaf : (trees : List Tree) (x : List Kind) (lefts : List Tree) (p : ℕ) (us : Forest) → StandsIn (trees ++ last_leaf x) lefts (Branch p us) → StandsIn trees lefts (Branch p us)
+before_leaf trees x lefts p us w =
+    ⊎_elim
+    (λ a. a)
+    (λ b. absurd (⊎_elim (λ none. nowhere b.1 none) (λ leaf. not_in_leaf b.1 leaf.0 p us leaf.1 refl) (leaf_cases x)))
+    (stands_split trees (last_leaf x) w)
+
+pub same_nodes : (g : Grammar) (trees stack : List Tree) (x : List Kind) → stack ≡ trees ++ last_leaf x → (n : Node) → IsNodeOf g stack n ↔ IsNodeOf g trees n
+same_nodes g trees stack x e n = (
+  λ h. (h.0, h.1, h.2, h.3, before_leaf trees x h.0 h.1 h.2 (subst (λ l. StandsIn l h.0 (Branch h.1 h.2)) e h.4), h.5, h.6, h.7),
+  λ h. (h.0, h.1, h.2, h.3, subst (λ l. StandsIn l h.0 (Branch h.1 h.2)) (sym e) (stands_in_front (last_leaf x) h.4), h.5, h.6, h.7),
+)
+
+-- what a list of kinds settles has with its last kind these kinds
+settled_kinds : (g : Grammar) (x : List Kind) (trees : List Tree) → IsSettled g x trees → all_kinds (trees ++ last_leaf x) ≡ x
+settled_kinds g [] trees h = ap (λ l. all_kinds (l ++ [])) h
+settled_kinds g (k ∷ x) trees h =
+    let last : last_leaf (k ∷ x) ≡ Leaf h.last ∷ [] = ap last_leaf h.kinds ∙ last-append (all_kinds trees) h.last in
+    ap (λ l. all_kinds (trees ++ l)) last ∙ kinds-append trees (Leaf h.last ∷ []) ∙ sym h.kinds
+
+pub stacked_length : (g : Grammar) (kinds : List Kind) (v : Verdict) (stack : List Tree) → IsVerdict g kinds v → AreStacked g kinds v stack → length (all_kinds stack) ≤ length kinds
+stacked_length g kinds (HasTree t) stack h s =
+    let all : all_kinds stack ≡ kinds = ap all_kinds s.stack_is ∙ ap (λ l. all_kinds (l ++ [])) s.are ∙ append-nil (yield t) ∙ h.kinds in
+    omega (arith, ap length all)
+stacked_length g kinds (FaultAt k) stack h s =
+    omega (arith, ap length (ap all_kinds s.stack_is ∙ settled_kinds g (take k kinds) s.trees s.are), length-take k kinds)
+stacked_length g kinds FaultAtEnd stack h s =
+    omega (arith, ap length (ap all_kinds s.stack_is ∙ settled_kinds g kinds s.trees s.are))

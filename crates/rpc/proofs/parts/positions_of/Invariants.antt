@@ -1,0 +1,11 @@
+use Rattle.std.proofs.Common.{◌≡◌, ◌++◌, List, drop}
+use Rattle.std.specs.Prelude.{option_map}
+use Rattle.serde_json.specs.View.{items_view}
+use Rattle.definitions.specs.declared.Position.{Position}
+use Rattle.rpc.specs.Reading.{positions_of}
+use Rattle.rpc.proofs.parts.positions_of.Given as goal
+
+-- the positions so far, and those of what is left
+abbrev pub invariant-loop-item : goal.invariant-loop-item
+invariant-loop-item l = positions_of (items_view l.items)
+    ≡ option_map (λ (rest : List Position). l.positions.items ++ rest) (positions_of (items_view (drop l.item-index l.items)))

@@ -1,0 +1,8 @@
+use Rattle.std.proofs.Common.{ap, sym}
+use Rattle.std.specs.Str.{chars}
+use Rattle.definitions.specs.Answers.{name_or_end}
+use Rattle.views.proofs.diagnoses.name_or_end.Goals as goal
+
+pub returns-in-None : goal.returns-in-None
+unfolding chars
+returns-in-None c = ap (name_or_end c.args.grammar.now.names) (sym c.in-None.is)

@@ -1,0 +1,108 @@
+//! What is told of the fault of a text.
+
+ghost use Rattle.std.specs.Prelude.{◌≡◌, ◌++◌, List, Option, IfOk, map, option_map, string_bytes};
+ghost use Rattle.std.specs.Str.{chars};
+ghost use Rattle.definitions.specs.Answers.{listed, message, name_or_end};
+ghost use Rattle.definitions.specs.declared.Kind.TheVariants.{Rule};
+ghost use Rattle.lexer.specs.Rescans.{significant_kinds};
+ghost use Rattle.lexer.specs.Tokens.{AreTokensOf, plain};
+ghost use Rattle.parser.specs.Parses.{IsParseOf, verdict_in};
+ghost use Rattle.trees.specs.Cells.{Cell};
+ghost use Rattle.views.specs.Diagnostics.{in_utf8, told_bytes, told_of};
+ghost use Rattle.views.specs.Told.{IsDiagnosis};
+
+use crate::parts::span_of;
+use definitions::{Diagnostic, Range};
+use grammar::Grammar;
+use lexer::{Kind, Tokens};
+use parser::{Parse, Verdict};
+use std::alloc::{AllocError, Global};
+use tables::{Expected, Tables};
+use text::Text;
+
+/// What is told of the fault of a text: where it stands, and what could have stood there. `None` where the text has a
+/// tree. The tables are those of the grammar, and the parse is that of the tokens of the text.
+///
+/// Refuses for memory alone.
+pub fn diagnostic(
+    alloc: Global,
+    grammar: &Grammar,
+    tables: &Tables,
+    text: &Text,
+    tokens: &Tokens,
+    parse: &Parse,
+) -> Result<Option<Diagnostic>, AllocError>
+    requires tables { tables.now.grammar ≡ grammar.now.grammar }
+    requires tokens { AreTokensOf grammar.now.patterns grammar.now.skips text.now
+        tokens.now.items }
+    requires parse { (cells : List Cell)
+        × IsParseOf tables.now (significant_kinds tokens.now.items) cells parse.now }
+    ensures told { IfOk result (λ told. (cells : List Cell)
+        → IsParseOf tables.now (significant_kinds tokens.now.items) cells parse.now
+        → IsDiagnosis grammar.now text.now (map plain tokens.now.items)
+        (verdict_in cells parse.now.verdict) (option_map told_of told)) }
+    ensures bytes { IfOk result (λ told.
+        option_map told_bytes told ≡ option_map in_utf8 (option_map told_of told)) }
+{
+    let expected = parse.expected(tables);
+    match parse.verdict() {
+        Verdict::Tree(_) => Ok(None),
+        Verdict::FaultAt(k) => {
+            let part = span_of(tokens, k);
+            let message = message_of(alloc, grammar, Some(part.kind), expected)?;
+            let range = Range {
+                start: text.position(part.start),
+                end: text.position(part.end),
+            };
+            Ok(Some(Diagnostic { range, message }))
+        }
+        Verdict::FaultAtEnd => {
+            let message = message_of(alloc, grammar, None, expected)?;
+            let end = text.position(text.len());
+            let range = Range { start: end, end };
+            Ok(Some(Diagnostic { range, message }))
+        }
+    }
+}
+
+/// The message of a fault: what was found, and what could have stood there.
+fn message_of(
+    alloc: Global,
+    grammar: &Grammar,
+    found: Option<Kind>,
+    looks: Expected<'_>,
+) -> Result<String, AllocError>
+    ensures { IfOk result (λ told. chars (string_bytes told)
+        ≡ message grammar.now.names found (map (option_map Rule) looks.entry)) }
+{
+    let mut told = String::new(alloc);
+    told.push_str("unexpected ")?;
+    told.push_str(name_or_end(grammar, found))?;
+    told.push_str("; expected ")?;
+    write_looks(grammar, looks, &mut told)?;
+    Ok(told)
+}
+
+/// Writes the names of token rules and of the end, with a comma and a space between each two.
+fn write_looks(grammar: &Grammar, looks: Expected<'_>, told: &mut String) -> Result<(), AllocError>
+    ensures { IfOk result (λ _. chars (string_bytes told.new) ≡ chars (string_bytes told.old)
+        ++ listed (map (name_or_end grammar.now.names) (map (option_map Rule) looks.entry))) }
+{
+    let mut separator = "";
+    for look in looks {
+        told.push_str(separator)?;
+        told.push_str(name_or_end(grammar, look.map(Kind::Rule)))?;
+        separator = ", ";
+    }
+    Ok(())
+}
+
+/// The name of a kind, or `end`.
+fn name_or_end(grammar: &Grammar, look: Option<Kind>) -> &str
+    ensures { chars result.now ≡ name_or_end grammar.now.names look }
+{
+    match look {
+        Some(kind) => grammar.kind_name(kind),
+        None => "end",
+    }
+}
