@@ -7,9 +7,9 @@ use Rattle.serde_json.specs.Find.{of_integer}
 use Rattle.serde_json.specs.View.{items_of}
 use Rattle.serde_json.specs.Written.{has_float, items_have_float}
 use Rattle.rpc.specs.declared.reply.Refusal.{Refusal}
-use Rattle.rpc.specs.declared.reply.Refusal.TheVariants.{ParseError, InvalidRequest, MethodNotFound, InvalidParams, DocumentNotOpen, NotInitialized}
+use Rattle.rpc.specs.declared.reply.Refusal.TheVariants.{ParseError, InvalidRequest, MethodNotFound, InvalidParams, DocumentNotOpen, DocumentLost, NotInitialized}
 use Rattle.rpc.specs.Messages.{Ident, named, numbered}
-use Rattle.rpc.specs.Replies.{Answer, told_capabilities, told_null, told_text, told_tokens, told_tree, told_folds, told_selections, told_diagnostics, told_error, capabilities, id_data, maybe_id_data, row_data, result_data, reply_data, document_data, rows_data, fold_data, folds_data, selection_data, selections_data, diagnostic_list, published, code_of}
+use Rattle.rpc.specs.Replies.{Answer, told_capabilities, told_null, told_text, told_tokens, told_tree, told_folds, told_selections, told_diagnostics, told_log, told_error, capabilities, id_data, maybe_id_data, row_data, result_data, reply_data, document_data, rows_data, fold_data, folds_data, selection_data, selections_data, diagnostic_list, published, code_of}
 
 pub if_ok : {T E : Type 0} {P Q : T → Type 0} (r : Result T E) → ((x : T) → P x → Q x) → IfOk r P → IfOk r Q
 if_ok (Ok x) f p = f x p
@@ -59,6 +59,7 @@ refusal_is_whole InvalidRequest = refl
 refusal_is_whole MethodNotFound = refl
 refusal_is_whole InvalidParams = refl
 refusal_is_whole DocumentNotOpen = refl
+refusal_is_whole (DocumentLost loss) = refl
 refusal_is_whole NotInitialized = refl
 
 pub reply_is_whole : (a : Answer) → has_float (reply_data a) ≡ false
@@ -70,4 +71,5 @@ reply_is_whole (told_tree id text) = result_is_whole (id_data id) (string text) 
 reply_is_whole (told_folds id pairs) = result_is_whole (id_data id) (folds_data pairs) (id_is_whole id) (folds_are_whole pairs)
 reply_is_whole (told_selections id selections) = result_is_whole (id_data id) (selections_data selections) (id_is_whole id) (selections_are_whole selections)
 reply_is_whole (told_diagnostics uri version d) = ap (λ b. b || false) (published_is_whole uri version d)
+reply_is_whole (told_log log) = refl
 reply_is_whole (told_error id refusal) = ap (λ b. (b || false) || (has_float (maybe_id_data id) || false)) (refusal_is_whole refusal) ∙ ap (λ b. b || false) (maybe_id_is_whole id)

@@ -49,6 +49,7 @@ pub record ChangeSaid : Type 0 where
 pub data Unfit : Type 0 where
   unfit_open : Unfit
   unfit_change : Option (List ℕ) → Unfit
+  unfit_close : Unfit
 
 -- what a notification tells; a document's URI comes first, then its version
 pub data Told : Type 0 where
@@ -56,6 +57,7 @@ pub data Told : Type 0 where
   exit : Told
   open_text : List ℕ → ℤ → List ℕ → Told
   change_text : List ℕ → ℤ → List ChangeSaid → Told
+  close : List ℕ → Told
   malformed : Unfit → Told
 
 pub data Said : Type 0 where
@@ -94,12 +96,14 @@ change_view c = record { range = c.range; text = string_bytes c.text }
 abbrev pub malformed_view : Malformed → Unfit
 malformed_view form.DidOpen = unfit_open
 malformed_view (form.DidChange uri) = unfit_change (option_map string_bytes uri)
+malformed_view form.DidClose = unfit_close
 
 abbrev pub note_view : Note → Told
 note_view note.Initialized = initialized
 note_view note.Exit = exit
 note_view (note.DidOpen uri version text) = open_text (string_bytes uri) version (string_bytes text)
 note_view (note.DidChange uri version changes) = change_text (string_bytes uri) version (map change_view changes.items)
+note_view (note.DidClose uri) = close (string_bytes uri)
 note_view (note.Malformed m) = malformed (malformed_view m)
 
 abbrev pub message_view : Message → Said

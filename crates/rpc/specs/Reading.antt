@@ -15,7 +15,7 @@ use Rattle.definitions.specs.declared.Range.{Range}
 use Rattle.rpc.specs.declared.message.Message.{Message}
 use Rattle.rpc.specs.declared.message.RpcFault.{RpcFault}
 use Rattle.rpc.specs.Fields.{integer_of, text_at, integer_at, natural_at, has_key}
-use Rattle.rpc.specs.Messages.{Ident, named, numbered, Question, its_text, its_tokens, its_tree, its_folds, its_selections, initialize, shutdown, about, ChangeSaid, unfit_open, unfit_change, Told, initialized, exit, open_text, change_text, malformed, request, notice, ignored, invalid, unknown, params, Heard, unread, refused, said, heard_of}
+use Rattle.rpc.specs.Messages.{Ident, named, numbered, Question, its_text, its_tokens, its_tree, its_folds, its_selections, initialize, shutdown, about, ChangeSaid, unfit_open, unfit_change, unfit_close, Told, initialized, exit, open_text, change_text, close, malformed, request, notice, ignored, invalid, unknown, params, Heard, unread, refused, said, heard_of}
 
 -- ---- parts of a value
 
@@ -137,13 +137,22 @@ told_change uri _ _ = malformed (unfit_change uri)
 abbrev pub changing : Data → Told
 changing d = told_change (uri_at d) (version_at d) (changes_at d)
 
+abbrev pub told_close : Option (List ℕ) → Told
+told_close (Some uri) = close uri
+told_close None = malformed unfit_close
+
+-- the parameters have the document's URI
+abbrev pub closing : Data → Told
+closing d = told_close (uri_at d)
+
 abbrev pub notice_of : List ℕ → Data → Heard
 notice_of method d =
     if bytes_eq method (codes "initialized") then said (notice initialized) else (
     if bytes_eq method (codes "exit") then said (notice exit) else (
     if bytes_eq method (codes "textDocument/didOpen") then said (notice (opening d)) else (
-    if bytes_eq method (codes "textDocument/didChange") then said (notice (changing d)) else
-    said ignored)))
+    if bytes_eq method (codes "textDocument/didChange") then said (notice (changing d)) else (
+    if bytes_eq method (codes "textDocument/didClose") then said (notice (closing d)) else
+    said ignored))))
 
 -- ---- messages
 

@@ -2,18 +2,23 @@
 --     Answer, reply_view reply      what is sent as plain data, without where its texts lie in memory
 --     reply_data answer      its JSON value
 --     code_of refusal, message_text refusal      its number and text (JSON-RPC 2.0, "Error object"; LSP 3.17, "ErrorCodes")
+--     loss_text loss, log_text log      the text of why a document was lost, and of what is logged
 use Rattle.std.specs.Prelude.{ℕ, ℤ, negsuc, true, List, [], ◌∷◌, map, codes, Option, Some, None, option_map, unwrap_or, string_bytes}
 use Rattle.serde_json.specs.Data.{Data, null, boolean, number, unsigned, string, array, no_items, item, object, no_members, member}
 use Rattle.serde_json.specs.View.{items_of}
 use Rattle.serde_json.specs.Find.{of_integer}
+use Rattle.rpc.specs.declared.reply.Loss.{Loss}
+use Rattle.rpc.specs.declared.reply.Loss.TheVariants.{TooLarge, MalformedChange, NoMemory}
+use Rattle.rpc.specs.declared.reply.Log.{Log as Event}
+use Rattle.rpc.specs.declared.reply.Log.TheVariants as event
 use Rattle.rpc.specs.declared.reply.Refusal.{Refusal}
-use Rattle.rpc.specs.declared.reply.Refusal.TheVariants.{ParseError, InvalidRequest, MethodNotFound, InvalidParams, DocumentNotOpen, NotInitialized}
+use Rattle.rpc.specs.declared.reply.Refusal.TheVariants.{ParseError, InvalidRequest, MethodNotFound, InvalidParams, DocumentNotOpen, DocumentLost, NotInitialized}
 use Rattle.definitions.specs.declared.Diagnostic.{Diagnostic}
 use Rattle.definitions.specs.declared.Position.{Position}
 use Rattle.definitions.specs.declared.Range.{Range}
 use Rattle.rpc.specs.declared.reply.Row.{Row}
 use Rattle.rpc.specs.declared.reply.Reply.{Reply}
-use Rattle.rpc.specs.declared.reply.Reply.TheVariants.{Capabilities, Null, Text, Tokens, Tree, Folds, Selections, Error, Diagnostics}
+use Rattle.rpc.specs.declared.reply.Reply.TheVariants.{Capabilities, Null, Text, Tokens, Tree, Folds, Selections, Error, Diagnostics, Log}
 use Rattle.rpc.specs.Messages.{Ident, named, numbered, id_view}
 
 -- Replies begin with the id of their request. Folds are pairs of lines; each selection is its ranges from inner to outer. Diagnostics
@@ -28,6 +33,7 @@ pub data Answer : Type 0 where
   told_selections : Ident → List (List Range) → Answer
   told_error : Option Ident → Refusal → Answer
   told_diagnostics : List ℕ → Option ℤ → Option (Range × List ℕ) → Answer
+  told_log : Event → Answer
 
 -- a token's name in UTF-8, and its range
 abbrev pub row_view : Row → List ℕ × Range
@@ -46,6 +52,7 @@ reply_view (Tree id text) = told_tree (id_view id) (string_bytes text)
 reply_view (Folds id pairs) = told_folds (id_view id) pairs.items
 reply_view (Selections id selections) = told_selections (id_view id) (map (λ s. s.items) selections.items)
 reply_view (Diagnostics uri version d) = told_diagnostics (string_bytes uri) version (option_map diagnostic_view d)
+reply_view (Log log) = told_log log
 reply_view (Error id refusal) = told_error (option_map id_view id) refusal
 
 abbrev pub id_data : Ident → Data
@@ -63,7 +70,22 @@ code_of InvalidRequest = negsuc 32599
 code_of MethodNotFound = negsuc 32600
 code_of InvalidParams = negsuc 32601
 code_of DocumentNotOpen = negsuc 32601
+code_of (DocumentLost loss) = negsuc 32802
 code_of NotInitialized = negsuc 32001
+
+abbrev pub loss_text : Loss → List ℕ
+loss_text TooLarge = codes "document lost: too large"
+loss_text MalformedChange = codes "document lost: malformed change"
+loss_text NoMemory = codes "document lost: no memory"
+
+abbrev pub log_text : Event → List ℕ
+log_text event.OpenMalformed = codes "didOpen: malformed"
+log_text event.ChangeMalformed = codes "didChange: malformed"
+log_text event.CloseMalformed = codes "didClose: malformed"
+log_text event.ChangeNotOpen = codes "didChange: document not open"
+log_text event.CloseNotOpen = codes "didClose: document not open"
+log_text event.TooManyDocuments = codes "didOpen: too many documents"
+log_text (event.Lost loss) = loss_text loss
 
 abbrev pub message_text : Refusal → List ℕ
 message_text ParseError = codes "parse error"
@@ -71,6 +93,7 @@ message_text InvalidRequest = codes "invalid request"
 message_text MethodNotFound = codes "method not found"
 message_text InvalidParams = codes "invalid params"
 message_text DocumentNotOpen = codes "document not open"
+message_text (DocumentLost loss) = loss_text loss
 message_text NotInitialized = codes "server not initialized"
 
 -- LSP 3.17, "TextDocumentSyncOptions": 2 is incremental
@@ -166,6 +189,12 @@ published uri (Some version) diagnostics = object
     (member (codes "uri") (string uri)
     (member (codes "version") (number (of_integer version)) no_members)))
 
+-- LSP 3.17, "LogMessageParams": type 1 is an error
+abbrev pub log_data : Event → Data
+log_data log = object
+    (member (codes "message") (string (log_text log))
+    (member (codes "type") (number (unsigned 1)) no_members))
+
 -- JSON-RPC 2.0, "Notification"
 abbrev pub notice_data : List ℕ → Data → Data
 notice_data method parameters = object
@@ -200,4 +229,5 @@ reply_data (told_folds id pairs) = result_data (id_data id) (folds_data pairs)
 reply_data (told_selections id selections) = result_data (id_data id) (selections_data selections)
 reply_data (told_diagnostics uri version d) =
     notice_data (codes "textDocument/publishDiagnostics") (published uri version (diagnostic_list d))
+reply_data (told_log log) = notice_data (codes "window/logMessage") (log_data log)
 reply_data (told_error id refusal) = error_data (maybe_id_data id) (code_of refusal) (message_text refusal)

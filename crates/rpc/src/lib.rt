@@ -1,4 +1,4 @@
-//! Messages, replies and diagnostics (JSON-RPC 2.0): `read` tells which message a content is, `to_bytes` writes what is
+//! Messages, replies and notifications (JSON-RPC 2.0): `read` tells which message a content is, `to_bytes` writes what is
 //! sent.
 #![tactic(auto)]
 
@@ -13,4 +13,4 @@ pub use definitions::{Diagnostic, Position, Range};
 pub use laws::{one_hearing, some_hearing};
 pub use message::{Call, Change, Id, Malformed, Message, Note, RpcFault};
 pub use reading::read;
-pub use reply::{Refusal, Reply, Row, to_bytes};
+pub use reply::{Log, Loss, Refusal, Reply, Row, to_bytes};

@@ -57,6 +57,7 @@ pub enum Malformed {
     DidOpen,
     /// The URI is told where it is a text.
     DidChange { uri: Option<String> },
+    DidClose,
 }
 
 /// What a notification tells.
@@ -78,6 +79,10 @@ pub enum Note {
         uri: String,
         version: i32,
         changes: Vec<Change>,
+    },
+    /// `textDocument/didClose` (LSP 3.17, "DidCloseTextDocument Notification").
+    DidClose {
+        uri: String,
     },
     Malformed(Malformed),
 }

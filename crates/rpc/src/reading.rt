@@ -5,7 +5,7 @@ ghost use Rattle.serde_json.specs.Find.{get};
 ghost use Rattle.serde_json.specs.View.{view, items_view};
 ghost use Rattle.rpc.specs.Fields.{text_at};
 ghost use Rattle.rpc.specs.Messages.{said, refused, params, its_text, its_tokens, its_tree, its_folds, id_view, change_view, note_view, message_view, fault_view, heard_of};
-ghost use Rattle.rpc.specs.Reading.{maybe_range, change_of, changes_of, changes_at, opening, changing, asked_initialize, asked_about, asked_selections, request_of, notice_of, of_method, message_of, uri_at, positions_at, params_at, Gives, Hears};
+ghost use Rattle.rpc.specs.Reading.{maybe_range, change_of, changes_of, changes_at, opening, changing, closing, asked_initialize, asked_about, asked_selections, request_of, notice_of, of_method, message_of, uri_at, positions_at, params_at, Gives, Hears};
 
 use crate::fields::text_at;
 use crate::message::{Call, Change, Id, Malformed, Message, Note, RpcFault};
@@ -94,6 +94,16 @@ fn changing(alloc: Global, params: &Value) -> Result<Note, AllocError>
             changes,
         }),
         _ => Ok(Note::Malformed(Malformed::DidChange { uri: Some(uri) })),
+    }
+}
+
+/// What a `textDocument/didClose` with these parameters tells.
+fn closing(alloc: Global, params: &Value) -> Result<Note, AllocError>
+    ensures { IfOk result (λ note. note_view note ≡ closing (view params.now)) }
+{
+    match copied_uri(alloc, params)? {
+        Some(uri) => Ok(Note::DidClose { uri }),
+        None => Ok(Note::Malformed(Malformed::DidClose)),
     }
 }
 
@@ -220,6 +230,8 @@ fn notice_of(alloc: Global, method: &str, params: &Value) -> Result<Message, All
         Ok(Message::Notice(opening(alloc, params)?))
     } else if method == "textDocument/didChange" {
         Ok(Message::Notice(changing(alloc, params)?))
+    } else if method == "textDocument/didClose" {
+        Ok(Message::Notice(closing(alloc, params)?))
     } else {
         Ok(Message::Ignored)
     }

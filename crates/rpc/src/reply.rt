@@ -5,12 +5,37 @@ ghost use Rattle.serde_json.specs.Data.{string};
 ghost use Rattle.serde_json.specs.View.{view};
 ghost use Rattle.serde_json.specs.Written.{compact_text};
 ghost use Rattle.rpc.specs.Messages.{id_view};
-ghost use Rattle.rpc.specs.Replies.{id_data, maybe_id_data, code_of, message_text, capabilities, result_data, error_data, document_data, row_data, row_view, rows_data, fold_data, folds_data, position_data, range_data, with_parent, selection_data, selections_data, diagnostic_data, diagnostic_view, diagnostic_list, published, notice_data, reply_data, reply_view};
+ghost use Rattle.rpc.specs.Replies.{id_data, maybe_id_data, code_of, loss_text, log_text, message_text, capabilities, result_data, error_data, document_data, row_data, row_view, rows_data, fold_data, folds_data, position_data, range_data, with_parent, selection_data, selections_data, diagnostic_data, diagnostic_view, diagnostic_list, published, log_data, notice_data, reply_data, reply_view};
 
 use crate::message::Id;
 use definitions::{Diagnostic, Position, Range};
 use serde_json::{Value, json};
 use std::alloc::{AllocError, Global};
+
+/// Why a document was lost.
+#[derive(Clone, Copy, Debug, PartialEq, Eq)]
+pub enum Loss {
+    /// A text would have been too large.
+    TooLarge,
+    /// A change didn't fit its method.
+    MalformedChange,
+    /// Memory was refused within a change.
+    NoMemory,
+}
+
+/// What is logged of a notification (LSP 3.17, "LogMessage Notification").
+#[derive(Clone, Copy, Debug, PartialEq, Eq)]
+pub enum Log {
+    OpenMalformed,
+    /// A change that doesn't fit, and of which document it is can't be read.
+    ChangeMalformed,
+    CloseMalformed,
+    ChangeNotOpen,
+    CloseNotOpen,
+    TooManyDocuments,
+    /// The document is lost.
+    Lost(Loss),
+}
 
 /// Why a request is refused (JSON-RPC 2.0, "Error object"; LSP 3.17, "ErrorCodes").
 #[derive(Clone, Copy, Debug, PartialEq, Eq)]
@@ -21,6 +46,8 @@ pub enum Refusal {
     InvalidParams,
     /// The request names a document that isn't open.
     DocumentNotOpen,
+    /// The request names a document that is lost.
+    DocumentLost(Loss),
     NotInitialized,
 }
 
@@ -31,7 +58,7 @@ pub struct Row {
     pub range: Range,
 }
 
-/// What is sent: the reply to a request, or diagnostics.
+/// What is sent: the reply to a request, diagnostics, or what is logged.
 #[derive(Debug, Drop)]
 pub enum Reply {
     /// What the server can do, for `initialize` (LSP 3.17, "InitializeResult").
@@ -75,6 +102,10 @@ pub enum Reply {
         version: Option<i32>,
         diagnostic: Option<Diagnostic>,
     },
+    /// What is logged of a notification (LSP 3.17, "LogMessage Notification").
+    Log {
+        log: Log,
+    },
     /// There is no id where the request's can't be read.
     Error {
         id: Option<Id>,
@@ -112,7 +143,34 @@ fn code_of(refusal: Refusal) -> i32
         Refusal::MethodNotFound => -32601,
         Refusal::InvalidParams => -32602,
         Refusal::DocumentNotOpen => -32602,
+        Refusal::DocumentLost(_) => -32803,
         Refusal::NotInitialized => -32002,
+    }
+}
+
+/// The text of why a document was lost.
+fn loss_text(loss: Loss) -> &'static str
+    ensures { result.now ≡ loss_text loss }
+{
+    match loss {
+        Loss::TooLarge => "document lost: too large",
+        Loss::MalformedChange => "document lost: malformed change",
+        Loss::NoMemory => "document lost: no memory",
+    }
+}
+
+/// The text of what is logged.
+fn log_text(log: Log) -> &'static str
+    ensures { result.now ≡ log_text log }
+{
+    match log {
+        Log::OpenMalformed => "didOpen: malformed",
+        Log::ChangeMalformed => "didChange: malformed",
+        Log::CloseMalformed => "didClose: malformed",
+        Log::ChangeNotOpen => "didChange: document not open",
+        Log::CloseNotOpen => "didClose: document not open",
+        Log::TooManyDocuments => "didOpen: too many documents",
+        Log::Lost(loss) => loss_text(loss),
     }
 }
 
@@ -126,6 +184,7 @@ fn message_text(refusal: Refusal) -> &'static str
         Refusal::MethodNotFound => "method not found",
         Refusal::InvalidParams => "invalid params",
         Refusal::DocumentNotOpen => "document not open",
+        Refusal::DocumentLost(loss) => loss_text(loss),
         Refusal::NotInitialized => "server not initialized",
     }
 }
@@ -279,6 +338,14 @@ fn published(
     }
 }
 
+/// What is logged (LSP 3.17, "LogMessageParams").
+fn log_value(alloc: Global, log: Log) -> Result<Value, AllocError>
+    ensures { IfOk result (λ v. view v ≡ log_data log) }
+{
+    let message = log_text(log);
+    json!(in alloc; {"message": message, "type": 1})
+}
+
 /// A notification (JSON-RPC 2.0, "Notification").
 fn notice_value(alloc: Global, method: &str, params: Value) -> Result<Value, AllocError>
     ensures { IfOk result (λ v. view v ≡ notice_data method.now (view params)) }
@@ -337,6 +404,10 @@ fn reply_value(alloc: Global, reply: &Reply) -> Result<Value, AllocError>
             let list = diagnostic_list(alloc, diagnostic)?;
             let params = published(alloc, uri.as_str(), *version, list)?;
             notice_value(alloc, "textDocument/publishDiagnostics", params)
+        }
+        Reply::Log { log } => {
+            let params = log_value(alloc, *log)?;
+            notice_value(alloc, "window/logMessage", params)
         }
         Reply::Error { id, refusal } => {
             let id = maybe_id_value(alloc, id)?;
