@@ -3,8 +3,12 @@ mod Through
 mod Rest
 mod Splits
 mod Writing
+mod Faults
 mod Stable
 mod Trimmed
 mod Pieces
 mod HeaderPart
 mod Searched
+mod Lines
+mod FieldLines
+mod FirstFault

@@ -9,11 +9,12 @@ use Rattle.std.proofs.lemmas.List.{take-append-le, take_all, length-take}
 use Rattle.std.proofs.Math.Seq.{take-append-add}
 use Rattle.std.proofs.lemmas.Bool.{cases_lt, lt-ltb, le-ltb}
 use Rattle.frames.specs.declared.fault.FrameFault.{FrameFault}
-use Rattle.frames.specs.declared.fault.FrameFault.TheVariants.{BadField, LongHeader}
+use Rattle.frames.specs.declared.fault.FrameFault.TheVariants.{LongHeader}
 use Rattle.frames.specs.declared.header.Start.TheVariants.{NeedsMore, Fails, Announces}
-use Rattle.frames.specs.Header.{through, header_size, header_length, length_or_fault, line_end, blank_line}
+use Rattle.frames.specs.Header.{through, header_size, header_length, line_end, blank_line}
 use Rattle.frames.specs.Frames.{Tail, Open, Faulty, start_of, start_at, told, tail_of, fault_of, IsBegun, IsTail, IsReached, IsStreamFault}
 use Rattle.frames.specs.Kept.{Awaits}
+use Rattle.frames.proofs.Faults.{long_header, header_faults}
 
 -- a text with the needle at its front is as long
 pub front_long : (xs needle : List ℕ) → starts_with nat_eq xs needle ≡ true → length needle ≤ length xs
@@ -36,7 +37,7 @@ through_bounds needle (b ∷ xs) n h = elim (at_step (starts_with nat_eq (b ∷ 
   | inr q ↦ let r = through_bounds needle xs q.1 q.2 in (omega (arith, q.3, r.0), omega (arith, q.3, r.1))
 ]
 
-through_stays : (needle xs ys : List ℕ) (n : ℕ) → through needle xs ≡ Some n → through needle (xs ++ ys) ≡ Some n
+pub through_stays : (needle xs ys : List ℕ) (n : ℕ) → through needle xs ≡ Some n → through needle (xs ++ ys) ≡ Some n
 through_stays needle [] ys n h = cc
 through_stays needle (b ∷ xs) ys n h = elim (at_step (starts_with nat_eq (b ∷ xs) needle) (length needle) n (through needle xs) h) [
   | inl p ↦ subst (λ t. cond t (Some (length needle)) (option_map suc (through needle (xs ++ ys))) ≡ Some n) (sym (front_stays (b ∷ xs) ys needle (front_long (b ∷ xs) needle p.0) ∙ p.0)) (ap (λ (k : ℕ). Some k) (sym p.1))
@@ -140,22 +141,12 @@ awaits_frame rest size n h more few =
     let same : start_of (rest ++ more) ≡ Announces size n = start_stays rest more known ∙ h in
     subst (IsBegun (rest ++ more)) (sym same) few
 
-bad_field : IsStreamFault BadField
-bad_field = ((λ e. cc), (λ e. cc))
-
-long_header : IsStreamFault LongHeader
-long_header = ((λ e. cc), (λ e. cc))
-
-length_faults : (o : Option ℕ) (fault : FrameFault) → length_or_fault o ≡ Err fault → IsStreamFault fault
-length_faults None fault e = let same : BadField ≡ fault = cc in subst IsStreamFault same bad_field
-length_faults (Some n) fault e = cc
-
 told_faults : (size : ℕ) (part : List ℕ) (fault : FrameFault) → told size (header_length part) ≡ Fails fault → IsStreamFault fault
 told_faults size part fault e = by_length (header_length part) refl e
   where
     by_length : (r : Result ℕ FrameFault) → header_length part ≡ r → told size r ≡ Fails fault → IsStreamFault fault
     by_length (Ok n) h e = cc
-    by_length (Err f) h e = let same : f ≡ fault = cc in subst IsStreamFault same (length_faults _ f h)
+    by_length (Err f) h e = let same : f ≡ fault = cc in subst IsStreamFault same (header_faults part f h)
 
 unfinished_faults : (b : Bool) (fault : FrameFault) → cond b NeedsMore (Fails LongHeader) ≡ Fails fault → IsStreamFault fault
 unfinished_faults true fault e = cc

@@ -1,11 +1,12 @@
 -- The header part of a frame (LSP 3.17, "Header Part").
-use Rattle.std.specs.Prelude.{◌≡◌, ℕ, suc, ◌+◌, ◌-◌, ◌<◌, ◌≤◌, ◌⊎◌, ◌&&◌, ◌||◌, ◌==◌, Bool, not, nat_eq, nat_le, if◌then◌else◌, List, [], ◌∷◌, ◌++◌, length, take, drop, map, position, codes, Option, Some, None, option_map, option_and_then, Result, Ok, Err}
-use Rattle.std.specs.List.{starts_with, list_all, prefix_len, suffix_len}
+use Rattle.std.specs.Prelude.{◌≡◌, ℕ, suc, ◌+◌, ◌-◌, ◌<◌, ◌≤◌, ◌⊎◌, ◌&&◌, ◌||◌, ◌==◌, Bool, true, false, not, nat_eq, nat_le, if◌then◌else◌, List, [], ◌∷◌, ◌++◌, length, take, drop, map, position, All, Any, codes, Option, Some, None, is_some, option_map, option_and_then, Result, Ok, Err}
+use Rattle.std.specs.List.{starts_with, list_all, list_any, flat_map, prefix_len, suffix_len}
 use Rattle.std.specs.Char.{is_ascii_digit, is_ascii_alphanumeric, to_ascii_lowercase}
+use Rattle.std.specs.Option.{ok_or, option_or, option_map_or}
 use Rattle.std.specs.Str.{bytes_eq}
 use Rattle.std.specs.Str.Parse.{digits_value}
 use Rattle.frames.specs.declared.fault.FrameFault.{FrameFault}
-use Rattle.frames.specs.declared.fault.FrameFault.TheVariants.{BadField}
+use Rattle.frames.specs.declared.fault.FrameFault.TheVariants.{BadField, NoLength, SecondLength, BadLength, BadCharset}
 
 -- CR LF
 abbrev pub line_end : List ℕ
@@ -50,9 +51,16 @@ is_blank b = b == 32 || b == 9
 abbrev pub trimmed : List ℕ → List ℕ
 trimmed value = let rest = drop (prefix_len is_blank value) value in take (length rest - suffix_len is_blank rest) rest
 
--- the field's name in any case
+-- the names of two fields, in any case
 abbrev pub is_content_length : List ℕ → Bool
 is_content_length name = bytes_eq (map to_ascii_lowercase name) (codes "content-length")
+
+abbrev pub is_content_type : List ℕ → Bool
+is_content_type name = bytes_eq (map to_ascii_lowercase name) (codes "content-type")
+
+-- the two types of content that name UTF-8
+abbrev pub is_utf8_type : List ℕ → Bool
+is_utf8_type value = bytes_eq value (codes "application/vscode-jsonrpc; charset=utf-8") || bytes_eq value (codes "application/vscode-jsonrpc; charset=utf8")
 
 abbrev pub is_name : List ℕ → Bool
 is_name name = not (length name == 0) && list_all is_name_byte name
@@ -84,12 +92,65 @@ field_length field = if is_content_length field.0 then length_value field.1 else
 abbrev pub line_length : List ℕ → Option ℕ
 line_length line = option_and_then field_length (field_of line)
 
--- all other header parts are faulty
-abbrev pub length_or_fault : Option ℕ → Result ℕ FrameFault
-length_or_fault None = Err BadField
-length_or_fault (Some n) = Ok n
+-- the fault of a `Content-Length`, by whether a length was told before it
+abbrev pub length_fault : Bool → Option ℕ → Option FrameFault
+length_fault true n = Some SecondLength
+length_fault false None = Some BadLength
+length_fault false (Some n) = None
 
--- The length that a whole header part tells, or its fault.
--- It is one `Content-Length` line and the empty line: a line has no CR and no LF, so its end and the empty line are the last four bytes.
+-- the fault of a field
+abbrev pub field_fault : Bool → List ℕ × List ℕ → Option FrameFault
+field_fault is_told field =
+    if is_content_length field.0 then length_fault is_told (length_value field.1)
+    else (if is_content_type field.0 && not (is_utf8_type field.1) then Some BadCharset else None)
+
+-- the fault of a line
+abbrev pub line_fault : Bool → List ℕ → Option FrameFault
+line_fault is_told line = option_map_or (field_fault is_told) (field_of line) (Some BadField)
+
+-- the lines with a byte before the first
+abbrev pub onto_first_line : ℕ → List (List ℕ) → List (List ℕ)
+onto_first_line b [] = []
+onto_first_line b (line ∷ lines) = (b ∷ line) ∷ lines
+
+-- the lines that CR LF ends, without their ends
+abbrev pub lines_of : List ℕ → List (List ℕ)
+lines_of [] = []
+lines_of (b ∷ []) = []
+lines_of (b ∷ c ∷ bytes) = if starts_with nat_eq (b ∷ c ∷ bytes) line_end then [] ∷ lines_of bytes else onto_first_line b (lines_of (c ∷ bytes))
+
+-- the length that lines tell behind ones that told this, or their fault: the first faulty line decides
+abbrev pub lines_length : Option ℕ → List (List ℕ) → Result ℕ FrameFault
+lines_length told [] = ok_or told NoLength
+lines_length told (line ∷ lines) = option_map_or Err (line_fault (is_some told) line) (lines_length (option_or told (line_length line)) lines)
+
+-- the length that a whole header part tells, or its fault: the last CR LF ends no field line
 abbrev pub header_length : List ℕ → Result ℕ FrameFault
-header_length part = length_or_fault (line_length (take (length part - 4) part))
+header_length part = lines_length None (lines_of (take (length part - 2) part))
+
+-- the field lines of a whole header part: each ends with CR LF and holds no other, and an empty line ends the part
+pub record AreFieldLines (part : List ℕ) (lines : List (List ℕ)) : Type 0 where
+  pub parts : part ≡ flat_map (λ line. line ++ line_end) lines ++ line_end
+  pub single : All (λ line. through line_end line ≡ None) lines
+
+-- one of the lines tells a length
+abbrev pub tells_length : List (List ℕ) → Bool
+tells_length lines = list_any (λ line. is_some (line_length line)) lines
+
+-- no line is faulty, behind those before it
+abbrev pub AreFaultless : List (List ℕ) → Type 0
+AreFaultless lines = (before after : List (List ℕ)) (line : List ℕ) → lines ≡ before ++ line ∷ after → line_fault (tells_length before) line ≡ None
+
+-- the first faulty line has this fault
+abbrev pub IsFirstFault : List (List ℕ) → FrameFault → Type 0
+IsFirstFault lines fault =
+    (before after : List (List ℕ)) × (line : List ℕ) × (lines ≡ before ++ line ∷ after) × AreFaultless before × (line_fault (tells_length before) line ≡ Some fault)
+
+-- What field lines tell: the first fault; where there is none, the length of the one `Content-Length`, or that it is missing.
+abbrev pub Tell : List (List ℕ) → Result ℕ FrameFault → Type 0
+Tell lines (Ok n) = AreFaultless lines × Any (λ line. line_length line ≡ Some n) lines
+Tell lines (Err fault) = IsFirstFault lines fault ⊎ (AreFaultless lines × (tells_length lines ≡ false) × (fault ≡ NoLength))
+
+-- the field lines of the header part tell this
+abbrev pub IsHeaderLength : List ℕ → Result ℕ FrameFault → Type 0
+IsHeaderLength part result = (lines : List (List ℕ)) × AreFieldLines part lines × Tell lines result

@@ -4,22 +4,23 @@ use thiserror::Error;
 
 /// What is wrong with a stream of frames (LSP 3.17, "Base Protocol").
 ///
-/// `NoLength` to `BadCharset` aren't told yet: all that is wrong with a whole header part is `BadField`.
+/// What is wrong with a header part is told once it is whole, and the first faulty line decides.
 #[derive(Clone, Copy, Debug, PartialEq, Eq, Error)]
 pub enum FrameFault {
-    /// A header part other than one faultless `Content-Length` line and the empty line.
+    /// A line that is no field: a name of ASCII letters, digits and `-`, a colon, and a value of bytes from 0x20 to 0x7E
+    /// and tabs.
     #[error("F1")]
     BadField,
-    /// A header part without `Content-Length`.
+    /// A header part with no faulty line and no `Content-Length`.
     #[error("F2")]
     NoLength,
-    /// A second `Content-Length` in one header part.
+    /// A second `Content-Length` in one header part, whatever its value.
     #[error("F3")]
     SecondLength,
     /// A length that isn't 1 to 8 digits, or is over 16,777,216.
     #[error("F4")]
     BadLength,
-    /// A `Content-Type` of another charset than UTF-8.
+    /// A `Content-Type` other than `application/vscode-jsonrpc; charset=utf-8`, or the same with `utf8`.
     #[error("F5")]
     BadCharset,
     /// The stream ends within a frame.

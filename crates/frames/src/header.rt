@@ -1,12 +1,13 @@
 //! The header part of a frame (LSP 3.17, "Header Part").
 
-ghost use Rattle.std.specs.Prelude.{◌≡◌, ◌↔◌, ◌+◌, ◌-◌, ◌<◌, ◌≤◌, length, take, drop, ◌≢◌, IfSome, IfOk, IfErr, IsTrue, option_map, position, ◌==◌};
+ghost use Rattle.std.specs.Prelude.{◌≡◌, ◌↔◌, ◌+◌, ◌-◌, ◌<◌, ◌≤◌, length, take, drop, ◌≢◌, IfSome, IfOk, IfErr, IsTrue, Ok, Err, is_some, option_map, position, ◌==◌};
+ghost use Rattle.std.specs.Option.{option_or, option_map_or};
 ghost use Rattle.std.specs.List.{list_all};
 ghost use Rattle.std.specs.Char.{is_ascii_digit};
 ghost use Rattle.std.specs.Str.Parse.{digits_value};
 ghost use Rattle.frames.specs.Frames.{start_of, IsStreamFault};
 ghost use Rattle.frames.specs.Kept.{StartIsWithin, HoldsNone};
-ghost use Rattle.frames.specs.Header.{through, header_size, is_name_byte, is_value_byte, trimmed, is_number, is_content_length, length_value, field_at, field_of, line_length, header_length};
+ghost use Rattle.frames.specs.Header.{through, header_size, is_name_byte, is_value_byte, trimmed, is_number, is_content_length, is_content_type, is_utf8_type, length_value, field_at, field_of, line_length, length_fault, line_fault, header_length};
 
 use crate::fault::FrameFault;
 
@@ -85,6 +86,20 @@ fn is_content_length(name: &[u8]) -> bool
     ensures { result ≡ is_content_length name.now }
 {
     name.eq_ignore_ascii_case(b"content-length")
+}
+
+fn is_content_type(name: &[u8]) -> bool
+    ensures { result ≡ is_content_type name.now }
+{
+    name.eq_ignore_ascii_case(b"content-type")
+}
+
+/// The two types of content that name UTF-8.
+fn is_utf8_type(value: &[u8]) -> bool
+    ensures { result ≡ is_utf8_type value.now }
+{
+    value == b"application/vscode-jsonrpc; charset=utf-8".as_slice()
+        || value == b"application/vscode-jsonrpc; charset=utf8".as_slice()
 }
 
 fn has_name_bytes(name: &[u8]) -> bool
@@ -171,28 +186,51 @@ fn field_of(line: &[u8]) -> Option<(&[u8], &[u8])>
     }
 }
 
-/// The length that a line tells.
-fn line_length(line: &[u8]) -> Option<usize>
-    ensures value { result ≡ line_length line.now }
-    ensures bound { IfSome result (λ n. n ≤ 16777216) }
+/// The length that a `Content-Length` with this value tells, where `told` was told before it; or its fault.
+fn length_told(told: Option<usize>, value: &[u8]) -> Result<Option<usize>, FrameFault>
+    ensures { result ≡ option_map_or Err
+        (length_fault (is_some told) (length_value value.now)) (Ok (length_value value.now)) }
 {
-    match field_of(line) {
-        Some((name, value)) if is_content_length(name) => length_value(value),
-        _ => None,
+    if told.is_some() {
+        return Err(FrameFault::SecondLength);
+    }
+    match length_value(value) {
+        Some(length) => Ok(Some(length)),
+        None => Err(FrameFault::BadLength),
     }
 }
 
-/// The length that a whole header part tells.
+/// The length told up to this line, where `told` was told before it; or the line's fault.
+fn line_told(told: Option<usize>, line: &[u8]) -> Result<Option<usize>, FrameFault>
+    ensures { result ≡ option_map_or Err
+        (line_fault (is_some told) line.now) (Ok (option_or told (line_length line.now))) }
+{
+    let Some((name, value)) = field_of(line) else {
+        return Err(FrameFault::BadField);
+    };
+    if is_content_length(name) {
+        length_told(told, value)
+    } else if is_content_type(name) && !is_utf8_type(value) {
+        Err(FrameFault::BadCharset)
+    } else {
+        Ok(told)
+    }
+}
+
+/// The length that a whole header part tells, or the fault of its first faulty line.
 fn header_length(part: &[u8]) -> Result<usize, FrameFault>
     ensures value { result ≡ header_length part.now }
     ensures bound { IfOk result (λ n. n ≤ 16777216) }
     ensures fault { IfErr result IsStreamFault }
 {
-    let line = &part[..part.len().saturating_sub(4)];
-    match line_length(line) {
-        Some(length) => Ok(length),
-        None => Err(FrameFault::BadField),
+    // The CR LF that ends the header part ends no field line.
+    let mut rest = &part[..part.len().saturating_sub(2)];
+    let mut told = None;
+    while let Some(size) = through(b"\r\n", rest) {
+        told = line_told(told, &rest[..size - 2])?;
+        rest = bytes_from(rest, size);
     }
+    told.ok_or(FrameFault::NoLength)
 }
 
 /// As many bytes as a header part has at most.

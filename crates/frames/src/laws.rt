@@ -1,8 +1,10 @@
 //! Laws of the definitions.
 
-ghost use Rattle.std.specs.Prelude.{◌≡◌, ◌↔◌, ℕ, List, Some, None, take};
+ghost use Rattle.std.specs.Prelude.{◌≡◌, ◌↔◌, ℕ, List, Some, None, Result, take};
 ghost use Rattle.frames.specs.Frames.{Tail, Splits, HasSplit};
-ghost use Rattle.frames.specs.Header.{header_size, IsWhole, IsHeaderPart};
+ghost use Rattle.frames.specs.Header.{header_size, header_length, IsWhole, IsHeaderPart, IsHeaderLength};
+
+use crate::fault::FrameFault;
 
 /// Each stream is whole frames and a tail in exactly one way.
 pub fn one_split()
@@ -16,4 +18,10 @@ pub fn shortest_header_part()
     ensures found { (bytes : List ℕ) (size : ℕ) →
         (header_size bytes ≡ Some size) ↔ IsHeaderPart bytes size }
     ensures none { (bytes : List ℕ) (n : ℕ) → header_size bytes ≡ None → ¬ IsWhole (take n bytes) }
+{}
+
+/// The field lines of a whole header part are tested in order, and the first faulty one decides.
+pub fn first_fault_decides()
+    ensures { (part : List ℕ) (result : Result ℕ FrameFault) → IsWhole part →
+        (header_length part ≡ result) ↔ IsHeaderLength part result }
 {}

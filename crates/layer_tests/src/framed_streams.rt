@@ -11,6 +11,8 @@ const CUT: Result<(), FrameFault> = Err(FrameFault::Truncated);
 
 const BAD: Result<(), FrameFault> = Err(FrameFault::BadField);
 
+const BAD_LENGTH: Result<(), FrameFault> = Err(FrameFault::BadLength);
+
 const LONG: Result<(), FrameFault> = Err(FrameFault::LongHeader);
 
 fn compare(rt: &impl Abort, frames: &[Frame], contents: &[&str], size: usize) {
@@ -86,26 +88,24 @@ fn feed_in_pieces(
 #[test]
 fn streams_are_split_whatever_the_pieces(rt: HostRuntime) -> Result<(), Fail> {
     let alloc = rt.alloc();
-    let streams: [(&str, &[&str], Result<(), FrameFault>); 24] = [
+    let streams: [(&str, &[&str], Result<(), FrameFault>); 22] = [
         ("", &[], Ok(())),
         ("Content-Length: 1\r\n\r\n{", &["{"], Ok(())),
         ("Content-Length: 5\r\n\r\n{}", &[], CUT),
         ("Content-Length: 1\r\n\r\n{X\r\n\r\n", &["{"], BAD),
         ("Content-Length: 0\r\n\r\n", &[""], Ok(())),
         ("Content-Length: 00000001\r\n\r\n{", &["{"], Ok(())),
-        ("Content-Length: 000000001\r\n\r\n{", &[], BAD),
+        ("Content-Length: 000000001\r\n\r\n{", &[], BAD_LENGTH),
         ("Content-Length: 16777216\r\n\r\n{", &[], CUT),
-        ("Content-Length: 16777217\r\n\r\n{", &[], BAD),
-        ("Content-Length: \r\n\r\n", &[], BAD),
-        ("Content-Length: +1\r\n\r\n{", &[], BAD),
+        ("Content-Length: 16777217\r\n\r\n{", &[], BAD_LENGTH),
+        ("Content-Length: \r\n\r\n", &[], BAD_LENGTH),
+        ("Content-Length: +1\r\n\r\n{", &[], BAD_LENGTH),
         ("content-LENGTH: 2\r\n\r\n{}", &["{}"], Ok(())),
         ("Content-Length:2\r\n\r\n{}", &["{}"], Ok(())),
         ("Content-Length: \t 2 \t\r\n\r\n{}", &["{}"], Ok(())),
         ("Content-Length : 2\r\n\r\n{}", &[], BAD),
         ("Content-Length: 2\n\n{}", &[], CUT),
         ("Content-Length: 2\r\n\r{}", &[], CUT),
-        ("\r\n", &[], BAD),
-        ("Content-Length: 2\r\nContent-Length: 2\r\n\r\n{}", &[], BAD),
         ("\rContent-Length: 2\r\n\r\n{}", &[], BAD),
         ("Content-Length: 2\x0b\r\n\r\n{}", &[], BAD),
         ("Content-Length: 4\r\n\r\n\r\n\r\n", &["\r\n\r\n"], Ok(())),
@@ -123,6 +123,82 @@ fn streams_are_split_whatever_the_pieces(rt: HostRuntime) -> Result<(), Fail> {
     for (stream, contents, end) in streams {
         for size in 1..80 {
             feed_in_pieces(&rt, alloc, stream.as_bytes(), size, contents, end)?;
+        }
+    }
+    Ok(())
+}
+
+#[test]
+fn faultless_field_lines_announce_a_content(rt: HostRuntime) -> Result<(), Fail> {
+    let alloc = rt.alloc();
+    let streams = [
+        "Content-Type: application/vscode-jsonrpc; charset=utf-8\r\nContent-Length: 2\r\n\r\n{}",
+        "CONTENT-LENGTH:2\r\ncontent-type:\t application/vscode-jsonrpc; charset=utf8 \r\n\r\n{}",
+        "X-2:\r\nContent-Length: \t2 \r\nContent: Content-Length: x\r\n\r\n{}",
+    ];
+    for stream in streams {
+        for size in [1, 3, 1_000] {
+            feed_in_pieces(&rt, alloc, stream.as_bytes(), size, &["{}"], Ok(()))?;
+        }
+    }
+    Ok(())
+}
+
+#[test]
+fn the_first_faulty_field_line_decides(rt: HostRuntime) -> Result<(), Fail> {
+    let alloc = rt.alloc();
+    let streams = [
+        ("\r\n", FrameFault::NoLength),
+        ("X: Content-Length\r\n\r\n", FrameFault::NoLength),
+        ("Content-Length: 2\r\n", FrameFault::Truncated),
+        ("X\r\nContent-Length: x\r\n", FrameFault::Truncated),
+        (
+            "Content-Length: 2\r\nContent-Length: 2\r\n\r\n{}",
+            FrameFault::SecondLength,
+        ),
+        (
+            "Content-Length: 2\r\nX: 1\r\nCONTENT-LENGTH: x\r\n\r\n{}",
+            FrameFault::SecondLength,
+        ),
+        (
+            "Content-Length: x\r\nContent-Length: 2\r\n\r\n{}",
+            FrameFault::BadLength,
+        ),
+        ("Content-Length: 2\r\n: 1\r\n\r\n{}", FrameFault::BadField),
+        ("Content-Length: 2\r\nX\r\n\r\n{}", FrameFault::BadField),
+        ("Content-Length: 2\r\nX_: 1\r\n\r\n{}", FrameFault::BadField),
+        (
+            "Content-Length: 2\r\nX: \x7f\r\n\r\n{}",
+            FrameFault::BadField,
+        ),
+        (
+            "Content-Length: 2\r\nX: 1\n\r\n\r\n{}",
+            FrameFault::BadField,
+        ),
+        (
+            "Content-Length: 2\r\nX: 1\r\r\n\r\n{}",
+            FrameFault::BadField,
+        ),
+        (
+            "Content-Type: text/plain\r\nContent-Length: 2\r\n\r\n{}",
+            FrameFault::BadCharset,
+        ),
+        (
+            "Content-Length: 2\r\nContent-Type: application/vscode-jsonrpc; charset=UTF-8\r\n\r\n{}",
+            FrameFault::BadCharset,
+        ),
+        (
+            "Content-Type: \r\nContent-Length: x\r\nX\r\n\r\n{}",
+            FrameFault::BadCharset,
+        ),
+        (
+            "X\r\nContent-Type: x\r\nContent-Length: x\r\n\r\n{}",
+            FrameFault::BadField,
+        ),
+    ];
+    for (stream, fault) in streams {
+        for size in [1, 3, 1_000] {
+            feed_in_pieces(&rt, alloc, stream.as_bytes(), size, &[], Err(fault))?;
         }
     }
     Ok(())

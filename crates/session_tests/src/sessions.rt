@@ -297,6 +297,7 @@ fn streams_end_and_fail(rt: HostRuntime) -> Result<(), Fail> {
     push_frame(alloc, &mut parse_error, PARSE_ERROR)?;
     let truncated = Err(RunFault::Frame(FrameFault::Truncated));
     let bad_field = Err(RunFault::Frame(FrameFault::BadField));
+    let second_length = Err(RunFault::Frame(FrameFault::SecondLength));
     ends(
         &rt,
         alloc,
@@ -305,18 +306,21 @@ fn streams_end_and_fail(rt: HostRuntime) -> Result<(), Fail> {
         &parse_error,
     )?;
     ends(&rt, alloc, b"Content-Length: 5\r\n\r\n{}", truncated, &[])?;
+    let stream = b"Content-Length: 2\r\nContent-Length: 2\r\n\r\n{}";
+    ends(&rt, alloc, stream, second_length, &[])?;
     let stream = b"Content-Length: 1\r\n\r\n{X\r\n\r\n";
     ends(&rt, alloc, stream, bad_field, &parse_error)
 }
 
-/// A stream that comes in pieces, of which the last one that may be read has a frame fault: the read behind it would fail, so it
-/// must not be made.
+/// A stream that comes in pieces, of which the last one that may be read has this frame fault: the read behind it would fail, so
+/// it must not be made.
 fn stops(
     rt: &impl Abort,
     alloc: Global,
     stream: &[u8],
     piece: usize,
     reads: u64,
+    fault: FrameFault,
 ) -> Result<(), Fail> {
     let record = RefCell::new(Record::new(alloc));
     let mut pieces = Pieces {
@@ -336,7 +340,7 @@ fn stops(
         has_failed: false,
     };
     let outcome = run(alloc, sums(alloc)?, &mut pieces, &mut taker);
-    assert!(rt; outcome == Err(RunFault::Frame(FrameFault::BadField)));
+    assert!(rt; outcome == Err(RunFault::Frame(fault)));
     assert!(rt; !pieces.has_failed);
     Ok(())
 }
@@ -346,14 +350,16 @@ fn nothing_is_read_behind_a_frame_fault(rt: HostRuntime) -> Result<(), Fail> {
     let alloc = rt.alloc();
     let behind_a_frame = b"Content-Length: 1\r\n\r\n{X\r\n\r\n";
     let too_long = b"Content-Length: 16777217\r\n\r\n";
-    stops(&rt, alloc, b"X\r\n\r\n", 100, 1)?;
-    stops(&rt, alloc, b"X\r\n\r\n", 1, 5)?;
-    stops(&rt, alloc, behind_a_frame, 100, 1)?;
-    stops(&rt, alloc, behind_a_frame, 1, 27)?;
-    stops(&rt, alloc, too_long, 100, 1)?;
-    stops(&rt, alloc, too_long, 1, 28)?;
-    stops(&rt, alloc, b"\r\n", 100, 1)?;
-    stops(&rt, alloc, b"\r\n", 1, 2)
+    let bad_field = FrameFault::BadField;
+    let bad_length = FrameFault::BadLength;
+    stops(&rt, alloc, b"X\r\n\r\n", 100, 1, bad_field)?;
+    stops(&rt, alloc, b"X\r\n\r\n", 1, 5, bad_field)?;
+    stops(&rt, alloc, behind_a_frame, 100, 1, bad_field)?;
+    stops(&rt, alloc, behind_a_frame, 1, 27, bad_field)?;
+    stops(&rt, alloc, too_long, 100, 1, bad_length)?;
+    stops(&rt, alloc, too_long, 1, 28, bad_length)?;
+    stops(&rt, alloc, b"\r\n", 100, 1, FrameFault::NoLength)?;
+    stops(&rt, alloc, b"\r\n", 1, 2, FrameFault::NoLength)
 }
 
 /// `initialize` in a content of so many bytes, with blanks behind it.

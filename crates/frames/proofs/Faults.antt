@@ -1,0 +1,93 @@
+-- The faults of header parts, and the lengths that they tell.
+use Rattle.std.proofs.Common.{◌≡◌, ◌≤◌, ◌-◌, ◌&&◌, ℕ, Bool, true, false, not, List, [], ◌∷◌, length, take, refl, sym, subst}
+use Rattle.std.specs.Prelude.{Option, Some, None, is_some, option_and_then, cond, Result, Ok, Err, IfSome, IfOk, nat_le}
+use Rattle.std.specs.Option.{ok_or, option_or, option_map_or}
+use Rattle.std.specs.Str.Parse.{digits_value}
+use Rattle.std.proofs.lemmas.Bool.{leb-true}
+use Rattle.frames.specs.declared.fault.FrameFault.{FrameFault}
+use Rattle.frames.specs.declared.fault.FrameFault.TheVariants.{BadField, NoLength, BadCharset, LongHeader}
+use Rattle.frames.specs.Header.{is_content_length, is_content_type, is_utf8_type, is_number, length_value, length_fault, field_fault, field_length, line_fault, line_length, field_of, lines_of, lines_length, header_length}
+use Rattle.frames.specs.Frames.{IsStreamFault}
+
+pub long_header : IsStreamFault LongHeader
+long_header = ((λ e. cc), (λ e. cc))
+
+-- a fault, if there is one, is one of the bytes
+abbrev AreStreamFaults : Option FrameFault → Type 0
+AreStreamFaults o = IfSome o IsStreamFault
+
+length_faults : (is_told : Bool) (o : Option ℕ) → AreStreamFaults (length_fault is_told o)
+length_faults true o = ((λ e. cc), (λ e. cc))
+length_faults false None = ((λ e. cc), (λ e. cc))
+length_faults false (Some n) = tt
+
+charset_faults : (b : Bool) → AreStreamFaults (cond b (Some BadCharset) None)
+charset_faults true = ((λ e. cc), (λ e. cc))
+charset_faults false = tt
+
+either_faults : (b : Bool) (one other : Option FrameFault) → AreStreamFaults one → AreStreamFaults other → AreStreamFaults (cond b one other)
+either_faults true one other h k = h
+either_faults false one other h k = k
+
+field_faults : (is_told : Bool) (field : List ℕ × List ℕ) → AreStreamFaults (field_fault is_told field)
+field_faults is_told field = either_faults (is_content_length field.0) _ _ (length_faults is_told (length_value field.1)) (charset_faults (is_content_type field.0 && not (is_utf8_type field.1)))
+
+line_faults : (is_told : Bool) (line : List ℕ) → AreStreamFaults (line_fault is_told line)
+line_faults is_told line = by_field (field_of line)
+  where
+    by_field : (o : Option (List ℕ × List ℕ)) → AreStreamFaults (option_map_or (field_fault is_told) o (Some BadField))
+    by_field None = ((λ e. cc), (λ e. cc))
+    by_field (Some field) = field_faults is_told field
+
+-- a length is at most the longest content's
+abbrev IsSmall : Option ℕ → Type 0
+IsSmall o = IfSome o (λ n. n ≤ 16777216)
+
+number_small : (is_number is_small : Bool) (n : ℕ) → nat_le n 16777216 ≡ is_small → IsSmall (cond (is_number && is_small) (Some n) None)
+number_small false is_small n h = tt
+number_small true false n h = tt
+number_small true true n h = leb-true n 16777216 h
+
+field_small : (b : Bool) (value : List ℕ) → IsSmall (cond b (length_value value) None)
+field_small true value = number_small (is_number value) (nat_le (digits_value 10 value) 16777216) (digits_value 10 value) refl
+field_small false value = tt
+
+line_small : (line : List ℕ) → IsSmall (line_length line)
+line_small line = by_field (field_of line)
+  where
+    by_field : (o : Option (List ℕ × List ℕ)) → IsSmall (option_and_then field_length o)
+    by_field None = tt
+    by_field (Some field) = field_small (is_content_length field.0) field.1
+
+either_small : (one other : Option ℕ) → IsSmall one → IsSmall other → IsSmall (option_or one other)
+either_small None other h k = k
+either_small (Some n) other h k = h
+
+-- a length that is small, or a fault of the bytes
+abbrev IsTold : Result ℕ FrameFault → Type 0
+IsTold (Ok n) = n ≤ 16777216
+IsTold (Err fault) = IsStreamFault fault
+
+end_told : (told : Option ℕ) → IsSmall told → IsTold (ok_or told NoLength)
+end_told None small = ((λ e. cc), (λ e. cc))
+end_told (Some n) small = small
+
+line_or_later : (o : Option FrameFault) (later : Result ℕ FrameFault) → AreStreamFaults o → IsTold later → IsTold (option_map_or (λ fault. Err fault) o later)
+line_or_later None later h k = k
+line_or_later (Some fault) later h k = h
+
+lines_told : (told : Option ℕ) (lines : List (List ℕ)) → IsSmall told → IsTold (lines_length told lines)
+lines_told told [] small = end_told told small
+lines_told told (line ∷ lines) small =
+    let now = option_or told (line_length line) in
+    line_or_later (line_fault (is_some told) line) (lines_length now lines) (line_faults (is_some told) line) (lines_told now lines (either_small told (line_length line) small (line_small line)))
+
+header_told : (part : List ℕ) → IsTold (header_length part)
+header_told part = lines_told None (lines_of (take (length part - 2) part)) tt
+
+pub header_faults : (part : List ℕ) (fault : FrameFault) → header_length part ≡ Err fault → IsStreamFault fault
+header_faults part fault h = subst IsTold h (header_told part)
+
+pub header_small : (part : List ℕ) (r : Result ℕ FrameFault) → r ≡ header_length part → IfOk r (λ n. n ≤ 16777216)
+header_small part (Ok n) h = subst IsTold (sym h) (header_told part)
+header_small part (Err fault) h = tt

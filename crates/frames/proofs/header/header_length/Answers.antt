@@ -1,0 +1,24 @@
+use Rattle.std.proofs.Common.{◌≡◌, ◌∙◌, sym}
+use Rattle.std.proofs.lemmas.Result.{err_from_is_err_and}
+use Rattle.frames.specs.Header.{header_length}
+use Rattle.frames.proofs.Faults.{header_small}
+use Rattle.frames.proofs.Lines.{line_passed, line_failed, lines_passed}
+use Rattle.frames.proofs.header.header_length.Goals as goal
+
+pub returns-in_err-told-clause-value : goal.returns-in_err-told-clause-value
+returns-in_err-told-clause-value c =
+    let p = err_from_is_err_and c.from_residual.result c.from_residual.ensures.1 in
+    rw (p.1, p.2) (sym (c.loop-size.invariant ∙ line_failed c.loop-size.rest.now c.in-Some.size c.loop-size.told (sym c.in-Some.ensures.value) c.in_err-told.field-0.0 c.in_err-told.ensures))
+
+pub loop-size-preserved : goal.loop-size-preserved
+loop-size-preserved c =
+    c.loop-size.invariant ∙ line_passed c.loop-size.rest.now c.in-Some.size c.loop-size.told (sym c.in-Some.ensures.value) c.bytes_from-rest.result.now c.in_ok-told.told c.bytes_from-rest.ensures c.in_ok-told.ensures
+
+told : (c : goal.After-ok_or) → c.ok_or.result ≡ header_length c.args.part.now
+told c = c.ok_or.ensures.value ∙ sym (c.loop-size.invariant ∙ lines_passed c.loop-size.rest.now c.loop-size.told (sym c.in_default.ensures.value))
+
+pub returns-clause-value : goal.returns-clause-value
+returns-clause-value c = told c
+
+pub returns-clause-bound : goal.returns-clause-bound
+returns-clause-bound c = header_small c.args.part.now c.ok_or.result (told c)
