@@ -7,10 +7,10 @@ use Rattle.std.specs.Str.{IsUtf8, chars}
 use Rattle.definitions.specs.declared.Diagnostic.{Diagnostic}
 use Rattle.definitions.specs.declared.Position.{Position}
 use Rattle.grammar.specs.Grammars.{FileGrammar}
-use Rattle.server.specs.declared.document.Outcome.{Outcome}
-use Rattle.server.specs.declared.document.Outcome.TheVariants.{Tree, Fault}
-use Rattle.server.specs.Answers.{IsOutcome}
-use Rattle.server.specs.Documents.{fits}
+use Rattle.docs.specs.declared.doc.Outcome.{Outcome}
+use Rattle.docs.specs.declared.doc.Outcome.TheVariants.{Tree, Fault}
+use Rattle.docs.specs.Answers.{IsOutcome}
+use Rattle.docs.specs.Texts.{fits}
 use Rattle.commands.specs.declared.printed.Printed.{Printed}
 
 abbrev pub place_text : Position → List ℕ

@@ -2,7 +2,7 @@
 
 ghost use Rattle.std.specs.Prelude.{◌≡◌, ◌++◌, [], IfOk, IfErr, OnOk, string_bytes};
 ghost use Rattle.std.specs.Str.{chars};
-ghost use Rattle.server.specs.Languages.{IsLanguageOf};
+ghost use Rattle.docs.specs.Languages.{IsLanguageOf};
 ghost use Rattle.commands.specs.Parsing.{IsParsed, Prints, fault_line, place_text};
 ghost use Rattle.commands.specs.Reporting.{IsChecked, note_line};
 ghost use Rattle.commands.specs.Status.{status_of};
@@ -10,10 +10,9 @@ ghost use Rattle.commands.specs.Status.{status_of};
 use crate::fault::Fault;
 use definitions::{Diagnostic, Kind, Position};
 use grammar::Grammar;
-use server::{Document, Language, LoadFault, Outcome};
+use server::{Doc, DocFault, Language, LoadFault, Outcome};
 use std::alloc::{AllocError, Global};
 use tables::Conflict;
-use text::TextFault;
 
 /// What a command prints on standard output and standard error, and the exit status.
 #[derive(Debug, Drop)]
@@ -147,9 +146,9 @@ pub fn parse(alloc: Global, language: &Language, bytes: &[u8]) -> Result<Printed
     let Ok(text) = str::from_utf8(bytes) else {
         return refusal(alloc, &Fault::TextNotUtf8);
     };
-    match Document::open(alloc, language, 0, text) {
-        Ok(document) => outcome(alloc, document.outcome(alloc, language)?),
-        Err(TextFault::TooLarge) => refusal(alloc, &Fault::TextTooLarge),
-        Err(TextFault::NoMemory) => Err(AllocError),
+    match Doc::open(alloc, language, 0, text) {
+        Ok(doc) => outcome(alloc, doc.outcome(alloc, language)?),
+        Err(DocFault::TooLarge) => refusal(alloc, &Fault::TextTooLarge),
+        Err(DocFault::NoMemory) => Err(AllocError),
     }
 }

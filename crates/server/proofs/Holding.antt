@@ -1,16 +1,21 @@
--- What a server holds after a document was opened or changed.
-use Rattle.std.proofs.Common.{◌≡◌, ℕ, List, [], ◌∷◌, sym, ap, subst, ◌∙◌}
-use Rattle.std.specs.Prelude.{Option, None, Result, Ok, option_map}
-use Rattle.std.specs.Result.{result_ok}
-use Rattle.std.specs.FinMap.{insert}
+-- A document that came to stand otherwise.
+use Rattle.std.proofs.Common.{◌≡◌, ℕ, ℤ, List, [], ◌∷◌, ap, ◌∙◌, sym, subst}
+use Rattle.std.specs.Prelude.{Option, Some, None}
+use Rattle.std.specs.FinMap.{get, insert, remove}
+use Rattle.docs.specs.Docs.{open_document}
+use Rattle.docs.specs.declared.doc.Doc.{Doc}
 use Rattle.grammar.specs.Grammars.{FileGrammar}
-use Rattle.rpc.specs.Replies.{Answer}
-use Rattle.text.specs.declared.document.TextFault.{TextFault}
-use Rattle.server.specs.declared.document.Document.{Document}
+use Rattle.rpc.specs.Replies.{Answer, told_diagnostics, told_log}
+use Rattle.rpc.specs.declared.reply.Log.TheVariants.{CloseNotOpen, Lost}
+use Rattle.rpc.specs.declared.reply.Loss.{Loss}
+use Rattle.server.specs.declared.documents.Entry.{Entry}
+use Rattle.server.specs.declared.documents.Entry.TheVariants as entry
 use Rattle.server.specs.declared.state.Phase.{Phase}
 use Rattle.server.specs.Answers.{IsPublished}
-use Rattle.server.specs.Documents.{Held, open_document}
-use Rattle.server.specs.Steps.{State, Holds}
+use Rattle.rpc.specs.Messages.{ChangeSaid}
+use Rattle.server.specs.Documents.{DocumentState, Held, is_open, is_lost, entry_view, Becomes}
+use Rattle.server.specs.Steps.{State, Changes, Closes, Holds}
+use Rattle.server.proofs.LookUps.{inserted_again}
 
 abbrev pub state_of : FileGrammar → Phase → Held → State
 state_of file phase documents = record { file = file; phase = phase; documents = documents }
@@ -18,6 +23,32 @@ state_of file phase documents = record { file = file; phase = phase; documents =
 pub state_same : (file file' : FileGrammar) (phase : Phase) (documents documents' : Held) → file' ≡ file → documents' ≡ documents → state_of file' phase documents' ≡ state_of file phase documents
 state_same file file' phase documents documents' e f = ap (λ (x : FileGrammar). state_of x phase documents') e ∙ ap (λ (h : Held). state_of file phase h) f
 
-pub held_so : (old : State) (uri : List ℕ) (made : Result Document TextFault) (d : Document) → made ≡ Ok d → (published : Answer) (answers : List Answer) (stop : Option ℕ) (new : State) → IsPublished old.file uri (open_document d) published → answers ≡ published ∷ [] → stop ≡ None → new ≡ state_of old.file old.phase (insert old.documents uri (open_document d)) → Holds old uri (option_map open_document (result_ok made)) answers stop new
-held_so old uri made d e published answers stop new is told stays same =
-    subst (λ (r : Result Document TextFault). Holds old uri (option_map open_document (result_ok r)) answers stop new) (sym e) (published, is, told, stays, same)
+-- an open document, whose diagnostics are published
+pub holds_open : (old : State) (uri : List ℕ) (made : Entry) (d : Doc) → made ≡ entry.Open d → (published : Answer) (answers : List Answer) (stop : Option ℕ) (new : State) → IsPublished old.file uri (open_document d) published → answers ≡ published ∷ [] → stop ≡ None → new ≡ state_of old.file old.phase (insert old.documents uri (entry_view made)) → Holds old uri (entry_view made) answers stop new
+holds_open old uri made d e published answers stop new is told stays same =
+    let here : new ≡ state_of old.file old.phase (insert old.documents uri (entry_view (entry.Open d))) = same ∙ ap (λ (x : Entry). state_of old.file old.phase (insert old.documents uri (entry_view x))) e in
+    subst (λ (x : Entry). Holds old uri (entry_view x) answers stop new) (sym e) (published, is, told, (stays, here))
+
+-- a lost one
+pub holds_lost : (old : State) (uri : List ℕ) (made : Entry) (loss : Loss) → made ≡ entry.Lost loss → (cleared : Answer) (answers : List Answer) (stop : Option ℕ) (new : State) → cleared ≡ told_diagnostics uri None None → answers ≡ cleared ∷ told_log (Lost loss) ∷ [] → stop ≡ None → new ≡ state_of old.file old.phase (insert old.documents uri (entry_view made)) → Holds old uri (entry_view made) answers stop new
+holds_lost old uri made loss e cleared answers stop new is told stays same =
+    let here : new ≡ state_of old.file old.phase (insert old.documents uri (is_lost loss)) = same ∙ ap (λ (x : Entry). state_of old.file old.phase (insert old.documents uri (entry_view x))) e in
+    subst (λ (x : Entry). Holds old uri (entry_view x) answers stop new) (sym e) (told ∙ ap (λ (a : Answer). a ∷ told_log (Lost loss) ∷ []) is, (stays, here))
+
+-- one that was taken out before
+pub holds_again : (old mid : State) (uri : List ℕ) (state : DocumentState) (answers : List Answer) (stop : Option ℕ) (new : State) → mid ≡ state_of old.file old.phase (remove old.documents uri) → Holds mid uri state answers stop new → Holds old uri state answers stop new
+holds_again old mid uri state answers stop new same h = by state (subst (λ (m : State). Holds m uri state answers stop new) same h)
+  where
+    by : (s : DocumentState) → Holds (state_of old.file old.phase (remove old.documents uri)) uri s answers stop new → Holds old uri s answers stop new
+    by (is_open d) g = (g.0, g.1, g.2, (g.3.0, g.3.1 ∙ ap (λ (x : Held). state_of old.file old.phase x) (inserted_again old.documents uri (is_open d))))
+    by (is_lost loss) g = (g.0, (g.1.0, g.1.1 ∙ ap (λ (x : Held). state_of old.file old.phase x) (inserted_again old.documents uri (is_lost loss))))
+
+-- a change of an open document
+pub changes_open : (old mid : State) (uri : List ℕ) (d : Doc) (version : ℤ) (changes : List ChangeSaid) (state : DocumentState) (answers : List Answer) (stop : Option ℕ) (new : State) → get old.documents uri ≡ Some (is_open (open_document d)) → mid ≡ state_of old.file old.phase (remove old.documents uri) → Becomes version d.text changes state → Holds mid uri state answers stop new → Changes (get old.documents uri) old uri version changes answers stop new
+changes_open old mid uri d version changes state answers stop new held same becomes holds =
+    subst (λ (o : Option DocumentState). Changes o old uri version changes answers stop new) (sym held) (state, becomes, holds_again old mid uri state answers stop new same holds)
+
+-- nothing is held that could be closed
+pub closes_none : (old : State) (uri : List ℕ) (answers : List Answer) (stop : Option ℕ) (new : State) → get old.documents uri ≡ None → answers ≡ told_log CloseNotOpen ∷ [] → stop ≡ None → new ≡ old → Closes (get old.documents uri) old uri answers stop new
+closes_none old uri answers stop new none told stays same =
+    subst (λ (o : Option DocumentState). Closes o old uri answers stop new) (sym none) (told, stays, same)

@@ -1,10 +1,12 @@
 mod Held
-mod Current
-mod Holding
+mod LookUps
+mod Edits
+mod Effects
 mod Fits
-mod Trees
 mod Totals
 mod Runs
 mod Parts
 mod Loop
+mod Telling
+mod Holding
 mod Fresh

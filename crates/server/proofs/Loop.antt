@@ -6,7 +6,7 @@ use Rattle.frames.specs.declared.fault.FrameFault.{FrameFault}
 use Rattle.frames.specs.declared.fault.FrameFault.TheVariants as frame
 use Rattle.frames.specs.Frames.{Tail, Open, Faulty, Splits, IsOpen, GoesOn, fault_of, finish_of}
 use Rattle.grammar.specs.Grammars.{FileGrammar}
-use Rattle.server.specs.Languages.{AlwaysAnswers}
+use Rattle.docs.specs.Answers.{AlwaysAnswers}
 use Rattle.server.specs.declared.serve.RunFault.{RunFault}
 use Rattle.server.specs.declared.serve.RunFault.TheVariants.{Frame, Read, Write, Memory}
 use Rattle.server.specs.Steps.{State, first_state}

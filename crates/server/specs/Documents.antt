@@ -1,15 +1,15 @@
 -- The documents that a server holds: a finite map from the bytes of their URIs.
---     OpenDocument      a document's version and text
+--     DocumentState      a document is open, with its version and text, or lost, for a cause
 --     Held      documents by their URIs
---     fits text      it is a text of Unicode characters, and isn't too long
 --     edited text changes      the text after the changes, each applied to the text that the one before it made
+--     Becomes version text changes state      what an open document of this text may become by the changes
 --     has_room uri documents      this document is held already, or one more may be
 --     Holding      the language, and the documents that are held
---     documents_of entries      what the entries of a map from URIs make
---     IsCurrent language d, AreCurrent language entries      the tokens and the parse that are kept are those of the text
-use Rattle.std.specs.Prelude.{◌≡◌, ℕ, ℤ, ◌||◌, ◌&&◌, Bool, nat_lt, nat_le, if◌then◌else◌, List, [], ◌∷◌, length, map, refl, String, Option, Some, None, string_bytes, encode_utf8_all}
+--     entry_view entry, documents_of entries      an entry of the code's map, and what the entries make
+--     IsEntryOf language entry, AreCurrent language entries      an open document of the code is one of this language
+use Rattle.std.specs.Prelude.{◌≡◌, ℕ, zero, suc, ℤ, pos, ◌||◌, Bool, nat_lt, if◌then◌else◌, List, [], ◌∷◌, ◌++◌, map, refl, String, Option, Some, None, string_bytes}
 use Rattle.std.specs.Ordering.{nat_cmp}
-use Rattle.std.specs.Str.{chars, all_scalars}
+use Rattle.std.specs.Str.{chars}
 use Rattle.std.specs.Cmp.Lexicographic.{slice_cmp}
 use Rattle.std.specs.Coded.{Coded, code_by, coded×, coded_ℕ, coded_ℤ, coded_list}
 use Rattle.std.specs.FinMap.{FinMap, code, from_entries, contains_key, len}
@@ -17,24 +17,22 @@ use Rattle.std.specs.Map.{lookup}
 use Rattle.std.specs.BTreeMap.{is_at}
 use Rattle.definitions.specs.Text.{changed}
 use Rattle.definitions.specs.declared.Unit.TheVariants.{Utf16}
-use Rattle.lexer.specs.Rescans.{significant_kinds}
-use Rattle.lexer.specs.Tokens.{AreTokensOf}
-use Rattle.parser.specs.Parses.{IsParseOf}
+use Rattle.docs.specs.Docs.{open_document, IsCurrent}
+use Rattle.docs.specs.Languages.{LanguageData}
+use Rattle.docs.specs.Texts.{OpenDocument, fits}
 use Rattle.rpc.specs.Messages.{ChangeSaid}
-use Rattle.server.specs.Languages.{LanguageData}
-use Rattle.server.specs.declared.document.Document.{Document}
+use Rattle.rpc.specs.declared.reply.Loss.{Loss}
+use Rattle.rpc.specs.declared.reply.Loss.TheVariants.{TooLarge, MalformedChange, NoMemory}
+use Rattle.server.specs.declared.documents.Entry.{Entry}
+use Rattle.server.specs.declared.documents.Entry.TheVariants as entry
 
-pub record OpenDocument : Type 0 where
-  pub version : ℤ
-  pub text : List ℕ
+pub data DocumentState : Type 0 where
+  is_open : OpenDocument → DocumentState
+  is_lost : Loss → DocumentState
 
 -- URIs are compared byte for byte
 abbrev pub Held : Type 0
-Held = FinMap (slice_cmp nat_cmp) OpenDocument
-
--- a list of Unicode scalar values, with at most 1,048,576 bytes in UTF-8
-abbrev pub fits : List ℕ → Bool
-fits text = all_scalars text && nat_le (length (encode_utf8_all text)) 1_048_576
+Held = FinMap (slice_cmp nat_cmp) DocumentState
 
 -- none where one of the texts on the way doesn't fit
 abbrev pub edited : List ℕ → List ChangeSaid → Option (List ℕ)
@@ -44,7 +42,17 @@ edited text (c ∷ cs) =
     then edited (changed Utf16 text c.range (chars c.text)) cs
     else None
 
--- at most 64 documents are held
+-- Where all texts on the way fit, the document has the last one; where one doesn't, it is lost. It may also be lost for want of memory
+-- at any change whose text fits, as do those before it.
+abbrev pub Becomes : ℤ → List ℕ → List ChangeSaid → DocumentState → Type 0
+Becomes version text changes (is_open d) = (edited text changes ≡ Some d.text) × (d.version ≡ version)
+Becomes version text changes (is_lost TooLarge) = edited text changes ≡ None
+Becomes version text changes (is_lost MalformedChange) = ⊥
+Becomes version text changes (is_lost NoMemory) =
+    (front rest : List ChangeSaid) × (c : ChangeSaid) × (changes ≡ front ++ c ∷ rest)
+    × ((mid : List ℕ) × (edited text (front ++ c ∷ []) ≡ Some mid))
+
+-- at most 64 documents are held, lost ones among them
 abbrev pub has_room : List ℕ → Held → Bool
 has_room uri documents = contains_key documents uri || nat_lt (len documents) 64
 
@@ -52,29 +60,45 @@ pub record Holding : Type 0 where
   pub language : LanguageData
   pub documents : Held
 
--- a document is stored as the pair of its fields
-abbrev pub document_code : Coded OpenDocument
-document_code = code_by (ℤ × List ℕ) (coded× coded_ℤ (coded_list coded_ℕ)) (λ d. (d.version, d.text)) (λ p. record { version = p.0; text = p.1 }) (λ _. refl)
+-- a document is stored as a number for its state, and its version and text where it is open
+abbrev pub stored : DocumentState → ℕ × (ℤ × List ℕ)
+stored (is_open d) = (0, (d.version, d.text))
+stored (is_lost TooLarge) = (1, (pos 0, []))
+stored (is_lost MalformedChange) = (2, (pos 0, []))
+stored (is_lost NoMemory) = (3, (pos 0, []))
+
+abbrev pub of_stored : ℕ × (ℤ × List ℕ) → DocumentState
+of_stored (zero, p) = is_open (record { version = p.0; text = p.1 })
+of_stored (suc zero, p) = is_lost TooLarge
+of_stored (suc (suc zero), p) = is_lost MalformedChange
+of_stored (suc (suc (suc n)), p) = is_lost NoMemory
+
+pub of_stored_back : (s : DocumentState) → of_stored (stored s) ≡ s
+of_stored_back (is_open d) = refl
+of_stored_back (is_lost TooLarge) = refl
+of_stored_back (is_lost MalformedChange) = refl
+of_stored_back (is_lost NoMemory) = refl
+
+abbrev pub document_code : Coded DocumentState
+document_code = code_by (ℕ × (ℤ × List ℕ)) (coded× coded_ℕ (coded× coded_ℤ (coded_list coded_ℕ))) stored of_stored of_stored_back
 
 abbrev pub held_code : Coded Held
 held_code = code (coded_list coded_ℕ) document_code
 
--- without its tokens and their parse
-abbrev pub open_document : Document → OpenDocument
-open_document d = record { version = d.version; text = d.text }
+abbrev pub entry_view : Entry → DocumentState
+entry_view (entry.Open d) = is_open (open_document d)
+entry_view (entry.Lost loss) = is_lost loss
 
-abbrev pub documents_of : {Y : Type 0} → List (String Y × Document) → Held
-documents_of entries = from_entries (map (λ e. (string_bytes e.0, open_document e.1)) entries)
+abbrev pub documents_of : {Y : Type 0} → List (String Y × Entry) → Held
+documents_of entries = from_entries (map (λ e. (string_bytes e.0, entry_view e.1)) entries)
 
 -- what the first entry with these bytes as its key has
-abbrev pub entry_at : {Y : Type 0} → List (String Y × Document) → List ℕ → Option Document
+abbrev pub entry_at : {Y : Type 0} → List (String Y × Entry) → List ℕ → Option Entry
 entry_at entries uri = lookup (is_at (λ k. slice_cmp nat_cmp uri (string_bytes k))) entries
 
--- the tokens and the parse that are kept are those of the text, by tables of the file's grammar
-pub record IsCurrent (language : LanguageData) (d : Document) : Type 0 where
-  pub tokens : AreTokensOf language.file.patterns language.file.skips d.text d.tokens.items
-  pub parse : IsParseOf language.tables (significant_kinds d.tokens.items) d.store d.parse
-  pub grammar : language.tables.grammar ≡ language.file.grammar
+abbrev pub IsEntryOf : LanguageData → Entry → Type 0
+IsEntryOf language (entry.Open d) = IsCurrent language d
+IsEntryOf language (entry.Lost loss) = Unit {0}
 
-abbrev pub AreCurrent : {Y : Type 0} → LanguageData → List (String Y × Document) → Type 0
-AreCurrent language entries = (uri : List ℕ) (d : Document) → entry_at entries uri ≡ Some d → IsCurrent language d
+abbrev pub AreCurrent : {Y : Type 0} → LanguageData → List (String Y × Entry) → Type 0
+AreCurrent language entries = (uri : List ℕ) (e : Entry) → entry_at entries uri ≡ Some e → IsEntryOf language e

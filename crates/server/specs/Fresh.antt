@@ -5,14 +5,17 @@
 --     EveryAnswerIsFresh file      whatever was read before: a fresh server exists with the version and the text of an open document,
 --         and to each question about the document it and the server have one answer, the same; and the diagnostics that it published
 --         are those that the server published last
---     EachTextIsItsEdits      a document's text after a change is its text before, edited; no other document changes
-use Rattle.std.specs.Prelude.{◌≡◌, ◌≢◌, ℕ, ℤ, List, [], ◌∷◌, ◌++◌, All, Option, Some, None}
+--     EachTextIsItsEdits      a document's text after a change is its text before, edited, unless it is lost for want of memory; no other
+--         document changes
+use Rattle.std.specs.Prelude.{◌≡◌, ◌≢◌, ◌⊎◌, ℕ, ℤ, List, [], ◌∷◌, ◌++◌, All, Option, Some, None}
 use Rattle.std.specs.Str.{chars}
 use Rattle.std.specs.FinMap.{get}
 use Rattle.grammar.specs.Grammars.{FileGrammar}
 use Rattle.rpc.specs.Messages.{Ident, initialize, Question, about, open_text, change_text, request, notice, said, ChangeSaid, Heard}
 use Rattle.rpc.specs.Replies.{Answer, told_capabilities, told_diagnostics}
-use Rattle.server.specs.Documents.{OpenDocument, edited}
+use Rattle.docs.specs.Texts.{OpenDocument}
+use Rattle.rpc.specs.declared.reply.Loss.TheVariants.{NoMemory}
+use Rattle.server.specs.Documents.{is_open, is_lost, edited}
 use Rattle.server.specs.declared.state.Phase.TheVariants.{Ready}
 use Rattle.server.specs.Steps.{State, first_state, Replies, Step}
 use Rattle.server.specs.Runs.{Run}
@@ -50,7 +53,7 @@ IsLastPublished uri answers published =
 abbrev pub EveryAnswerIsFresh : FileGrammar → Type 0
 EveryAnswerIsFresh file =
     (contents : List (List ℕ)) (answers : List Answer) (state : State) (uri : List ℕ) (document : OpenDocument)
-    → Run (first_state file) contents answers None state → state.phase ≡ Ready → get state.documents uri ≡ Some document
+    → Run (first_state file) contents answers None state → state.phase ≡ Ready → get state.documents uri ≡ Some (is_open document)
     → ((fresh : State) × (published : Answer) × IsFresh file uri document.version document.text published fresh)
     × ((fresh : State) (published : Answer) → IsFresh file uri document.version document.text published fresh
     → AnswerAlike uri state fresh × IsLastPublished uri answers published)
@@ -59,7 +62,8 @@ abbrev pub EachTextIsItsEdits : Type 0
 EachTextIsItsEdits =
     (old new : State) (uri : List ℕ) (version : ℤ) (changes : List ChangeSaid) (document : OpenDocument) (text : List ℕ)
     (answers : List Answer) (stop : Option ℕ)
-    → old.phase ≡ Ready → get old.documents uri ≡ Some document → edited document.text changes ≡ Some text
+    → old.phase ≡ Ready → get old.documents uri ≡ Some (is_open document) → edited document.text changes ≡ Some text
     → Step old (said (notice (change_text uri version changes))) answers stop new
-    → (get new.documents uri ≡ Some (record { version = version; text = text }))
+    → ((get new.documents uri ≡ Some (is_open (record { version = version; text = text })))
+    ⊎ (get new.documents uri ≡ Some (is_lost NoMemory)))
     × ((other : List ℕ) → other ≢ uri → get new.documents other ≡ get old.documents other)

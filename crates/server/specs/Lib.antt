@@ -1,4 +1,3 @@
-pub mod Languages
 pub mod Documents
 pub mod Answers
 pub mod Steps

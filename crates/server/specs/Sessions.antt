@@ -14,8 +14,9 @@ use Rattle.grammar.specs.Grammars.{FileGrammar}
 use Rattle.rpc.specs.Replies.{Answer}
 use Rattle.server.specs.declared.serve.RunFault.{RunFault}
 use Rattle.server.specs.declared.serve.RunFault.TheVariants.{Frame, Read, Write, Memory}
-use Rattle.server.specs.Documents.{OpenDocument, Held, fits}
-use Rattle.server.specs.Languages.{AlwaysAnswers}
+use Rattle.docs.specs.Answers.{AlwaysAnswers}
+use Rattle.docs.specs.Texts.{OpenDocument, fits}
+use Rattle.server.specs.Documents.{is_open, Held}
 use Rattle.server.specs.Steps.{State, first_state}
 use Rattle.server.specs.Runs.{Run, bytes_of}
 
@@ -81,9 +82,9 @@ IsCutShort Read failures = ⊥
 IsCutShort Write failures = failures ≡ 1
 IsCutShort Memory failures = failures ≡ 0
 
--- each document's text fits
+-- each open document's text fits
 abbrev pub AllFit : Held → Type 0
-AllFit documents = (uri : List ℕ) (document : OpenDocument) → get documents uri ≡ Some document → fits document.text ≡ true
+AllFit documents = (uri : List ℕ) (document : OpenDocument) → get documents uri ≡ Some (is_open document) → fits document.text ≡ true
 
 pub record CanServe (state : State) : Type 0 where
   pub always : AlwaysAnswers state.file

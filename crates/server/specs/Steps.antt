@@ -4,15 +4,19 @@
 --     Step old heard answers stop new      from old, on what was heard, the server may give these answers, stop with a status or go
 --         on, and be in the state new
 --     state_view server      a server's state
-use Rattle.std.specs.Prelude.{◌≡◌, ℕ, ℤ, ◌&&◌, Bool, true, false, if◌then◌else◌, List, [], ◌∷◌, Option, Some, None, option_map}
+use Rattle.std.specs.Prelude.{◌≡◌, ℕ, ℤ, Bool, true, false, if◌then◌else◌, List, [], ◌∷◌, Option, Some, None}
 use Rattle.std.specs.Str.{chars}
-use Rattle.std.specs.FinMap.{empty, get, insert}
+use Rattle.std.specs.FinMap.{empty, get, insert, remove}
+use Rattle.docs.specs.Texts.{fits}
 use Rattle.grammar.specs.Grammars.{FileGrammar}
 use Rattle.rpc.specs.declared.reply.Refusal.{Refusal}
 use Rattle.rpc.specs.declared.reply.Refusal.TheVariants.{ParseError, InvalidRequest, MethodNotFound, InvalidParams, NotInitialized}
-use Rattle.rpc.specs.Messages.{Ident, Asked, initialize, shutdown, about, Told, exit, open_text, change_text, request, notice, ignored, invalid, unknown, params, ChangeSaid, Heard, unread, refused, said}
-use Rattle.rpc.specs.Replies.{Answer, told_capabilities, told_null, told_error}
-use Rattle.server.specs.Documents.{OpenDocument, Held, fits, edited, has_room}
+use Rattle.rpc.specs.declared.reply.Log.{Log}
+use Rattle.rpc.specs.declared.reply.Log.TheVariants.{OpenMalformed, ChangeMalformed, CloseMalformed, ChangeNotOpen, CloseNotOpen, TooManyDocuments, Lost}
+use Rattle.rpc.specs.declared.reply.Loss.TheVariants.{TooLarge, MalformedChange}
+use Rattle.rpc.specs.Messages.{Ident, Asked, initialize, shutdown, about, Told, exit, open_text, change_text, close, malformed, Unfit, unfit_open, unfit_change, unfit_close, request, notice, ignored, invalid, unknown, params, ChangeSaid, Heard, unread, refused, said}
+use Rattle.rpc.specs.Replies.{Answer, told_capabilities, told_null, told_error, told_diagnostics, told_log}
+use Rattle.server.specs.Documents.{DocumentState, is_open, is_lost, Held, Becomes, has_room}
 use Rattle.server.specs.Answers.{IsAnswer, IsPublished}
 use Rattle.server.specs.declared.state.Phase.{Phase}
 use Rattle.server.specs.declared.state.Phase.TheVariants.{New, Ready, Down}
@@ -48,12 +52,27 @@ Enters old phase answer answers stop new =
 abbrev pub Ignores : State → List Answer → Option ℕ → State → Type 0
 Ignores old answers stop new = (answers ≡ []) × (stop ≡ None) × (new ≡ old)
 
--- the document is held from now on, and its diagnostics are published; without one, nothing happens
-abbrev pub Holds : State → List ℕ → Option OpenDocument → List Answer → Option ℕ → State → Type 0
-Holds old uri None answers stop new = Ignores old answers stop new
-Holds old uri (Some d) answers stop new =
-    (published : Answer) × IsPublished old.file uri d published × (answers ≡ published ∷ []) × (stop ≡ None)
-    × (new ≡ record { file = old.file; phase = old.phase; documents = insert old.documents uri d })
+-- one log message, and nothing changes
+abbrev pub Logs : State → Log → List Answer → Option ℕ → State → Type 0
+Logs old log answers stop new = Replies old (told_log log) answers stop new
+
+-- the server goes on, and these documents are held
+abbrev pub Leaves : State → Held → Option ℕ → State → Type 0
+Leaves old documents stop new = (stop ≡ None) × (new ≡ record { file = old.file; phase = old.phase; documents = documents })
+
+-- The document stands so from now on. Its diagnostics are published; where it is lost, there are none, and the loss is logged.
+abbrev pub Holds : State → List ℕ → DocumentState → List Answer → Option ℕ → State → Type 0
+Holds old uri (is_open d) answers stop new =
+    (published : Answer) × IsPublished old.file uri d published × (answers ≡ published ∷ [])
+    × Leaves old (insert old.documents uri (is_open d)) stop new
+Holds old uri (is_lost loss) answers stop new =
+    (answers ≡ told_diagnostics uri None None ∷ told_log (Lost loss) ∷ [])
+    × Leaves old (insert old.documents uri (is_lost loss)) stop new
+
+-- the document is forgotten, and has no diagnostics
+abbrev pub Forgets : State → List ℕ → List Answer → Option ℕ → State → Type 0
+Forgets old uri answers stop new =
+    (answers ≡ told_diagnostics uri None None ∷ []) × Leaves old (remove old.documents uri) stop new
 
 -- no reply, and the server stops with this status
 abbrev pub Stops : State → ℕ → List Answer → Option ℕ → State → Type 0
@@ -72,15 +91,38 @@ Asks Down old id _ answers stop new = Replies old (told_error (Some id) InvalidR
 
 -- ---- notifications
 
--- a document is opened, or replaced, where there is room and its text fits
-abbrev pub opened : Held → List ℕ → ℤ → List ℕ → Option OpenDocument
-opened documents uri version text =
-    if has_room uri documents && fits text then Some (record { version = version; text = text }) else None
+-- a document with this text is open where the text fits, and else lost
+abbrev pub opened : ℤ → List ℕ → DocumentState
+opened version text = if fits text then is_open (record { version = version; text = text }) else is_lost TooLarge
 
--- an open document gets the changes, where all of them fit
-abbrev pub changed_document : ℤ → List ChangeSaid → Option OpenDocument → Option OpenDocument
-changed_document version changes None = None
-changed_document version changes (Some d) = option_map (λ text. record { version = version; text = text }) (edited d.text changes)
+-- where there is no room, nothing is opened
+abbrev pub Opens : Bool → State → List ℕ → DocumentState → List Answer → Option ℕ → State → Type 0
+Opens true old uri state answers stop new = Holds old uri state answers stop new
+Opens false old uri state answers stop new = Logs old TooManyDocuments answers stop new
+
+-- Each of these comes with what is held under the URI. A change of a document that is not held is logged, and one of a lost document
+-- ignored; so are malformed ones.
+abbrev pub Changes : Option DocumentState → State → List ℕ → ℤ → List ChangeSaid → List Answer → Option ℕ → State → Type 0
+Changes None old uri version changes answers stop new = Logs old ChangeNotOpen answers stop new
+Changes (Some (is_lost loss)) old uri version changes answers stop new = Ignores old answers stop new
+Changes (Some (is_open d)) old uri version changes answers stop new =
+    (state : DocumentState) × Becomes version d.text changes state × Holds old uri state answers stop new
+
+abbrev pub Spoils : Option DocumentState → State → List ℕ → List Answer → Option ℕ → State → Type 0
+Spoils None old uri answers stop new = Logs old ChangeNotOpen answers stop new
+Spoils (Some (is_lost loss)) old uri answers stop new = Ignores old answers stop new
+Spoils (Some (is_open d)) old uri answers stop new = Holds old uri (is_lost MalformedChange) answers stop new
+
+abbrev pub Closes : Option DocumentState → State → List ℕ → List Answer → Option ℕ → State → Type 0
+Closes None old uri answers stop new = Logs old CloseNotOpen answers stop new
+Closes (Some state) old uri answers stop new = Forgets old uri answers stop new
+
+-- parameters that don't fit
+abbrev pub Misses : State → Unfit → List Answer → Option ℕ → State → Type 0
+Misses old unfit_open answers stop new = Logs old OpenMalformed answers stop new
+Misses old (unfit_change None) answers stop new = Logs old ChangeMalformed answers stop new
+Misses old (unfit_change (Some uri)) answers stop new = Spoils (get old.documents uri) old uri answers stop new
+Misses old unfit_close answers stop new = Logs old CloseMalformed answers stop new
 
 abbrev pub exit_status : Phase → ℕ
 exit_status New = 1
@@ -90,9 +132,11 @@ exit_status Down = 0
 abbrev pub Tells : Phase → State → Told → List Answer → Option ℕ → State → Type 0
 Tells phase old exit answers stop new = Stops old (exit_status phase) answers stop new
 Tells Ready old (open_text uri version text) answers stop new =
-    Holds old uri (opened old.documents uri version (chars text)) answers stop new
+    Opens (has_room uri old.documents) old uri (opened version (chars text)) answers stop new
 Tells Ready old (change_text uri version changes) answers stop new =
-    Holds old uri (changed_document version changes (get old.documents uri)) answers stop new
+    Changes (get old.documents uri) old uri version changes answers stop new
+Tells Ready old (close uri) answers stop new = Closes (get old.documents uri) old uri answers stop new
+Tells Ready old (malformed unfit) answers stop new = Misses old unfit answers stop new
 Tells _ old _ answers stop new = Ignores old answers stop new
 
 -- ---- steps

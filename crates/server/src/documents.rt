@@ -1,24 +1,33 @@
 //! The documents that a server holds.
 
-ghost use Rattle.std.specs.Prelude.{◌≡◌, ◌||◌, nat_lt, is_some, option_map, IfOk, IfSome, OnOk, OnErr, string_bytes};
+ghost use Rattle.std.specs.Prelude.{◌≡◌, ◌||◌, nat_lt, is_some, option_map, IfSome, OnOk, OnErr, string_bytes};
 ghost use Rattle.std.specs.FinMap as map;
-ghost use Rattle.server.specs.Documents.{has_room, open_document, IsCurrent};
+ghost use Rattle.server.specs.Documents.{has_room, entry_view, IsEntryOf};
 
-use crate::document::Document;
-use crate::language::Language;
+use docs::{Doc, Language};
+use rpc::Loss;
 use std::alloc::{AllocError, Global};
 use std::collections::BTreeMap;
 use std::marker::Model;
 
-/// How many documents are held at most.
+/// How many documents are held at most, lost ones among them.
 pub const MOST_DOCUMENTS: usize = 64;
 
-/// The language of a grammar file, and the documents that are held, by their URIs, which are compared byte for byte. The
-/// tokens and the parse of each are those of its text.
+/// What is held under a URI.
+#[derive(Drop)]
+pub enum Entry {
+    /// An open document.
+    Open(Doc),
+    /// A document that was lost, and is to be opened anew.
+    Lost(Loss),
+}
+
+/// The language of a grammar file, and the documents that are held, by their URIs, which are compared byte for byte. Each
+/// open document is one of the language.
 #[derive(Drop)]
 pub struct Documents {
     language: Language,
-    by_uri: BTreeMap<String, Document>,
+    by_uri: BTreeMap<String, Entry>,
 }
 
 impl Model for Documents {
@@ -54,36 +63,46 @@ impl Documents {
         &self.language
     }
 
-    /// The document of this URI, if one is held.
-    pub fn get(&self, uri: &str) -> Option<&Document>
+    /// What is held under this URI, if anything is.
+    pub fn get(&self, uri: &str) -> Option<&Entry>
         ensures is { let held = map.get self.now.documents uri.now in
-            option_map (λ d. open_document d.now) result ≡ held }
-        ensures current { IfSome result (λ d. IsCurrent self.now.language d.now) }
+            option_map (λ e. entry_view e.now) result ≡ held }
+        ensures current { IfSome result (λ e. IsEntryOf self.now.language e.now) }
     {
         self.by_uri.get(uri)
     }
 
-    /// Whether the document of this URI is held.
+    /// Whether anything is held under this URI.
     pub fn holds(&self, uri: &str) -> bool
         ensures { result ≡ map.contains_key self.now.documents uri.now }
     {
         self.by_uri.contains_key(uri)
     }
 
-    /// Holds the document under this URI, in the place of the one before.
-    pub fn insert(&mut self, uri: String, document: Document) -> Result<(), AllocError>
-        requires { IsCurrent self.old.language document }
+    /// Holds the entry under this URI, in the place of the one before.
+    pub fn insert(&mut self, uri: String, entry: Entry) -> Result<(), AllocError>
+        requires { IsEntryOf self.old.language entry }
         ensures ok { let old = self.old.documents in
-            let held = map.insert old (string_bytes uri) (open_document document) in
+            let held = map.insert old (string_bytes uri) (entry_view entry) in
             OnOk result (self.new.documents ≡ held) }
         ensures err { OnErr result (self.new.documents ≡ self.old.documents) }
         ensures language { self.new.language ≡ self.old.language }
     {
-        self.by_uri.insert(uri, document)?;
+        self.by_uri.insert(uri, entry)?;
         Ok(())
     }
 
-    /// Whether the document of this URI is held already, or one more may be.
+    /// Takes out what is held under this URI, if anything is.
+    pub fn remove(&mut self, uri: &str) -> Option<Entry>
+        ensures is { option_map entry_view result ≡ map.get self.old.documents uri.now }
+        ensures current { IfSome result (λ e. IsEntryOf self.old.language e) }
+        ensures documents { self.new.documents ≡ map.remove self.old.documents uri.now }
+        ensures language { self.new.language ≡ self.old.language }
+    {
+        self.by_uri.remove(uri)
+    }
+
+    /// Whether something is held under this URI already, or one more document may be held.
     pub fn has_room(&self, uri: &str) -> bool
         ensures { result ≡ has_room uri.now self.now.documents }
     {

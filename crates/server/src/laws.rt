@@ -2,9 +2,7 @@
 
 ghost use Rattle.server.specs.Fresh.{EveryAnswerIsFresh, EachTextIsItsEdits};
 
-use crate::language::Language;
-use definitions::laws::{expected_unique, folds_unique, selection_unique, tokens_unique};
-use theory::laws::{document_trees_unique, verdict_unique};
+use docs::Language;
 
 /// In a session by this language, whatever was read before: there is a fresh server for each open document, and to each
 /// question about the document it and the server have one answer, the same; and the diagnostics that it published are those
@@ -13,15 +11,9 @@ pub fn every_answer_is_fresh(language: &Language)
     ensures { EveryAnswerIsFresh language.now.file }
 {
     language.always_answers();
-    tokens_unique();
-    verdict_unique();
-    document_trees_unique();
-    expected_unique();
-    folds_unique();
-    selection_unique();
 }
 
-/// A document's text after a change is its text before, edited by the changes in turn.
+/// A document's text after a change is its text before, edited by the changes in turn, unless memory was refused.
 pub fn each_text_is_its_edits()
     ensures { EachTextIsItsEdits }
 {}

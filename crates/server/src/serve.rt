@@ -10,9 +10,9 @@ ghost use Rattle.server.specs.Fresh.{EveryAnswerIsFresh, EachTextIsItsEdits};
 ghost use Rattle.server.specs.Sessions.{AppendsFront, CanServe, HasServed, Session, IsCutShort, EndsAt, run_fault};
 ghost use Rattle.server.specs.declared.serve.RunFault.TheVariants.{Memory};
 
-use crate::language::Language;
 use crate::laws::{each_text_is_its_edits, every_answer_is_fresh};
 use crate::state::Server;
+use docs::Language;
 use frames::{Decoder, Frame, FrameFault, Input, Output, write_frame};
 use rpc::{Reply, read, to_bytes};
 use std::alloc::{AllocError, Global};

@@ -1,22 +1,23 @@
 //! One step: phases and documents.
 
-ghost use Rattle.std.specs.Prelude.{◌≡◌, [], ◌∷◌, Some, None, false, true, map, option_map, IfOk, IfErr, OnOk, OnErr, IsErr, string_bytes};
-ghost use Rattle.std.specs.Result.{result_ok};
+ghost use Rattle.std.specs.Prelude.{◌≡◌, [], ◌∷◌, Some, None, false, true, map, option_map, IfOk, IfErr, IfSome, OnOk, OnErr, IsErr, string_bytes, MatchResult};
 ghost use Rattle.std.specs.Str.{chars};
 ghost use Rattle.std.specs.FinMap.{get, insert};
-ghost use Rattle.rpc.specs.Messages.{id_view, call_view, note_view, change_view, heard_of};
-ghost use Rattle.rpc.specs.declared.reply.Refusal.TheVariants.{DocumentNotOpen};
-ghost use Rattle.rpc.specs.Replies.{reply_view, told_error};
-ghost use Rattle.server.specs.Documents.{open_document, IsCurrent};
+ghost use Rattle.docs.specs.Docs.{open_document, IsCurrent};
+ghost use Rattle.docs.specs.declared.doc.DocFault.TheVariants as DocFault;
+ghost use Rattle.rpc.specs.Messages.{id_view, call_view, note_view, malformed_view, change_view, heard_of};
+ghost use Rattle.rpc.specs.declared.reply.Refusal.TheVariants.{DocumentNotOpen, DocumentLost};
+ghost use Rattle.rpc.specs.declared.reply.Loss.TheVariants.{TooLarge, NoMemory};
+ghost use Rattle.rpc.specs.Replies.{reply_view, told_error, told_log};
 ghost use Rattle.server.specs.Answers.{question_view, IsAnswer};
-ghost use Rattle.server.specs.Steps.{state_view, first_state, opened, changed_document, exit_status, unknown_in, params_in, Asks, Holds, Tells, StepOn};
+ghost use Rattle.server.specs.Documents.{entry_view, has_room, IsEntryOf, Becomes};
+ghost use Rattle.server.specs.Steps.{state_view, first_state, opened, exit_status, unknown_in, params_in, Asks, Changes, Closes, Holds, Misses, Opens, Spoils, Tells, StepOn};
 
-use crate::document::{Document, Question};
-use crate::documents::Documents;
-use crate::language::Language;
-use rpc::{Call, Change, Id, Message, Note, Refusal, Reply, RpcFault};
+use crate::answers::{Question, answer, cleared, published};
+use crate::documents::{Documents, Entry};
+use docs::{Doc, DocFault, Language};
+use rpc::{Call, Change, Id, Log, Loss, Malformed, Message, Note, Refusal, Reply, RpcFault};
 use std::alloc::{AllocError, Global};
-use text::TextFault;
 
 /// Where the session stands (LSP 3.17, "Server lifecycle").
 #[derive(Clone, Copy, Debug, PartialEq, Eq)]
@@ -103,14 +104,46 @@ fn refused(alloc: Global, id: Option<Id>, refusal: Refusal) -> Result<Out, Alloc
     one_reply(alloc, Reply::Error { id, refusal })
 }
 
-/// The reply to a question about a document that is not open.
-fn not_open(id: Id) -> Reply
-    ensures { reply_view result ≡ told_error (Some (id_view id)) DocumentNotOpen }
+/// Logs what stands against a notification.
+fn logged(alloc: Global, log: Log) -> Result<Out, AllocError>
+    ensures replies { IfOk result (λ out. map reply_view out.replies.items ≡ told_log log ∷ []) }
+    ensures stop { IfOk result (λ out. out.stop ≡ None) }
 {
-    Reply::Error {
-        id: Some(id),
-        refusal: Refusal::DocumentNotOpen,
+    one_reply(alloc, Reply::Log { log })
+}
+
+/// A reply, and what is logged behind it.
+fn reply_and_log(alloc: Global, reply: Reply, log: Log) -> Result<Out, AllocError>
+    ensures replies { IfOk result (λ out.
+        map reply_view out.replies.items ≡ reply_view reply ∷ told_log log ∷ []) }
+    ensures stop { IfOk result (λ out. out.stop ≡ None) }
+{
+    let mut out = one_reply(alloc, reply)?;
+    out.replies.push(Reply::Log { log })?;
+    Ok(out)
+}
+
+/// The document after the changes in turn, or how it is lost by the first of them that is refused.
+fn changed(
+    alloc: Global,
+    language: &Language,
+    mut doc: Doc,
+    version: i32,
+    changes: &[Change],
+) -> Entry
+    requires { IsCurrent language.now doc }
+    ensures becomes { Becomes version doc.text (map change_view changes.now) (entry_view result) }
+    ensures current { IsEntryOf language.now result }
+{
+    for change in changes {
+        match doc.change(alloc, language, change.range, change.text.as_str()) {
+            Ok(next) => doc = next,
+            Err(DocFault::TooLarge) => return Entry::Lost(Loss::TooLarge),
+            Err(DocFault::NoMemory) => return Entry::Lost(Loss::NoMemory),
+        }
     }
+    doc.set_version(version);
+    Entry::Open(doc)
 }
 
 impl Server {
@@ -140,10 +173,17 @@ impl Server {
             let question = question_view question.now in
             IsAnswer held.language.file (id_view id) document question (reply_view reply)) }
     {
-        match self.documents.get(uri) {
-            Some(document) => document.answer(alloc, self.documents.language(), id, question),
-            None => Ok(not_open(id)),
-        }
+        let refusal = match self.documents.get(uri) {
+            Some(Entry::Open(doc)) => {
+                return answer(alloc, self.documents.language(), doc, id, question);
+            }
+            Some(Entry::Lost(loss)) => Refusal::DocumentLost(*loss),
+            None => Refusal::DocumentNotOpen,
+        };
+        Ok(Reply::Error {
+            id: Some(id),
+            refusal,
+        })
     }
 
     /// A request that fits its method.
@@ -178,31 +218,26 @@ impl Server {
         one_reply(alloc, reply)
     }
 
-    /// Holds what a document was opened or changed to, and publishes its diagnostics. A text that is too large changes nothing.
-    fn hold(
-        &mut self,
-        alloc: Global,
-        uri: String,
-        document: Result<Document, TextFault>,
-    ) -> Result<Out, AllocError>
-        requires { IfOk document (IsCurrent self.old.documents.language) }
-        ensures held { let held = option_map open_document (result_ok document) in
+    /// Holds what a document became, and tells it: the diagnostics of an open one, or the loss.
+    fn hold(&mut self, alloc: Global, uri: String, entry: Entry) -> Result<Out, AllocError>
+        requires { IsEntryOf self.old.documents.language entry }
+        ensures { let state = entry_view entry in
             IfOk result (λ out.
             let replies = map reply_view out.replies.items in
             let old = state_view self.old in
-            Holds old (string_bytes uri) held replies out.stop (state_view self.new)) }
-        ensures fits { IfOk result (λ _. IfErr document (λ e. e ≡ TextFault.TooLarge)) }
+            Holds old (string_bytes uri) state replies out.stop (state_view self.new)) }
     {
-        match document {
-            Ok(document) => {
+        let out = match &entry {
+            Entry::Open(doc) => {
                 let language = self.documents.language();
-                let published = document.published(alloc, language, uri.as_str())?;
-                self.documents.insert(uri, document)?;
-                one_reply(alloc, published)
+                one_reply(alloc, published(alloc, language, doc, uri.as_str())?)?
             }
-            Err(TextFault::TooLarge) => Ok(nothing(alloc)),
-            Err(TextFault::NoMemory) => Err(AllocError),
-        }
+            Entry::Lost(loss) => {
+                reply_and_log(alloc, cleared(alloc, uri.as_str())?, Log::Lost(*loss))?
+            }
+        };
+        self.documents.insert(uri, entry)?;
+        Ok(out)
     }
 
     /// `textDocument/didOpen`.
@@ -214,17 +249,21 @@ impl Server {
         text: String,
     ) -> Result<Out, AllocError>
         ensures { let old = state_view self.old in
-            let uri = string_bytes uri in
-            let held = opened old.documents uri version (chars (string_bytes text)) in
+            let room = has_room (string_bytes uri) old.documents in
+            let state = opened version (chars (string_bytes text)) in
             IfOk result (λ out.
             let replies = map reply_view out.replies.items in
-            Holds old uri held replies out.stop (state_view self.new)) }
+            Opens room old (string_bytes uri) state replies out.stop (state_view self.new)) }
     {
         if !self.documents.has_room(uri.as_str()) {
-            return Ok(nothing(alloc));
+            return logged(alloc, Log::TooManyDocuments);
         }
-        let document = Document::open(alloc, self.documents.language(), version, text.as_str());
-        self.hold(alloc, uri, document)
+        let entry = match Doc::open(alloc, self.documents.language(), version, text.as_str()) {
+            Ok(doc) => Entry::Open(doc),
+            Err(DocFault::TooLarge) => Entry::Lost(Loss::TooLarge),
+            Err(DocFault::NoMemory) => return Err(AllocError),
+        };
+        self.hold(alloc, uri, entry)
     }
 
     /// `textDocument/didChange`.
@@ -237,16 +276,65 @@ impl Server {
     ) -> Result<Out, AllocError>
         ensures { let old = state_view self.old in
             let uri = string_bytes uri in
-            let held = changed_document version (map change_view changes.items) (get old.documents uri) in
+            let changes = map change_view changes.items in
             IfOk result (λ out.
             let replies = map reply_view out.replies.items in
-            Holds old uri held replies out.stop (state_view self.new)) }
+            Changes (get old.documents uri) old uri version changes replies out.stop (state_view self.new)) }
     {
-        let Some(document) = self.documents.get(uri.as_str()) else {
-            return Ok(nothing(alloc));
+        match self.documents.get(uri.as_str()) {
+            None => return logged(alloc, Log::ChangeNotOpen),
+            Some(Entry::Lost(_)) => return Ok(nothing(alloc)),
+            Some(Entry::Open(_)) => {}
+        }
+        let Some(Entry::Open(doc)) = self.documents.remove(uri.as_str()) else {
+            unreachable!();
         };
-        let document = document.change(alloc, self.documents.language(), version, &changes);
-        self.hold(alloc, uri, document)
+        let entry = changed(alloc, self.documents.language(), doc, version, &changes);
+        self.hold(alloc, uri, entry)
+    }
+
+    /// A `textDocument/didChange` of this document that doesn't fit: an open document is lost.
+    fn spoil(&mut self, alloc: Global, uri: String) -> Result<Out, AllocError>
+        ensures { let old = state_view self.old in
+            let uri = string_bytes uri in
+            IfOk result (λ out.
+            let replies = map reply_view out.replies.items in
+            Spoils (get old.documents uri) old uri replies out.stop (state_view self.new)) }
+    {
+        match self.documents.get(uri.as_str()) {
+            None => logged(alloc, Log::ChangeNotOpen),
+            Some(Entry::Lost(_)) => Ok(nothing(alloc)),
+            Some(Entry::Open(_)) => self.hold(alloc, uri, Entry::Lost(Loss::MalformedChange)),
+        }
+    }
+
+    /// `textDocument/didClose`.
+    fn close(&mut self, alloc: Global, uri: String) -> Result<Out, AllocError>
+        ensures { let old = state_view self.old in
+            let uri = string_bytes uri in
+            IfOk result (λ out.
+            let replies = map reply_view out.replies.items in
+            Closes (get old.documents uri) old uri replies out.stop (state_view self.new)) }
+    {
+        match self.documents.remove(uri.as_str()) {
+            None => logged(alloc, Log::CloseNotOpen),
+            Some(_) => one_reply(alloc, cleared(alloc, uri.as_str())?),
+        }
+    }
+
+    /// A notification whose parameters don't fit.
+    fn miss(&mut self, alloc: Global, malformed: Malformed) -> Result<Out, AllocError>
+        ensures { IfOk result (λ out.
+            let replies = map reply_view out.replies.items in
+            let unfit = malformed_view malformed in
+            Misses (state_view self.old) unfit replies out.stop (state_view self.new)) }
+    {
+        match malformed {
+            Malformed::DidOpen => logged(alloc, Log::OpenMalformed),
+            Malformed::DidChange { uri: None } => logged(alloc, Log::ChangeMalformed),
+            Malformed::DidChange { uri: Some(uri) } => self.spoil(alloc, uri),
+            Malformed::DidClose => logged(alloc, Log::CloseMalformed),
+        }
     }
 
     /// A notification that fits its method, or one that doesn't.
@@ -271,6 +359,8 @@ impl Server {
                     changes,
                 },
             ) => self.change(alloc, uri, version, changes),
+            (Phase::Ready, Note::DidClose { uri }) => self.close(alloc, uri),
+            (Phase::Ready, Note::Malformed(malformed)) => self.miss(alloc, malformed),
             _ => Ok(nothing(alloc)),
         }
     }

@@ -1,8 +1,8 @@
 use Rattle.std.proofs.Common.{◌≡◌, ℕ, List, true, inr, subst, ap, ◌∙◌}
 use Rattle.std.specs.Str.{chars}
-use Rattle.server.specs.declared.document.Outcome.{Outcome}
-use Rattle.server.specs.Answers.{IsOutcome}
-use Rattle.server.specs.Documents.{OpenDocument, fits}
+use Rattle.docs.specs.declared.doc.Outcome.{Outcome}
+use Rattle.docs.specs.Answers.{IsOutcome}
+use Rattle.docs.specs.Texts.{OpenDocument, fits}
 use Rattle.commands.proofs.Cases.{if_ok}
 use Rattle.commands.proofs.printed.parse.Goals as goal
 

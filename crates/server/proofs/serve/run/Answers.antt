@@ -32,10 +32,10 @@ returns-in-Err-feed-clause-session g c =
     let om = g.W.Output.contents c.loop-count.output in
     let S : RunFault → Type 0 = λ e. Session c.args.language.file ri rn oo om (Err e) in
     let goes = c.in-Err-feed.ensures.goes_on in
-    subst S (sym c.run_fault.ensures) (feeding_fails c.args.language.file c.always_answers.ensures c.in-Err-feed.fault _ _ rn _ om _ _ c.loop-count.decoder c.feed.new.self (state_view c.loop-count.server) _ c.loop-count.invariant c.in-Ok.ensures.bytes.0 c.in-Err-feed.ensures.fault goes.0 goes.1 goes.2)
+    subst S (sym c.run_fault.ensures) (feeding_fails c.args.language.file c.always_answers.ensures.always c.in-Err-feed.fault _ _ rn _ om _ _ c.loop-count.decoder c.feed.new.self (state_view c.loop-count.server) _ c.loop-count.invariant c.in-Ok.ensures.bytes.0 c.in-Err-feed.ensures.fault goes.0 goes.1 goes.2)
 
 pub serve_all-requires-clause-server : goal.serve_all-requires-clause-server
-serve_all-requires-clause-server g c = can_serve c.args.language.file c.always_answers.ensures _ _ _ _ _ _ _ _ c.loop-count.invariant
+serve_all-requires-clause-server g c = can_serve c.args.language.file c.always_answers.ensures.always _ _ _ _ _ _ _ _ c.loop-count.invariant
 
 pub returns-in_err-stop-in-Ok-feed-clause-session : goal.returns-in_err-stop-in-Ok-feed-clause-session
 returns-in_err-stop-in-Ok-feed-clause-session g c =

@@ -1,15 +1,15 @@
 use Rattle.std.proofs.Common.{sym, ap, subst, ◌∙◌}
 use Rattle.std.specs.Prelude.{option_map}
 use Rattle.std.specs.FinMap.{get}
-use Rattle.server.specs.Documents.{open_document, IsCurrent}
+use Rattle.server.specs.Documents.{entry_view, IsEntryOf}
 use Rattle.server.proofs.Held.{get_held, map_twice, found_current}
 use Rattle.server.proofs.documents.Documents.get.Goals as goal
 
 pub returns-clause-is : goal.returns-clause-is
 returns-clause-is c =
-    map_twice (λ d. d.now) open_document c.get.result ∙ ap (option_map open_document) c.get.ensures.value
+    map_twice (λ d. d.now) entry_view c.get.result ∙ ap (option_map entry_view) c.get.ensures.value
     ∙ (sym (get_held c.self.inside.by_uri.entries c.args.uri.now) ∙ ap (λ h. get h.documents c.args.uri.now) c.self.view_is)
 
 pub returns-clause-current : goal.returns-clause-current
 returns-clause-current c =
-    found_current (λ d. d.now) c.args.self.now.language c.get.result _ c.get.ensures.value (λ d found. subst (λ h. IsCurrent h.language d) c.self.view_is (c.self.invariant c.args.uri.now d found))
+    found_current (λ d. d.now) c.args.self.now.language c.get.result _ c.get.ensures.value (λ d found. subst (λ h. IsEntryOf h.language d) c.self.view_is (c.self.invariant c.args.uri.now d found))

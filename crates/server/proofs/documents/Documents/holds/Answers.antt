@@ -2,11 +2,11 @@ use Rattle.std.proofs.Common.{sym, ap, ◌∙◌}
 use Rattle.std.specs.Prelude.{is_some}
 use Rattle.std.specs.FinMap.{get}
 use Rattle.server.proofs.Held.{get_held, is_some_map}
-use Rattle.server.specs.Documents.{open_document, entry_at}
+use Rattle.server.specs.Documents.{entry_view, entry_at}
 use Rattle.server.proofs.documents.Documents.holds.Goals as goal
 
 pub returns : goal.returns
 returns c =
     let entries = c.self.inside.by_uri.entries in
     let uri = c.args.uri.now in
-    c.contains_key.ensures ∙ (sym (is_some_map open_document (entry_at entries uri)) ∙ ap is_some (sym (get_held entries uri) ∙ ap (λ h. get h.documents uri) c.self.view_is))
+    c.contains_key.ensures ∙ (sym (is_some_map entry_view (entry_at entries uri)) ∙ ap is_some (sym (get_held entries uri) ∙ ap (λ h. get h.documents uri) c.self.view_is))

@@ -2,22 +2,22 @@ use Rattle.std.proofs.Common.{ap, sym, subst, ◌∙◌, string_bytes}
 use Rattle.std.specs.Prelude.{Some}
 use Rattle.std.specs.FinMap.{insert}
 use Rattle.std.proofs.lemmas.Map.Text.{btree_map_updates_text}
-use Rattle.server.specs.Documents.{open_document, IsCurrent, AreCurrent}
+use Rattle.server.specs.Documents.{entry_view, IsEntryOf, AreCurrent}
 use Rattle.server.proofs.Held.{insert_held, insert_current}
 use Rattle.server.proofs.documents.Documents.insert.Goals as goal
 
 pub returns-clause-ok : goal.returns-clause-ok
 returns-clause-ok c =
-    insert_held c.self.inside.by_uri.entries c.insert.new.self.entries (string_bytes c.args.uri) c.args.document
-    (btree_map_updates_text (string_bytes c.args.uri) c.self.inside.by_uri c.insert.new.self (Some c.args.document) c.in_ok-insert.ensures.updates)
-    ∙ ap (λ h. insert h.documents (string_bytes c.args.uri) (open_document c.args.document)) c.self.view_is
+    insert_held c.self.inside.by_uri.entries c.insert.new.self.entries (string_bytes c.args.uri) c.args.entry
+    (btree_map_updates_text (string_bytes c.args.uri) c.self.inside.by_uri c.insert.new.self (Some c.args.entry) c.in_ok-insert.ensures.updates)
+    ∙ ap (λ h. insert h.documents (string_bytes c.args.uri) (entry_view c.args.entry)) c.self.view_is
 
 pub invariant_of-self-2 : goal.invariant_of-self-2
 invariant_of-self-2 c =
-    insert_current c.self.inside.language c.self.inside.by_uri.entries c.insert.new.self.entries (string_bytes c.args.uri) c.args.document
-    (btree_map_updates_text (string_bytes c.args.uri) c.self.inside.by_uri c.insert.new.self (Some c.args.document) c.in_ok-insert.ensures.updates)
+    insert_current c.self.inside.language c.self.inside.by_uri.entries c.insert.new.self.entries (string_bytes c.args.uri) c.args.entry
+    (btree_map_updates_text (string_bytes c.args.uri) c.self.inside.by_uri c.insert.new.self (Some c.args.entry) c.in_ok-insert.ensures.updates)
     c.self.invariant
-    (subst (λ h. IsCurrent h.language c.args.document) (sym c.self.view_is) c.requires)
+    (subst (λ h. IsEntryOf h.language c.args.entry) (sym c.self.view_is) c.requires)
 
 pub invariant_of-self : goal.invariant_of-self
 invariant_of-self c = subst (λ entries. AreCurrent c.self.inside.language entries) (sym c.in_err-insert.ensures.err) c.self.invariant

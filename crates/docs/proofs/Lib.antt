@@ -1,0 +1,6 @@
+pub mod Texts
+mod Refusals
+mod Current
+mod Trees
+mod Always
+mod Once

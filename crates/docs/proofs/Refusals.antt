@@ -1,0 +1,74 @@
+-- A text's refusal, passed on as a document's.
+use Rattle.std.proofs.Common.{◌≡◌, ◌↔◌, ◌<◌, ℕ, Bool, true, false, List, length, refl, sym, ap, ◌∙◌, leb-true, leb-false}
+use Rattle.std.specs.Prelude.{Option, Some, None, Result, Ok, Err, nat_le, encode_utf8_all}
+use Rattle.std.specs.Str.{chars, IsUtf8}
+use Rattle.definitions.specs.Text.{IsText, changed, range_start, range_end}
+use Rattle.definitions.specs.declared.Range.{Range}
+use Rattle.definitions.specs.declared.Unit.TheVariants.{Utf16}
+use Rattle.definitions.proofs.Characters.{IsText-chars, IsText-edit}
+use Rattle.text.specs.declared.document.TextFault.{TextFault}
+use Rattle.text.specs.declared.document.TextFault.TheVariants as text
+use Rattle.docs.specs.declared.doc.DocFault.{DocFault}
+use Rattle.docs.specs.declared.doc.DocFault.TheVariants.{TooLarge, NoMemory}
+use Rattle.docs.specs.Faults.{doc_fault}
+use Rattle.docs.specs.Texts.{fits}
+use Rattle.docs.proofs.Texts.{fits_from, too_long, spelled_large, large_from}
+
+-- a test that doesn't fail holds
+pub unless : (b : Bool) → (b ≡ false → ⊥) → b ≡ true
+unless true never = refl
+unless false never = absurd (never refl)
+
+-- where a text is too large
+pub large_or_not : (t : List ℕ) → IsText t → (fits t ≡ false) ↔ (1_048_576 < length (encode_utf8_all t))
+large_or_not t is = (λ over. by (nat_le (length (encode_utf8_all t)) 1_048_576) refl over, too_long t)
+  where
+    by : (b : Bool) → nat_le (length (encode_utf8_all t)) 1_048_576 ≡ b → fits t ≡ false → 1_048_576 < length (encode_utf8_all t)
+    by true e over = absurd (let fit = fits_from t is (leb-true _ _ e) in let f : ⊥ = cc in f)
+    by false e over = leb-false _ _ e
+
+pub spelled_or_not : (bs : List ℕ) → IsUtf8 bs → (fits (chars bs) ≡ false) ↔ (1_048_576 < length bs)
+spelled_or_not bs utf8 = (large_from bs utf8, spelled_large bs utf8)
+
+from_text : (fault : TextFault) → doc_fault fault ≡ TooLarge → fault ≡ text.TooLarge
+from_text text.TooLarge e = refl
+from_text text.NoMemory e = absurd (let f : ⊥ = cc in f)
+
+-- a changed text is one of characters
+pub IsText-changed : (t : List ℕ) (range : Option Range) (bs : List ℕ) → IsText t → IsUtf8 bs → IsText (changed Utf16 t range (chars bs))
+unfolding changed
+IsText-changed t None bs is utf8 = IsText-edit t 0 (length t) (chars bs) is (IsText-chars bs utf8)
+IsText-changed t (Some r) bs is utf8 = IsText-edit t (range_start Utf16 t r) (range_end Utf16 t r) (chars bs) is (IsText-chars bs utf8)
+
+module _ {S : Type 0} (made : Result S TextFault) (large over : Type 0) (by : (made ≡ Err text.TooLarge) ↔ large) (same : over ↔ large) where
+  -- a text that was made is not too large
+  pub text_made : (x : S) → made ≡ Ok x → over → ⊥
+  text_made x was o = let wrong : Ok x ≡ Err text.TooLarge = sym was ∙ by.1 (same.0 o) in let f : ⊥ = cc in f
+
+  module _ {T : Type 0} (result : Result T DocFault) where
+    -- the refusal of the text was passed on
+    pub passed_on : (fault : TextFault) (e : DocFault) → made ≡ Err fault → result ≡ Err e → e ≡ doc_fault fault → (result ≡ Err TooLarge) ↔ over
+    passed_on fault e was is told = (
+      λ r.
+          let errs : Err e ≡ Err TooLarge = sym is ∙ r in
+          let here : e ≡ TooLarge = cc in
+          same.1 (by.0 (was ∙ ap (λ f. Err f) (from_text fault (sym told ∙ here)))),
+      λ o.
+          let errs : Err fault ≡ Err text.TooLarge = sym was ∙ by.1 (same.0 o) in
+          let here : fault ≡ text.TooLarge = cc in
+          is ∙ ap (λ f. Err f) (told ∙ ap doc_fault here),
+    )
+
+    -- memory was refused behind it
+    pub behind_text : (x : S) (e : DocFault) → made ≡ Ok x → result ≡ Err e → e ≡ NoMemory → (result ≡ Err TooLarge) ↔ over
+    behind_text x e was is memory = (
+      λ r. absurd (let errs : Err e ≡ Err TooLarge = sym is ∙ r in let f : ⊥ = cc in f),
+      λ o. absurd (text_made x was o),
+    )
+
+    -- nothing was refused
+    pub all_made : (x : S) (y : T) → made ≡ Ok x → result ≡ Ok y → (result ≡ Err TooLarge) ↔ over
+    all_made x y was is = (
+      λ r. absurd (let oks : Ok y ≡ Err TooLarge = sym is ∙ r in let f : ⊥ = cc in f),
+      λ o. absurd (text_made x was o),
+    )

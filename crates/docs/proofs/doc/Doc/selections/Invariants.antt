@@ -1,0 +1,14 @@
+use Rattle.std.proofs.Common.{map, take}
+use Rattle.views.specs.Told.{trees_of_roots}
+use Rattle.docs.specs.Answers.{AreSelections}
+use Rattle.docs.specs.Docs.{IsCurrent}
+use Rattle.docs.specs.Languages.{LanguageData}
+use Rattle.docs.proofs.Current.{reading_of}
+use Rattle.docs.proofs.doc.Doc.selections.Given as goal
+
+-- what was found around the positions so far, in the trees of the stack
+abbrev pub invariant-loop-position : goal.invariant-loop-position
+invariant-loop-position l =
+    let reading = reading_of l.self (trees_of_roots l.self.store l.self.parse.stack) in
+    (language : LanguageData) → IsCurrent language l.self
+    → AreSelections language.file l.self.text reading (take l.position-index l.positions) (map (λ s. s.items) l.selections.items)

@@ -1,0 +1,45 @@
+use Rattle.std.proofs.Common.{[], subst, refl}
+use Rattle.definitions.specs.Sentences.{IsViable}
+use Rattle.definitions.specs.Trees.{Grammar, yield}
+use Rattle.tables.specs.Decidable.{AreMovesDecided}
+use Rattle.tables.specs.Tables.{IsAccepted}
+use Rattle.views.specs.Told.{placed_parts}
+use Rattle.docs.specs.Languages.{LanguageData}
+use Rattle.docs.specs.Answers.{AlwaysAnswers, AnswersOnce}
+use Rattle.docs.proofs.Always.{LayersAnswer, always_answers}
+use Rattle.docs.proofs.Once.{answers_once}
+use Rattle.docs.proofs.language.Language.always_answers.Goals as goal
+
+pub returns-clause-always : goal.returns-clause-always
+returns-clause-always c =
+    let file = c.self.inside.grammar in
+    let same = c.self.invariant.1 in
+    let accepted : IsAccepted file.grammar = subst (λ (g : Grammar). IsAccepted g) same c.start-start.ensures.accepted in
+    let decided : AreMovesDecided file.grammar = subst (λ (g : Grammar). AreMovesDecided g) same c.moves_are_decided.ensures in
+    let first = accepted.productive.start in
+    let begins : IsViable file.grammar [] = (yield first.0, (first.0, record { root = first.1; kinds = refl })) in
+    let always : LayersAnswer file = record {
+      tokens = λ t text. c.each_text_has_tokens.ensures file.patterns c.self.inside.automaton t c.self.invariant.0 text;
+      verdicts = λ kinds. c.each_list_has_a_verdict.ensures file.grammar accepted decided kinds;
+      begins = begins;
+      settled = λ x viable. c.settled_unique.ensures.exists file.grammar x viable;
+      expected = λ x viable. c.each_viable_list_has_expected.ensures file.grammar accepted decided x viable;
+      folds = λ t tokens trees. c.trees_have_folds.ensures file.grammar trees t (placed_parts file tokens) file.folds;
+      selections = λ t tokens trees symbols is roots few. c.each_offset_has_a_selection.ensures file t tokens trees symbols is roots few;
+    } in
+    subst (λ (l : LanguageData). AlwaysAnswers l.file) c.self.view_is (always_answers file always)
+
+pub returns-clause-once : goal.returns-clause-once
+returns-clause-once c =
+    let file = c.self.inside.grammar in
+    let accepted : IsAccepted file.grammar = subst (λ (g : Grammar). IsAccepted g) c.self.invariant.1 c.start-start.ensures.accepted in
+    let once : AnswersOnce file = answers_once (record {
+      tokens = c.tokens_unique.ensures;
+      verdicts = c.verdict_unique.ensures;
+      trees = c.document_trees_unique.ensures;
+      rules = c.expected_unique.ensures.rules;
+      ends = c.expected_unique.ensures.ends;
+      folds = c.folds_unique.ensures;
+      selections = c.selection_unique.ensures;
+    }) file accepted.free in
+    subst (λ (l : LanguageData). AnswersOnce l.file) c.self.view_is once

@@ -1,0 +1,13 @@
+-- The texts of documents.
+--     OpenDocument      a document's version and text
+--     fits text      it is a text of Unicode characters, and isn't too long
+use Rattle.std.specs.Prelude.{ℕ, ℤ, ◌&&◌, Bool, nat_le, List, length, encode_utf8_all}
+use Rattle.std.specs.Str.{all_scalars}
+
+pub record OpenDocument : Type 0 where
+  pub version : ℤ
+  pub text : List ℕ
+
+-- a list of Unicode scalar values, with at most 1,048,576 bytes in UTF-8
+abbrev pub fits : List ℕ → Bool
+fits text = all_scalars text && nat_le (length (encode_utf8_all text)) 1_048_576

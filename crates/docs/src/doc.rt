@@ -1,0 +1,297 @@
+//! A document that is open: its version and text, with the tokens of the text and their parse.
+
+ghost use Rattle.std.specs.Prelude.{◌≡◌, ◌↔◌, ℕ, Option, Err, None, true, false, string_bytes, encode_utf8_all, map, option_map, IfOk};
+ghost use Rattle.std.specs.Str.{chars};
+ghost use Rattle.definitions.specs.Answers.{Diagnostic as Fault};
+ghost use Rattle.definitions.specs.Text.{changed, offset};
+ghost use Rattle.definitions.specs.declared.Unit.TheVariants.{Utf16};
+ghost use Rattle.lexer.specs.Tokens.{plain};
+ghost use Rattle.parser.specs.declared.parse.Verdict.TheVariants as Verdict;
+ghost use Rattle.trees.specs.declared.store.NodeId.{NodeId};
+ghost use Rattle.views.specs.Told.{AreFoldsOf, IsDiagnosis, IsSelectionOf, trees_of_roots};
+ghost use Rattle.views.specs.Views.{row_bytes};
+ghost use Rattle.docs.specs.Answers.{AreSelections, IsOutcome, IsTold, Reads, rows, tree_told};
+ghost use Rattle.docs.specs.Docs.{open_document, IsCurrent};
+ghost use Rattle.docs.specs.Languages.{LanguageData};
+ghost use Rattle.docs.specs.Texts.{fits};
+ghost use Rattle.docs.specs.declared.doc.DocFault.TheVariants.{NoMemory};
+ghost use Rattle.docs.specs.Faults.{doc_fault};
+
+use crate::language::Language;
+use definitions::{Diagnostic, Position, Range};
+use lexer::Tokens;
+use parser::laws::stack_has_the_nodes_of_the_document;
+use parser::{Parse, Verdict};
+use std::alloc::{AllocError, Global};
+use text::{Text, TextFault};
+use trees::Store;
+use views::{Row, diagnostic, folds, selection, token_rows, tree_text};
+
+/// Why a document was not opened, or is lost by a change.
+#[derive(Clone, Copy, Debug, PartialEq, Eq)]
+pub enum DocFault {
+    /// Its text would have more than 1,048,576 bytes in UTF-8.
+    TooLarge,
+    /// Memory was refused.
+    NoMemory,
+}
+
+impl From<AllocError> for DocFault {
+    ghost from_gives = { λ _ e. e ≡ NoMemory };
+
+    fn from(_: AllocError) -> DocFault {
+        DocFault::NoMemory
+    }
+}
+
+impl From<TextFault> for DocFault {
+    ghost from_gives = { λ fault e. e ≡ doc_fault fault };
+
+    fn from(fault: TextFault) -> DocFault {
+        match fault {
+            TextFault::TooLarge => DocFault::TooLarge,
+            TextFault::NoMemory => DocFault::NoMemory,
+        }
+    }
+}
+
+/// What a text comes to.
+#[derive(Debug, Drop)]
+pub enum Outcome {
+    /// The text of its tree.
+    Tree(String),
+    /// Its fault, where it has no tree.
+    Fault(Diagnostic),
+}
+
+/// A document of a language. The tokens are those of the text, and the parse is that of the tokens.
+///
+/// A language that is handed in is always the one by which the document was opened.
+#[derive(Drop)]
+pub struct Doc {
+    version: i32,
+    text: Text,
+    tokens: Tokens,
+    /// The nodes of the parse.
+    store: Store,
+    parse: Parse,
+}
+
+impl Doc {
+    /// A document of this text. `TooLarge` exactly where the text has more than 1,048,576 bytes in UTF-8.
+    pub fn open(
+        alloc: Global,
+        language: &Language,
+        version: i32,
+        text: &str,
+    ) -> Result<Doc, DocFault>
+        ensures is { IfOk result (λ d.
+            open_document d ≡ record { version = version; text = chars text.now }) }
+        ensures fits { IfOk result (λ _. fits (chars text.now) ≡ true) }
+        ensures current { IfOk result (IsCurrent language.now) }
+        ensures too_large { (result ≡ Err DocFault.TooLarge) ↔ (fits (chars text.now) ≡ false) }
+    {
+        let text = Text::open(alloc, text)?;
+        Ok(Doc::of(alloc, language, version, text)?)
+    }
+
+    /// The document after a change (LSP 3.17, "TextDocumentContentChangeEvent"): `new` stands in the place of the range, or of
+    /// the whole text where there is none. The ends of a range may stand in either order. `TooLarge` exactly where the text
+    /// would have more than 1,048,576 bytes in UTF-8. Where it is refused, the document is lost.
+    pub fn change(
+        self,
+        alloc: Global,
+        language: &Language,
+        range: Option<Range>,
+        new: &str,
+    ) -> Result<Doc, DocFault>
+        requires { IsCurrent language.now self }
+        ensures is { let text = changed Utf16 self.text range (chars new.now) in
+            IfOk result (λ d. open_document d ≡ record { version = self.version; text = text }) }
+        ensures current { IfOk result (IsCurrent language.now) }
+        ensures too_large { let text = changed Utf16 self.text range (chars new.now) in
+            (result ≡ Err DocFault.TooLarge) ↔ (fits text ≡ false) }
+    {
+        let Doc {
+            version,
+            mut text,
+            ..
+        } = self;
+        // The read opens the invariant of the text.
+        let _length = text.len();
+        text.change(alloc, range, new)?;
+        Ok(Doc::of(alloc, language, version, text)?)
+    }
+
+    /// Scans and parses a text. Refuses for memory alone.
+    fn of(alloc: Global, language: &Language, version: i32, text: Text) -> Result<Doc, AllocError>
+        ensures is { IfOk result (λ d. open_document d ≡ record { version = version; text = text }) }
+        ensures current { IfOk result (IsCurrent language.now) }
+    {
+        // The read opens what a language says of its tables.
+        let _tables = language.tables();
+        let (tokens, kinds) = language.scan(alloc, &text)?;
+        let mut store = Store::new(alloc);
+        let parse = language.parse(alloc, &mut store, &kinds)?;
+        Ok(Doc {
+            version,
+            text,
+            tokens,
+            store,
+            parse,
+        })
+    }
+
+    /// The version that the document has.
+    pub fn version(&self) -> i32
+        ensures { result ≡ self.now.version }
+    {
+        self.version
+    }
+
+    /// Gives the document another version.
+    pub fn set_version(&mut self, version: i32)
+        ensures is { open_document self.new ≡ record { version = version; text = self.old.text } }
+        ensures current { (language : LanguageData)
+            → IsCurrent language self.old → IsCurrent language self.new }
+    {
+        self.version = version;
+    }
+
+    /// The text in UTF-8. Refuses for memory alone.
+    pub fn text(&self, alloc: Global) -> Result<String, AllocError>
+        ensures { IfOk result (λ text. string_bytes text ≡ encode_utf8_all self.now.text) }
+    {
+        self.text.to_string(alloc)
+    }
+
+    /// The names and ranges of the tokens, in lines and UTF-16 units. Refuses for memory alone.
+    pub fn rows<'a>(
+        &self,
+        alloc: Global,
+        language: &'a Language,
+    ) -> Result<Vec<Row<'a>>, AllocError>
+        requires { IsCurrent language.now self.now }
+        ensures { let file = language.now.file in
+            IfOk result (λ told. Reads file self.now.text (λ reading.
+            map row_bytes told.items ≡ rows file self.now.text reading.tokens)) }
+    {
+        token_rows(alloc, language.grammar(), &self.text, &self.tokens)
+    }
+
+    /// The text of the tree, where there is one. Refuses for memory alone.
+    pub fn tree(&self, alloc: Global, language: &Language) -> Result<Option<String>, AllocError>
+        requires { IsCurrent language.now self.now }
+        ensures { let file = language.now.file in
+            IfOk result (λ told. Reads file self.now.text (λ reading.
+            option_map string_bytes told ≡ tree_told file reading.verdict)) }
+    {
+        match self.parse.verdict() {
+            Verdict::Tree(root) => {
+                let text = tree_text(alloc, language.grammar(), &self.store, root)?;
+                Ok(Some(text))
+            }
+            Verdict::FaultAt(_) | Verdict::FaultAtEnd => Ok(None),
+        }
+    }
+
+    /// The fault of the text, where it has one: the first token with which no sentence goes on, or the end. Refuses for memory
+    /// alone.
+    pub fn diagnostic(
+        &self,
+        alloc: Global,
+        language: &Language,
+    ) -> Result<Option<Diagnostic>, AllocError>
+        requires { IsCurrent language.now self.now }
+        ensures told { let file = language.now.file in
+            let text = self.now.text in
+            IfOk result (λ told. Reads file text (λ reading. (fault : Option Fault)
+            × IsDiagnosis file text reading.tokens reading.verdict fault × IsTold told fault)) }
+        ensures tree { IfOk result (λ told.
+            told ≡ None → (root : NodeId) × (self.now.parse.verdict ≡ Verdict.Tree root)) }
+    {
+        diagnostic(
+            alloc,
+            language.grammar(),
+            language.tables(),
+            &self.text,
+            &self.tokens,
+            &self.parse,
+        )
+    }
+
+    /// The text of the tree, or where there is none, the fault. Refuses for memory alone.
+    pub fn outcome(&self, alloc: Global, language: &Language) -> Result<Outcome, AllocError>
+        requires { IsCurrent language.now self.now }
+        ensures { IfOk result (IsOutcome language.now.file self.now.text) }
+    {
+        if let Some(fault) = self.diagnostic(alloc, language)? {
+            return Ok(Outcome::Fault(fault));
+        }
+        let Verdict::Tree(root) = self.parse.verdict() else {
+            unreachable!();
+        };
+        let text = tree_text(alloc, language.grammar(), &self.store, root)?;
+        Ok(Outcome::Tree(text))
+    }
+
+    /// The first and last lines of what can be folded, in ascending order. Refuses for memory alone.
+    pub fn folds(&self, alloc: Global, language: &Language) -> Result<Vec<(u32, u32)>, AllocError>
+        requires { IsCurrent language.now self.now }
+        ensures { let file = language.now.file in
+            IfOk result (λ pairs. Reads file self.now.text (λ reading.
+            AreFoldsOf file self.now.text reading.tokens reading.trees pairs.items)) }
+    {
+        stack_has_the_nodes_of_the_document();
+        folds(
+            alloc,
+            language.grammar(),
+            &self.text,
+            &self.tokens,
+            &self.store,
+            self.parse.stack(),
+        )
+    }
+
+    /// What can be selected around each of these positions, from inner to outer. Refuses for memory alone.
+    pub fn selections(
+        &self,
+        alloc: Global,
+        positions: &[Position],
+    ) -> Result<Vec<Vec<Range>>, AllocError>
+        requires { (language : LanguageData) × IsCurrent language self.now }
+        ensures { let text = self.now.text in
+            (language : LanguageData) → IsCurrent language self.now
+            → IfOk result (λ found. Reads language.file text (λ reading.
+            let ranges = map (λ ranges. ranges.items) found.items in
+            AreSelections language.file text reading positions.now ranges)) }
+    {
+        stack_has_the_nodes_of_the_document();
+        let mut selections = Vec::with_capacity(alloc, positions.len())?;
+        for position in positions {
+            selections.push(self.selection(alloc, *position)?)?;
+        }
+        Ok(selections)
+    }
+
+    /// What can be selected around a position, from inner to outer.
+    fn selection(&self, alloc: Global, position: Position) -> Result<Vec<Range>, AllocError>
+        requires { (language : LanguageData) × IsCurrent language self.now }
+        ensures { let text = self.now.text in
+            let tokens = map plain self.now.tokens.items in
+            let trees = trees_of_roots self.now.store self.now.parse.stack in
+            let at = offset Utf16 text position in
+            (language : LanguageData) → IsCurrent language self.now
+            → IfOk result (λ ranges. IsSelectionOf language.file text tokens trees at ranges.items) }
+    {
+        stack_has_the_nodes_of_the_document();
+        selection(
+            alloc,
+            &self.text,
+            &self.tokens,
+            &self.store,
+            self.parse.stack(),
+            self.text.offset(position),
+        )
+    }
+}

@@ -1,0 +1,169 @@
+//! The language of a grammar file: its grammar, the automaton of its token rules, and its tables.
+
+ghost use Rattle.std.specs.Prelude.{◌≡◌, IfOk, IfErr};
+ghost use Rattle.lexer.specs.Rescans.{significant_kinds};
+ghost use Rattle.lexer.specs.Tokens.{AreTokensOf};
+ghost use Rattle.parser.specs.Parses.{IsParseOf};
+ghost use Rattle.docs.specs.Languages.{IsLanguageOf, IsLoadFault};
+ghost use Rattle.docs.specs.Answers.{AlwaysAnswers, AnswersOnce};
+
+use crate::significant::Significant;
+use definitions::laws::{expected_unique, folds_unique, selection_unique, tokens_unique};
+use dfa::{Automaton, DfaFault};
+use grammar::{Grammar, GrammarCause, GrammarFault};
+use lexer::{Tokens, Whole, each_text_has_tokens};
+use parser::Parse;
+use parser::laws::{each_list_has_a_verdict, each_viable_list_has_expected};
+use std::alloc::{AllocError, Global};
+use std::marker::Model;
+use tables::{Conflict, TableFault, Tables};
+use text::Text;
+use theory::laws::{document_trees_unique, settled_unique, verdict_unique};
+use trees::Store;
+use views::{each_offset_has_a_selection, trees_have_folds};
+
+/// What a grammar file defines, made ready for scanning and parsing.
+#[derive(Drop)]
+pub struct Language {
+    grammar: Grammar,
+    automaton: Automaton,
+    tables: Tables,
+}
+
+impl Model for Language {
+    ghost use Rattle.std.specs.Prelude.{◌≡◌};
+    ghost use Rattle.std.specs.Coded.{codes};
+    ghost use Rattle.definitions.specs.contracts.expression.Expression as e;
+    ghost use Rattle.dfa.specs.Table.{IsAutomaton};
+    ghost use Rattle.docs.specs.Languages.{LanguageData};
+
+    ghost Value = { LanguageData };
+
+    ghost coded = { Prim.hlevel (codes, e.the_row.coded) };
+
+    ghost view = { λ l. record { file = l.grammar; tables = l.tables } };
+
+    ghost invariant = { λ l. IsAutomaton l.grammar.patterns l.automaton × (l.tables.grammar ≡ l.grammar.grammar) };
+}
+
+/// Why a grammar file defines no language.
+#[derive(Drop)]
+pub enum LoadFault {
+    /// The text is no grammar file.
+    Grammar(GrammarFault),
+    /// The automaton of its token rules would have more than 4,096 states.
+    TooManyStates,
+    /// The canonical collection has more than 8,192 sets.
+    TooManySets,
+    /// The grammar is not LR(1). The numbers of the conflict are those of the grammar.
+    Conflict(Grammar, Conflict),
+    NoMemory,
+}
+
+impl Language {
+    /// The language of a grammar file's text, or why it defines none.
+    ///
+    /// Told first is a fault of the file, then too many states of the automaton, then too many sets of the tables, then a
+    /// conflict.
+    pub fn load(alloc: Global, text: &str) -> Result<Language, LoadFault>
+        ensures language { IfOk result (λ l. IsLanguageOf text.now l.file) }
+        ensures fault { IfErr result (IsLoadFault text.now) }
+    {
+        let grammar = match Grammar::read(alloc, text) {
+            Ok(grammar) => grammar,
+            Err(
+                GrammarFault {
+                    cause: GrammarCause::Memory,
+                    ..
+                },
+            ) => return Err(LoadFault::NoMemory),
+            Err(fault) => return Err(LoadFault::Grammar(fault)),
+        };
+        let automaton = match Automaton::build(alloc, grammar.patterns()) {
+            Ok(automaton) => automaton,
+            Err(DfaFault::TooManyStates) => return Err(LoadFault::TooManyStates),
+            Err(DfaFault::Memory) => return Err(LoadFault::NoMemory),
+        };
+        match Tables::build(alloc, &grammar) {
+            Ok(tables) => Ok(Language {
+                grammar,
+                automaton,
+                tables,
+            }),
+            Err(TableFault::TooManySets) => Err(LoadFault::TooManySets),
+            Err(TableFault::Conflict(conflict)) => Err(LoadFault::Conflict(grammar, conflict)),
+            Err(TableFault::Memory) => Err(LoadFault::NoMemory),
+        }
+    }
+
+    /// What the file defines.
+    pub fn grammar(&self) -> &Grammar
+        ensures { result.now ≡ self.now.file }
+    {
+        &self.grammar
+    }
+
+    /// The tables of the file's grammar.
+    pub(crate) fn tables(&self) -> &Tables
+        ensures is { result.now ≡ self.now.tables }
+        ensures grammar { self.now.tables.grammar ≡ self.now.file.grammar }
+    {
+        &self.tables
+    }
+
+    /// The tokens of a text, and the kinds of the significant ones. Refuses for memory alone.
+    pub(crate) fn scan(
+        &self,
+        alloc: Global,
+        text: &Text,
+    ) -> Result<(Tokens, Significant), AllocError>
+        ensures tokens { IfOk result (λ r.
+            AreTokensOf self.now.file.patterns self.now.file.skips text.now r.0.items) }
+        ensures kinds { IfOk result (λ r. r.1.kinds.items ≡ significant_kinds r.0.items) }
+    {
+        // The read opens the invariant of the text.
+        let _length = text.len();
+        let (tokens, kinds) = Tokens::scan_with_kinds(
+            alloc,
+            &self.grammar,
+            &self.automaton,
+            &Whole(text),
+        )?;
+        Ok((tokens, Significant { kinds }))
+    }
+
+    /// The parse of these kinds, with its nodes in the store. Refuses for memory alone.
+    pub(crate) fn parse(
+        &self,
+        alloc: Global,
+        store: &mut Store,
+        kinds: &Significant,
+    ) -> Result<Parse, AllocError>
+        ensures { IfOk result (IsParseOf self.now.tables kinds.now.kinds.items store.new) }
+    {
+        Parse::whole(alloc, &self.tables, store, kinds)
+    }
+
+    /// Each text that fits has a reading by the language, and each reading all that can be told of it; of each there is one.
+    pub fn always_answers(&self)
+        ensures always { AlwaysAnswers self.now.file }
+        ensures once { AnswersOnce self.now.file }
+    {
+        each_text_has_tokens();
+        each_list_has_a_verdict();
+        each_viable_list_has_expected();
+        settled_unique();
+        trees_have_folds();
+        each_offset_has_a_selection();
+        tokens_unique();
+        verdict_unique();
+        document_trees_unique();
+        expected_unique();
+        folds_unique();
+        selection_unique();
+        self.tables.moves_are_decided();
+        // The reads open the invariants of the tables and of the language.
+        let _start = self.tables.start();
+        let _automaton = &self.automaton;
+    }
+}

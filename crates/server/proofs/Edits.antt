@@ -1,0 +1,92 @@
+-- A text that is edited by changes in turn.
+use Rattle.std.proofs.Common.{◌≡◌, ◌<◌, ◌+◌, ℕ, ℤ, Bool, true, false, cond, List, [], ◌∷◌, ◌++◌, length, map, take, drop, get_or, refl, sym, ap, subst, ◌∙◌}
+use Rattle.std.proofs.lemmas.List.{drop_more, take_more, map-append, take-append-drop}
+use Rattle.std.specs.Prelude.{Option, Some, None}
+use Rattle.std.specs.Str.{chars}
+use Rattle.definitions.specs.Text.{changed}
+use Rattle.definitions.specs.declared.Unit.TheVariants.{Utf16}
+use Rattle.docs.specs.Texts.{fits}
+use Rattle.rpc.specs.Messages.{ChangeSaid, change_view}
+use Rattle.rpc.specs.declared.message.Change.{Change}
+use Rattle.rpc.specs.declared.reply.Loss.TheVariants.{TooLarge, NoMemory}
+use Rattle.server.specs.Documents.{DocumentState, is_open, is_lost, edited, Becomes}
+
+-- the text after one change
+abbrev pub after : List ℕ → ChangeSaid → List ℕ
+after t c = changed Utf16 t c.range (chars c.text)
+
+pub edited_fits : (text : List ℕ) (changes : List ChangeSaid) (new : List ℕ) → fits text ≡ true → edited text changes ≡ Some new → fits new ≡ true
+edited_fits text [] new fit e = let same : text ≡ new = cc in subst (λ t. fits t ≡ true) same fit
+edited_fits text (c ∷ cs) new fit e = by (fits (after text c)) refl e (λ f. edited_fits (after text c) cs new f)
+  where
+    by : (b : Bool) → fits (after text c) ≡ b → cond b (edited (after text c) cs) None ≡ Some new → (fits (after text c) ≡ true → edited (after text c) cs ≡ Some new → fits new ≡ true) → fits new ≡ true
+    by true f h more = more f h
+    by false f h more = absurd (let g : ⊥ = cc in g)
+
+-- behind some changes, the others go on from the text that these made
+pub edited_behind : (t : List ℕ) (before behind : List ChangeSaid) (mid : List ℕ) → edited t before ≡ Some mid → edited t (before ++ behind) ≡ edited mid behind
+edited_behind t [] behind mid e = let same : t ≡ mid = cc in ap (λ x. edited x behind) same
+edited_behind t (c ∷ before) behind mid e = by (fits (after t c)) e (edited_behind (after t c) before behind mid)
+  where
+    by : (b : Bool) → cond b (edited (after t c) before) None ≡ Some mid → (edited (after t c) before ≡ Some mid → edited (after t c) (before ++ behind) ≡ edited mid behind) → cond b (edited (after t c) (before ++ behind)) None ≡ edited mid behind
+    by true h more = more h
+    by false h more = absurd (let g : ⊥ = cc in g)
+
+pub edited_fitting : (t : List ℕ) (c : ChangeSaid) (behind : List ChangeSaid) → fits (after t c) ≡ true → edited t (c ∷ behind) ≡ edited (after t c) behind
+edited_fitting t c behind fit = ap (λ b. cond b (edited (after t c) behind) None) fit
+
+pub edited_never : (t : List ℕ) (c : ChangeSaid) (behind : List ChangeSaid) → fits (after t c) ≡ false → edited t (c ∷ behind) ≡ None
+edited_never t c behind over = ap (λ b. cond b (edited (after t c) behind) None) over
+
+-- one more change that fits
+pub edited_more : (t : List ℕ) (before : List ChangeSaid) (c : ChangeSaid) (mid : List ℕ) → edited t before ≡ Some mid → fits (after mid c) ≡ true → edited t (before ++ c ∷ []) ≡ Some (after mid c)
+edited_more t before c mid e fit = edited_behind t before (c ∷ []) mid e ∙ edited_fitting mid c [] fit
+
+-- an open document's text fits
+abbrev pub IsFit : DocumentState → Type 0
+IsFit (is_open d) = fits d.text ≡ true
+IsFit (is_lost loss) = Unit {0}
+
+pub becomes_fit : (version : ℤ) (text : List ℕ) (changes : List ChangeSaid) (state : DocumentState) → fits text ≡ true → Becomes version text changes state → IsFit state
+becomes_fit version text changes (is_open d) fit b = edited_fits text changes d.text fit b.0
+becomes_fit version text changes (is_lost loss) fit b = tt
+
+-- where all texts on the way fit, and where one doesn't
+pub some_becomes : (version : ℤ) (text : List ℕ) (changes : List ChangeSaid) → (state : DocumentState) × Becomes version text changes state
+some_becomes version text changes = by (edited text changes) refl
+  where
+    by : (o : Option (List ℕ)) → edited text changes ≡ o → (state : DocumentState) × Becomes version text changes state
+    by None e = (is_lost TooLarge, e)
+    by (Some new) e = (is_open (record { version = version; text = new }), (e, refl))
+
+-- ---- the changes of a message
+
+-- the changes before one, it, and those behind it
+module _ (changes : List Change) (i : ℕ) (c : Change) (within : i < length changes) (here : c ≡ get_or changes i c) where
+  abbrev before : List ChangeSaid
+  before = map change_view (take i changes)
+
+  abbrev behind : List ChangeSaid
+  behind = map change_view (drop (i + 1) changes)
+
+  pub all_changes : map change_view changes ≡ before ++ change_view c ∷ behind
+  all_changes =
+      ap (map change_view) (sym (take-append-drop i changes))
+      ∙ (map-append change_view (take i changes) (drop i changes)
+      ∙ ap (λ (l : List Change). before ++ map change_view l) (drop_more changes i c within ∙ ap (λ (d : Change). d ∷ drop (i + 1) changes) (sym here)))
+
+  one_more : map change_view (take (i + 1) changes) ≡ before ++ change_view c ∷ []
+  one_more =
+      ap (map change_view) (take_more changes i c within ∙ ap (λ (d : Change). take i changes ++ d ∷ []) (sym here))
+      ∙ map-append change_view (take i changes) (c ∷ [])
+
+  module _ (t mid : List ℕ) (edits : edited t before ≡ Some mid) where
+    pub ends_there : fits (after mid (change_view c)) ≡ false → edited t (map change_view changes) ≡ None
+    ends_there over =
+        ap (edited t) all_changes ∙ (edited_behind t before (change_view c ∷ behind) mid edits ∙ edited_never mid (change_view c) behind over)
+
+    pub goes_on : fits (after mid (change_view c)) ≡ true → edited t (map change_view (take (i + 1) changes)) ≡ Some (after mid (change_view c))
+    goes_on fit = ap (edited t) one_more ∙ edited_more t before (change_view c) mid edits fit
+
+    pub may_lose : (version : ℤ) → fits (after mid (change_view c)) ≡ true → Becomes version t (map change_view changes) (is_lost NoMemory)
+    may_lose version fit = (before, behind, change_view c, all_changes, (after mid (change_view c), edited_more t before (change_view c) mid edits fit))

@@ -1,0 +1,131 @@
+-- What a step does to the documents: nothing, or one of them stands otherwise, or is forgotten.
+use Rattle.std.proofs.Common.{◌≡◌, ℕ, ℤ, Bool, true, false, cond, List, [], ◌∷◌, refl, sym, ap, subst}
+use Rattle.std.specs.Prelude.{Option, Some, None, All}
+use Rattle.std.specs.Str.{chars}
+use Rattle.std.specs.FinMap.{get}
+use Rattle.std.proofs.lemmas.List.Elements.{All-from_recursion}
+use Rattle.docs.specs.Texts.{fits}
+use Rattle.grammar.specs.Grammars.{FileGrammar}
+use Rattle.rpc.specs.Messages.{Ident, Asked, initialize, shutdown, about, Question, its_text, its_tokens, its_tree, its_folds, its_selections, Told, initialized, exit, open_text, change_text, close, malformed, Unfit, unfit_open, unfit_change, unfit_close, request, notice, ignored, invalid, unknown, params, Heard, unread, refused, said, ChangeSaid}
+use Rattle.rpc.specs.Replies.{Answer}
+use Rattle.rpc.specs.declared.reply.Loss.TheVariants.{TooLarge, MalformedChange}
+use Rattle.server.specs.declared.state.Phase.{Phase}
+use Rattle.server.specs.declared.state.Phase.TheVariants.{New, Ready, Down}
+use Rattle.server.specs.Answers.{IsAnswer, tree_answer}
+use Rattle.server.specs.Documents.{DocumentState, is_open, is_lost, has_room}
+use Rattle.server.specs.Fresh.{Publishes}
+use Rattle.server.specs.Sessions.{AllFit}
+use Rattle.server.specs.Steps.{State, Asks, Changes, Closes, Forgets, Holds, Misses, Opens, Replies, Spoils, Step, Tells, opened}
+use Rattle.server.proofs.Edits.{IsFit, becomes_fit}
+
+-- no answer publishes anything of any document
+abbrev pub AreQuiet : List Answer → Type 0
+AreQuiet answers = (uri : List ℕ) → All (λ a. ¬ Publishes uri a) answers
+
+pub none_quiet : AreQuiet []
+none_quiet uri = All-from_recursion (λ a. ¬ Publishes uri a) [] tt
+
+one_quiet : (answer : Answer) → ((uri : List ℕ) → ¬ Publishes uri answer) → AreQuiet (answer ∷ [])
+one_quiet answer quiet uri = All-from_recursion (λ a. ¬ Publishes uri a) (answer ∷ []) (quiet uri, tt)
+
+-- an answer that is not about diagnostics
+said_quiet : (answer told : Answer) → answer ≡ told → ((uri : List ℕ) → ¬ Publishes uri told) → (uri : List ℕ) → ¬ Publishes uri answer
+said_quiet answer told e quiet uri p = quiet uri (subst (Publishes uri) e p)
+
+tree_quiet : (id : Ident) (o : Option (List ℕ)) (uri : List ℕ) → ¬ Publishes uri (tree_answer id o)
+tree_quiet id None uri p = p
+tree_quiet id (Some text) uri p = p
+
+answer_quiet : (file : FileGrammar) (id : Ident) (o : Option DocumentState) (question : Question) (answer : Answer) → IsAnswer file id o question answer → (uri : List ℕ) → ¬ Publishes uri answer
+answer_quiet file id None question answer is = said_quiet answer _ is (λ uri p. p)
+answer_quiet file id (Some (is_lost loss)) question answer is = said_quiet answer _ is (λ uri p. p)
+answer_quiet file id (Some (is_open d)) its_text answer is = said_quiet answer _ is (λ uri p. p)
+answer_quiet file id (Some (is_open d)) its_tokens answer is = said_quiet answer _ is.2 (λ uri p. p)
+answer_quiet file id (Some (is_open d)) its_tree answer is = said_quiet answer _ is.2 (tree_quiet id _)
+answer_quiet file id (Some (is_open d)) its_folds answer is = said_quiet answer _ is.2.2 (λ uri p. p)
+answer_quiet file id (Some (is_open d)) (its_selections positions) answer is = said_quiet answer _ is.2.2 (λ uri p. p)
+
+pub data Effect (old : State) (answers : List Answer) (stop : Option ℕ) (new : State) : Type 0 where
+  stays : AreQuiet answers → new.file ≡ old.file → new.documents ≡ old.documents → Effect old answers stop new
+  stands : (uri : List ℕ) (state : DocumentState) → (AllFit old.documents → IsFit state) → Holds old uri state answers stop new → Effect old answers stop new
+  goes : (uri : List ℕ) → Forgets old uri answers stop new → Effect old answers stop new
+
+-- what is opened fits, where it is open
+pub opened_fit : (version : ℤ) (text : List ℕ) → IsFit (opened version text)
+opened_fit version text = by (fits text) refl
+  where
+    by : (b : Bool) → fits text ≡ b → IsFit (cond b (is_open (record { version = version; text = text })) (is_lost TooLarge))
+    by true e = e
+    by false e = tt
+
+module _ (old : State) (answers : List Answer) (stop : Option ℕ) (new : State) where
+  replied : (answer : Answer) → ((uri : List ℕ) → ¬ Publishes uri answer) → Replies old answer answers stop new → Effect old answers stop new
+  replied answer quiet s = stays (subst AreQuiet (sym s.0) (one_quiet answer quiet)) (ap (λ (x : State). x.file) s.2) (ap (λ (x : State). x.documents) s.2)
+
+  silent : answers ≡ [] → new ≡ old → Effect old answers stop new
+  silent none same = stays (subst AreQuiet (sym none) none_quiet) (ap (λ (x : State). x.file) same) (ap (λ (x : State). x.documents) same)
+
+  entered : (phase : Phase) (answer : Answer) → ((uri : List ℕ) → ¬ Publishes uri answer) → answers ≡ answer ∷ [] → new ≡ record { file = old.file; phase = phase; documents = old.documents } → Effect old answers stop new
+  entered phase answer quiet one same = stays (subst AreQuiet (sym one) (one_quiet answer quiet)) (ap (λ (x : State). x.file) same) (ap (λ (x : State). x.documents) same)
+
+  asks_effect : (phase : Phase) (id : Ident) (asked : Asked) → Asks phase old id asked answers stop new → Effect old answers stop new
+  asks_effect New id initialize s = entered Ready _ (λ uri p. p) s.0 s.2
+  asks_effect New id shutdown s = replied _ (λ uri p. p) s
+  asks_effect New id (about uri question) s = replied _ (λ uri p. p) s
+  asks_effect Ready id initialize s = replied _ (λ uri p. p) s
+  asks_effect Ready id shutdown s = entered Down _ (λ uri p. p) s.0 s.2
+  asks_effect Ready id (about uri question) s = replied s.0 (answer_quiet old.file id (get old.documents uri) question s.0 s.1) s.2
+  asks_effect Down id asked s = replied _ (λ uri p. p) s
+
+  opens_effect : (room : Bool) (uri : List ℕ) (state : DocumentState) → IsFit state → Opens room old uri state answers stop new → Effect old answers stop new
+  opens_effect true uri state fit s = stands uri state (λ all. fit) s
+  opens_effect false uri state fit s = replied _ (λ uri p. p) s
+
+  changes_effect : (o : Option DocumentState) (uri : List ℕ) (version : ℤ) (changes : List ChangeSaid) → get old.documents uri ≡ o → Changes o old uri version changes answers stop new → Effect old answers stop new
+  changes_effect None uri version changes e s = replied _ (λ uri p. p) s
+  changes_effect (Some (is_lost loss)) uri version changes e s = silent s.0 s.2
+  changes_effect (Some (is_open d)) uri version changes e s = stands uri s.0 (λ all. becomes_fit version d.text changes s.0 (all uri d e) s.1) s.2
+
+  spoils_effect : (o : Option DocumentState) (uri : List ℕ) → Spoils o old uri answers stop new → Effect old answers stop new
+  spoils_effect None uri s = replied _ (λ uri p. p) s
+  spoils_effect (Some (is_lost loss)) uri s = silent s.0 s.2
+  spoils_effect (Some (is_open d)) uri s = stands uri (is_lost MalformedChange) (λ all. tt) s
+
+  closes_effect : (o : Option DocumentState) (uri : List ℕ) → Closes o old uri answers stop new → Effect old answers stop new
+  closes_effect None uri s = replied _ (λ uri p. p) s
+  closes_effect (Some state) uri s = goes uri s
+
+  misses_effect : (unfit : Unfit) → Misses old unfit answers stop new → Effect old answers stop new
+  misses_effect unfit_open s = replied _ (λ uri p. p) s
+  misses_effect (unfit_change None) s = replied _ (λ uri p. p) s
+  misses_effect (unfit_change (Some uri)) s = spoils_effect (get old.documents uri) uri s
+  misses_effect unfit_close s = replied _ (λ uri p. p) s
+
+  tells_effect : (phase : Phase) (told : Told) → Tells phase old told answers stop new → Effect old answers stop new
+  tells_effect New initialized s = silent s.0 s.2
+  tells_effect New exit s = silent s.0 s.2
+  tells_effect New (open_text uri version text) s = silent s.0 s.2
+  tells_effect New (change_text uri version changes) s = silent s.0 s.2
+  tells_effect New (close uri) s = silent s.0 s.2
+  tells_effect New (malformed unfit) s = silent s.0 s.2
+  tells_effect Ready initialized s = silent s.0 s.2
+  tells_effect Ready exit s = silent s.0 s.2
+  tells_effect Ready (open_text uri version text) s = opens_effect (has_room uri old.documents) uri (opened version (chars text)) (opened_fit version (chars text)) s
+  tells_effect Ready (change_text uri version changes) s = changes_effect (get old.documents uri) uri version changes refl s
+  tells_effect Ready (close uri) s = closes_effect (get old.documents uri) uri s
+  tells_effect Ready (malformed unfit) s = misses_effect unfit s
+  tells_effect Down initialized s = silent s.0 s.2
+  tells_effect Down exit s = silent s.0 s.2
+  tells_effect Down (open_text uri version text) s = silent s.0 s.2
+  tells_effect Down (change_text uri version changes) s = silent s.0 s.2
+  tells_effect Down (close uri) s = silent s.0 s.2
+  tells_effect Down (malformed unfit) s = silent s.0 s.2
+
+  pub step_effect : (heard : Heard) → Step old heard answers stop new → Effect old answers stop new
+  step_effect unread s = replied _ (λ uri p. p) s
+  step_effect (refused (invalid id)) s = replied _ (λ uri p. p) s
+  step_effect (refused (unknown id)) s = replied _ (λ uri p. p) s
+  step_effect (refused (params id first)) s = replied _ (λ uri p. p) s
+  step_effect (said (request id asked)) s = asks_effect old.phase id asked s
+  step_effect (said (notice told)) s = tells_effect old.phase told s
+  step_effect (said ignored) s = silent s.0 s.2

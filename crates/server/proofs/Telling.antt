@@ -1,0 +1,40 @@
+-- What is answered, from what a document tells.
+use Rattle.std.proofs.Common.{◌≡◌, ℕ, List, refl, ap}
+use Rattle.std.specs.Prelude.{Option, Some, None, option_map, Result, Ok, Err, IfOk}
+use Rattle.definitions.specs.declared.Diagnostic.{Diagnostic as Stored}
+use Rattle.definitions.specs.Answers.{Diagnostic}
+use Rattle.docs.specs.Answers.{Reading, IsTold, Reads}
+use Rattle.docs.specs.Texts.{OpenDocument}
+use Rattle.grammar.specs.Grammars.{FileGrammar}
+use Rattle.rpc.specs.Replies.{diagnostic_view, told_diagnostics}
+use Rattle.docs.specs.Diagnostics.{in_utf8, told_bytes}
+use Rattle.docs.specs.Told.{IsDiagnosis}
+use Rattle.server.specs.Answers.{IsPublished, told_of}
+
+-- what a function answers, said in other words
+pub if_ok : {T E : Type 0} {P Q : T → Type 0} (r : Result T E) → ((x : T) → P x → Q x) → IfOk r P → IfOk r Q
+if_ok (Ok x) f p = f x p
+if_ok (Err e) f p = tt
+
+pub if_ok_both : {T E : Type 0} {P Q R : T → Type 0} (r : Result T E) → ((x : T) → P x → Q x → R x) → IfOk r P → IfOk r Q → IfOk r R
+if_ok_both (Ok x) f p q = f x p q
+if_ok_both (Err e) f p q = tt
+
+-- what is told of a text, in other words
+pub reads_so : (file : FileGrammar) (t : List ℕ) (P Q : Reading → Type 0) → ((reading : Reading) → P reading → Q reading) → Reads file t P → Reads file t Q
+reads_so file t P Q f r = (r.0, r.1, f r.0 r.2)
+
+told_pair : (told : Stored) (fault : Diagnostic) → told_bytes told ≡ in_utf8 fault → diagnostic_view told ≡ told_of fault
+told_pair told fault e = ap (λ (x : Diagnostic). (x.range, x.message)) e
+
+told_same : (told : Option Stored) (fault : Option Diagnostic) → IsTold told fault → option_map diagnostic_view told ≡ option_map told_of fault
+told_same None None e = refl
+told_same None (Some fault) e = absurd (let f : ⊥ = cc in f)
+told_same (Some told) None e = absurd (let f : ⊥ = cc in f)
+told_same (Some told) (Some fault) e = let same : told_bytes told ≡ in_utf8 fault = cc in ap (λ x. Some x) (told_pair told fault same)
+
+-- the diagnostics that tell a fault
+pub diagnosis_published : (file : FileGrammar) (uri : List ℕ) (d : OpenDocument) (told : Option Stored) → Reads file d.text (λ reading. (fault : Option Diagnostic) × IsDiagnosis file d.text reading.tokens reading.verdict fault × IsTold told fault)
+    → IsPublished file uri d (told_diagnostics uri (Some d.version) (option_map diagnostic_view told))
+diagnosis_published file uri d told r =
+    (r.0, r.1, (r.2.0, r.2.1, ap (told_diagnostics uri (Some d.version)) (told_same told r.2.0 r.2.2)))

@@ -1,6 +1,0 @@
-use Rattle.std.proofs.Common.{sym, ◌∙◌}
-use Rattle.server.proofs.Current.{tree_outcome}
-use Rattle.server.proofs.document.Document.outcome.Goals as goal
-
-pub returns : goal.returns
-returns c = tree_outcome c.args.language.now c.args.self.now c.in-Tree.root c.grammar.result.now c.in_ok-text.text c.requires (sym c.verdict.ensures ∙ c.in-Tree.is) c.grammar.ensures c.in_ok-text.ensures.bytes

@@ -1,7 +1,0 @@
-use Rattle.std.proofs.Common.{◌≡◌, map, take}
-use Rattle.rpc.specs.Replies.{row_view}
-use Rattle.views.specs.Views.{row_bytes}
-use Rattle.server.proofs.document.Document.rows.Given as goal
-
-abbrev pub invariant-loop-row : goal.invariant-loop-row
-invariant-loop-row l = map row_view l.told.items ≡ map row_bytes (take l.row-index l.row-items)

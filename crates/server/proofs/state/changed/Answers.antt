@@ -1,0 +1,50 @@
+use Rattle.std.proofs.Common.{◌≡◌, ◌↔◌, ◌∙◌, ap, sym, subst, List, ℕ, Bool, true, false, refl}
+use Rattle.std.specs.Prelude.{Some, Err, Ok, Result}
+use Rattle.std.specs.Str.{chars}
+use Rattle.definitions.specs.Text.{changed}
+use Rattle.definitions.specs.declared.Unit.TheVariants.{Utf16}
+use Rattle.docs.specs.Texts.{OpenDocument, fits}
+use Rattle.docs.specs.declared.doc.DocFault.{DocFault}
+use Rattle.docs.specs.declared.doc.DocFault.TheVariants.{TooLarge, NoMemory}
+use Rattle.rpc.specs.Messages.{change_view}
+use Rattle.server.proofs.Edits.{after, ends_there, goes_on, may_lose}
+use Rattle.server.proofs.state.changed.Goals as goal
+
+-- a test that doesn't fail holds
+unless : (b : Bool) → (b ≡ false → ⊥) → b ≡ true
+unless true never = refl
+unless false never = absurd (never refl)
+
+-- what was not refused as too large fits
+fits_then : {T : Type 0} (result : Result T DocFault) (text spelled : List ℕ) → text ≡ spelled → ((result ≡ Err TooLarge) ↔ (fits text ≡ false)) → (result ≡ Err TooLarge → ⊥) → fits spelled ≡ true
+fits_then result text spelled same large never = subst (λ t. fits t ≡ true) same (unless (fits text) (λ over. never (large.1 over)))
+
+pub returns-in-Err-TooLarge-clause-becomes : goal.returns-in-Err-TooLarge-clause-becomes
+returns-in-Err-TooLarge-clause-becomes c =
+    let doc = c.loop-change.doc in
+    let change = c.change-item.result in
+    let same = ap (λ b. changed Utf16 doc.text change.range (chars b)) c.as_str.ensures.value in
+    let told : c.change.result ≡ Err TooLarge = c.in-Err-TooLarge.is ∙ ap (λ (e : DocFault). Err e) c.in-Err-TooLarge.field-0-is in
+    let over : fits (after doc.text (change_view change)) ≡ false = subst (λ t. fits t ≡ false) same (c.change.ensures.too_large.0 told) in
+    ends_there c.args.changes.now c.loop-change.change-index change c.loop-change-test.true c.change-item.is c.args.doc.text doc.text c.loop-change.invariant.edits over
+
+pub returns-in-Err-NoMemory-clause-becomes : goal.returns-in-Err-NoMemory-clause-becomes
+returns-in-Err-NoMemory-clause-becomes c =
+    let doc = c.loop-change.doc in
+    let change = c.change-item.result in
+    let same = ap (λ b. changed Utf16 doc.text change.range (chars b)) c.as_str.ensures.value in
+    let told : c.change.result ≡ Err NoMemory = c.in-Err-NoMemory.is ∙ ap (λ (e : DocFault). Err e) c.in-Err-NoMemory.field-0-is in
+    let fit = fits_then c.change.result _ (after doc.text (change_view change)) same c.change.ensures.too_large (λ wrong. let both : Err TooLarge ≡ Err NoMemory = sym wrong ∙ told in let f : ⊥ = cc in f) in
+    may_lose c.args.changes.now c.loop-change.change-index change c.loop-change-test.true c.change-item.is c.args.doc.text doc.text c.loop-change.invariant.edits c.args.version fit
+
+pub loop-change-preserved : goal.loop-change-preserved
+loop-change-preserved c =
+    let doc = c.loop-change.doc in
+    let change = c.change-item.result in
+    let same = ap (λ b. changed Utf16 doc.text change.range (chars b)) c.as_str.ensures.value in
+    let fit = fits_then c.change.result _ (after doc.text (change_view change)) same c.change.ensures.too_large (λ wrong. let both : Err TooLarge ≡ Ok c.in-Ok.next = sym wrong ∙ c.in-Ok.is in let f : ⊥ = cc in f) in
+    let text : c.in-Ok.next.text ≡ after doc.text (change_view change) = ap (λ (d : OpenDocument). d.text) c.in-Ok.ensures.is ∙ same in
+    record {
+      current = c.in-Ok.ensures.current;
+      edits = goes_on c.args.changes.now c.loop-change.change-index change c.loop-change-test.true c.change-item.is c.args.doc.text doc.text c.loop-change.invariant.edits fit ∙ ap (λ t. Some t) (sym text);
+    }

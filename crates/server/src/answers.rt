@@ -1,0 +1,114 @@
+//! What is answered about a document, and published of it.
+
+ghost use Rattle.std.specs.Prelude.{◌≡◌, Some, None, map, IfOk};
+ghost use Rattle.docs.specs.Answers.{Reads, rows};
+ghost use Rattle.docs.specs.Docs.{open_document, IsCurrent};
+ghost use Rattle.rpc.specs.Messages.{id_view};
+ghost use Rattle.rpc.specs.Replies.{reply_view, row_view, told_diagnostics};
+ghost use Rattle.server.specs.Answers.{question_view, IsAnswerOf, IsPublished};
+
+use docs::{Doc, Language};
+use rpc::{Id, Position, Reply, Row};
+use std::alloc::{AllocError, Global};
+
+/// What can be asked about a document.
+#[derive(Debug, Drop)]
+pub enum Question {
+    /// `lr/text`: its version and text.
+    Text,
+    /// `lr/tokens`: the names and ranges of its tokens.
+    Tokens,
+    /// `lr/tree`: its tree.
+    Tree,
+    /// `textDocument/foldingRange`: the lines that can be folded.
+    Folds,
+    /// `textDocument/selectionRange`: what can be selected around each of these positions.
+    Selections(Vec<Position>),
+}
+
+/// The reply to a question about an open document. Refuses for memory alone.
+pub fn answer(
+    alloc: Global,
+    language: &Language,
+    doc: &Doc,
+    id: Id,
+    question: &Question,
+) -> Result<Reply, AllocError>
+    requires { IsCurrent language.now doc.now }
+    ensures { let document = open_document doc.now in
+        let question = question_view question.now in
+        IfOk result (λ reply.
+        IsAnswerOf language.now.file (id_view id) document question (reply_view reply)) }
+{
+    match question {
+        Question::Text => Ok(Reply::Text {
+            id,
+            version: doc.version(),
+            text: doc.text(alloc)?,
+        }),
+        Question::Tokens => Ok(Reply::Tokens {
+            id,
+            rows: rows(alloc, language, doc)?,
+        }),
+        Question::Tree => match doc.tree(alloc, language)? {
+            Some(text) => Ok(Reply::Tree { id, text }),
+            None => Ok(Reply::Null { id }),
+        },
+        Question::Folds => Ok(Reply::Folds {
+            id,
+            pairs: doc.folds(alloc, language)?,
+        }),
+        Question::Selections(positions) => Ok(Reply::Selections {
+            id,
+            selections: doc.selections(alloc, positions)?,
+        }),
+    }
+}
+
+/// The names and ranges of the tokens.
+fn rows(alloc: Global, language: &Language, doc: &Doc) -> Result<Vec<Row>, AllocError>
+    requires { IsCurrent language.now doc.now }
+    ensures { let file = language.now.file in
+        IfOk result (λ told. Reads file doc.now.text (λ reading.
+        map row_view told.items ≡ rows file doc.now.text reading.tokens)) }
+{
+    let found = doc.rows(alloc, language)?;
+    let mut told = Vec::with_capacity(alloc, found.len())?;
+    for row in &found {
+        told.push(Row {
+            name: String::from_str(alloc, row.name)?,
+            range: row.range,
+        })?;
+    }
+    Ok(told)
+}
+
+/// The diagnostics of an open document, with its version. Refuses for memory alone.
+pub fn published(
+    alloc: Global,
+    language: &Language,
+    doc: &Doc,
+    uri: &str,
+) -> Result<Reply, AllocError>
+    requires { IsCurrent language.now doc.now }
+    ensures { let document = open_document doc.now in
+        IfOk result (λ reply.
+        IsPublished language.now.file uri.now document (reply_view reply)) }
+{
+    Ok(Reply::Diagnostics {
+        uri: String::from_str(alloc, uri)?,
+        version: Some(doc.version()),
+        diagnostic: doc.diagnostic(alloc, language)?,
+    })
+}
+
+/// No diagnostics, of a document that is not open any more. Refuses for memory alone.
+pub fn cleared(alloc: Global, uri: &str) -> Result<Reply, AllocError>
+    ensures { IfOk result (λ reply. reply_view reply ≡ told_diagnostics uri.now None None) }
+{
+    Ok(Reply::Diagnostics {
+        uri: String::from_str(alloc, uri)?,
+        version: None,
+        diagnostic: None,
+    })
+}
