@@ -1,18 +1,19 @@
 -- Where a text may be cut.
-use Rattle.std.specs.Prelude.{◌≡◌, ℕ, ◌+◌, ◌<◌, ◌≤◌, ◌⊎◌, List, [], ◌∷◌, ◌++◌, length, drop, encode_utf8_all, All}
-use Rattle.std.specs.Str.{IsUtf8, IsCharBoundary, chars}
-use Rattle.std.proofs.Common.{arith, sym, ap, inl, inr, ◌∙◌}
-use Rattle.std.proofs.lemmas.Bool.{cases_lt}
-use Rattle.std.proofs.lemmas.List.{length-drop, append-nil, append_assoc}
+use Rattle.std.specs.Prelude.{◌≡◌, ℕ, zero, suc, ◌+◌, ◌<◌, ◌≤◌, ◌⊎◌, true, List, [], ◌∷◌, ◌++◌, length, take, drop, encode_utf8_all, All}
+use Rattle.std.specs.Str.{IsUtf8, IsCharBoundary, all_scalars, chars}
+use Rattle.std.proofs.Common.{arith, refl, sym, ap, subst, inl, inr, ◌∙◌}
+use Rattle.std.proofs.lemmas.Bool.{cases_lt, and_parts, and_from}
+use Rattle.std.proofs.lemmas.List.{length-drop, append-nil, append_assoc, take-append-drop}
+use Rattle.std.proofs.Math.Seq.{take-append_seam, drop-append_seam}
 use Rattle.std.proofs.lemmas.List.Folds.{concat-append}
 use Rattle.std.proofs.lemmas.List.Elements.{All-nil, All-cons, All-append}
 use Rattle.std.specs.List.{concat}
 use Rattle.definitions.specs.Text.{units}
 use Rattle.definitions.specs.declared.Unit.TheVariants.{Utf8}
-use Rattle.pieces.specs.declared.piece.TheConstants.{LONGEST_PIECE}
-use Rattle.pieces.specs.Pieces.{IsFull}
-use Rattle.pieces.proofs.Joins.{units-chars}
-use Rattle.std.proofs.lemmas.Str.{IsUtf8-drop, IsCharBoundary-past_char, len_utf8_bounds, chars-append, chars-nil}
+use Rattle.pieces.specs.declared.cuts.TheConstants.{SHORTEST_OF_SEVERAL}
+use Rattle.pieces.specs.Pieces.{IsLarge}
+use Rattle.pieces.proofs.Joins.{units-bytes, units-chars}
+use Rattle.std.proofs.lemmas.Str.{IsUtf8-drop, IsCharBoundary-past_char, IsCharBoundary-at_seam, len_utf8_bounds, chars-append, chars-nil, chars-encodes, scalars-chars, encodes-chars, encodes-append}
 use Rattle.std.specs.Char.{len_utf8}
 
 -- the last place up to n at which a longer text may be cut is less than the 4 bytes of a character before it
@@ -39,11 +40,41 @@ concat-more pieces piece rest front back t u cut is before =
 pub concat-last : (pieces : List (List ℕ)) (piece rest t : List ℕ) → piece ≡ chars rest → concat pieces ++ chars rest ≡ t → concat (pieces ++ piece ∷ []) ≡ t
 concat-last pieces piece rest t is before = concat-append pieces (piece ∷ []) ∙ ap (λ l. concat pieces ++ l) (append-nil piece ∙ is) ∙ before
 
-pub full-more : (pieces : List (List ℕ)) (piece front : List ℕ) → IsUtf8 front → piece ≡ chars front → LONGEST_PIECE < length front + 4 → All IsFull pieces → All IsFull (pieces ++ piece ∷ [])
-full-more pieces piece front u is long before =
+-- one large piece more
+pub large-more : (pieces : List (List ℕ)) (piece front : List ℕ) → IsUtf8 front → piece ≡ chars front → SHORTEST_OF_SEVERAL ≤ length front → All IsLarge pieces → All IsLarge (pieces ++ piece ∷ [])
+large-more pieces piece front u is long before =
     let units_are : units Utf8 piece ≡ length front = ap (units Utf8) is ∙ units-chars front u in
-    All-append IsFull pieces (piece ∷ []) before (All-cons IsFull piece [] (omega (arith, long, units_are)) (All-nil IsFull))
+    All-append IsLarge pieces (piece ∷ []) before (All-cons IsLarge piece [] (omega (arith, long, units_are)) (All-nil IsLarge))
 
 pub concat-none : (pieces : List (List ℕ)) (rest t : List ℕ) → length rest ≤ 0 → concat pieces ++ chars rest ≡ t → concat pieces ≡ t
 concat-none pieces [] t l before = sym (append-nil (concat pieces)) ∙ ap (λ l. concat pieces ++ l) (sym chars-nil) ∙ before
 concat-none pieces (b ∷ rest) t l before = absurd (omega (arith, l))
+
+-- the parts of a text's characters are texts
+scalars_parted : (cs : List ℕ) (n : ℕ) → all_scalars cs ≡ true → (all_scalars (take n cs) ≡ true) × (all_scalars (drop n cs) ≡ true)
+scalars_parted cs zero h = (refl, h)
+scalars_parted [] (suc n) h = (refl, refl)
+scalars_parted (c ∷ cs) (suc n) h =
+    let parts = and_parts _ (all_scalars cs) h in
+    let rest = scalars_parted cs n parts.1 in
+    (and_from _ (all_scalars (take n cs)) parts.0 rest.0, rest.1)
+
+-- a text cut behind so many of its characters
+pub record IsBorder (bs : List ℕ) (n at : ℕ) : Type 0 where
+  pub boundary : IsCharBoundary bs at
+  pub front : chars (take at bs) ≡ take n (chars bs)
+  pub back : chars (drop at bs) ≡ drop n (chars bs)
+
+pub border : (bs : List ℕ) (n at : ℕ) → IsUtf8 bs → at ≡ units Utf8 (take n (chars bs)) → IsBorder bs n at
+border bs n at u e =
+    let cs : List ℕ = chars bs in
+    let front : List ℕ = encode_utf8_all (take n cs) in
+    let back : List ℕ = encode_utf8_all (drop n cs) in
+    let scalars = scalars_parted cs n (scalars-chars bs u) in
+    let whole : bs ≡ front ++ back = sym (encodes-chars bs u) ∙ ap encode_utf8_all (sym (take-append-drop n cs)) ∙ encodes-append (take n cs) (drop n cs) in
+    let here : at ≡ length front = e ∙ units-bytes (take n cs) in
+    record {
+      boundary = subst (IsCharBoundary bs) (sym here) (IsCharBoundary-at_seam bs front back whole (drop n cs, (scalars.1, refl)));
+      front = ap chars ((λ i. take (here i) (whole i)) ∙ take-append_seam front back) ∙ chars-encodes (take n cs) scalars.0;
+      back = ap chars ((λ i. drop (here i) (whole i)) ∙ drop-append_seam front back) ∙ chars-encodes (drop n cs) scalars.1;
+    }

@@ -1,8 +1,9 @@
 -- What holds of a piece of a text.
-use Rattle.std.specs.Prelude.{◌≡◌, ◌+◌, ◌<◌, ◌≤◌, ℕ, List, length}
+use Rattle.std.specs.Prelude.{◌≡◌, ◌≤◌, ℕ, List, length}
 use Rattle.std.specs.Str.{chars}
 use Rattle.definitions.specs.declared.Unit.TheVariants.{Utf8}
 use Rattle.definitions.specs.Text.{units}
+use Rattle.pieces.specs.declared.cuts.TheConstants.{SHORTEST_OF_SEVERAL}
 use Rattle.pieces.specs.declared.piece.TheConstants.{LONGEST_PIECE}
 use Rattle.pieces.specs.declared.sums.Sums.{Sums}
 use Rattle.pieces.specs.Sums.{sums_of}
@@ -13,6 +14,6 @@ pub record IsPiece (bytes : List ℕ) (sums : Sums) : Type 0 where
   pub few : length bytes ≤ LONGEST_PIECE
   pub summed : sums ≡ sums_of (chars bytes)
 
--- a piece with no room for one more character of 4 bytes
-abbrev pub IsFull : List ℕ → Type 0
-IsFull piece = LONGEST_PIECE < units Utf8 piece + 4
+-- a piece with as many bytes as each of several has
+abbrev pub IsLarge : List ℕ → Type 0
+IsLarge piece = SHORTEST_OF_SEVERAL ≤ units Utf8 piece

@@ -1,24 +1,34 @@
 //! A text cut into pieces.
 
-ghost use Rattle.std.specs.Prelude.{◌≡◌, ◌+◌, ◌-◌, ◌<◌, ◌≤◌, length, take, All, IfOk};
+ghost use Rattle.std.specs.Prelude.{◌≡◌, ◌+◌, ◌<◌, ◌≤◌, length, All, IfOk};
 ghost use Rattle.std.specs.List.{concat};
 ghost use Rattle.std.specs.Str.{IsCharBoundary, chars};
-ghost use Rattle.pieces.specs.Pieces.{IsFull};
+ghost use Rattle.pieces.specs.Pieces.{IsLarge};
 
 use crate::piece::{LONGEST_PIECE, Piece};
 use std::alloc::{AllocError, Global};
 
-/// The pieces of a text, which joined in order are its characters; none for the empty text. Each but the last is full:
-/// it has no room for one more character of 4 bytes. Refuses for memory alone.
+/// The fewest bytes that a piece has where a text is cut into several.
+pub const SHORTEST_OF_SEVERAL: usize = 509;
+
+/// The most bytes of a text that is cut in the middle. So many that both halves are pieces, wherever its characters end.
+const LONGEST_HALVED: usize = 2_040;
+
+/// The pieces of a text, which joined in order are its characters; none for the empty text. They are few: each has at
+/// least [`SHORTEST_OF_SEVERAL`] bytes where the text has so many, and a text that fits into one piece is one. Refuses for
+/// memory alone.
 pub fn pieces_of(alloc: Global, text: &str) -> Result<Vec<Piece>, AllocError>
     ensures joined { IfOk result (λ pieces. concat pieces.items ≡ chars text.now) }
-    ensures full { IfOk result (λ pieces.
-        All IsFull (take (length pieces.items - 1) pieces.items)) }
+    ensures large { IfOk result (λ pieces.
+        SHORTEST_OF_SEVERAL ≤ length text.now → All IsLarge pieces.items) }
+    ensures one { IfOk result (λ pieces.
+        length text.now ≤ LONGEST_PIECE → length pieces.items ≤ 1) }
+    ensures shortest { SHORTEST_OF_SEVERAL ≡ 509 }
 {
     let mut pieces = Vec::new(alloc);
     let mut rest = text;
     while rest.len() > LONGEST_PIECE {
-        let (front, back) = rest.split_at(full_front(rest));
+        let (front, back) = rest.split_at(front_len(rest));
         pieces.push(Piece::new(alloc, front)?)?;
         rest = back;
     }
@@ -28,12 +38,20 @@ pub fn pieces_of(alloc: Global, text: &str) -> Result<Vec<Piece>, AllocError>
     Ok(pieces)
 }
 
-/// How many bytes the greatest front has that makes a piece.
-fn full_front(text: &str) -> usize
+/// How many bytes the first piece of a longer text has: as many as fit, or half of those that are left where the rest
+/// would be small.
+fn front_len(text: &str) -> usize
     requires { LONGEST_PIECE < length text.now }
     ensures boundary { IsCharBoundary text.now result }
     ensures few { result ≤ LONGEST_PIECE }
-    ensures full { LONGEST_PIECE < result + 4 }
+    ensures large { SHORTEST_OF_SEVERAL ≤ result }
+    ensures rest { result + SHORTEST_OF_SEVERAL ≤ length text.now }
 {
-    text.floor_char_boundary(LONGEST_PIECE)
+    let len = text.len();
+    let wanted = if len > LONGEST_HALVED {
+        LONGEST_PIECE
+    } else {
+        len / 2
+    };
+    text.floor_char_boundary(wanted)
 }

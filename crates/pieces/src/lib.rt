@@ -6,7 +6,7 @@ mod laws;
 mod piece;
 mod sums;
 
-pub use cuts::pieces_of;
+pub use cuts::{SHORTEST_OF_SEVERAL, pieces_of};
 pub use definitions::{Position, Unit};
 pub use laws::sums_join;
 pub use piece::{LONGEST_PIECE, Piece};

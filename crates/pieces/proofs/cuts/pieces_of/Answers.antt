@@ -1,31 +1,54 @@
-use Rattle.std.proofs.Common.{◌≡◌, ◌+◌, ◌<◌, length, All, List, ℕ, ◌++◌, arith, sym, ap, subst, ◌∙◌}
+use Rattle.std.proofs.Common.{◌≡◌, ◌≤◌, length, All, List, ℕ, [], ◌∷◌, ◌++◌, length-append, arith, sym, ap, subst, ◌∙◌}
 use Rattle.std.specs.List.{concat}
 use Rattle.std.specs.Str.{IsUtf8, chars}
 use Rattle.std.proofs.lemmas.List.{take-append-drop}
 use Rattle.std.proofs.lemmas.Str.{IsUtf8-take, IsUtf8-drop}
-use Rattle.pieces.specs.Pieces.{IsFull}
-use Rattle.pieces.specs.declared.piece.TheConstants.{LONGEST_PIECE}
-use Rattle.pieces.proofs.Borders.{concat-more, concat-last, concat-none, full-more}
+use Rattle.pieces.specs.Pieces.{IsLarge}
+use Rattle.pieces.specs.declared.cuts.TheConstants.{SHORTEST_OF_SEVERAL}
+use Rattle.pieces.proofs.Borders.{concat-more, concat-last, concat-none, large-more}
 use Rattle.pieces.proofs.cuts.pieces_of.Goals.{then-rest-gt0+in_ok-new-2+in_ok-push-2, else-rest-gt0}
 use Rattle.pieces.proofs.cuts.pieces_of.Goals as goal
 
 pub loop-rest-preserved : goal.loop-rest-preserved
 loop-rest-preserved c =
-    let at : ℕ = c.full_front.result in
+    let at : ℕ = c.front_len.result in
     let rest : List ℕ = c.loop-rest.rest.now in
     let front : List ℕ = c.split_at.result.0.now in
     let back : List ℕ = c.split_at.result.1.now in
     let pieces : List (List ℕ) = c.loop-rest.pieces.items in
     let piece : List ℕ = c.in_ok-new.field-0 in
     let items = c.in_ok-push.ensures.items in
-    let u : IsUtf8 front = subst IsUtf8 (sym c.split_at.ensures.front) (IsUtf8-take rest at c.loop-rest.invariant.0 c.full_front.ensures.boundary) in
-    let v : IsUtf8 back = subst IsUtf8 (sym c.split_at.ensures.back) (IsUtf8-drop rest at c.loop-rest.invariant.0 c.full_front.ensures.boundary) in
+    let u : IsUtf8 front = subst IsUtf8 (sym c.split_at.ensures.front) (IsUtf8-take rest at c.loop-rest.invariant.text c.front_len.ensures.boundary) in
+    let v : IsUtf8 back = subst IsUtf8 (sym c.split_at.ensures.back) (IsUtf8-drop rest at c.loop-rest.invariant.text c.front_len.ensures.boundary) in
     let cut : rest ≡ front ++ back = sym (take-append-drop at rest) ∙ (λ i. sym c.split_at.ensures.front i ++ sym c.split_at.ensures.back i) in
-    let long : LONGEST_PIECE < length front + 4 = omega (arith, c.full_front.ensures.full, c.split_at.ensures.front_len) in
-    (v, ap (λ l. concat l ++ chars back) items ∙ concat-more pieces piece rest front back (chars c.args.text.now) u cut c.in_ok-new.ensures c.loop-rest.invariant.1, subst (All IsFull) (sym items) (full-more pieces piece front u c.in_ok-new.ensures long c.loop-rest.invariant.2))
+    let long : SHORTEST_OF_SEVERAL ≤ length front = omega (arith, c.front_len.ensures.large, c.split_at.ensures.front_len) in
+    record {
+      text = v;
+      joined = ap (λ l. concat l ++ chars back) items ∙ concat-more pieces piece rest front back (chars c.args.text.now) u cut c.in_ok-new.ensures c.loop-rest.invariant.joined;
+      large = subst (All IsLarge) (sym items) (large-more pieces piece front u c.in_ok-new.ensures long c.loop-rest.invariant.large);
+      left = λ _. omega (arith, c.front_len.ensures.rest, c.split_at.ensures.back_len);
+      shorter = omega (arith, c.loop-rest.invariant.shorter, c.split_at.ensures.back_len);
+      none = λ l. absurd (omega (arith, l, c.loop-rest.invariant.shorter));
+    }
 
 pub returns-clause-joined : goal.returns-clause-joined
 returns-clause-joined c = elim c.if-rest-gt0.branch [
-  | then-rest-gt0+in_ok-new-2+in_ok-push-2 w ↦ ap concat (ap (λ p. p.items) w.pieces-is ∙ w.in_ok-push-2.ensures.items) ∙ concat-last c.loop-rest.pieces.items w.in_ok-new-2.field-0 c.loop-rest.rest.now (chars c.args.text.now) w.in_ok-new-2.ensures c.loop-rest.invariant.1
-  | else-rest-gt0 w ↦ ap concat (ap (λ p. p.items) w.pieces-is) ∙ concat-none c.loop-rest.pieces.items c.loop-rest.rest.now (chars c.args.text.now) (omega (arith, w.if-rest-gt0)) c.loop-rest.invariant.1
+  | then-rest-gt0+in_ok-new-2+in_ok-push-2 w ↦ ap concat (ap (λ p. p.items) w.pieces-is ∙ w.in_ok-push-2.ensures.items) ∙ concat-last c.loop-rest.pieces.items w.in_ok-new-2.field-0 c.loop-rest.rest.now (chars c.args.text.now) w.in_ok-new-2.ensures c.loop-rest.invariant.joined
+  | else-rest-gt0 w ↦ ap concat (ap (λ p. p.items) w.pieces-is) ∙ concat-none c.loop-rest.pieces.items c.loop-rest.rest.now (chars c.args.text.now) (omega (arith, w.if-rest-gt0)) c.loop-rest.invariant.joined
+]
+
+pub returns-clause-large : goal.returns-clause-large
+returns-clause-large c = elim c.if-rest-gt0.branch [
+  | then-rest-gt0+in_ok-new-2+in_ok-push-2 w ↦
+      let items = ap (λ p. p.items) w.pieces-is ∙ w.in_ok-push-2.ensures.items in
+      λ long. subst (All IsLarge) (sym items) (large-more c.loop-rest.pieces.items w.in_ok-new-2.field-0 c.loop-rest.rest.now c.loop-rest.invariant.text w.in_ok-new-2.ensures (c.loop-rest.invariant.left long) c.loop-rest.invariant.large)
+  | else-rest-gt0 w ↦ λ _. subst (All IsLarge) (sym (ap (λ p. p.items) w.pieces-is)) c.loop-rest.invariant.large
+]
+
+pub returns-clause-one : goal.returns-clause-one
+returns-clause-one c = elim c.if-rest-gt0.branch [
+  | then-rest-gt0+in_ok-new-2+in_ok-push-2 w ↦
+      let items = ap (λ p. p.items) w.pieces-is ∙ w.in_ok-push-2.ensures.items in
+      λ short. omega (arith, ap length items, length-append c.loop-rest.pieces.items (w.in_ok-new-2.field-0 ∷ []), c.loop-rest.invariant.none short)
+  | else-rest-gt0 w ↦ λ short. omega (arith, ap (λ p. length p.items) w.pieces-is, c.loop-rest.invariant.none short)
 ]
