@@ -78,11 +78,11 @@ no_break c r a b = ap (λ x. x || (c == 13 && not (begins_with 10 r))) a ∙ ap 
 goes_on : (c : ℕ) → (c == 10) ≡ false → (c == 13) ≡ false → in_line c ≡ true
 goes_on c a b = ap (λ x. not (x || c == 13)) a ∙ ap not b
 
-units-cons : (encoding : Encoding) (c : ℕ) (t : List ℕ) → units encoding (c ∷ t) ≡ unit encoding c + units encoding t
+pub units-cons : (encoding : Encoding) (c : ℕ) (t : List ℕ) → units encoding (c ∷ t) ≡ unit encoding c + units encoding t
 unfolding units
 units-cons encoding c t = sum_by-cons (unit encoding) c t
 
-units-nil : (encoding : Encoding) → units encoding [] ≡ 0
+pub units-nil : (encoding : Encoding) → units encoding [] ≡ 0
 unfolding units
 units-nil encoding = refl
 

@@ -1,3 +1,5 @@
 pub mod Borders
+pub mod Counted
+pub mod CutAt
 pub mod Fronts
 pub mod Joins

@@ -1,3 +1,4 @@
 pub mod Sums
 pub mod Laws
 pub mod Pieces
+pub mod Places

@@ -1,0 +1,14 @@
+use Rattle.std.proofs.Common.{sym, ◌≡◌, ◌∙◌, List, ℕ, [], ◌∷◌}
+use Rattle.pieces.specs.declared.sums.Sums.TheVariants.{Empty}
+use Rattle.definitions.specs.Text.{units}
+use Rattle.definitions.specs.declared.Unit.TheVariants.{Utf8}
+use Rattle.pieces.specs.Sums.{sums_of}
+use Rattle.pieces.proofs.Joins.{units-nil}
+use Rattle.pieces.proofs.places.bytes_in.Goals as goal
+
+none : (t : List ℕ) → Empty ≡ sums_of t → 0 ≡ units Utf8 t
+none [] e = sym (units-nil Utf8)
+none (c ∷ t) e = absurd cc
+
+pub returns-in-Empty : goal.returns-in-Empty
+returns-in-Empty c t e = none t (sym c.in-Empty.is ∙ e)

@@ -1,0 +1,17 @@
+-- What a cut of a text in pieces tells.
+use Rattle.std.specs.Prelude.{◌≡◌, ◌+◌, ◌<◌, ◌≤◌, ℕ, List, ◌++◌, length, take, drop}
+use Rattle.std.specs.List.{concat}
+use Rattle.std.specs.Str.{chars}
+use Rattle.definitions.specs.Text.{units}
+use Rattle.definitions.specs.declared.Unit.TheVariants.{Utf8}
+use Rattle.pieces.specs.declared.places.Cut.{Cut}
+
+-- Before the cut lie whole pieces and the front of the next one, and behind it the back of that one and all further
+-- ones. That piece is the one with the character at the offset.
+pub record IsCut (pieces : List (List ℕ)) (offset : ℕ) (cut : Cut) : Type 0 where
+  pub within : cut.piece ≤ length pieces
+  pub before : take offset (concat pieces) ≡ concat (take cut.piece pieces) ++ chars cut.front.now
+  pub behind : drop offset (concat pieces) ≡ chars cut.back.now ++ concat (drop (cut.piece + 1) pieces)
+  pub bytes : cut.bytes ≡ units Utf8 (take offset (concat pieces))
+  pub starts : length (concat (take cut.piece pieces)) ≤ offset
+  pub ends : cut.piece < length pieces → offset < length (concat (take (cut.piece + 1) pieces))
