@@ -14,7 +14,7 @@ abbrev pub ended_in : List ℕ → List ℕ → ℕ
 ended_in [] r = 0
 ended_in (c ∷ t) r = cond (ends_break c (t ++ r)) 1 0 + ended_in t r
 
-abbrev whole_if_none : ℕ → List ℕ → List ℕ → List ℕ
+abbrev pub whole_if_none : ℕ → List ℕ → List ℕ → List ℕ
 whole_if_none zero whole rest = whole
 whole_if_none (suc n) whole rest = rest
 
@@ -48,9 +48,9 @@ behind-some c t r l = go (ended_in (c ∷ t) r) l
     go (suc n) l = refl
 
 -- where the last line of t begins, and what stands in t from there on
-record Begins (p start : ℕ) (t tail : List ℕ) : Type 0 where
-  from : p ≤ start
-  rest : drop (start - p) t ≡ tail
+pub record Begins (p start : ℕ) (t tail : List ℕ) : Type 0 where
+  pub from : p ≤ start
+  pub rest : drop (start - p) t ≡ tail
 
 begins : (s p d : ℕ) (t r : List ℕ) → 1 ≤ ended_in t r → Begins p (slice_index_or (s ∷ break_ends p (t ++ r)) (ended_in t r) d) t (behind_in t r)
 unfolding break_ends
@@ -89,12 +89,12 @@ front_line (c ∷ a) b = ap (take (suc (length a))) (take_while-cons in_line c (
     go true e = ap (λ l. c ∷ l) e
     go false e = refl
 
-drop_front : (n : ℕ) (a b : List ℕ) → n ≤ length a → drop n (a ++ b) ≡ drop n a ++ b
+pub drop_front : (n : ℕ) (a b : List ℕ) → n ≤ length a → drop n (a ++ b) ≡ drop n a ++ b
 drop_front zero a b l = refl
 drop_front (suc n) [] b l = absurd (omega (arith, l))
 drop_front (suc n) (c ∷ a) b l = drop_front n a b (omega (arith, l))
 
-length_drop : (n : ℕ) (a : List ℕ) → n ≤ length a → length (drop n a) ≡ length a - n
+pub length_drop : (n : ℕ) (a : List ℕ) → n ≤ length a → length (drop n a) ≡ length a - n
 length_drop n a l = length-drop n a
 
 pub line-front : (t r : List ℕ) → line_of (t ++ r) (length t) ≡ ended_in t r
@@ -103,7 +103,7 @@ line-front t r =
     let same : length t ≡ 0 + length t = omega arith in
     ap (λ o. ended o (break_ends 0 (t ++ r))) same ∙ ended-front 0 t r
 
-start_in : (t r : List ℕ) → Begins 0 (line_start (t ++ r) (line_of (t ++ r) (length t))) t (behind_in t r)
+pub start_in : (t r : List ℕ) → Begins 0 (line_start (t ++ r) (line_of (t ++ r) (length t))) t (behind_in t r)
 unfolding line_start
 start_in t r = subst (λ n. Begins 0 (slice_index_or (0 ∷ break_ends 0 (t ++ r)) n (length (t ++ r))) t (behind_in t r)) (sym (line-front t r)) (go (ended_in t r) refl)
   where

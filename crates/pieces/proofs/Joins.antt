@@ -21,7 +21,7 @@ use Rattle.pieces.specs.Laws.{joined-assoc}
 use Rattle.pieces.proofs.Fronts.{ended_in, behind_in, behind-none, behind-some, position-front}
 
 -- what a `\n` behind a text leaves: the breaks that end in it, and the units behind them
-abbrev feed : List ℕ
+abbrev pub feed : List ℕ
 feed = 10 ∷ []
 
 abbrev ended_before : List ℕ → ℕ
@@ -50,12 +50,12 @@ counts_of-plain t = λ i. record {
   ends_with_return = ends_with 13 t;
 }
 
-data Class (c : ℕ) : Type 0 where
+pub data Class (c : ℕ) : Type 0 where
   Feed : c ≡ 10 → Class c
   Return : c ≡ 13 → Class c
   Other : (c == 10) ≡ false → (c == 13) ≡ false → Class c
 
-class : (c : ℕ) → Class c
+pub class : (c : ℕ) → Class c
 class c = go (cases_Bool (c == 10)) (cases_Bool (c == 13))
   where
     go : ((c == 10) ≡ true) ⊎ ((c == 10) ≡ false) → ((c == 13) ≡ true) ⊎ ((c == 13) ≡ false) → Class c
@@ -63,7 +63,7 @@ class c = go (cases_Bool (c == 10)) (cases_Bool (c == 13))
     go (inr a) (inl b) = Return (eqb-true c 13 b)
     go (inr a) (inr b) = Other a b
 
-turned : (a b : ℕ) → (a == b) ≡ (b == a)
+pub turned : (a b : ℕ) → (a == b) ≡ (b == a)
 turned a b = go (cases_Bool (a == b)) (cases_Bool (b == a))
   where
     go : ((a == b) ≡ true) ⊎ ((a == b) ≡ false) → ((b == a) ≡ true) ⊎ ((b == a) ≡ false) → (a == b) ≡ (b == a)
@@ -72,10 +72,10 @@ turned a b = go (cases_Bool (a == b)) (cases_Bool (b == a))
     go (inl p) (inr q) = absurd (false≢true (sym q ∙ eq-eqb b a (sym (eqb-true a b p))))
     go (inr p) (inl q) = absurd (false≢true (sym p ∙ eq-eqb a b (sym (eqb-true b a q))))
 
-no_break : (c : ℕ) (r : List ℕ) → (c == 10) ≡ false → (c == 13) ≡ false → ends_break c r ≡ false
+pub no_break : (c : ℕ) (r : List ℕ) → (c == 10) ≡ false → (c == 13) ≡ false → ends_break c r ≡ false
 no_break c r a b = ap (λ x. x || (c == 13 && not (begins_with 10 r))) a ∙ ap (λ x. x && not (begins_with 10 r)) b
 
-goes_on : (c : ℕ) → (c == 10) ≡ false → (c == 13) ≡ false → in_line c ≡ true
+pub goes_on : (c : ℕ) → (c == 10) ≡ false → (c == 13) ≡ false → in_line c ≡ true
 goes_on c a b = ap (λ x. not (x || c == 13)) a ∙ ap not b
 
 pub units-cons : (encoding : Encoding) (c : ℕ) (t : List ℕ) → units encoding (c ∷ t) ≡ unit encoding c + units encoding t
@@ -139,7 +139,7 @@ sums_of_one c = ap Filled (counts_of-plain (c ∷ []) ∙ (λ i. record {
 }))
 
 -- bounds: nothing is counted more often than bytes
-unit-le : (encoding : Encoding) (c : ℕ) → unit encoding c ≤ unit Utf8 c
+pub unit-le : (encoding : Encoding) (c : ℕ) → unit encoding c ≤ unit Utf8 c
 unit-le Utf8 c = omega arith
 unit-le Utf16 c = go (nat_lt c 0x80) refl (nat_lt c 0x800) refl (nat_lt c 0x1_0000) refl
   where
@@ -152,7 +152,7 @@ unit-le Utf16 c = go (nat_lt c 0x80) refl (nat_lt c 0x800) refl (nat_lt c 0x1_00
     go false e false f false g = omega arith
 unit-le Utf32 c = omega (arith, len_utf8_bounds c)
 
-units-le : (encoding : Encoding) (t : List ℕ) → units encoding t ≤ units Utf8 t
+pub units-le : (encoding : Encoding) (t : List ℕ) → units encoding t ≤ units Utf8 t
 units-le encoding [] = omega (arith, units-nil encoding)
 units-le encoding (c ∷ t) = omega (arith, units-cons encoding c t, units-cons Utf8 c t, unit-le encoding c, units-le encoding t)
 
@@ -164,11 +164,11 @@ at_most_one : (b : Bool) → cond b 1 0 ≤ 1
 at_most_one true = omega arith
 at_most_one false = omega arith
 
-ended-le : (t r : List ℕ) → ended_in t r ≤ length t
+pub ended-le : (t r : List ℕ) → ended_in t r ≤ length t
 ended-le [] r = omega arith
 ended-le (c ∷ t) r = omega (arith, at_most_one (ends_break c (t ++ r)), ended-le t r)
 
-line-le : (encoding : Encoding) (t : List ℕ) → units encoding (take_while in_line t) ≤ units encoding t
+pub line-le : (encoding : Encoding) (t : List ℕ) → units encoding (take_while in_line t) ≤ units encoding t
 unfolding units
 line-le encoding t = sum_by-take-le (unit encoding) t (prefix_len in_line t)
 

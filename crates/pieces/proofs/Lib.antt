@@ -3,3 +3,10 @@ pub mod Counted
 pub mod CutAt
 pub mod Fronts
 pub mod Joins
+pub mod Known
+pub mod Located
+pub mod Offsets
+pub mod Past
+pub mod Pieces
+pub mod Steps
+pub mod Turns

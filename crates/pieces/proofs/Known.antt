@@ -1,0 +1,133 @@
+-- What is known of a front of a text: by its sum, with one character more, and by what comes next.
+use Rattle.std.specs.Prelude.{◌≡◌, ℕ, zero, suc, ◌+◌, ◌^◌, ◌≤◌, ◌⊎◌, min, Bool, true, false, not, ◌==◌, List, [], ◌∷◌, ◌++◌, length}
+use Rattle.std.proofs.Common.{arith, refl, sym, ap, subst, inl, inr, ◌∙◌, length-append}
+use Rattle.std.proofs.lemmas.Bool.{ne_eqb, and_from, and_left, and_right, false≢true}
+use Rattle.definitions.specs.declared.Position.{Position}
+use Rattle.definitions.specs.declared.Unit.{Unit as Encoding}
+use Rattle.definitions.specs.declared.Unit.TheVariants.{Utf8, Utf16, Utf32}
+use Rattle.definitions.specs.Text.{begins_with, unit, units, position}
+use Rattle.pieces.specs.declared.look_up.Front.{Front}
+use Rattle.pieces.specs.declared.sums.Counts.{Counts}
+use Rattle.pieces.specs.declared.sums.Sums.{Sums}
+use Rattle.pieces.specs.declared.sums.Sums.TheVariants.{Empty, Filled}
+use Rattle.pieces.specs.Sums.{ends_with, end_before_feed, counts_of, sums_of, count_of}
+use Rattle.pieces.specs.Fronts.{front_of, IsPast}
+use Rattle.pieces.proofs.Fronts.{ended_in, behind_in, whole_if_none, position-front}
+use Rattle.pieces.proofs.Joins.{feed, turned, ended-le, length-le, units-append, units-nil, units-cons, units-le, line-le as line_units-le}
+use Rattle.pieces.proofs.Steps.{breaks_at_end, end_at, end-is, end-as_before_feed, end-in_next_line, end-feed, end-return, end-other}
+
+-- by its sum
+abbrev is_filled : Sums → Bool
+is_filled Empty = false
+is_filled (Filled counts) = true
+
+abbrev counts_in : Counts → Sums → Counts
+counts_in other Empty = other
+counts_in other (Filled counts) = counts
+
+empty-end : (encoding : Encoding) → ◌≡◌ {A = Position} (record { line = 0; character = 0 }) (end_before_feed encoding [])
+empty-end encoding = sym (end-is encoding [] ∙ (λ i. record { line = 0; character = units-nil encoding i }))
+
+-- the start of a text is past no position
+pub nothing-end : (encoding : Encoding) (p : Position) → ¬ IsPast p (end_before_feed encoding [])
+nothing-end encoding p = subst (λ q. ¬ IsPast p q) (empty-end encoding) none
+  where
+    none : ¬ IsPast p (record { line = 0; character = 0 })
+    none (inl l) = omega (arith, l)
+    none (inr h) = omega (arith, h.1)
+
+pub front-empty : (encoding : Encoding) (s : List ℕ) (sums : Sums) → sums ≡ Empty → sums ≡ sums_of s → ◌≡◌ {A = Front} (record { characters = 0; end = record { line = 0; character = 0 }; ends_with_return = false }) (front_of encoding s)
+front-empty encoding [] sums none is =
+    λ i. record { characters = 0; end = empty-end encoding i; ends_with_return = false }
+front-empty encoding (c ∷ s) sums none is = absurd (false≢true (ap is_filled (sym none ∙ is)))
+
+pub same_line : (encoding : Encoding) (s : List ℕ) → (end_before_feed Utf8 s).line ≡ (end_before_feed encoding s).line
+same_line encoding s = ap (λ q. q.line) (end-is Utf8 s) ∙ sym (ap (λ q. q.line) (end-is encoding s))
+
+pub same_character : (encoding : Encoding) (s : List ℕ) → count_of encoding (counts_of s).behind ≡ (end_before_feed encoding s).character
+same_character Utf8 s = refl
+same_character Utf16 s = refl
+same_character Utf32 s = refl
+
+pub front-filled : (encoding : Encoding) (s : List ℕ) (sums : Sums) (counts : Counts) (character : ℕ) → sums ≡ Filled counts → character ≡ count_of encoding counts.behind → sums ≡ sums_of s
+    → ◌≡◌ {A = Front} (record { characters = counts.characters; end = record { line = counts.breaks; character = character }; ends_with_return = counts.ends_with_return }) (front_of encoding s)
+front-filled encoding [] sums counts character some counted is = absurd (false≢true (ap is_filled (sym is ∙ some)))
+front-filled encoding (c ∷ s) sums counts character some counted is =
+    let same : counts ≡ counts_of (c ∷ s) = ap (counts_in counts) (sym some ∙ is) in
+    let line : counts.breaks ≡ (end_before_feed encoding (c ∷ s)).line = ap (λ k. k.breaks) same ∙ same_line encoding (c ∷ s) in
+    let units : character ≡ (end_before_feed encoding (c ∷ s)).character = counted ∙ ap (λ k. count_of encoding k.behind) same ∙ same_character encoding (c ∷ s) in
+    λ i. record { characters = (same i).characters; end = record { line = line i; character = units i }; ends_with_return = (same i).ends_with_return }
+
+-- there are no more lines than characters
+pub line-le : (encoding : Encoding) (s : List ℕ) → (end_before_feed encoding s).line ≤ units Utf8 s
+line-le encoding s = omega (arith, ap (λ q. q.line) (end-is encoding s), ended-le s feed, length-le s)
+
+behind-le : (s r : List ℕ) → units Utf8 (behind_in s r) ≤ units Utf8 s
+behind-le [] r = omega arith
+behind-le (c ∷ s) r = go (behind-le s r) (ended_in (c ∷ s) r)
+  where
+    go : units Utf8 (behind_in s r) ≤ units Utf8 s → (n : ℕ) → units Utf8 (whole_if_none n (c ∷ s) (behind_in s r)) ≤ units Utf8 (c ∷ s)
+    go later zero = omega arith
+    go later (suc n) = omega (arith, units-cons Utf8 c s, later)
+
+-- nor more units in a line than bytes
+pub character-le : (encoding : Encoding) (s : List ℕ) → (end_before_feed encoding s).character ≤ units Utf8 s
+character-le encoding s = omega (arith, ap (λ q. q.character) (end-is encoding s), line_units-le encoding (behind_in s feed), units-le encoding (behind_in s feed), behind-le s feed)
+
+-- by what comes next
+pub position-next_line : (encoding : Encoding) (s r : List ℕ) (front : Front) (before_feed : Bool) (line : ℕ) → front.ends_with_return ≡ true → before_feed ≡ false → line ≡ min (front.end.line + 1) 4294967295
+    → units Utf8 s ≤ 2 ^ 30 → front ≡ front_of encoding s → before_feed ≡ begins_with 10 r → ◌≡◌ {A = Position} (record { line = line; character = 0 }) (position encoding (s ++ r) (length s))
+position-next_line encoding s r front before_feed line ends other next few is begins =
+    let return : ends_with 13 s ≡ true = ap (λ f. f.ends_with_return) (sym is) ∙ ends in
+    let no_feed : not (begins_with 10 r) ≡ true = ap not (sym begins ∙ other) in
+    let exact : line ≡ (end_before_feed encoding s).line + 1 = omega (arith, next, ap (λ f. f.end.line) is, line-le encoding s, few) in
+    (λ i. record { line = exact i; character = 0 })
+    ∙ sym (position-front encoding s r ∙ end-in_next_line encoding s r (and_from _ _ return no_feed))
+
+pub position-same_line : (encoding : Encoding) (s r : List ℕ) (front : Front) (before_feed : Bool) → (front.ends_with_return ≡ true) × (before_feed ≡ true) ⊎ (front.ends_with_return ≡ false)
+    → front ≡ front_of encoding s → before_feed ≡ begins_with 10 r → front.end ≡ position encoding (s ++ r) (length s)
+position-same_line encoding s r front before_feed either is begins =
+    ap (λ f. f.end) is ∙ sym (position-front encoding s r ∙ end-as_before_feed encoding s r (none either))
+  where
+    none : (front.ends_with_return ≡ true) × (before_feed ≡ true) ⊎ (front.ends_with_return ≡ false) → breaks_at_end s r ≡ false
+    none (inl h) = and_right _ _ (ap not (sym begins ∙ h.1))
+    none (inr h) = and_left _ _ (ap (λ f. f.ends_with_return) (sym is) ∙ h)
+
+-- with one character more
+pub few_front : (s : List ℕ) (c m : ℕ) → units Utf8 (s ++ c ∷ []) ≤ m → units Utf8 s ≤ m
+few_front s c m few = omega (arith, few, units-append Utf8 s (c ∷ []))
+
+pub end-with_feed : (encoding : Encoding) (s : List ℕ) (c : ℕ) (before : Position) (line : ℕ) → c ≡ 10 → before ≡ position encoding (s ++ c ∷ []) (length s) → line ≡ min (before.line + 1) 4294967295
+    → units Utf8 (s ++ c ∷ []) ≤ 2 ^ 30 → ◌≡◌ {A = Position} (record { line = line; character = 0 }) (end_before_feed encoding (s ++ c ∷ []))
+end-with_feed encoding s c before line same is next few =
+    let at : before ≡ end_at encoding s (c ∷ []) = is ∙ position-front encoding s (c ∷ []) in
+    let exact : line ≡ (end_at encoding s (c ∷ [])).line + 1 = omega (arith, next, ap (λ q. q.line) at, ended-le s (c ∷ []), length-le s, few_front s c (2 ^ 30) few) in
+    let end : end_at encoding (s ++ c ∷ []) feed ≡ record { line = (end_at encoding s (c ∷ [])).line + 1; character = 0 } =
+    subst (λ x. end_at encoding (s ++ x ∷ []) feed ≡ record { line = (end_at encoding s (x ∷ [])).line + 1; character = 0 }) (sym same) (end-feed encoding s []) in
+    (λ i. record { line = exact i; character = 0 }) ∙ sym (end-is encoding (s ++ c ∷ []) ∙ end)
+
+pub end-with_return : (encoding : Encoding) (s : List ℕ) (c : ℕ) (before : Position) → c ≡ 13 → before ≡ position encoding (s ++ c ∷ []) (length s) → before ≡ end_before_feed encoding (s ++ c ∷ [])
+end-with_return encoding s c before same is =
+    let end : end_at encoding (s ++ c ∷ []) feed ≡ end_at encoding s (c ∷ []) = subst (λ x. end_at encoding (s ++ x ∷ []) feed ≡ end_at encoding s (x ∷ [])) (sym same) (end-return encoding s []) in
+    is ∙ position-front encoding s (c ∷ []) ∙ sym (end-is encoding (s ++ c ∷ []) ∙ end)
+
+pub end-with_other : (encoding : Encoding) (s : List ℕ) (c : ℕ) (before : Position) (more character : ℕ) → (c ≡ 10 → ⊥) → (c ≡ 13 → ⊥) → before ≡ position encoding (s ++ c ∷ []) (length s)
+    → more ≡ unit encoding c → character ≡ min (before.character + more) 4294967295
+    → units Utf8 (s ++ c ∷ []) ≤ 2 ^ 30 → ◌≡◌ {A = Position} (record { line = before.line; character = character }) (end_before_feed encoding (s ++ c ∷ []))
+end-with_other encoding s c before more character a b is counted next few =
+    let at : before ≡ end_at encoding s (c ∷ []) = is ∙ position-front encoding s (c ∷ []) in
+    let end = end-is encoding (s ++ c ∷ []) ∙ end-other encoding s [] c (ne_eqb c 10 a) (ne_eqb c 13 b) in
+    let exact : character ≡ (end_at encoding s (c ∷ [])).character + unit encoding c = omega (arith, next, counted, ap (λ q. q.character) at, ap (λ q. q.character) end, character-le encoding (s ++ c ∷ []), few) in
+    (λ i. record { line = (at i).line; character = exact i }) ∙ sym end
+
+ends_with-more : (s : List ℕ) (c : ℕ) → ends_with 13 (s ++ c ∷ []) ≡ (13 == c)
+ends_with-more [] c = refl
+ends_with-more (d ∷ []) c = refl
+ends_with-more (d ∷ e ∷ s) c = ends_with-more (e ∷ s) c
+
+pub front-with : (encoding : Encoding) (s : List ℕ) (c : ℕ) (front : Front) (characters : ℕ) (end : Position) → characters ≡ min (front.characters + 1) 4294967295 → end ≡ end_before_feed encoding (s ++ c ∷ [])
+    → units Utf8 (s ++ c ∷ []) ≤ 2 ^ 30 → front ≡ front_of encoding s → ◌≡◌ {A = Front} (record { characters = characters; end = end; ends_with_return = c == 13 }) (front_of encoding (s ++ c ∷ []))
+front-with encoding s c front characters end next ends few is =
+    let exact : characters ≡ length (s ++ c ∷ []) = omega (arith, next, ap (λ f. f.characters) is, length-append s (c ∷ []), length-le (s ++ c ∷ []), few) in
+    let return : (c == 13) ≡ ends_with 13 (s ++ c ∷ []) = turned c 13 ∙ sym (ends_with-more s c) in
+    λ i. record { characters = exact i; end = ends i; ends_with_return = return i }

@@ -1,0 +1,203 @@
+//! Positions and offsets, looked up in a text that is a list of pieces.
+
+ghost use Rattle.std.specs.Prelude.{◌≡◌, ◌-◌, ◌≤◌, ◌^◌, ◌↔◌, ℕ, IsTrue, ◌&&◌, ◌==◌, if◌then◌else◌, List, [], ◌∷◌, ◌++◌, length, take, drop};
+ghost use Rattle.std.specs.List.{concat};
+ghost use Rattle.std.specs.Str.{chars};
+ghost use Rattle.definitions.specs.Text.{units, begins_with, line_feed};
+ghost use Rattle.definitions.specs.Text as of;
+ghost use Rattle.definitions.specs.declared.Unit.{Unit as Encoding};
+ghost use Rattle.definitions.specs.declared.Unit.TheVariants.{Utf8};
+ghost use Rattle.pieces.specs.Sums.{sums_of, end_before_feed};
+ghost use Rattle.pieces.specs.Fronts.{front_of, IsPast};
+
+use crate::piece::Piece;
+use crate::sums::{AfterCharacter, AfterPosition, Sums};
+use definitions::{Position, Unit};
+use seqtree::Seq;
+
+/// The position of an offset (LSP 3.17, "Position"). Between a `\r` and its `\n` it is the end of the line, and past
+/// the end of the text the end of the text.
+pub fn position(pieces: &Seq<Piece>, unit: Unit, offset: usize) -> Position
+    requires few { units Utf8 (concat pieces.now) ≤ 2 ^ 30 }
+    ensures { result ≡ of.position unit (concat pieces.now) offset }
+{
+    let (place, before) = pieces.locate(&AfterCharacter { offset });
+    let front = Front::new(unit, before);
+    let Some(piece) = pieces.get(place) else {
+        return front.position(false);
+    };
+    let (front, before_feed) = front.with_first(
+        unit,
+        piece.text(),
+        offset - front.characters as usize,
+    );
+    front.position(before_feed)
+}
+
+/// The offset of a position (LSP 3.17, "Position"): past the end of a line it is the end of the line, past the last
+/// line the end of the text, and between the units of one character the start of that character.
+pub fn offset(pieces: &Seq<Piece>, unit: Unit, position: Position) -> usize
+    requires few { units Utf8 (concat pieces.now) ≤ 2 ^ 30 }
+    ensures is { result ≡ of.offset unit (concat pieces.now) position }
+    ensures within { result ≤ length (concat pieces.now) }
+{
+    let (place, before) = pieces.locate(&AfterPosition { unit, position });
+    let front = Front::new(unit, before);
+    let Some(piece) = pieces.get(place) else {
+        return front.end_in_line(position.line);
+    };
+    front.offset_in(unit, piece.text(), position)
+}
+
+/// What is known of a front of a text.
+#[derive(Clone, Copy)]
+struct Front {
+    /// How many characters it has.
+    characters: u32,
+    /// The position of its end, where a `\n` comes next: a `\r` at its end is no break there.
+    end: Position,
+    /// Whether it ends with `\r`.
+    ends_with_return: bool,
+}
+
+impl Front {
+    /// The front with this sum.
+    fn new(unit: Unit, sums: Sums) -> Front
+        ensures { (s : List ℕ) → sums ≡ sums_of s → result ≡ front_of unit s }
+    {
+        let Sums::Filled(counts) = sums else {
+            return Front {
+                characters: 0,
+                end: Position {
+                    line: 0,
+                    character: 0,
+                },
+                ends_with_return: false,
+            };
+        };
+        Front {
+            characters: counts.characters,
+            end: Position {
+                line: counts.breaks,
+                character: counts.behind.of(unit),
+            },
+            ends_with_return: counts.ends_with_return,
+        }
+    }
+
+    /// This front and the character behind it.
+    fn with(self, unit: Unit, c: char) -> Front
+        ensures { (s : List ℕ) → units Utf8 (s ++ c ∷ []) ≤ 2 ^ 30 → self ≡ front_of unit s →
+            result ≡ front_of unit (s ++ c ∷ []) }
+    {
+        Front {
+            characters: self.characters.saturating_add(1),
+            end: self.end_with(unit, c),
+            ends_with_return: c == '\r',
+        }
+    }
+
+    /// The position of the end of this front and the character behind it, where a `\n` comes next.
+    fn end_with(self, unit: Unit, c: char) -> Position
+        ensures { (s : List ℕ) → units Utf8 (s ++ c ∷ []) ≤ 2 ^ 30 → self ≡ front_of unit s →
+            result ≡ end_before_feed unit (s ++ c ∷ []) }
+    {
+        let before = self.position(c == '\n');
+        if c == '\n' {
+            return Position {
+                line: before.line.saturating_add(1),
+                character: 0,
+            };
+        }
+        if c == '\r' {
+            return before;
+        }
+        Position {
+            line: before.line,
+            character: before.character.saturating_add(units_of(unit, c)),
+        }
+    }
+
+    /// The position of the end, where a `\n` comes next or not.
+    fn position(self, before_feed: bool) -> Position
+        ensures { (unit : Encoding) (s r : List ℕ) → units Utf8 s ≤ 2 ^ 30 →
+            self ≡ front_of unit s → before_feed ≡ begins_with line_feed r →
+            result ≡ of.position unit (s ++ r) (length s) }
+    {
+        if self.ends_with_return && !before_feed {
+            return Position {
+                line: self.end.line.saturating_add(1),
+                character: 0,
+            };
+        }
+        self.end
+    }
+
+    /// This front and the first `count` characters behind it, and whether a `\n` comes next.
+    fn with_first(self, unit: Unit, text: &str, count: usize) -> (Front, bool)
+        ensures front { (s : List ℕ) → units Utf8 (s ++ chars text.now) ≤ 2 ^ 30 →
+            self ≡ front_of unit s → result.0 ≡ front_of unit (s ++ take count (chars text.now)) }
+        ensures feed { result.1 ≡ begins_with line_feed (drop count (chars text.now)) }
+    {
+        let mut front = self;
+        let mut left = count;
+        for c in text.chars() {
+            if left == 0 {
+                return (front, c == '\n');
+            }
+            front = front.with(unit, c);
+            left -= 1;
+        }
+        (front, false)
+    }
+
+    /// The offset of a position that this front is not past, where this front and `text` behind it are.
+    fn offset_in(self, unit: Unit, text: &str, position: Position) -> usize
+        ensures { (s r : List ℕ) → units Utf8 (s ++ chars text.now) ≤ 2 ^ 30 →
+            self ≡ front_of unit s → ¬ IsPast position (end_before_feed unit s) →
+            IsPast position (end_before_feed unit (s ++ chars text.now)) →
+            result ≡ of.offset unit (s ++ chars text.now ++ r) position }
+    {
+        let mut front = self;
+        for c in text.chars() {
+            let longer = front.with(unit, c);
+            if longer.is_past(position) {
+                return front.end_in_line(position.line);
+            }
+            front = longer;
+        }
+        front.end_in_line(position.line)
+    }
+
+    /// Whether its end is past a position.
+    fn is_past(self, position: Position) -> bool
+        ensures { IsTrue result ↔ IsPast position self.end }
+    {
+        let end = self.end;
+        position.line < end.line
+            || (position.line == end.line && position.character < end.character)
+    }
+
+    /// The offset of its end, or of the end of the line where this line ends with the `\r` before it.
+    fn end_in_line(self, line: u32) -> usize
+        ensures { result ≡ self.characters
+            - (if self.ends_with_return && self.end.line == line then 1 else 0) }
+    {
+        let characters = self.characters as usize;
+        if self.ends_with_return && self.end.line == line {
+            return characters.saturating_sub(1);
+        }
+        characters
+    }
+}
+
+/// The units of a character.
+fn units_of(unit: Unit, c: char) -> u32
+    ensures { result ≡ of.unit unit c }
+{
+    match unit {
+        Unit::Utf8 => c.len_utf8() as u32,
+        Unit::Utf16 => c.len_utf16() as u32,
+        Unit::Utf32 => 1,
+    }
+}
