@@ -1,11 +1,11 @@
 //! Places in a text that is a list of pieces.
 
-ghost use Rattle.std.specs.Prelude.{◌≡◌, ◌<◌, ◌≤◌, ℕ, List, length, take, drop, slice_index};
+ghost use Rattle.std.specs.Prelude.{◌≡◌, ◌<◌, ◌≤◌, ◌^◌, ℕ, List, length, take, drop, slice_index};
 ghost use Rattle.std.specs.List.{concat};
 ghost use Rattle.std.specs.Str.{chars};
 ghost use Rattle.definitions.specs.Text.{units};
 ghost use Rattle.definitions.specs.declared.Unit.TheVariants.{Utf8};
-ghost use Rattle.pieces.specs.Sums.{sums_of, most};
+ghost use Rattle.pieces.specs.Sums.{sums_of};
 ghost use Rattle.pieces.specs.Places.{IsCut};
 
 use crate::piece::Piece;
@@ -28,7 +28,7 @@ pub struct Cut<'a> {
 /// Cuts a text in two at an offset, and at its end where the offset is past it. The steps are a logarithm, and one walk
 /// over a piece that isn't ASCII.
 pub fn cut_at(pieces: &Seq<Piece>, offset: usize) -> Cut<'_>
-    requires few { units Utf8 (concat pieces.now) ≤ most }
+    requires few { units Utf8 (concat pieces.now) ≤ 2 ^ 30 }
     ensures { IsCut pieces.now offset result }
 {
     let (place, before) = pieces.locate(&AfterCharacter { offset });
@@ -52,7 +52,7 @@ pub fn cut_at(pieces: &Seq<Piece>, offset: usize) -> Cut<'_>
 
 /// The character at an offset. The steps are those of [`cut_at`].
 pub fn character(pieces: &Seq<Piece>, offset: usize) -> char
-    requires few { units Utf8 (concat pieces.now) ≤ most }
+    requires few { units Utf8 (concat pieces.now) ≤ 2 ^ 30 }
     requires in_range { offset < length (concat pieces.now) }
     ensures { result ≡ slice_index (concat pieces.now) offset }
 {
@@ -64,7 +64,7 @@ pub fn character(pieces: &Seq<Piece>, offset: usize) -> char
 
 /// How many characters a text has.
 pub fn characters(pieces: &Seq<Piece>) -> usize
-    requires few { units Utf8 (concat pieces.now) ≤ most }
+    requires few { units Utf8 (concat pieces.now) ≤ 2 ^ 30 }
     ensures { result ≡ length (concat pieces.now) }
 {
     characters_in(pieces.total())
@@ -72,7 +72,7 @@ pub fn characters(pieces: &Seq<Piece>) -> usize
 
 /// How many bytes a text has in UTF-8.
 pub fn bytes(pieces: &Seq<Piece>) -> usize
-    requires few { units Utf8 (concat pieces.now) ≤ most }
+    requires few { units Utf8 (concat pieces.now) ≤ 2 ^ 30 }
     ensures { result ≡ units Utf8 (concat pieces.now) }
 {
     bytes_in(pieces.total())

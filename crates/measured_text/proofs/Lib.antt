@@ -1,0 +1,6 @@
+mod Few
+mod Filled
+mod Lines
+mod Sizes
+mod Onward
+mod Spliced

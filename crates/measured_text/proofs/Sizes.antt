@@ -1,0 +1,63 @@
+-- How many bytes a text and its parts have in UTF-8.
+use Rattle.std.specs.Prelude.{◌≡◌, ℕ, ◌+◌, ◌*◌, ◌-◌, ◌≤◌, List, ◌++◌, length, take, drop, encode_utf8_all}
+use Rattle.std.specs.Str.{IsUtf8, chars}
+use Rattle.std.proofs.Common.{arith, sym, ap, ◌∙◌, length-append}
+use Rattle.std.proofs.lemmas.List.{take-append-drop}
+use Rattle.std.proofs.Math.Seq.{take-add}
+use Rattle.std.proofs.lemmas.Str.{encodes-append, length-le-encodes}
+use Rattle.definitions.specs.Text.{edit}
+use Rattle.definitions.proofs.Characters.{encodes-chars}
+use Rattle.definitions.specs.Text.{units}
+use Rattle.definitions.specs.declared.Unit.TheVariants.{Utf8}
+use Rattle.std.specs.List.{concat}
+use Rattle.pieces.specs.declared.places.Cut.{Cut}
+use Rattle.pieces.specs.Places.{IsCut}
+use Rattle.pieces.proofs.Joins.{units-bytes}
+use Rattle.measured_text.specs.Stored.{IsStored}
+use Rattle.measured_text.proofs.Few.{few}
+
+-- how many bytes the characters have
+abbrev pub size : List ℕ → ℕ
+size t = length (encode_utf8_all t)
+
+pub size-append : (xs ys : List ℕ) → size (xs ++ ys) ≡ size xs + size ys
+size-append xs ys = ap length (encodes-append xs ys) ∙ length-append (encode_utf8_all xs) (encode_utf8_all ys)
+
+pub size-take : (t : List ℕ) (i : ℕ) → size (take i t) + size (drop i t) ≡ size t
+size-take t i = sym (size-append (take i t) (drop i t)) ∙ ap size (take-append-drop i t)
+
+pub size-chars : (bs : List ℕ) → IsUtf8 bs → size (chars bs) ≡ length bs
+size-chars bs u = ap length (encodes-chars bs u)
+
+-- what an edit keeps, from the bytes before each of its ends
+pub record IsKept (t : List ℕ) (a b before behind bytes : ℕ) : Type 0 where
+  pub within : behind ≤ bytes
+  pub few : before + (bytes - behind) ≤ bytes
+  pub edited : (s : List ℕ) → size (edit t a b s) ≡ before + (bytes - behind) + size s
+
+kept : (t : List ℕ) (a b before behind bytes : ℕ) → a ≤ b → before ≡ units Utf8 (take a t) → behind ≡ units Utf8 (take b t) → bytes ≡ size t → IsKept t a b before behind bytes
+kept t a b before behind bytes l e f g =
+    let far : b ≡ a + (b - a) = omega (arith, l) in
+    let parts : size (take b t) ≡ size (take a t) + size (take (b - a) (drop a t)) = ap size (ap (λ n. take n t) far ∙ take-add a (b - a) t) ∙ size-append (take a t) (take (b - a) (drop a t)) in
+    let one : before ≡ size (take a t) = e ∙ units-bytes (take a t) in
+    let two : behind ≡ size (take b t) = f ∙ units-bytes (take b t) in
+    let rest = size-take t b in
+    record {
+      within = omega (arith, two, rest, g);
+      few = omega (arith, one, two, parts, rest, g);
+      edited = λ s. omega (arith, size-append (take a t ++ s) (drop b t), size-append (take a t) s, one, two, rest, g);
+    }
+
+pub kept_cut : (ps : List (List ℕ)) (t : List ℕ) (a b bytes : ℕ) (start end : Cut) → concat ps ≡ t → a ≤ b → IsCut ps a start → IsCut ps b end → bytes ≡ size t → IsKept t a b start.bytes end.bytes bytes
+kept_cut ps t a b bytes start end view l p q e =
+    kept t a b start.bytes end.bytes bytes l (p.bytes ∙ ap (λ u. units Utf8 (take a u)) view) (q.bytes ∙ ap (λ u. units Utf8 (take b u)) view) e
+
+-- a text that is stored has few bytes and few pieces
+pub bytes_le : (ps : List (List ℕ)) → IsStored ps → units Utf8 (concat ps) ≤ 1048576
+bytes_le ps h = omega (arith, units-bytes (concat ps), h.few)
+
+pub length_le : (ps : List (List ℕ)) → IsStored ps → length (concat ps) ≤ 1048576
+length_le ps h = omega (arith, length-le-encodes (concat ps), h.few)
+
+pub pieces_le : (ps : List (List ℕ)) → IsStored ps → 509 * length ps ≤ size (concat ps) + 509
+pieces_le ps h = omega (arith, few ps, units-bytes (concat ps), h.small)

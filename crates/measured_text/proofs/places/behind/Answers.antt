@@ -1,0 +1,16 @@
+use Rattle.std.proofs.Common.{sym, ◌∙◌, ◌≡◌, ◌+◌}
+use Rattle.definitions.specs.declared.Position.{Position}
+use Rattle.definitions.specs.Text.{unit}
+use Rattle.measured_text.proofs.Onward.{behind_break, behind_return, behind_other}
+use Rattle.measured_text.proofs.places.behind.Goals as goal
+
+pub returns-then-is_break_end : goal.returns-then-is_break_end
+returns-then-is_break_end c t i rest e next is = behind_break c.args.unit t rest i c.args.c c.args.position e is (sym (c.is_break_end.ensures rest next) ∙ c.if-is_break_end.true)
+
+pub returns-then-c-eq13 : goal.returns-then-c-eq13
+returns-then-c-eq13 c t i rest e next is = behind_return c.args.unit t rest i c.args.c c.args.position e is (sym (c.is_break_end.ensures rest next) ∙ c.if-is_break_end.false) c.if-c-eq13.true
+
+pub returns : goal.returns
+returns c t i rest e next is =
+    let joined : ◌≡◌ {A = Position} (record { line = c.args.position.line; character = c.args.position.character + c.units_of.result }) (record { line = c.args.position.line; character = c.args.position.character + unit c.args.unit c.args.c }) = λ k. record { line = c.args.position.line; character = c.args.position.character + c.units_of.ensures.is k } in
+    joined ∙ behind_other c.args.unit t rest i c.args.c c.args.position e is (sym (c.is_break_end.ensures rest next) ∙ c.if-is_break_end.false) c.if-c-eq13.false

@@ -1,0 +1,17 @@
+-- What holds of the pieces that a `Text` keeps.
+use Rattle.std.specs.Prelude.{ℕ, ◌≤◌, Bool, nat_lt, List, length, count_by, encode_utf8_all}
+use Rattle.std.specs.List.{concat}
+use Rattle.definitions.specs.Text.{IsText, units}
+use Rattle.definitions.specs.declared.Unit.TheVariants.{Utf8}
+use Rattle.pieces.specs.declared.cuts.TheConstants.{SHORTEST_OF_SEVERAL}
+use Rattle.measured_text.specs.declared.document.TheConstants.{LONGEST_TEXT}
+
+-- a piece with fewer bytes than each of several has where a text is cut anew
+abbrev pub is_small : List ℕ → Bool
+is_small piece = nat_lt (units Utf8 piece) SHORTEST_OF_SEVERAL
+
+-- the pieces are of characters, have not too many bytes, and are few: at most one of them is small
+pub record IsStored (pieces : List (List ℕ)) : Type 0 where
+  pub text : IsText (concat pieces)
+  pub few : length (encode_utf8_all (concat pieces)) ≤ LONGEST_TEXT
+  pub small : count_by is_small pieces ≤ 1

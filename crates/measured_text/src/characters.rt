@@ -1,0 +1,86 @@
+//! The characters of a text, one after another.
+
+ghost use Rattle.std.specs.Prelude.{◌≡◌, [], ◌∷◌, ◌++◌, length, slice_get, MatchOption};
+ghost use Rattle.std.specs.Iterator.{YieldsFirst, item_count};
+ghost use Rattle.std.specs.List.{concat};
+ghost use Rattle.std.specs.Str.{chars};
+
+use pieces::Piece;
+use seqtree::Iter;
+use std::marker::Model;
+
+/// The characters of a text from an offset on, in order.
+#[derive(Drop)]
+pub struct Chars<'a> {
+    /// What is left of the present piece, empty only where nothing is left at all.
+    present: &'a str,
+    /// The pieces behind it.
+    pieces: Iter<'a, Piece>,
+}
+
+impl<'a> Model for Chars<'a> {
+    ghost use Rattle.std.specs.Prelude.{◌≡◌, ℕ, List, [], ◌++◌, length};
+    ghost use Rattle.std.specs.List.{concat};
+    ghost use Rattle.std.specs.Str.{chars};
+
+    ghost Value = { List ℕ };
+
+    ghost view = { λ c. chars c.present.now ++ concat c.pieces };
+
+    ghost invariant = { λ c. length c.present.now ≡ 0 → length c.pieces ≡ 0 };
+}
+
+impl<'a> Chars<'a> {
+    /// The characters of `present` and then those of the pieces.
+    pub(crate) fn new(present: &'a str, mut pieces: Iter<'a, Piece>) -> Chars<'a>
+        ensures { result ≡ chars present.now ++ concat pieces.entry }
+    {
+        let present = refilled(present, &mut pieces);
+        Chars { present, pieces }
+    }
+
+    /// The next character, which stays.
+    pub(crate) fn peek(&self) -> Option<char>
+        ensures { result ≡ slice_get self.now 0 }
+    {
+        self.present.chars().next()
+    }
+}
+
+impl<'a> Iterator for Chars<'a> {
+    type Item = char;
+
+    ghost next_gives = { YieldsFirst (λ s. s) };
+
+    ghost remaining = { item_count (λ s. s) };
+
+    fn next(&mut self) -> Option<char> {
+        let (first, rest) = split_first(self.present)?;
+        self.present = refilled(rest, &mut self.pieces);
+        Some(first)
+    }
+}
+
+/// The first character and what comes behind it.
+fn split_first(text: &str) -> Option<(char, &str)>
+    ensures { MatchOption result (length text.now ≡ 0)
+        (λ r. chars text.now ≡ r.0 ∷ chars r.1.now) }
+{
+    let mut rest = text.chars();
+    let first = rest.next()?;
+    Some((first, rest.as_str()))
+}
+
+/// What is left of the present piece, or the next piece where nothing is.
+fn refilled<'a>(present: &'a str, pieces: &mut Iter<'a, Piece>) -> &'a str
+    ensures same { chars result.now ++ concat pieces.new ≡ chars present.now ++ concat pieces.old }
+    ensures filled { length result.now ≡ 0 → length pieces.new ≡ 0 }
+{
+    if present.len() > 0 {
+        return present;
+    }
+    match pieces.next() {
+        Some(piece) => piece.text(),
+        None => present,
+    }
+}
