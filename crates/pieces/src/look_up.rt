@@ -118,7 +118,7 @@ impl Front {
         }
     }
 
-    /// The position of the end, where a `\n` comes next or not.
+    /// The position of its end, where a `\n` comes next or not.
     fn position(self, before_feed: bool) -> Position
         ensures { (unit : Encoding) (s r : List ℕ) → units Utf8 s ≤ 2 ^ 30 →
             self ≡ front_of unit s → before_feed ≡ begins_with line_feed r →
@@ -151,7 +151,7 @@ impl Front {
         (front, false)
     }
 
-    /// The offset of a position that this front is not past, where this front and `text` behind it are.
+    /// The offset of a position that this front is not past, and this front with `text` behind it is.
     fn offset_in(self, unit: Unit, text: &str, position: Position) -> usize
         ensures { (s r : List ℕ) → units Utf8 (s ++ chars text.now) ≤ 2 ^ 30 →
             self ≡ front_of unit s → ¬ IsPast position (end_before_feed unit s) →
@@ -178,7 +178,7 @@ impl Front {
             || (position.line == end.line && position.character < end.character)
     }
 
-    /// The offset of its end, or of the end of the line where this line ends with the `\r` before it.
+    /// The offset of its end, or the one before where it ends with the `\r` of this line.
     fn end_in_line(self, line: u32) -> usize
         ensures { result ≡ self.characters
             - (if self.ends_with_return && self.end.line == line then 1 else 0) }
