@@ -1,7 +1,15 @@
 //! Pieces of texts, and what they add up to.
 
-use pieces::{Counts, Sums, Units, of_text, pieces_of};
-use seqtree::{Measured, Monoid};
+ghost use Rattle.std.specs.Prelude.{◌≤◌, ◌^◌, length, IfOk};
+ghost use Rattle.std.specs.List.{concat};
+ghost use Rattle.definitions.specs.Text.{units};
+ghost use Rattle.definitions.specs.declared.Unit.TheVariants.{Utf8};
+
+use pieces::{
+    Counts, LONGEST_PIECE, Piece, Position, Sums, Unit, Units, of_text, offset, pieces_of, position,
+};
+use seqtree::{Measured, Monoid, Seq, Slots};
+use std::alloc::{AllocError, Global};
 use std::test::Fail;
 
 /// As many characters, bytes and breaks, and nothing behind the last break.
@@ -40,5 +48,80 @@ fn texts_are_cut_at_borders_of_characters(rt: HostRuntime) -> Result<(), Fail> {
 fn sums_join_over_a_line_end(rt: HostRuntime) -> Result<(), Fail> {
     let joined = of_text("a\r").join(&of_text("\n"));
     assert!(rt; joined == ended(3, 3, 1));
+    Ok(())
+}
+
+/// `\u{1F600}a`, `\u{E9}` and `b` in three lines, where the first break is in two pieces.
+fn three_lines(alloc: Global) -> Result<Seq<Piece>, AllocError>
+    ensures few { IfOk result (λ pieces. units Utf8 (concat pieces) ≤ 2 ^ 30) }
+{
+    in_two(alloc, "\u{1F600}a\r", "\n\u{E9}\rb")
+}
+
+/// A text in two pieces.
+fn in_two(alloc: Global, front: &str, back: &str) -> Result<Seq<Piece>, AllocError>
+    requires front { 1 ≤ length front.now }
+    requires front_few { length front.now ≤ LONGEST_PIECE }
+    requires back { 1 ≤ length back.now }
+    requires back_few { length back.now ≤ LONGEST_PIECE }
+    ensures few { IfOk result (λ pieces. units Utf8 (concat pieces) ≤ 2 ^ 30) }
+{
+    let mut parts = Vec::new(alloc);
+    parts.push(Piece::new(alloc, front)?)?;
+    parts.push(Piece::new(alloc, back)?)?;
+    let mut pieces = Seq::new();
+    let _none = pieces.replace(0, 0, Slots::make(alloc, parts)?);
+    Ok(pieces)
+}
+
+/// Each row is an offset, the line of its position, and the character in UTF-8, UTF-16 and UTF-32.
+#[test]
+fn positions_over_a_border(rt: HostRuntime) -> Result<(), Fail> {
+    let pieces = three_lines(rt.alloc())?;
+    let rows = [
+        (0, 0, 0, 0, 0),
+        (1, 0, 4, 2, 1),
+        (2, 0, 5, 3, 2),
+        (3, 0, 5, 3, 2),
+        (4, 1, 0, 0, 0),
+        (5, 1, 2, 1, 1),
+        (6, 2, 0, 0, 0),
+        (7, 2, 1, 1, 1),
+        (8, 2, 1, 1, 1),
+    ];
+    for (at, line, utf8, utf16, utf32) in rows {
+        for (unit, character) in [
+            (Unit::Utf8, utf8),
+            (Unit::Utf16, utf16),
+            (Unit::Utf32, utf32),
+        ] {
+            let wanted = Position { line, character };
+            assert_eq!(rt; position(&pieces, unit, at), wanted, "at {at}");
+        }
+    }
+    Ok(())
+}
+
+/// Past the ends of lines, between the units of a character, and past the last line too.
+#[test]
+fn offsets_over_a_border(rt: HostRuntime) -> Result<(), Fail> {
+    let pieces = three_lines(rt.alloc())?;
+    for (unit, line, character, wanted) in [
+        (Unit::Utf8, 0, 3, 0),
+        (Unit::Utf8, 0, 4, 1),
+        (Unit::Utf16, 0, 1, 0),
+        (Unit::Utf16, 0, 2, 1),
+        (Unit::Utf32, 0, 1, 1),
+        (Unit::Utf32, 0, 9, 2),
+        (Unit::Utf16, 1, 0, 4),
+        (Unit::Utf8, 1, 1, 4),
+        (Unit::Utf16, 1, 9, 5),
+        (Unit::Utf16, 2, 0, 6),
+        (Unit::Utf16, 2, 9, 7),
+        (Unit::Utf16, 3, 0, 7),
+    ] {
+        let found = offset(&pieces, unit, Position { line, character });
+        assert_eq!(rt; found, wanted, "at {line}:{character}");
+    }
     Ok(())
 }
