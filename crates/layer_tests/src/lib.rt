@@ -12,6 +12,8 @@ mod longest_matches;
 #[cfg(test)]
 mod measured_lists;
 #[cfg(test)]
+mod measured_texts;
+#[cfg(test)]
 mod messages;
 #[cfg(test)]
 mod text_pieces;

@@ -1,0 +1,167 @@
+//! Texts as measured lists of pieces: what pieces could change of the cases of a text.
+
+ghost use Rattle.std.specs.Prelude.{◌<◌};
+
+use measured_text::{Position, Text, Unit};
+use std::alloc::{AllocError, Global};
+use std::test::Fail;
+
+fn at(line: u32, character: u32) -> Position {
+    Position { line, character }
+}
+
+#[test]
+fn positions_count_the_unit_that_is_asked_for(rt: HostRuntime) -> Result<(), Fail> {
+    let text = Text::open(rt.alloc(), "\u{e9}\u{1f600}z")?;
+    for (unit, ends) in [
+        (Unit::Utf8, [0, 2, 6, 7]),
+        (Unit::Utf16, [0, 1, 3, 4]),
+        (Unit::Utf32, [0, 1, 2, 3]),
+    ] {
+        let mut places = text.places(unit);
+        for (offset, character) in ends.iter().enumerate() {
+            assert_eq!(rt;
+                text.position(unit, offset),
+                at(0, *character),
+                "at {offset}"
+            );
+            assert_eq!(rt; text.offset(unit, at(0, *character)), offset);
+            assert_eq!(rt; places.position(), at(0, *character));
+            places.advance(1);
+        }
+    }
+    Ok(())
+}
+
+/// Whether the break behind the first `n` characters is one, and ends line 0.
+fn breaks_behind(text: &Text, n: u32) -> bool {
+    let count = n as usize;
+    text.position(Unit::Utf16, count + 1) == at(0, n)
+        && text.position(Unit::Utf16, count + 2) == at(1, 0)
+        && text.offset(Unit::Utf16, at(1, 0)) == count + 2
+}
+
+#[test]
+fn a_break_over_the_border_of_pieces(rt: HostRuntime) -> Result<(), Fail> {
+    let alloc = rt.alloc();
+    let mut line = String::new(alloc);
+    for n in 0u32..2_101 {
+        let whole = Text::open(alloc, format!(in alloc; "{line}\r\ny")?.as_str())?;
+        assert!(rt; breaks_behind(&whole, n), "a line of {n}");
+        let mut joined = Text::open(alloc, format!(in alloc; "{line}\ry")?.as_str())?;
+        let behind = n as usize + 1;
+        assert_eq!(rt; joined.len(), behind + 1);
+        joined.replace(alloc, behind, behind, "\n")?;
+        assert!(rt; breaks_behind(&joined, n), "joined behind a line of {n}");
+        line.push('x')?;
+    }
+    Ok(())
+}
+
+/// Numbers that look random, by a linear congruence.
+#[derive(Drop)]
+struct Numbers {
+    state: u64,
+}
+
+impl Numbers {
+    fn new() -> Numbers {
+        Numbers { state: 1 }
+    }
+
+    /// A number less than `n`.
+    fn below(&mut self, n: usize) -> usize
+        requires { 0 < n }
+        ensures { result < n }
+    {
+        self.state = self
+            .state
+            .wrapping_mul(6_364_136_223_846_793_005)
+            .wrapping_add(1_442_695_040_888_963_407);
+        (self.state >> 33) as usize % n
+    }
+}
+
+/// The characters with `new` in the place of those from `a` up to `b`.
+fn edited(
+    alloc: Global,
+    old: &Vec<char>,
+    a: usize,
+    b: usize,
+    new: &str,
+) -> Result<Vec<char>, AllocError> {
+    let mut characters = Vec::new(alloc);
+    for c in old.iter().take(a) {
+        characters.push(*c)?;
+    }
+    for c in new.chars() {
+        characters.push(c)?;
+    }
+    for c in old.iter().skip(b) {
+        characters.push(*c)?;
+    }
+    Ok(characters)
+}
+
+/// Whether a text has these characters.
+fn has_characters(text: &Text, wanted: &Vec<char>) -> bool {
+    let mut characters = text.chars_from(0);
+    for c in wanted {
+        if characters.next() != Some(*c) {
+            return false;
+        }
+    }
+    characters.next() == None
+}
+
+#[test]
+fn random_edits_are_those_of_a_list(rt: HostRuntime) -> Result<(), Fail> {
+    let alloc = rt.alloc();
+    let mut numbers = Numbers::new();
+    let mut text = Text::open(alloc, "")?;
+    let mut wanted = Vec::new(alloc);
+    let mut line = String::new(alloc);
+    for _ in 0..600 {
+        line.push_str("\u{e9}z")?;
+    }
+    let texts = ["", "x", "\r", "\n", "\u{1f600}", line.as_str()];
+    for step in 0..10_000 {
+        let len = text.len();
+        let a = numbers.below(len + 1);
+        let b = a + numbers.below((len - a).min(500) + 1);
+        let new = texts[numbers.below(6)];
+        text.replace(alloc, a, b, new)?;
+        wanted = edited(alloc, &wanted, a, b, new)?;
+        assert_eq!(rt; text.len(), wanted.len());
+        if step % 64 == 0 {
+            assert!(rt; has_characters(&text, &wanted), "after step {step}");
+        }
+    }
+    assert!(rt; has_characters(&text, &wanted));
+    Ok(())
+}
+
+#[test]
+fn pieces_stay_few(rt: HostRuntime) -> Result<(), Fail> {
+    let alloc = rt.alloc();
+    let mut numbers = Numbers::new();
+    let mut whole = String::with_capacity(alloc, 1_048_576)?;
+    for _ in 0..1_048_576 {
+        whole.push('x')?;
+    }
+    let mut text = Text::open(alloc, whole.as_str())?;
+    let opened = text.pieces().len();
+    for _ in 0..100_000 {
+        let len = text.len();
+        if len > 1_048_000 {
+            let a = numbers.below(len);
+            text.replace(alloc, a, a + 1, "")?;
+        } else {
+            let a = numbers.below(len + 1);
+            text.replace(alloc, a, a, "y")?;
+        }
+    }
+    assert_eq!(rt; opened, 1_024);
+    assert!(rt; text.pieces().len() / 4 <= opened);
+    Ok(())
+}
