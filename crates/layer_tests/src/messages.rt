@@ -1,8 +1,8 @@
 //! The messages that contents are heard as, and the bytes of replies.
 
 use rpc::{
-    Call, Diagnostic, Id, Malformed, Message, Note, Position, Range, Refusal, Reply, Row, RpcFault,
-    one_hearing, read, some_hearing, to_bytes,
+    Call, Diagnostic, Id, Log, Loss, Malformed, Message, Note, Position, Range, Refusal, Reply,
+    Row, RpcFault, one_hearing, read, some_hearing, to_bytes,
 };
 use std::alloc::Global;
 use std::process::Abort;
@@ -238,6 +238,14 @@ fn refusals_have_their_codes(rt: HostRuntime) -> Result<(), Fail> {
             Refusal::DocumentNotOpen,
             r#"{"error":{"code":-32602,"message":"document not open"},"id":"a\"","jsonrpc":"2.0"}"#,
         ),
+        (
+            Refusal::DocumentLost(Loss::TooLarge),
+            r#"{"error":{"code":-32803,"message":"document lost: too large"},"id":"a\"","jsonrpc":"2.0"}"#,
+        ),
+        (
+            Refusal::DocumentLost(Loss::NoMemory),
+            r#"{"error":{"code":-32803,"message":"document lost: no memory"},"id":"a\"","jsonrpc":"2.0"}"#,
+        ),
     ];
     for (refusal, content) in refusals {
         let reply = Reply::Error {
@@ -249,15 +257,44 @@ fn refusals_have_their_codes(rt: HostRuntime) -> Result<(), Fail> {
     Ok(())
 }
 
+#[test]
+fn log_messages_have_their_bytes(rt: HostRuntime) -> Result<(), Fail> {
+    let alloc = rt.alloc();
+    let logs = [
+        (Log::OpenMalformed, "didOpen: malformed"),
+        (Log::ChangeMalformed, "didChange: malformed"),
+        (Log::CloseMalformed, "didClose: malformed"),
+        (Log::ChangeNotOpen, "didChange: document not open"),
+        (Log::CloseNotOpen, "didClose: document not open"),
+        (Log::TooManyDocuments, "didOpen: too many documents"),
+        (Log::Lost(Loss::TooLarge), "document lost: too large"),
+        (
+            Log::Lost(Loss::MalformedChange),
+            "document lost: malformed change",
+        ),
+        (Log::Lost(Loss::NoMemory), "document lost: no memory"),
+    ];
+    for (log, message) in logs {
+        let content = format!(in alloc;
+            r#"{{"jsonrpc":"2.0","method":"window/logMessage","params":{{"message":"{message}","type":1}}}}"#
+        )?;
+        let bytes = to_bytes(alloc, &Reply::Log { log })?;
+        assert_eq!(rt; bytes.as_slice(), content.as_bytes());
+    }
+    Ok(())
+}
+
 fn note_kind(note: &Note) -> &'static str {
     match note {
         Note::Initialized => "initialized",
         Note::Exit => "exit",
         Note::DidOpen { .. } => "didOpen",
         Note::DidChange { .. } => "didChange",
+        Note::DidClose { .. } => "didClose",
         Note::Malformed(Malformed::DidOpen) => "malformed didOpen",
         Note::Malformed(Malformed::DidChange { uri: Some(_) }) => "malformed didChange with URI",
         Note::Malformed(Malformed::DidChange { uri: None }) => "malformed didChange",
+        Note::Malformed(Malformed::DidClose) => "malformed didClose",
     }
 }
 
@@ -319,6 +356,27 @@ fn values_have_their_kinds(rt: HostRuntime) -> Result<(), Fail> {
         assert_eq!(rt; kind(&outcome), wanted, "at {content}");
     }
     assert_eq!(rt; kind(&read(alloc, b"\"\xff\"")), "parse");
+    Ok(())
+}
+
+#[test]
+fn documents_are_closed(rt: HostRuntime) -> Result<(), Fail> {
+    let alloc = rt.alloc();
+    let cases = [
+        (r#"{"textDocument":{"uri":"a:x"}}"#, "didClose"),
+        (r#"{"textDocument":{"uri":5}}"#, "malformed didClose"),
+        ("null", "malformed didClose"),
+    ];
+    for (params, wanted) in cases {
+        let content = format!(in alloc;
+            r#"{{"jsonrpc":"2.0","method":"textDocument/didClose","params":{params}}}"#
+        )?;
+        assert_eq!(rt;
+            kind(&read(alloc, content.as_bytes())),
+            wanted,
+            "at {params}"
+        );
+    }
     Ok(())
 }
 
