@@ -11,6 +11,7 @@ use Rattle.rpc.specs.Replies.{Answer}
 use Rattle.rpc.specs.declared.reply.Loss.TheVariants.{TooLarge, MalformedChange}
 use Rattle.server.specs.declared.state.Phase.{Phase}
 use Rattle.server.specs.declared.state.Phase.TheVariants.{New, Ready, Down}
+use Rattle.server.specs.Alone.{named}
 use Rattle.server.specs.Answers.{IsAnswer, tree_answer}
 use Rattle.server.specs.Documents.{DocumentState, is_open, is_lost, has_room}
 use Rattle.server.specs.Fresh.{Publishes}
@@ -45,10 +46,11 @@ answer_quiet file id (Some (is_open d)) its_tree answer is = said_quiet answer _
 answer_quiet file id (Some (is_open d)) its_folds answer is = said_quiet answer _ is.2.2 (λ uri p. p)
 answer_quiet file id (Some (is_open d)) (its_selections positions) answer is = said_quiet answer _ is.2.2 (λ uri p. p)
 
-pub data Effect (old : State) (answers : List Answer) (stop : Option ℕ) (new : State) : Type 0 where
-  stays : AreQuiet answers → new.file ≡ old.file → new.documents ≡ old.documents → Effect old answers stop new
-  stands : (uri : List ℕ) (state : DocumentState) → (AllFit old.documents → IsFit state) → Holds old uri state answers stop new → Effect old answers stop new
-  goes : (uri : List ℕ) → Forgets old uri answers stop new → Effect old answers stop new
+-- by a message that names the document of this URI, or none
+pub data Effect (name : Option (List ℕ)) (old : State) (answers : List Answer) (stop : Option ℕ) (new : State) : Type 0 where
+  stays : AreQuiet answers → new.file ≡ old.file → new.documents ≡ old.documents → Effect name old answers stop new
+  stands : (uri : List ℕ) (state : DocumentState) → name ≡ Some uri → (AllFit old.documents → IsFit state) → Holds old uri state answers stop new → Effect name old answers stop new
+  goes : (uri : List ℕ) → name ≡ Some uri → Forgets old uri answers stop new → Effect name old answers stop new
 
 -- what is opened fits, where it is open
 pub opened_fit : (version : ℤ) (text : List ℕ) → IsFit (opened version text)
@@ -58,17 +60,17 @@ opened_fit version text = by (fits text) refl
     by true e = e
     by false e = tt
 
-module _ (old : State) (answers : List Answer) (stop : Option ℕ) (new : State) where
-  replied : (answer : Answer) → ((uri : List ℕ) → ¬ Publishes uri answer) → Replies old answer answers stop new → Effect old answers stop new
+module _ (name : Option (List ℕ)) (old : State) (answers : List Answer) (stop : Option ℕ) (new : State) where
+  replied : (answer : Answer) → ((uri : List ℕ) → ¬ Publishes uri answer) → Replies old answer answers stop new → Effect name old answers stop new
   replied answer quiet s = stays (subst AreQuiet (sym s.0) (one_quiet answer quiet)) (ap (λ (x : State). x.file) s.2) (ap (λ (x : State). x.documents) s.2)
 
-  silent : answers ≡ [] → new ≡ old → Effect old answers stop new
+  silent : answers ≡ [] → new ≡ old → Effect name old answers stop new
   silent none same = stays (subst AreQuiet (sym none) none_quiet) (ap (λ (x : State). x.file) same) (ap (λ (x : State). x.documents) same)
 
-  entered : (phase : Phase) (answer : Answer) → ((uri : List ℕ) → ¬ Publishes uri answer) → answers ≡ answer ∷ [] → new ≡ record { file = old.file; phase = phase; documents = old.documents } → Effect old answers stop new
+  entered : (phase : Phase) (answer : Answer) → ((uri : List ℕ) → ¬ Publishes uri answer) → answers ≡ answer ∷ [] → new ≡ record { file = old.file; phase = phase; documents = old.documents } → Effect name old answers stop new
   entered phase answer quiet one same = stays (subst AreQuiet (sym one) (one_quiet answer quiet)) (ap (λ (x : State). x.file) same) (ap (λ (x : State). x.documents) same)
 
-  asks_effect : (phase : Phase) (id : Ident) (asked : Asked) → Asks phase old id asked answers stop new → Effect old answers stop new
+  asks_effect : (phase : Phase) (id : Ident) (asked : Asked) → Asks phase old id asked answers stop new → Effect name old answers stop new
   asks_effect New id initialize s = entered Ready _ (λ uri p. p) s.0 s.2
   asks_effect New id shutdown s = replied _ (λ uri p. p) s
   asks_effect New id (about uri question) s = replied _ (λ uri p. p) s
@@ -77,55 +79,58 @@ module _ (old : State) (answers : List Answer) (stop : Option ℕ) (new : State)
   asks_effect Ready id (about uri question) s = replied s.0 (answer_quiet old.file id (get old.documents uri) question s.0 s.1) s.2
   asks_effect Down id asked s = replied _ (λ uri p. p) s
 
-  opens_effect : (room : Bool) (uri : List ℕ) (state : DocumentState) → IsFit state → Opens room old uri state answers stop new → Effect old answers stop new
-  opens_effect true uri state fit s = stands uri state (λ all. fit) s
-  opens_effect false uri state fit s = replied _ (λ uri p. p) s
+  opens_effect : (room : Bool) (uri : List ℕ) (state : DocumentState) → name ≡ Some uri → IsFit state → Opens room old uri state answers stop new → Effect name old answers stop new
+  opens_effect true uri state is fit s = stands uri state is (λ all. fit) s
+  opens_effect false uri state is fit s = replied _ (λ uri p. p) s
 
-  changes_effect : (o : Option DocumentState) (uri : List ℕ) (version : ℤ) (changes : List ChangeSaid) → get old.documents uri ≡ o → Changes o old uri version changes answers stop new → Effect old answers stop new
-  changes_effect None uri version changes e s = replied _ (λ uri p. p) s
-  changes_effect (Some (is_lost loss)) uri version changes e s = silent s.0 s.2
-  changes_effect (Some (is_open d)) uri version changes e s = stands uri s.0 (λ all. becomes_fit version d.text changes s.0 (all uri d e) s.1) s.2
+  changes_effect : (o : Option DocumentState) (uri : List ℕ) (version : ℤ) (changes : List ChangeSaid) → name ≡ Some uri → get old.documents uri ≡ o → Changes o old uri version changes answers stop new → Effect name old answers stop new
+  changes_effect None uri version changes is e s = replied _ (λ uri p. p) s
+  changes_effect (Some (is_lost loss)) uri version changes is e s = silent s.0 s.2
+  changes_effect (Some (is_open d)) uri version changes is e s = stands uri s.0 is (λ all. becomes_fit version d.text changes s.0 (all uri d e) s.1) s.2
 
-  spoils_effect : (o : Option DocumentState) (uri : List ℕ) → Spoils o old uri answers stop new → Effect old answers stop new
-  spoils_effect None uri s = replied _ (λ uri p. p) s
-  spoils_effect (Some (is_lost loss)) uri s = silent s.0 s.2
-  spoils_effect (Some (is_open d)) uri s = stands uri (is_lost MalformedChange) (λ all. tt) s
+  spoils_effect : (o : Option DocumentState) (uri : List ℕ) → name ≡ Some uri → Spoils o old uri answers stop new → Effect name old answers stop new
+  spoils_effect None uri is s = replied _ (λ uri p. p) s
+  spoils_effect (Some (is_lost loss)) uri is s = silent s.0 s.2
+  spoils_effect (Some (is_open d)) uri is s = stands uri (is_lost MalformedChange) is (λ all. tt) s
 
-  closes_effect : (o : Option DocumentState) (uri : List ℕ) → Closes o old uri answers stop new → Effect old answers stop new
-  closes_effect None uri s = replied _ (λ uri p. p) s
-  closes_effect (Some state) uri s = goes uri s
+  closes_effect : (o : Option DocumentState) (uri : List ℕ) → name ≡ Some uri → Closes o old uri answers stop new → Effect name old answers stop new
+  closes_effect None uri is s = replied _ (λ uri p. p) s
+  closes_effect (Some state) uri is s = goes uri is s
 
-  misses_effect : (unfit : Unfit) → Misses old unfit answers stop new → Effect old answers stop new
-  misses_effect unfit_open s = replied _ (λ uri p. p) s
-  misses_effect (unfit_change None) s = replied _ (λ uri p. p) s
-  misses_effect (unfit_change (Some uri)) s = spoils_effect (get old.documents uri) uri s
-  misses_effect unfit_close s = replied _ (λ uri p. p) s
+  misses_effect : (unfit : Unfit) → name ≡ named (said (notice (malformed unfit))) → Misses old unfit answers stop new → Effect name old answers stop new
+  misses_effect unfit_open is s = replied _ (λ uri p. p) s
+  misses_effect (unfit_change None) is s = replied _ (λ uri p. p) s
+  misses_effect (unfit_change (Some uri)) is s = spoils_effect (get old.documents uri) uri is s
+  misses_effect unfit_close is s = replied _ (λ uri p. p) s
 
-  tells_effect : (phase : Phase) (told : Told) → Tells phase old told answers stop new → Effect old answers stop new
-  tells_effect New initialized s = silent s.0 s.2
-  tells_effect New exit s = silent s.0 s.2
-  tells_effect New (open_text uri version text) s = silent s.0 s.2
-  tells_effect New (change_text uri version changes) s = silent s.0 s.2
-  tells_effect New (close uri) s = silent s.0 s.2
-  tells_effect New (malformed unfit) s = silent s.0 s.2
-  tells_effect Ready initialized s = silent s.0 s.2
-  tells_effect Ready exit s = silent s.0 s.2
-  tells_effect Ready (open_text uri version text) s = opens_effect (has_room uri old.documents) uri (opened version (chars text)) (opened_fit version (chars text)) s
-  tells_effect Ready (change_text uri version changes) s = changes_effect (get old.documents uri) uri version changes refl s
-  tells_effect Ready (close uri) s = closes_effect (get old.documents uri) uri s
-  tells_effect Ready (malformed unfit) s = misses_effect unfit s
-  tells_effect Down initialized s = silent s.0 s.2
-  tells_effect Down exit s = silent s.0 s.2
-  tells_effect Down (open_text uri version text) s = silent s.0 s.2
-  tells_effect Down (change_text uri version changes) s = silent s.0 s.2
-  tells_effect Down (close uri) s = silent s.0 s.2
-  tells_effect Down (malformed unfit) s = silent s.0 s.2
+  tells_effect : (phase : Phase) (told : Told) → name ≡ named (said (notice told)) → Tells phase old told answers stop new → Effect name old answers stop new
+  tells_effect New initialized is s = silent s.0 s.2
+  tells_effect New exit is s = silent s.0 s.2
+  tells_effect New (open_text uri version text) is s = silent s.0 s.2
+  tells_effect New (change_text uri version changes) is s = silent s.0 s.2
+  tells_effect New (close uri) is s = silent s.0 s.2
+  tells_effect New (malformed unfit) is s = silent s.0 s.2
+  tells_effect Ready initialized is s = silent s.0 s.2
+  tells_effect Ready exit is s = silent s.0 s.2
+  tells_effect Ready (open_text uri version text) is s = opens_effect (has_room uri old.documents) uri (opened version (chars text)) is (opened_fit version (chars text)) s
+  tells_effect Ready (change_text uri version changes) is s = changes_effect (get old.documents uri) uri version changes is refl s
+  tells_effect Ready (close uri) is s = closes_effect (get old.documents uri) uri is s
+  tells_effect Ready (malformed unfit) is s = misses_effect unfit is s
+  tells_effect Down initialized is s = silent s.0 s.2
+  tells_effect Down exit is s = silent s.0 s.2
+  tells_effect Down (open_text uri version text) is s = silent s.0 s.2
+  tells_effect Down (change_text uri version changes) is s = silent s.0 s.2
+  tells_effect Down (close uri) is s = silent s.0 s.2
+  tells_effect Down (malformed unfit) is s = silent s.0 s.2
 
-  pub step_effect : (heard : Heard) → Step old heard answers stop new → Effect old answers stop new
-  step_effect unread s = replied _ (λ uri p. p) s
-  step_effect (refused (invalid id)) s = replied _ (λ uri p. p) s
-  step_effect (refused (unknown id)) s = replied _ (λ uri p. p) s
-  step_effect (refused (params id first)) s = replied _ (λ uri p. p) s
-  step_effect (said (request id asked)) s = asks_effect old.phase id asked s
-  step_effect (said (notice told)) s = tells_effect old.phase told s
-  step_effect (said ignored) s = silent s.0 s.2
+  effect_of : (heard : Heard) → name ≡ named heard → Step old heard answers stop new → Effect name old answers stop new
+  effect_of unread is s = replied _ (λ uri p. p) s
+  effect_of (refused (invalid id)) is s = replied _ (λ uri p. p) s
+  effect_of (refused (unknown id)) is s = replied _ (λ uri p. p) s
+  effect_of (refused (params id first)) is s = replied _ (λ uri p. p) s
+  effect_of (said (request id asked)) is s = asks_effect old.phase id asked s
+  effect_of (said (notice told)) is s = tells_effect old.phase told is s
+  effect_of (said ignored) is s = silent s.0 s.2
+
+pub step_effect : (old : State) (answers : List Answer) (stop : Option ℕ) (new : State) (heard : Heard) → Step old heard answers stop new → Effect (named heard) old answers stop new
+step_effect old answers stop new heard s = effect_of (named heard) old answers stop new heard refl s

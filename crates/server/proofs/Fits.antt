@@ -53,14 +53,14 @@ same_state old new e = record { file = ap (λ (s : State). s.file) e; fit = λ a
 next_state : (old new : State) (documents : Held) → (AllFit old.documents → AllFit documents) → new ≡ record { file = old.file; phase = old.phase; documents = documents } → Keeps old new
 next_state old new documents fit e = record { file = ap (λ (s : State). s.file) e; fit = λ all. subst (λ (s : State). AllFit s.documents) (sym e) (fit all) }
 
-effect_keeps : (old : State) (answers : List Answer) (stop : Option ℕ) (new : State) → Effect old answers stop new → Keeps old new
-effect_keeps old answers stop new (stays quiet file documents) = record { file = file; fit = λ all. subst AllFit (sym documents) all }
-effect_keeps old answers stop new (stands uri (is_open d) fit s) = next_state old new (insert old.documents uri (is_open d)) (λ all. inserted_fits old.documents uri (is_open d) all (fit all)) s.3.1
-effect_keeps old answers stop new (stands uri (is_lost loss) fit s) = next_state old new (insert old.documents uri (is_lost loss)) (λ all. inserted_fits old.documents uri (is_lost loss) all tt) s.1.1
-effect_keeps old answers stop new (goes uri s) = next_state old new (remove old.documents uri) (removed_fits old.documents uri) s.1.1
+effect_keeps : (name : Option (List ℕ)) (old : State) (answers : List Answer) (stop : Option ℕ) (new : State) → Effect name old answers stop new → Keeps old new
+effect_keeps name old answers stop new (stays quiet file documents) = record { file = file; fit = λ all. subst AllFit (sym documents) all }
+effect_keeps name old answers stop new (stands uri (is_open d) is fit s) = next_state old new (insert old.documents uri (is_open d)) (λ all. inserted_fits old.documents uri (is_open d) all (fit all)) s.3.1
+effect_keeps name old answers stop new (stands uri (is_lost loss) is fit s) = next_state old new (insert old.documents uri (is_lost loss)) (λ all. inserted_fits old.documents uri (is_lost loss) all tt) s.1.1
+effect_keeps name old answers stop new (goes uri is s) = next_state old new (remove old.documents uri) (removed_fits old.documents uri) s.1.1
 
 pub step_keeps : (old : State) (heard : Heard) (answers : List Answer) (stop : Option ℕ) (new : State) → Step old heard answers stop new → Keeps old new
-step_keeps old heard answers stop new s = effect_keeps old answers stop new (step_effect old answers stop new heard s)
+step_keeps old heard answers stop new s = effect_keeps _ old answers stop new (step_effect old answers stop new heard s)
 
 keeps_both : (old mid new : State) → Keeps old mid → Keeps mid new → Keeps old new
 keeps_both old mid new a b = record { file = b.file ∙ a.file; fit = λ all. b.fit (a.fit all) }

@@ -31,7 +31,7 @@ use Rattle.server.proofs.Totals.{some_answer_of}
 -- ---- there is one answer
 
 module _ (file : FileGrammar) (once : AnswersOnce file) where
-  one_answer : (d : OpenDocument) (id : Ident) (question : Question) (one other : Answer) → IsAnswerOf file id d question one → IsAnswerOf file id d question other → other ≡ one
+  pub one_answer : (d : OpenDocument) (id : Ident) (question : Question) (one other : Answer) → IsAnswerOf file id d question one → IsAnswerOf file id d question other → other ≡ one
   one_answer d id its_text one other a b = b ∙ sym a
   one_answer d id its_tokens one other a b = b.2 ∙ (ap (λ (r : Reading). told_tokens id (rows file d.text r.tokens)) (once.readings d.text a.0 b.0 a.1 b.1) ∙ sym a.2)
   one_answer d id its_tree one other a b = b.2 ∙ (ap (λ (r : Reading). tree_answer id (tree_told file r.verdict)) (once.readings d.text a.0 b.0 a.1 b.1) ∙ sym a.2)
@@ -42,7 +42,7 @@ module _ (file : FileGrammar) (once : AnswersOnce file) where
       let told : AreSelections file d.text a.0 positions b.2.0 = subst (λ (r : Reading). AreSelections file d.text r positions b.2.0) (once.readings d.text a.0 b.0 a.1 b.1) b.2.1 in
       b.2.2 ∙ (ap (told_selections id) (once.selections d.text a.0 positions a.2.0 b.2.0 a.2.1 told) ∙ sym a.2.2)
 
-  one_published : (uri : List ℕ) (d : OpenDocument) (one other : Answer) → IsPublished file uri d one → IsPublished file uri d other → other ≡ one
+  pub one_published : (uri : List ℕ) (d : OpenDocument) (one other : Answer) → IsPublished file uri d one → IsPublished file uri d other → other ≡ one
   one_published uri d one other a b =
       let fault : IsDiagnosis file d.text a.0.tokens a.0.verdict b.2.0 = subst (λ (r : Reading). IsDiagnosis file d.text r.tokens r.verdict b.2.0) (once.readings d.text a.0 b.0 a.1 b.1) b.2.1 in
       b.2.2 ∙ (ap (λ f. told_diagnostics uri (Some d.version) (option_map told_of f)) (once.faults d.text a.0 a.2.0 b.2.0 a.2.1 fault) ∙ sym a.2.2)
@@ -115,10 +115,10 @@ holds_published file prior old uri (is_lost loss) answers stop new by_file s all
     all in
     subst (λ (told : List Answer). AllPublished file (prior ++ told) new.documents) (sym s.0) (subst (λ (h : Held). AllPublished file (prior ++ told) h) (sym (ap (λ (x : State). x.documents) s.1.1)) next)
 
-effect_published : (file : FileGrammar) (prior : List Answer) (old : State) (answers : List Answer) (stop : Option ℕ) (new : State) → old.file ≡ file → Effect old answers stop new → AllPublished file prior old.documents → AllPublished file (prior ++ answers) new.documents
-effect_published file prior old answers stop new by_file (stays quiet same_file documents) all = quiet_step file prior answers old.documents new.documents quiet documents all
-effect_published file prior old answers stop new by_file (stands uri state fit s) all = holds_published file prior old uri state answers stop new by_file s all
-effect_published file prior old answers stop new by_file (goes uri s) all =
+effect_published : (file : FileGrammar) (prior : List Answer) (name : Option (List ℕ)) (old : State) (answers : List Answer) (stop : Option ℕ) (new : State) → old.file ≡ file → Effect name old answers stop new → AllPublished file prior old.documents → AllPublished file (prior ++ answers) new.documents
+effect_published file prior name old answers stop new by_file (stays quiet same_file documents) all = quiet_step file prior answers old.documents new.documents quiet documents all
+effect_published file prior name old answers stop new by_file (stands uri state is fit s) all = holds_published file prior old uri state answers stop new by_file s all
+effect_published file prior name old answers stop new by_file (goes uri is s) all =
     let told : List Answer = told_diagnostics uri None None ∷ [] in
     let next : AllPublished file (prior ++ told) (remove old.documents uri) =
     one_step file prior told uri old.documents (remove old.documents uri)
@@ -132,7 +132,7 @@ effect_published file prior old answers stop new by_file (goes uri s) all =
     subst (λ (told : List Answer). AllPublished file (prior ++ told) new.documents) (sym s.0) (subst (λ (h : Held). AllPublished file (prior ++ told) h) (sym (ap (λ (x : State). x.documents) s.1.1)) next)
 
 step_published : (file : FileGrammar) (prior : List Answer) (old : State) (heard : Heard) (answers : List Answer) (stop : Option ℕ) (new : State) → old.file ≡ file → Step old heard answers stop new → AllPublished file prior old.documents → AllPublished file (prior ++ answers) new.documents
-step_published file prior old heard answers stop new by_file s = effect_published file prior old answers stop new by_file (step_effect old answers stop new heard s)
+step_published file prior old heard answers stop new by_file s = effect_published file prior _ old answers stop new by_file (step_effect old answers stop new heard s)
 
 run_published : (file : FileGrammar) (contents : List (List ℕ)) (prior : List Answer) (old : State) (answers : List Answer) (stop : Option ℕ) (new : State) → old.file ≡ file → Run old contents answers stop new → AllPublished file prior old.documents → AllPublished file (prior ++ answers) new.documents
 run_published file [] prior old answers stop new by_file r all = quiet_step file prior answers old.documents new.documents (subst AreQuiet (sym r.0) none_quiet) (ap (λ (x : State). x.documents) r.2) all

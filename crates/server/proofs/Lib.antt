@@ -10,3 +10,5 @@ mod Loop
 mod Telling
 mod Holding
 mod Fresh
+mod Alone
+mod Tales

@@ -4,3 +4,4 @@ pub mod Steps
 pub mod Runs
 pub mod Sessions
 pub mod Fresh
+pub mod Alone

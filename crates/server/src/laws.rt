@@ -1,5 +1,6 @@
 //! Laws of the steps.
 
+ghost use Rattle.server.specs.Alone.{EachDocumentIsAlone, EachTaleIsTold};
 ghost use Rattle.server.specs.Fresh.{EveryAnswerIsFresh, EachTextIsItsEdits};
 
 use docs::Language;
@@ -17,3 +18,16 @@ pub fn every_answer_is_fresh(language: &Language)
 pub fn each_text_is_its_edits()
     ensures { EachTextIsItsEdits }
 {}
+
+/// In a session by this language, whatever it holds: a message that does not name a document leaves it as it was, and sends
+/// no diagnostics of it. What is sent on one that names it, and what the document becomes, depends on the phase, on what is
+/// held under its URI, and on whether it may be held; and on want of memory within its changes.
+///
+/// So what a session sends about a document is told by what it hears of it: by the messages that name it, the phase at each,
+/// and whether the document could be held then.
+pub fn each_document_is_alone(language: &Language)
+    ensures alone { EachDocumentIsAlone language.now.file }
+    ensures told { EachTaleIsTold language.now.file }
+{
+    language.always_answers();
+}

@@ -1,0 +1,227 @@
+-- What is sent about a document depends on that document alone.
+use Rattle.std.proofs.Common.{◌≡◌, ◌≢◌, ℕ, ℤ, Bool, true, false, List, [], ◌∷◌, refl, sym, ap, subst, ◌∙◌}
+use Rattle.std.specs.Prelude.{Option, Some, None, All}
+use Rattle.std.specs.Str.{chars}
+use Rattle.std.specs.FinMap.{get}
+use Rattle.std.proofs.lemmas.List.Elements.{All-from_recursion}
+use Rattle.docs.specs.Answers.{AnswersOnce}
+use Rattle.docs.specs.Texts.{OpenDocument}
+use Rattle.grammar.specs.Grammars.{FileGrammar}
+use Rattle.rpc.specs.Messages.{Ident, Asked, initialize, shutdown, about, Question, Told, initialized, exit, open_text, change_text, close, malformed, unfit_open, unfit_change, unfit_close, request, notice, ignored, Heard, unread, refused, said, ChangeSaid}
+use Rattle.rpc.specs.Replies.{Answer, told_diagnostics, told_log}
+use Rattle.rpc.specs.declared.reply.Log.TheVariants.{Lost}
+use Rattle.rpc.specs.declared.reply.Loss.TheVariants.{TooLarge, MalformedChange, NoMemory}
+use Rattle.server.specs.Alone.{named, LookAlike, LosesMemory, SameFor, EachDocumentIsAlone}
+use Rattle.server.specs.Answers.{IsAnswer, IsPublished}
+use Rattle.server.specs.Documents.{DocumentState, is_open, is_lost, Becomes, has_room}
+use Rattle.server.specs.Fresh.{Publishes}
+use Rattle.server.specs.Steps.{State, Asks, Changes, Closes, Forgets, Holds, Ignores, Opens, Replies, Spoils, Step, Tells, opened}
+use Rattle.server.specs.declared.state.Phase.{Phase}
+use Rattle.server.specs.declared.state.Phase.TheVariants.{New, Ready, Down}
+use Rattle.server.proofs.Effects.{Effect, stays, stands, goes, step_effect}
+use Rattle.server.proofs.Fresh.{one_answer, one_published}
+use Rattle.server.proofs.LookUps.{get_inserted, get_other, get_removed, get_other_removed}
+
+-- ---- a message that does not name a document
+
+abbrev IsLeft : List ℕ → State → List Answer → State → Type 0
+IsLeft uri old answers new = (get new.documents uri ≡ get old.documents uri) × All (λ a. ¬ Publishes uri a) answers
+
+-- another document's URI is another
+apart_from : (name : Option (List ℕ)) (uri other : List ℕ) → name ≡ Some other → name ≢ Some uri → uri ≢ other
+apart_from name uri other is apart same = apart (is ∙ ap (λ u. Some u) (sym same))
+
+published_elsewhere : (file : FileGrammar) (uri other : List ℕ) (d : OpenDocument) (a : Answer) → IsPublished file other d a → uri ≢ other → ¬ Publishes uri a
+published_elsewhere file uri other d a is apart p = apart (sym (subst (Publishes uri) is.2.2 p))
+
+effect_left : (name : Option (List ℕ)) (old : State) (answers : List Answer) (stop : Option ℕ) (new : State) → Effect name old answers stop new → (uri : List ℕ) → name ≢ Some uri → IsLeft uri old answers new
+effect_left name old answers stop new (stays quiet file documents) uri apart = (ap (λ h. get h uri) documents, quiet uri)
+effect_left name old answers stop new (stands other (is_open d) is fit s) uri apart =
+    let away = apart_from name uri other is apart in (
+      ap (λ (x : State). get x.documents uri) s.3.1 ∙ get_other old.documents other uri (is_open d) away,
+      subst (λ (told : List Answer). All (λ a. ¬ Publishes uri a) told) (sym s.2) (All-from_recursion (λ a. ¬ Publishes uri a) (s.0 ∷ []) (published_elsewhere old.file uri other d s.0 s.1 away, tt)),
+    )
+effect_left name old answers stop new (stands other (is_lost loss) is fit s) uri apart =
+    let away = apart_from name uri other is apart in
+    let told : List Answer = told_diagnostics other None None ∷ told_log (Lost loss) ∷ [] in (
+      ap (λ (x : State). get x.documents uri) s.1.1 ∙ get_other old.documents other uri (is_lost loss) away,
+      subst (λ (told : List Answer). All (λ a. ¬ Publishes uri a) told) (sym s.0) (All-from_recursion (λ a. ¬ Publishes uri a) told (λ p. away (sym p), ((λ p. p), tt))),
+    )
+effect_left name old answers stop new (goes other is s) uri apart =
+    let away = apart_from name uri other is apart in
+    let told : List Answer = told_diagnostics other None None ∷ [] in (
+      ap (λ (x : State). get x.documents uri) s.1.1 ∙ get_other_removed old.documents other uri away,
+      subst (λ (told : List Answer). All (λ a. ¬ Publishes uri a) told) (sym s.0) (All-from_recursion (λ a. ¬ Publishes uri a) told (λ p. away (sym p), tt)),
+    )
+
+-- ---- a message that names it
+
+-- what an open document becomes, but for want of memory
+one_becomes : (version : ℤ) (text : List ℕ) (changes : List ChangeSaid) (s t : DocumentState) → (s ≡ is_lost NoMemory → ⊥) → (t ≡ is_lost NoMemory → ⊥) → Becomes version text changes s → Becomes version text changes t → t ≡ s
+one_becomes version text changes (is_open d) (is_open e) ns nt a b =
+    let texts : Some e.text ≡ Some d.text = sym b.0 ∙ a.0 in
+    let same : e.text ≡ d.text = cc in
+    ap (λ v. is_open (record { version = v; text = e.text })) (b.1 ∙ sym a.1) ∙ ap (λ t. is_open (record { version = d.version; text = t })) same
+one_becomes version text changes (is_open d) (is_lost TooLarge) ns nt a b = absurd (let e : Some d.text ≡ None = sym a.0 ∙ b in let f : ⊥ = cc in f)
+one_becomes version text changes (is_lost TooLarge) (is_open e) ns nt a b = absurd (let g : Some e.text ≡ None = sym b.0 ∙ a in let f : ⊥ = cc in f)
+one_becomes version text changes (is_lost TooLarge) (is_lost TooLarge) ns nt a b = refl
+one_becomes version text changes s (is_lost NoMemory) ns nt a b = absurd (nt refl)
+one_becomes version text changes (is_lost NoMemory) t ns nt a b = absurd (ns refl)
+one_becomes version text changes s (is_lost MalformedChange) ns nt a b = absurd b
+one_becomes version text changes (is_lost MalformedChange) t ns nt a b = absurd a
+
+module _ (file : FileGrammar) (once : AnswersOnce file) (uri : List ℕ) (old two new other : State) (answers other_answers : List Answer) (stop other_stop : Option ℕ) (by_file : old.file ≡ file) (look : LookAlike uri old two) where
+  abbrev Same : Type 0
+  Same = SameFor uri answers other_answers stop other_stop new other
+
+  two_file : two.file ≡ file
+  two_file = look.file ∙ by_file
+
+  -- nothing changes in either
+  both_stay : (told : List Answer) (halt : Option ℕ) → answers ≡ told → other_answers ≡ told → stop ≡ halt → other_stop ≡ halt → new.documents ≡ old.documents → other.documents ≡ two.documents → Same
+  both_stay told halt a b s t n o = record {
+    sent = b ∙ sym a;
+    stops = t ∙ sym s;
+    held = ap (λ h. get h uri) o ∙ (look.held ∙ sym (ap (λ h. get h uri) n));
+  }
+
+  both_reply : (answer : Answer) → Replies old answer answers stop new → Replies two answer other_answers other_stop other → Same
+  both_reply answer a b = both_stay (answer ∷ []) None a.0 b.0 a.1 b.1 (ap (λ (x : State). x.documents) a.2) (ap (λ (x : State). x.documents) b.2)
+
+  both_ignore : Ignores old answers stop new → Ignores two other_answers other_stop other → Same
+  both_ignore a b = both_stay [] None a.0 b.0 a.1 b.1 (ap (λ (x : State). x.documents) a.2) (ap (λ (x : State). x.documents) b.2)
+
+  both_hold : (state : DocumentState) → Holds old uri state answers stop new → Holds two uri state other_answers other_stop other → Same
+  both_hold (is_open d) a b =
+      let mine : IsPublished file uri d a.0 = subst (λ (f : FileGrammar). IsPublished f uri d a.0) by_file a.1 in
+      let yours : IsPublished file uri d b.0 = subst (λ (f : FileGrammar). IsPublished f uri d b.0) two_file b.1 in
+      record {
+        sent = b.2 ∙ (ap (λ (x : Answer). x ∷ []) (one_published file once uri d a.0 b.0 mine yours) ∙ sym a.2);
+        stops = b.3.0 ∙ sym a.3.0;
+        held = ap (λ (x : State). get x.documents uri) b.3.1 ∙ (get_inserted two.documents uri (is_open d) ∙ sym (ap (λ (x : State). get x.documents uri) a.3.1 ∙ get_inserted old.documents uri (is_open d)));
+      }
+  both_hold (is_lost loss) a b = record {
+    sent = b.0 ∙ sym a.0;
+    stops = b.1.0 ∙ sym a.1.0;
+    held = ap (λ (x : State). get x.documents uri) b.1.1 ∙ (get_inserted two.documents uri (is_lost loss) ∙ sym (ap (λ (x : State). get x.documents uri) a.1.1 ∙ get_inserted old.documents uri (is_lost loss)));
+  }
+
+  both_forget : Forgets old uri answers stop new → Forgets two uri other_answers other_stop other → Same
+  both_forget a b = record {
+    sent = b.0 ∙ sym a.0;
+    stops = b.1.0 ∙ sym a.1.0;
+    held = ap (λ (x : State). get x.documents uri) b.1.1 ∙ (get_removed two.documents uri ∙ sym (ap (λ (x : State). get x.documents uri) a.1.1 ∙ get_removed old.documents uri));
+  }
+
+  -- one answer about what both hold
+  both_answer : (o : Option DocumentState) (id : Ident) (question : Question) (one yours : Answer) → IsAnswer file id o question one → IsAnswer file id o question yours → yours ≡ one
+  both_answer None id question one yours a b = b ∙ sym a
+  both_answer (Some (is_lost loss)) id question one yours a b = b ∙ sym a
+  both_answer (Some (is_open d)) id question one yours a b = one_answer file once d id question one yours a b
+
+  both_tell : (id : Ident) (question : Question) → Asks Ready old id (about uri question) answers stop new → Asks Ready two id (about uri question) other_answers other_stop other → Same
+  both_tell id question a b =
+      let mine : IsAnswer file id (get old.documents uri) question a.0 = subst (λ (f : FileGrammar). IsAnswer f id (get old.documents uri) question a.0) by_file a.1 in
+      let theirs : IsAnswer file id (get two.documents uri) question b.0 = subst (λ (f : FileGrammar). IsAnswer f id (get two.documents uri) question b.0) two_file b.1 in
+      let yours : IsAnswer file id (get old.documents uri) question b.0 = subst (λ (o : Option DocumentState). IsAnswer file id o question b.0) look.held theirs in
+      let same : b.0 ≡ a.0 = both_answer (get old.documents uri) id question a.0 b.0 mine yours in
+      both_reply a.0 a.2 (b.2.0 ∙ ap (λ (x : Answer). x ∷ []) same, b.2.1, b.2.2)
+
+  both_open : (room : Bool) (state : DocumentState) → Opens room old uri state answers stop new → Opens room two uri state other_answers other_stop other → Same
+  both_open true state a b = both_hold state a b
+  both_open false state a b = both_reply _ a b
+
+  held_after : (x y : State) (told : List Answer) (halt : Option ℕ) (state : DocumentState) → Holds x uri state told halt y → get y.documents uri ≡ Some state
+  held_after x y told halt (is_open d) s = ap (λ (z : State). get z.documents uri) s.3.1 ∙ get_inserted x.documents uri (is_open d)
+  held_after x y told halt (is_lost loss) s = ap (λ (z : State). get z.documents uri) s.1.1 ∙ get_inserted x.documents uri (is_lost loss)
+
+  both_change : (o : Option DocumentState) (version : ℤ) (changes : List ChangeSaid) → get old.documents uri ≡ o → ¬ LosesMemory uri old new → ¬ LosesMemory uri two other → Changes o old uri version changes answers stop new → Changes o two uri version changes other_answers other_stop other → Same
+  both_change None version changes e mine yours a b = both_reply _ a b
+  both_change (Some (is_lost loss)) version changes e mine yours a b = both_ignore a b
+  both_change (Some (is_open d)) version changes e mine yours a b =
+      let kept : a.0 ≡ is_lost NoMemory → ⊥ = λ lost. mine (d, e, held_after old new answers stop a.0 a.2 ∙ ap (λ (s : DocumentState). Some s) lost) in
+      let kept_too : b.0 ≡ is_lost NoMemory → ⊥ = λ lost. yours (d, look.held ∙ e, held_after two other other_answers other_stop b.0 b.2 ∙ ap (λ (s : DocumentState). Some s) lost) in
+      let same : b.0 ≡ a.0 = one_becomes version d.text changes a.0 b.0 kept kept_too a.1 b.1 in
+      both_hold a.0 a.2 (subst (λ (s : DocumentState). Holds two uri s other_answers other_stop other) same b.2)
+
+  both_spoil : (o : Option DocumentState) → Spoils o old uri answers stop new → Spoils o two uri other_answers other_stop other → Same
+  both_spoil None a b = both_reply _ a b
+  both_spoil (Some (is_lost loss)) a b = both_ignore a b
+  both_spoil (Some (is_open d)) a b = both_hold (is_lost MalformedChange) a b
+
+  both_close : (o : Option DocumentState) → Closes o old uri answers stop new → Closes o two uri other_answers other_stop other → Same
+  both_close None a b = both_reply _ a b
+  both_close (Some state) a b = both_forget a b
+
+  both_ask : (phase : Phase) (id : Ident) (question : Question) → Asks phase old id (about uri question) answers stop new → Asks phase two id (about uri question) other_answers other_stop other → Same
+  both_ask New id question a b = both_reply _ a b
+  both_ask Ready id question a b = both_tell id question a b
+  both_ask Down id question a b = both_reply _ a b
+
+  both_hear_open : (phase : Phase) (version : ℤ) (text : List ℕ) → Tells phase old (open_text uri version text) answers stop new → Tells phase two (open_text uri version text) other_answers other_stop other → Same
+  both_hear_open New version text a b = both_ignore a b
+  both_hear_open Ready version text a b = both_open (has_room uri old.documents) (opened version (chars text)) a (subst (λ (r : Bool). Opens r two uri (opened version (chars text)) other_answers other_stop other) look.room b)
+  both_hear_open Down version text a b = both_ignore a b
+
+  both_hear_change : (phase : Phase) (version : ℤ) (changes : List ChangeSaid) → ¬ LosesMemory uri old new → ¬ LosesMemory uri two other → Tells phase old (change_text uri version changes) answers stop new → Tells phase two (change_text uri version changes) other_answers other_stop other → Same
+  both_hear_change New version changes mine yours a b = both_ignore a b
+  both_hear_change Ready version changes mine yours a b = both_change (get old.documents uri) version changes refl mine yours a (subst (λ (o : Option DocumentState). Changes o two uri version changes other_answers other_stop other) look.held b)
+  both_hear_change Down version changes mine yours a b = both_ignore a b
+
+  both_hear_close : (phase : Phase) → Tells phase old (close uri) answers stop new → Tells phase two (close uri) other_answers other_stop other → Same
+  both_hear_close New a b = both_ignore a b
+  both_hear_close Ready a b = both_close (get old.documents uri) a (subst (λ (o : Option DocumentState). Closes o two uri other_answers other_stop other) look.held b)
+  both_hear_close Down a b = both_ignore a b
+
+  both_hear_misfit : (phase : Phase) → Tells phase old (malformed (unfit_change (Some uri))) answers stop new → Tells phase two (malformed (unfit_change (Some uri))) other_answers other_stop other → Same
+  both_hear_misfit New a b = both_ignore a b
+  both_hear_misfit Ready a b = both_spoil (get old.documents uri) a (subst (λ (o : Option DocumentState). Spoils o two uri other_answers other_stop other) look.held b)
+  both_hear_misfit Down a b = both_ignore a b
+
+-- ---- both
+
+same_name : (one other : List ℕ) → Some one ≡ Some other → one ≡ other
+same_name one other e = let same : one ≡ other = cc in same
+
+module _ (file : FileGrammar) (once : AnswersOnce file) (old two new other : State) (answers other_answers : List Answer) (stop other_stop : Option ℕ) (by_file : old.file ≡ file) where
+  abbrev Alike : List ℕ → Type 0
+  Alike uri = LookAlike uri old two → ¬ LosesMemory uri old new → ¬ LosesMemory uri two other → SameFor uri answers other_answers stop other_stop new other
+
+  tells_alike : (told : Told) (uri : List ℕ) → named (said (notice told)) ≡ Some uri → Tells old.phase old told answers stop new → Tells two.phase two told other_answers other_stop other → Alike uri
+  tells_alike initialized uri name a b = absurd (let f : ⊥ = cc in f)
+  tells_alike exit uri name a b = absurd (let f : ⊥ = cc in f)
+  tells_alike (open_text u version text) uri name a b =
+      let there = λ (p : Phase). Tells p two (open_text u version text) other_answers other_stop other in
+      subst Alike (same_name u uri name) (λ look mine yours. both_hear_open file once u old two new other answers other_answers stop other_stop by_file look old.phase version text a (subst there look.phase b))
+  tells_alike (change_text u version changes) uri name a b =
+      let there = λ (p : Phase). Tells p two (change_text u version changes) other_answers other_stop other in
+      subst Alike (same_name u uri name) (λ look mine yours. both_hear_change file once u old two new other answers other_answers stop other_stop by_file look old.phase version changes mine yours a (subst there look.phase b))
+  tells_alike (close u) uri name a b =
+      let there = λ (p : Phase). Tells p two (close u) other_answers other_stop other in
+      subst Alike (same_name u uri name) (λ look mine yours. both_hear_close file once u old two new other answers other_answers stop other_stop by_file look old.phase a (subst there look.phase b))
+  tells_alike (malformed unfit_open) uri name a b = absurd (let f : ⊥ = cc in f)
+  tells_alike (malformed (unfit_change None)) uri name a b = absurd (let f : ⊥ = cc in f)
+  tells_alike (malformed (unfit_change (Some u))) uri name a b =
+      let there = λ (p : Phase). Tells p two (malformed (unfit_change (Some u))) other_answers other_stop other in
+      subst Alike (same_name u uri name) (λ look mine yours. both_hear_misfit file once u old two new other answers other_answers stop other_stop by_file look old.phase a (subst there look.phase b))
+  tells_alike (malformed unfit_close) uri name a b = absurd (let f : ⊥ = cc in f)
+
+  asks_alike : (id : Ident) (asked : Asked) (uri : List ℕ) → named (said (request id asked)) ≡ Some uri → Asks old.phase old id asked answers stop new → Asks two.phase two id asked other_answers other_stop other → Alike uri
+  asks_alike id initialize uri name a b = absurd (let f : ⊥ = cc in f)
+  asks_alike id shutdown uri name a b = absurd (let f : ⊥ = cc in f)
+  asks_alike id (about u question) uri name a b =
+      let there = λ (p : Phase). Asks p two id (about u question) other_answers other_stop other in
+      subst Alike (same_name u uri name) (λ look mine yours. both_ask file once u old two new other answers other_answers stop other_stop by_file look old.phase id question a (subst there look.phase b))
+
+  step_alike : (heard : Heard) (uri : List ℕ) → named heard ≡ Some uri → Step old heard answers stop new → Step two heard other_answers other_stop other → Alike uri
+  step_alike unread uri name a b = absurd (let f : ⊥ = cc in f)
+  step_alike (refused why) uri name a b = absurd (let f : ⊥ = cc in f)
+  step_alike (said (request id asked)) uri name a b = asks_alike id asked uri name a b
+  step_alike (said (notice told)) uri name a b = tells_alike told uri name a b
+  step_alike (said ignored) uri name a b = absurd (let f : ⊥ = cc in f)
+
+pub each_document_is_alone : (file : FileGrammar) → AnswersOnce file → EachDocumentIsAlone file
+each_document_is_alone file once uri heard old answers stop new by_file step = (
+  effect_left (named heard) old answers stop new (step_effect old answers stop new heard step) uri,
+  λ name two other_answers other_stop other look theirs mine yours. step_alike file once old two new other answers other_answers stop other_stop by_file heard uri name step theirs look mine yours,
+)
