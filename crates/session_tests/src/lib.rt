@@ -1,17 +1,10 @@
-//! Tests of the program's calls: command lines, what is printed of grammar files, and whole sessions over the server's loop.
-//! The crate has nothing else.
+//! Tests of whole sessions over the server's loop, told by transcripts. The crate has nothing else.
 #![tactic(auto)]
 
-#[cfg(test)]
-mod command_lines;
 #[cfg(test)]
 mod devices;
 #[cfg(test)]
 mod documents;
-#[cfg(test)]
-mod grammar_checks;
-#[cfg(test)]
-mod parses;
 #[cfg(test)]
 mod phases;
 #[cfg(test)]

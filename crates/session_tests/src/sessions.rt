@@ -1,14 +1,14 @@
 //! The stored session however its bytes come and go, and sessions at the limits.
 
 use crate::devices::{Drops, Pieces, Record, Taker};
-use crate::grammar_checks::sums;
-use crate::talks::{WHOLE, Way, framed, push_frame, run_by};
+use crate::talks::{WHOLE, Way, framed, language, push_frame, run_by};
 use frames::{FrameFault, ReadInput, WriteOutput};
 use server::{RunFault, run};
 use std::alloc::Global;
 use std::cell::RefCell;
 use std::process::Abort;
 use std::test::Fail;
+use worked::SUMS;
 
 /// A session from its beginning to a clean end.
 const SESSION: &str = r#"
@@ -75,7 +75,13 @@ fn stored_session(alloc: Global) -> Result<Stored, Fail> {
 
 /// The stored session passes in this way, and each reply is out before the next read.
 fn passes(rt: &impl Abort, alloc: Global, stored: &Stored, way: Way) -> Result<(), Fail> {
-    let (outcome, record) = run_by(alloc, sums(alloc)?, &stored.input, way, &stored.due)?;
+    let (outcome, record) = run_by(
+        alloc,
+        language(alloc, SUMS)?,
+        &stored.input,
+        way,
+        &stored.due,
+    )?;
     assert!(rt; outcome == Ok(0));
     assert!(rt; record.taken.as_slice() == stored.output.as_slice());
     assert!(rt; record.is_prompt);
@@ -117,7 +123,7 @@ fn fails(
     way: Way,
     fault: RunFault,
 ) -> Result<(), Fail> {
-    let (outcome, record) = run_by(alloc, sums(alloc)?, &stored.input, way, &[])?;
+    let (outcome, record) = run_by(alloc, language(alloc, SUMS)?, &stored.input, way, &[])?;
     assert!(rt; outcome == Err(fault));
     assert!(rt; stored.output.starts_with(&record.taken));
     Ok(())
@@ -163,7 +169,7 @@ fn push_clean(alloc: Global, output: &mut Vec<u8>, uri: &str) -> Result<(), Fail
 
 /// Sums are served on this input with this output.
 fn answers(rt: &impl Abort, alloc: Global, input: &[u8], output: &[u8]) -> Result<(), Fail> {
-    let (outcome, record) = run_by(alloc, sums(alloc)?, input, WHOLE, &[])?;
+    let (outcome, record) = run_by(alloc, language(alloc, SUMS)?, input, WHOLE, &[])?;
     assert!(rt; outcome == Ok(1));
     assert!(rt; record.taken.as_slice() == output);
     Ok(())
@@ -283,7 +289,7 @@ fn ends(
             piece,
             ..WHOLE
         };
-        let (outcome, record) = run_by(alloc, sums(alloc)?, stream, way, &[])?;
+        let (outcome, record) = run_by(alloc, language(alloc, SUMS)?, stream, way, &[])?;
         assert!(rt; outcome == wanted);
         assert!(rt; record.taken.as_slice() == output);
     }
@@ -339,7 +345,7 @@ fn stops(
         calls: u64::MAX,
         has_failed: false,
     };
-    let outcome = run(alloc, sums(alloc)?, &mut pieces, &mut taker);
+    let outcome = run(alloc, language(alloc, SUMS)?, &mut pieces, &mut taker);
     assert!(rt; outcome == Err(RunFault::Frame(fault)));
     assert!(rt; !pieces.has_failed);
     Ok(())
@@ -391,7 +397,7 @@ fn a_hundred_thousand_reads_of_one_byte(rt: HostRuntime) -> Result<(), Fail> {
     let mut input = ReadInput::new(Drops { rest: &stream });
     let mut taken = Vec::new(alloc);
     let mut output = WriteOutput::new(&mut taken);
-    let outcome = run(alloc, sums(alloc)?, &mut input, &mut output);
+    let outcome = run(alloc, language(alloc, SUMS)?, &mut input, &mut output);
     assert_eq!(rt; outcome, Ok(1));
     let mut wanted = Vec::new(alloc);
     push_frame(alloc, &mut wanted, CAPABILITIES)?;

@@ -2,9 +2,8 @@
 //! content that it writes. Other lines say nothing.
 
 use crate::devices::{Pieces, Record, Taker};
-use crate::grammar_checks::language;
 use server::{Language, RunFault, run};
-use std::alloc::Global;
+use std::alloc::{AllocError, Global};
 use std::cell::RefCell;
 use std::process::Abort;
 use std::test::Fail;
@@ -32,6 +31,14 @@ pub const WHOLE: Way = Way {
     reads: u64::MAX,
     calls: u64::MAX,
 };
+
+/// The language of a grammar file.
+pub fn language(alloc: Global, file: &str) -> Result<Language, Fail> {
+    match Language::load(alloc, file) {
+        Ok(language) => Ok(language),
+        Err(_) => Err(AllocError.into()),
+    }
+}
 
 /// Runs a session, and answers its outcome and its record.
 pub fn run_by(

@@ -7,17 +7,12 @@ use std::process::Abort;
 use std::test::Fail;
 use worked::{CHOICES, LISTS, LOOP, NOT_LALR, SUMS, TWO_AHEAD, long_sides};
 
-/// The language of a grammar file.
-pub fn language(alloc: Global, file: &str) -> Result<Language, Fail> {
-    match load(alloc, file.as_bytes())? {
+/// The language of the grammar of sums.
+pub fn sums(alloc: Global) -> Result<Language, Fail> {
+    match load(alloc, SUMS.as_bytes())? {
         Ok(language) => Ok(language),
         Err(_) => Err(AllocError.into()),
     }
-}
-
-/// The language of the grammar of sums.
-pub fn sums(alloc: Global) -> Result<Language, Fail> {
-    language(alloc, SUMS)
 }
 
 /// `check` prints this of a file, and ends with this status.
