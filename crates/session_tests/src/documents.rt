@@ -1,6 +1,6 @@
 //! Documents that are opened and changed: their texts and what is told of their faults.
 
-use crate::talks::{serves, with_character};
+use crate::talks::{serves, with_text};
 use std::test::Fail;
 use worked::SUMS;
 
@@ -185,7 +185,7 @@ fn a_character_may_count_two_units(rt: HostRuntime) -> Result<(), Fail> {
     let alloc = rt.alloc();
     for character in ["\u{1F600}", "\u{10000}", "\u{10FFFF}"] {
         for talk in [BEFORE, BEHIND, DELETED, INSERTED] {
-            let talk = with_character(alloc, talk, character)?;
+            let talk = with_text(alloc, talk, character)?;
             serves(&rt, alloc, SUMS, talk.as_str())?;
         }
     }

@@ -6,6 +6,12 @@ mod devices;
 #[cfg(test)]
 mod documents;
 #[cfg(test)]
+mod logs;
+#[cfg(test)]
+mod losses;
+#[cfg(test)]
+mod mixtures;
+#[cfg(test)]
 mod phases;
 #[cfg(test)]
 mod sessions;

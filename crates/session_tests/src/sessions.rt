@@ -30,12 +30,6 @@ const INITIALIZE: &str = r#"{"jsonrpc":"2.0","id":1,"method":"initialize","param
 const CAPABILITIES: &str =
     r#"{"id":1,"jsonrpc":"2.0","result":{"capabilities":{"foldingRangeProvider":true,"positionEncoding":"utf-16","selectionRangeProvider":true,"textDocumentSync":{"change":2,"openClose":true}}}}"#;
 
-const ASK_TEXT: &str =
-    r#"{"jsonrpc":"2.0","id":2,"method":"lr/text","params":{"textDocument":{"uri":"a:x"}}}"#;
-
-const NOT_OPEN: &str =
-    r#"{"error":{"code":-32602,"message":"document not open"},"id":2,"jsonrpc":"2.0"}"#;
-
 const PARSE_ERROR: &str =
     r#"{"error":{"code":-32700,"message":"parse error"},"id":null,"jsonrpc":"2.0"}"#;
 
@@ -173,67 +167,6 @@ fn answers(rt: &impl Abort, alloc: Global, input: &[u8], output: &[u8]) -> Resul
     assert!(rt; outcome == Ok(1));
     assert!(rt; record.taken.as_slice() == output);
     Ok(())
-}
-
-/// A text of so many digits.
-fn digits(alloc: Global, count: usize) -> Result<String, Fail> {
-    let digits = Vec::from_elem(alloc, b'1', count)?;
-    Ok(String::from_utf8(digits).unwrap_or(String::new(alloc)))
-}
-
-/// Inserts a digit at the start of the document.
-const ONE_MORE: &str =
-    r#"{"jsonrpc":"2.0","method":"textDocument/didChange","params":{"textDocument":{"uri":"a:x","version":2},"contentChanges":[{"range":{"start":{"line":0,"character":0},"end":{"line":0,"character":0}},"text":"1"}]}}"#;
-
-#[test]
-fn a_change_over_the_limit_changes_nothing(rt: HostRuntime) -> Result<(), Fail> {
-    let alloc = rt.alloc();
-    let text = digits(alloc, 1_048_576)?;
-    let mut input = Vec::new(alloc);
-    push_frame(alloc, &mut input, INITIALIZE)?;
-    push_opening(alloc, &mut input, "a:x", text.as_str())?;
-    push_frame(alloc, &mut input, ONE_MORE)?;
-    push_frame(alloc, &mut input, ASK_TEXT)?;
-    let mut output = Vec::new(alloc);
-    push_frame(alloc, &mut output, CAPABILITIES)?;
-    push_clean(alloc, &mut output, "a:x")?;
-    let told = format!(in alloc;
-        r#"{{"id":2,"jsonrpc":"2.0","result":{{"text":"{text}","version":1}}}}"#
-    )?;
-    push_frame(alloc, &mut output, told.as_str())?;
-    answers(&rt, alloc, &input, &output)
-}
-
-#[test]
-fn a_text_over_the_limit_is_not_opened(rt: HostRuntime) -> Result<(), Fail> {
-    let alloc = rt.alloc();
-    let text = digits(alloc, 1_048_577)?;
-    let mut input = Vec::new(alloc);
-    push_frame(alloc, &mut input, INITIALIZE)?;
-    push_opening(alloc, &mut input, "a:x", text.as_str())?;
-    push_frame(alloc, &mut input, ASK_TEXT)?;
-    let mut output = Vec::new(alloc);
-    push_frame(alloc, &mut output, CAPABILITIES)?;
-    push_frame(alloc, &mut output, NOT_OPEN)?;
-    answers(&rt, alloc, &input, &output)
-}
-
-#[test]
-fn no_65th_document_is_held(rt: HostRuntime) -> Result<(), Fail> {
-    let alloc = rt.alloc();
-    let mut input = Vec::new(alloc);
-    let mut output = Vec::new(alloc);
-    push_frame(alloc, &mut input, INITIALIZE)?;
-    push_frame(alloc, &mut output, CAPABILITIES)?;
-    for i in 0..64 {
-        let uri = format!(in alloc; "b:{i}")?;
-        push_opening(alloc, &mut input, uri.as_str(), "1")?;
-        push_clean(alloc, &mut output, uri.as_str())?;
-    }
-    push_opening(alloc, &mut input, "a:x", "2")?;
-    push_frame(alloc, &mut input, ASK_TEXT)?;
-    push_frame(alloc, &mut output, NOT_OPEN)?;
-    answers(&rt, alloc, &input, &output)
 }
 
 /// The range on line 0 from one character to another, as an answer names it.

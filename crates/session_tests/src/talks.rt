@@ -111,12 +111,12 @@ pub fn serves(rt: &impl Abort, alloc: Global, file: &str, talk: &str) -> Result<
     talks(rt, alloc, file, whole.as_str(), 1)
 }
 
-/// The transcript with this character in the place of each `@`.
-pub fn with_character(alloc: Global, talk: &str, character: &str) -> Result<String, Fail> {
+/// The transcript with this text in the place of each `@`.
+pub fn with_text(alloc: Global, talk: &str, text: &str) -> Result<String, Fail> {
     let mut whole = String::new(alloc);
     for c in talk.chars() {
         if c == '@' {
-            whole.push_str(character)?;
+            whole.push_str(text)?;
         } else {
             whole.push(c)?;
         }
