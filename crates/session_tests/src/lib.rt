@@ -18,4 +18,4 @@ mod sessions;
 #[cfg(test)]
 mod talks;
 #[cfg(test)]
-mod views;
+mod told_views;
