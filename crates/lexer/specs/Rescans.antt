@@ -1,7 +1,6 @@
 -- What a rescan asks of a text, and what it makes.
 use Rattle.std.specs.Prelude.{◌≡◌, ℕ, ◌+◌, ◌-◌, ◌<◌, ◌≤◌, Bool, true, false, List, [], filter, if◌then◌else◌, length, map, take, drop, count_by, slice_get, slice_range, All, IsSomeAnd}
 use Rattle.definitions.specs.declared.Edit.{Edit}
-use Rattle.definitions.specs.declared.KindSplice.{KindSplice}
 use Rattle.definitions.specs.declared.Kind.{Kind}
 use Rattle.definitions.specs.declared.expression.Expression.{Expression}
 use Rattle.definitions.specs.Text.{edit}
@@ -42,9 +41,6 @@ pub record AreRescanned (e : Edit) (old new : List Token) : Type 0 where
   pub front_kept : take (front e (plain_all old)) new ≡ take (front e (plain_all old)) old
   pub rest_kept : drop (rejoin e (plain_all old) (plain_all new)) new ≡ drop (length old - (length new - rejoin e (plain_all old) (plain_all new))) old
   pub stamped : All (λ x. x.born ≡ e.number) (slice_range new (front e (plain_all old)) (rejoin e (plain_all old) (plain_all new)))
-
-abbrev pub plain_splice : KindSplice → Splice
-plain_splice s = record { from = s.from; to = s.to; kinds = s.kinds.items }
 
 -- the kinds of the significant ones
 abbrev pub significant_kinds : List Token → List Kind

@@ -4,10 +4,10 @@ ghost use Rattle.definitions.specs.declared.expression.Expression.{Expression};
 ghost use Rattle.definitions.specs.Tokens.{IsToken, AreTokens, is_skipped};
 ghost use Rattle.dfa.specs.Table.{IsAutomaton, kind_of};
 ghost use Rattle.dfa.specs.Windows.{IsWithinReach};
-ghost use Rattle.definitions.specs.TokenEdits.{front, is_rejoined, rejoin, made, splice, same_kind, same_kinds};
+ghost use Rattle.definitions.specs.TokenEdits.{front, is_rejoined, rejoin, made, splice, plain_splice, same_kind, same_kinds};
 ghost use Rattle.definitions.specs.declared.Kind.TheVariants.{Invalid};
 ghost use Rattle.lexer.specs.Tokens.{plain, is_significant, characters, Fits, AreTokensOf};
-ghost use Rattle.lexer.specs.Rescans.{plain_all, front_end, significant_kinds, IsEdited, IsNeeded, IsRemade, AreRescanned, plain_splice, change};
+ghost use Rattle.lexer.specs.Rescans.{plain_all, front_end, significant_kinds, IsEdited, IsNeeded, IsRemade, AreRescanned, change};
 
 use crate::scan::{add_kinds, scan_all, token_at};
 use crate::sums::{AfterCharacter, AfterCount, AfterSignificant, ReachesPast, Token};
