@@ -7,3 +7,4 @@ pub mod Remakes
 pub mod Rescanned
 pub mod Scans
 pub mod Exist
+pub mod Walks

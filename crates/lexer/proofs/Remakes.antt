@@ -18,6 +18,7 @@ use Rattle.dfa.specs.Windows.{IsWithinReach}
 use Rattle.lexer.specs.declared.sums.Token.{Token}
 use Rattle.lexer.specs.Tokens.{plain, characters, Fits}
 use Rattle.lexer.specs.Rescans.{plain_all, front_end, IsEdited, IsNeeded, IsReachedByMade}
+use Rattle.lexer.specs.Walks.{IsPassed, horizon}
 use Rattle.lexer.proofs.Totals.{characters-cons}
 use Rattle.lexer.proofs.Boundaries.{length-plain, boundary_at, not_behind, is_rejoined_at}
 use Rattle.lexer.proofs.Fronts.{within_token}
@@ -53,6 +54,13 @@ module _ (rules : List Expression) (skips : List Bool) (e : Edit) (items : List 
 
   pub front-le : front e (plain_all items) ≤ length items
   front-le = omega (arith, prefix_len-le-length {X = Placed}, length-placed 0 (plain_all items), length-plain items)
+
+  -- the tokens that are kept in front start before the edit, and no old token is looked for there
+  pub front_passed : (place at : ℕ) → place ≡ front e (plain_all items) → IsPassed (horizon e at) (record { items = items; place = place })
+  front_passed place at same j l =
+      let inside : j < front e (plain_all items) = omega (arith, same) in
+      let start = boundary_at items j 0 (omega (arith, front-le)) in
+      omega (arith, front_before rules h.text e (plain_all items) j h.tokens.tokens inside, start)
 
   pub all_lead : (made : List Token) → Leads rules (drop (front_end e items) u) (plain_all made) → Leads rules u (plain_all (take (front e (plain_all items)) items) ++ plain_all made)
   all_lead made m = leads_join rules u (plain_all (take (front e (plain_all items)) items)) (plain_all made) front_all (subst (λ n. Leads rules (drop n u) (plain_all made)) (sym (chars-plain (take (front e (plain_all items)) items))) m)

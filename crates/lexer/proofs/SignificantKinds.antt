@@ -1,17 +1,17 @@
 -- The kinds of the significant ones of a list of tokens.
-use Rattle.std.specs.Prelude.{◌≡◌, ℕ, zero, suc, ◌+◌, ◌-◌, ◌<◌, ◌≤◌, ◌&&◌, drop, Bool, true, false, List, [], ◌∷◌, ◌++◌, length, take, map, filter, count_by, slice_get, slice_index_or, Some, None, All, if◌then◌else◌}
-use Rattle.std.proofs.Common.{arith, refl, sym, ap, subst, ◌∙◌, ◌≢◌, slice_range, length-append, length-drop}
-use Rattle.std.proofs.lemmas.List.{append_assoc, drop_at, drop_more, drop_all, drop-take, length-map, length-take, map-append, take_at, take-append-drop, take-take}
+use Rattle.std.specs.Prelude.{◌≡◌, ℕ, zero, suc, ◌+◌, ◌-◌, ◌<◌, ◌≤◌, drop, Bool, true, false, List, [], ◌∷◌, ◌++◌, length, take, map, filter, count_by, slice_get, slice_index_or, Some, None, All, if◌then◌else◌}
+use Rattle.std.proofs.Common.{arith, refl, sym, ap, subst, ◌∙◌, slice_range, length-append, nat_eq}
+use Rattle.std.proofs.lemmas.List.{append_assoc, drop_at, drop-take, length-map, map-append, take_at, take-append-drop, take-take}
 use Rattle.std.proofs.lemmas.List.Sums.{length-filter}
-use Rattle.std.proofs.lemmas.Bool.{and_parts}
+use Rattle.std.proofs.lemmas.Bool.{and_parts, eqb-true}
 use Rattle.definitions.specs.declared.Kind.{Kind}
-use Rattle.definitions.specs.declared.Kind.TheVariants.{Invalid}
-use Rattle.definitions.specs.TokenEdits.{same_kind, same_kinds}
+use Rattle.definitions.specs.declared.Kind.TheVariants.{Rule, Invalid}
+use Rattle.definitions.specs.TokenEdits.{IsSpliced, same_kind, same_kinds}
 use Rattle.lexer.specs.declared.sums.Token.{Token}
 use Rattle.lexer.specs.Tokens.{is_significant}
 use Rattle.definitions.specs.Tokens.{kinds, is_skipped}
 use Rattle.std.proofs.lemmas.List.Elements.{All-head, All-tail, filter-append}
-use Rattle.lexer.specs.Rescans.{significant_kinds, plain_all}
+use Rattle.lexer.specs.Rescans.{significant_kinds, plain_all, change}
 use Rattle.lexer.proofs.Totals.{count-cons}
 
 -- the kind of the significant token that has k before it
@@ -50,30 +50,6 @@ kind_at xs p k x is a b =
 pub length-kinds : (xs : List Token) → length (significant_kinds xs) ≡ count_by is_significant xs
 length-kinds xs = length-map (filter is_significant xs) (λ (x : Token). x.kind) ∙ length-filter is_significant xs
 
--- one kind on
-pub kinds_step : (ks kinds : List Kind) (from i n : ℕ) → n ≡ length kinds → from + n ≤ length ks → i < n
-    → same_kinds (take (n - i) (drop (from + i) ks)) (drop i kinds) ≡ (same_kind (slice_index_or ks (from + i) Invalid) (slice_index_or kinds i Invalid) && same_kinds (take (n - (i + 1)) (drop (from + (i + 1)) ks)) (drop (i + 1) kinds))
-kinds_step ks kinds from i n is fits lt =
-    let m : n - i ≡ suc (n - (i + 1)) = omega arith in
-    let place : from + i + 1 ≡ from + (i + 1) = omega arith in
-    ap (λ j. same_kinds (take j (drop (from + i) ks)) (drop i kinds)) m
-    ∙ ap (λ ys. same_kinds (take (suc (n - (i + 1))) ys) (drop i kinds)) (drop_more ks (from + i) Invalid (omega arith))
-    ∙ ap (λ zs. same_kinds (take (suc (n - (i + 1))) (slice_index_or ks (from + i) Invalid ∷ drop (from + i + 1) ks)) zs) (drop_more kinds i Invalid (omega arith))
-    ∙ ap (λ j. same_kind (slice_index_or ks (from + i) Invalid) (slice_index_or kinds i Invalid) && same_kinds (take (n - (i + 1)) (drop j ks)) (drop (i + 1) kinds)) place
-
-pub kinds_yes : (ks kinds : List Kind) (from i n : ℕ) → n ≡ length kinds → from + n ≤ length ks → i < n → same_kind (slice_index_or ks (from + i) Invalid) (slice_index_or kinds i Invalid) ≡ true
-    → same_kinds (take (n - i) (drop (from + i) ks)) (drop i kinds) ≡ same_kinds (take (n - (i + 1)) (drop (from + (i + 1)) ks)) (drop (i + 1) kinds)
-kinds_yes ks kinds from i n is fits lt e = kinds_step ks kinds from i n is fits lt ∙ ap (λ b. b && same_kinds (take (n - (i + 1)) (drop (from + (i + 1)) ks)) (drop (i + 1) kinds)) e
-
-pub kinds_no : (ks kinds : List Kind) (from i n : ℕ) → n ≡ length kinds → from + n ≤ length ks → i < n → same_kind (slice_index_or ks (from + i) Invalid) (slice_index_or kinds i Invalid) ≡ false
-    → same_kinds (take (n - i) (drop (from + i) ks)) (drop i kinds) ≡ false
-kinds_no ks kinds from i n is fits lt e = kinds_step ks kinds from i n is fits lt ∙ ap (λ b. b && same_kinds (take (n - (i + 1)) (drop (from + (i + 1)) ks)) (drop (i + 1) kinds)) e
-
-pub kinds_end : (ks kinds : List Kind) (from n : ℕ) → n ≡ length kinds → same_kinds (take (n - n) (drop (from + n) ks)) (drop n kinds) ≡ true
-kinds_end ks kinds from n is =
-    let none : n - n ≡ 0 = omega arith in
-    ap (λ j. same_kinds (take j (drop (from + n) ks)) (drop n kinds)) none ∙ ap (λ zs. same_kinds [] zs) (drop_all n kinds (omega arith))
-
 pub get_none : (xs : List Token) (p : ℕ) → p < length xs → slice_get xs p ≡ None → ⊥
 get_none [] p l e = absurd (omega arith)
 get_none (x ∷ xs) zero l e = cc
@@ -91,21 +67,6 @@ kinds_plain skips (x ∷ xs) h = go x.skipped refl (sym (All-head (λ x. x.skipp
 decided : (b : Bool) → ((b ≡ true) → ⊥) → b ≡ false
 decided true h = absurd (h refl)
 decided false h = refl
-
--- lists of the same kinds are of one length
-pub same-length : (as' bs : List Kind) → same_kinds as' bs ≡ true → length as' ≡ length bs
-same-length [] [] h = refl
-same-length [] (b ∷ bs) h = cc
-same-length (a ∷ as') [] h = cc
-same-length (a ∷ as') (b ∷ bs) h = ap suc (same-length as' bs (and_parts _ _ h).1)
-
--- other than so many kinds are not the same
-pub kinds_differ : (xs : List Token) (from count : ℕ) (kinds : List Kind) → from + count ≤ count_by is_significant xs → count ≢ length kinds
-    → same_kinds (take count (drop from (significant_kinds xs))) kinds ≡ false
-kinds_differ xs from count kinds within other =
-    let long : length (take count (drop from (significant_kinds xs))) ≡ count =
-    length-take count (drop from (significant_kinds xs)) ∙ omega (arith, within, length-kinds xs, length-drop from (significant_kinds xs)) in
-    decided (same_kinds (take count (drop from (significant_kinds xs))) kinds) (λ e. other (sym long ∙ same-length (take count (drop from (significant_kinds xs))) kinds e))
 
 pub kinds_append : (xs ys : List Token) → significant_kinds (xs ++ ys) ≡ significant_kinds xs ++ significant_kinds ys
 kinds_append xs ys = ap (map (λ (x : Token). x.kind)) (filter-append is_significant xs ys) ∙ map-append (λ (x : Token). x.kind) (filter is_significant xs) (filter is_significant ys)
@@ -135,3 +96,74 @@ kinds_range xs a b ordered =
     ap (λ ks. take (count_by is_significant (take b xs) - count_by is_significant (take a xs)) (drop (count_by is_significant (take a xs)) ks)) whole
     ∙ ap (take (count_by is_significant (take b xs) - count_by is_significant (take a xs))) (drop_at (significant_kinds (take a xs)) (significant_kinds middle ++ significant_kinds (drop b xs)) (count_by is_significant (take a xs)) (length-kinds (take a xs)))
     ∙ take_at (significant_kinds middle) (significant_kinds (drop b xs)) (count_by is_significant (take b xs) - count_by is_significant (take a xs)) many
+
+-- no tokens have the kinds of an empty list alone
+pub none_left : (ks : List Kind) → same_kinds [] ks ≡ nat_eq (length ks) 0
+none_left [] = refl
+none_left (k ∷ ks) = sym (decided (nat_eq (length (k ∷ ks)) 0) (λ e. let z = eqb-true (length (k ∷ ks)) 0 e in omega (arith, z)))
+
+one_kind : (a b : Kind) → same_kind a b ≡ true → a ≡ b
+one_kind (Rule j) (Rule k) h = ap (λ n. Rule n) (eqb-true j k h)
+one_kind Invalid Invalid h = refl
+one_kind (Rule j) Invalid h = cc
+one_kind Invalid (Rule k) h = cc
+
+-- lists that the test takes for the same are the same
+pub same_list : (one two : List Kind) → same_kinds one two ≡ true → one ≡ two
+same_list [] [] h = refl
+same_list [] (b ∷ two) h = cc
+same_list (a ∷ one) [] h = cc
+same_list (a ∷ one) (b ∷ two) h =
+    let parts = and_parts _ _ h in
+    let first : a ≡ b = one_kind a b parts.0 in
+    let rest : one ≡ two = same_list one two parts.1 in
+    λ i. first i ∷ rest i
+
+-- the change of the kinds makes those of the new tokens
+module _ (xs made : List Token) (front to : ℕ) (ordered : front ≤ to) where
+  abbrev a : List Kind
+  a = significant_kinds (take front xs)
+
+  abbrev m : List Kind
+  m = significant_kinds (slice_range xs front to)
+
+  abbrev b : List Kind
+  b = significant_kinds (drop to xs)
+
+  abbrev from : ℕ
+  from = count_by is_significant (take front xs)
+
+  whole : significant_kinds xs ≡ a ++ (m ++ b)
+  whole =
+      ap significant_kinds (sym (take-append-drop to xs) ∙ ap (λ ys. ys ++ drop to xs) (between xs front to ordered))
+      ∙ kinds_append (take front xs ++ slice_range xs front to) (drop to xs) ∙ ap (λ ks. ks ++ b) (kinds_append (take front xs) (slice_range xs front to))
+      ∙ append_assoc a m b
+
+  new : significant_kinds (take front xs ++ (made ++ drop to xs)) ≡ a ++ (significant_kinds made ++ b)
+  new = kinds_append (take front xs) (made ++ drop to xs) ∙ ap (λ ks. a ++ ks) (kinds_append made (drop to xs))
+
+  same : m ≡ significant_kinds made → IsSpliced (record { from = from; to = from; kinds = [] }) (significant_kinds xs) (significant_kinds (take front xs ++ (made ++ drop to xs)))
+  same e = record {
+    ordered = omega arith;
+    inside = omega (arith, ap length whole, length-append a (m ++ b), length-kinds (take front xs));
+    new_is = new ∙ ap (λ ks. a ++ (ks ++ b)) (sym e) ∙ sym whole ∙ sym (take-append-drop from (significant_kinds xs));
+  }
+
+  other : IsSpliced (record { from = from; to = count_by is_significant (take to xs); kinds = significant_kinds made }) (significant_kinds xs) (significant_kinds (take front xs ++ (made ++ drop to xs)))
+  other =
+      let many = count_range xs front to ordered in
+      let front_kinds : take from (significant_kinds xs) ≡ a = ap (take from) whole ∙ take_at a (m ++ b) from (length-kinds (take front xs)) in
+      let rest_kinds : drop (count_by is_significant (take to xs)) (significant_kinds xs) ≡ b =
+      ap (drop (count_by is_significant (take to xs))) (whole ∙ sym (append_assoc a m b)) ∙ drop_at (a ++ m) b (count_by is_significant (take to xs)) (omega (arith, length-append a m, length-kinds (take front xs), many)) in
+      record {
+        ordered = omega (arith, many);
+        inside = omega (arith, ap length whole, length-append a (m ++ b), length-append m b, length-kinds (take front xs), many);
+        new_is = new ∙ ap (λ ks. ks ++ (significant_kinds made ++ b)) (sym front_kinds) ∙ ap (λ ks. take from (significant_kinds xs) ++ (significant_kinds made ++ ks)) (sym rest_kinds);
+      }
+
+  pub spliced_kinds : IsSpliced (change xs front to (significant_kinds made)) (significant_kinds xs) (significant_kinds (take front xs ++ (made ++ drop to xs)))
+  spliced_kinds = by (same_kinds m (significant_kinds made)) refl
+    where
+      by : (t : Bool) → same_kinds m (significant_kinds made) ≡ t → IsSpliced (change xs front to (significant_kinds made)) (significant_kinds xs) (significant_kinds (take front xs ++ (made ++ drop to xs)))
+      by true e = rw e (same (same_list m (significant_kinds made) e))
+      by false e = rw e other

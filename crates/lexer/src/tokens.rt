@@ -1,16 +1,18 @@
 //! The list of the tokens of a text, and its change by an edit.
-ghost use Rattle.std.specs.Prelude.{◌≡◌, ◌≢◌, ℕ, ◌+◌, ◌-◌, ◌<◌, ◌≤◌, ◌^◌, Bool, true, false, List, [], ◌∷◌, ◌++◌, length, map, take, drop, count_by, filter, slice_get, slice_index_or, option_copied, IfOk, OnErr, MatchOption, All};
+ghost use Rattle.std.specs.Prelude.{◌≡◌, ◌≢◌, ℕ, ◌+◌, ◌-◌, ◌<◌, ◌≤◌, ◌^◌, Bool, true, false, List, [], ◌∷◌, ◌++◌, length, map, take, drop, count_by, filter, slice_get, slice_index_or, slice_range, option_copied, IfOk, OnErr, MatchOption, All};
 ghost use Rattle.definitions.specs.declared.expression.Expression.{Expression};
 ghost use Rattle.definitions.specs.Tokens.{IsToken, AreTokens, is_skipped};
 ghost use Rattle.dfa.specs.Table.{IsAutomaton, kind_of};
 ghost use Rattle.dfa.specs.Windows.{IsWithinReach};
-ghost use Rattle.definitions.specs.TokenEdits.{front, is_rejoined, rejoin, made, splice, plain_splice, same_kind, same_kinds};
+ghost use Rattle.definitions.specs.TokenEdits.{front, is_rejoined, rejoin, made, splice, plain_splice, IsSpliced, same_kind, same_kinds};
 ghost use Rattle.definitions.specs.declared.Kind.TheVariants.{Invalid};
+ghost use Rattle.lexer.specs.Walks.{IsPassed, horizon};
 ghost use Rattle.lexer.specs.Tokens.{plain, is_significant, characters, Fits, AreTokensOf};
 ghost use Rattle.lexer.specs.Rescans.{plain_all, front_end, significant_kinds, IsEdited, IsNeeded, IsRemade, AreRescanned, change};
 
 use crate::scan::{add_kinds, scan_all, token_at};
-use crate::sums::{AfterCharacter, AfterCount, AfterSignificant, ReachesPast, Token};
+use crate::sums::{AfterCount, AfterSignificant, ReachesPast, Token};
+use crate::walk::Walk;
 use definitions::{Edit, Kind, KindSplice};
 use dfa::{Automaton, Source};
 use grammar::Grammar;
@@ -122,6 +124,17 @@ impl Tokens {
         place
     }
 
+    /// The kind of significant token number `k`, counted from 0; none past the last one.
+    pub fn kind(&self, k: usize) -> Option<Kind>
+        ensures { result ≡ slice_get (significant_kinds self.now.items) k }
+    {
+        if k >= self.significant() {
+            return None;
+        }
+        let token = self.items.get(self.place(k))?;
+        Some(token.kind)
+    }
+
     /// How many tokens the last scan or rescan made.
     pub fn scanned(&self) -> usize
         ensures { result ≡ self.now.scanned }
@@ -161,13 +174,16 @@ impl Tokens {
         ensures splice { IfOk result
             (λ s. plain_splice s ≡ splice grammar.now.skips edit (plain_all self.old.items)
             (plain_all self.new.items)) }
+        ensures kinds { IfOk result (λ s. IsSpliced (plain_splice s)
+            (significant_kinds self.old.items) (significant_kinds self.new.items)) }
         ensures scanned { IfOk result
             (λ _. self.new.scanned ≡ length (made edit (plain_all self.old.items) (plain_all
             self.new.items))) }
         ensures err { OnErr result (self.new ≡ self.old) }
     {
         let (front, end) = kept_front(&self.items, edit);
-        let (made, to) = remake(alloc, &self.items, grammar, automaton, source, edit, end)?;
+        let old = Walk::new(&self.items, front, end);
+        let (made, to) = remake(alloc, grammar, automaton, source, edit, old)?;
         let kinds = kinds_of(alloc, &made)?;
         let slots = Slots::make(alloc, made)?;
         let splice = splice_of(&self.items, front, to, kinds);
@@ -189,69 +205,54 @@ fn kept_front(items: &Seq<Token>, edit: Edit) -> (usize, usize)
     (front, before.characters as usize)
 }
 
-/// The old token that starts at this offset, or the count of tokens at the end of the text.
-fn place_at(items: &Seq<Token>, offset: usize) -> Option<usize>
-    requires { Fits items.now }
-    ensures { MatchOption result ((j : ℕ) → j ≤ length items.now
-        → characters (take j items.now) ≢ offset) (λ j. (j ≤ length items.now)
-        × (characters (take j items.now) ≡ offset)) }
-{
-    let (place, before) = items.locate(&AfterCharacter { offset });
-    if before.characters as usize == offset {
-        Some(place)
-    } else {
-        None
-    }
-}
-
 /// Where offset `at` of the new text lies behind what was inserted and an old token started there: its place.
-fn rejoined(items: &Seq<Token>, edit: Edit, at: usize) -> Option<usize>
-    requires fits { Fits items.now }
+fn rejoined(old: &mut Walk<'_>, edit: Edit, at: usize) -> Option<usize>
     requires inserted { edit.inserted ≤ 1048576 }
     requires removed { edit.at + edit.removed ≤ 2 ^ 30 }
     requires small { at ≤ 1048576 }
-    ensures { MatchOption result (is_rejoined edit (plain_all items.now) at ≡ false)
-        (λ j. (is_rejoined edit (plain_all items.now) at ≡ true) × (j ≤ length items.now)
-        × (characters (take j items.now) + edit.inserted ≡ at + edit.removed)) }
+    ensures items { old.new.items ≡ old.old.items }
+    ensures passed { IsPassed (horizon edit at) old.old → IsPassed (horizon edit at) old.new }
+    ensures is { IsPassed (horizon edit at) old.old → MatchOption result
+        (is_rejoined edit (plain_all old.old.items) at ≡ false)
+        (λ j. (is_rejoined edit (plain_all old.old.items) at ≡ true) × (j ≤ length old.old.items)
+        × (characters (take j old.old.items) + edit.inserted ≡ at + edit.removed)) }
 {
     if at < edit.at + edit.inserted {
         return None;
     }
-    place_at(items, at - edit.inserted + edit.removed)
+    old.place_of(at - edit.inserted + edit.removed)
 }
 
-/// The tokens from an offset to the place of rejoining, and the place of the first old token behind it.
+/// The tokens from where the old ones are no longer kept to the place of rejoining, and the place of the first old token behind it.
 fn remake<S: Source>(
     alloc: Global,
-    items: &Seq<Token>,
     grammar: &Grammar,
     automaton: &Automaton,
     source: &S,
     edit: Edit,
-    from: usize,
+    mut old: Walk<'_>,
 ) -> Result<(Vec<Token>, usize), AllocError>
     requires sound { IsAutomaton grammar.now.patterns automaton.now }
     requires small { length (S.text source.now) ≤ 1048576 }
-    requires fits { Fits items.now }
-    requires edited { IsEdited grammar.now.patterns grammar.now.skips edit items.now
+    requires edited { IsEdited grammar.now.patterns grammar.now.skips edit old.items
         (S.text source.now) }
-    requires window { (i : ℕ) → IsNeeded grammar.now.patterns edit items.now (S.text source.now) i
+    requires window { (i : ℕ) → IsNeeded grammar.now.patterns edit old.items (S.text source.now) i
         → S.in_window source.now i }
-    requires front { from ≡ front_end edit items.now }
-    ensures { IfOk result (λ r. IsRemade grammar.now.patterns grammar.now.skips edit items.now
+    requires front { old.place ≡ front edit (plain_all old.items) }
+    ensures { IfOk result (λ r. IsRemade grammar.now.patterns grammar.now.skips edit old.entry.items
         (S.text source.now) r.0.items r.1) }
 {
     let mut made = Vec::new(alloc);
-    let mut at = from;
+    let mut at = old.start();
     while at < source.len() {
-        if let Some(to) = rejoined(items, edit, at) {
+        if let Some(to) = rejoined(&mut old, edit, at) {
             return Ok((made, to));
         }
         let token = token_at(grammar, automaton, source, at, edit.number);
         made.push(token)?;
         at += token.length as usize;
     }
-    Ok((made, items.len()))
+    Ok((made, old.end()))
 }
 
 /// The kinds of the significant ones of these tokens.
@@ -279,42 +280,39 @@ fn is_same(a: Kind, b: Kind) -> bool
     a == b
 }
 
-/// Whether the significant token with this number has this kind.
-fn has_kind(items: &Seq<Token>, number: usize, kind: Kind) -> bool
-    requires fits { Fits items.now }
-    requires within { number < count_by is_significant items.now }
-    ensures { result ≡ same_kind (slice_index_or (significant_kinds items.now) number Invalid)
-        kind }
+/// What is left of these kinds without that of the token, if it has one for a parser. None where they begin with another one.
+fn without_kind<'a>(token: &Token, kinds: &'a [Kind]) -> Option<&'a [Kind]>
+    ensures { (others : List Token)
+        → let tokens = significant_kinds (token.now ∷ others) in
+        MatchOption result (same_kinds tokens kinds.now ≡ false)
+        (λ rest. same_kinds tokens kinds.now ≡ same_kinds (significant_kinds others) rest.now) }
 {
-    let (place, _) = items.locate(&AfterSignificant { count: number });
-    match items.get(place) {
-        Some(token) => is_same(token.kind, kind),
-        None => false,
+    if token.skipped {
+        return Some(kinds);
+    }
+    match kinds.split_first() {
+        Some((first, rest)) if is_same(token.kind, *first) => Some(rest),
+        _ => None,
     }
 }
 
-/// Whether the significant tokens from the one with this number on have these kinds.
-fn has_kinds(items: &Seq<Token>, from: usize, kinds: &[Kind]) -> bool
-    requires fits { Fits items.now }
-    requires within { from + length kinds.now ≤ count_by is_significant items.now }
-    ensures { result ≡ same_kinds (take (length kinds.now) (drop from (significant_kinds
-        items.now))) kinds.now }
+/// Whether the significant ones of the tokens from one place up to another have these kinds.
+fn have_kinds(items: &Seq<Token>, from: usize, to: usize, kinds: &[Kind]) -> bool
+    requires within { to ≤ length items.now }
+    ensures { result ≡ same_kinds (significant_kinds (slice_range items.now from to)) kinds.now }
 {
-    for (i, kind) in kinds.iter().enumerate() {
-        if !has_kind(items, from + i, *kind) {
+    let mut ahead = items.iter_from(from);
+    let mut left = kinds;
+    for _ in from..to {
+        let Some(token) = ahead.next() else {
+            unreachable!();
+        };
+        let Some(rest) = without_kind(token, left) else {
             return false;
-        }
+        };
+        left = rest;
     }
-    true
-}
-
-/// Whether so many significant tokens from the one with this number on have these kinds, and there are as many.
-fn are_same(items: &Seq<Token>, from: usize, count: usize, kinds: &[Kind]) -> bool
-    requires fits { Fits items.now }
-    requires within { from + count ≤ count_by is_significant items.now }
-    ensures { result ≡ same_kinds (take count (drop from (significant_kinds items.now))) kinds.now }
-{
-    count == kinds.len() && has_kinds(items, from, kinds)
+    left.len() == 0
 }
 
 /// How the list of the significant kinds changes where the tokens from one place up to another give way to tokens of
@@ -326,8 +324,7 @@ fn splice_of(items: &Seq<Token>, front: usize, to: usize, mut kinds: Vec<Kind>) 
     ensures { plain_splice result ≡ change items.now front to kinds.items }
 {
     let from = significant_before(items, front);
-    let behind = significant_before(items, to);
-    if are_same(items, from, behind - from, &kinds) {
+    if have_kinds(items, front, to, &kinds) {
         kinds.clear();
         return KindSplice {
             from,
@@ -337,7 +334,7 @@ fn splice_of(items: &Seq<Token>, front: usize, to: usize, mut kinds: Vec<Kind>) 
     }
     KindSplice {
         from,
-        to: behind,
+        to: significant_before(items, to),
         kinds,
     }
 }

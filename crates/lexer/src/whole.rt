@@ -5,7 +5,7 @@ ghost use Rattle.std.specs.Prelude.{◌<◌, length};
 use dfa::Source;
 use text::Text;
 
-/// A text whose window is the whole of it.
+/// A text whose window is the whole of it. Each character is looked up, so that few can be asked for without a pass over the text.
 #[derive(Clone, Copy)]
 pub struct Whole<'a>(pub &'a Text);
 

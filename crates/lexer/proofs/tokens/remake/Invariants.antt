@@ -2,18 +2,23 @@ use Rattle.definitions.specs.Tokens.{Leads}
 use Rattle.std.proofs.Common.{ℕ, ◌≡◌, ◌≤◌, ◌<◌, ◌+◌, ◌-◌, length, drop, take, false}
 use Rattle.definitions.specs.TokenEdits.{is_rejoined}
 use Rattle.lexer.specs.Tokens.{characters}
-use Rattle.lexer.specs.Rescans.{plain_all}
+use Rattle.lexer.specs.Rescans.{plain_all, front_end}
 use Rattle.lexer.specs.Scans.{AreMade}
+use Rattle.lexer.specs.Walks.{IsPassed, horizon}
 use Rattle.lexer.proofs.tokens.remake.Given as goal
 
 abbrev pub invariant-loop-at : goal.invariant-loop-at
 invariant-loop-at g l =
+    let xs = l.fn.old.items in
+    let from = front_end l.edit xs in
     record {
       inside : l.at ≤ length (g.S.Source.text l.source);
-      sum : l.at ≡ l.from + characters l.made.items;
-      leads : Leads l.grammar.patterns (drop l.from (g.S.Source.text l.source)) (plain_all l.made.items);
+      sum : l.at ≡ from + characters l.made.items;
+      leads : Leads l.grammar.patterns (drop from (g.S.Source.text l.source)) (plain_all l.made.items);
       made : AreMade l.grammar.skips l.edit.number l.made.items;
-      earlier : (k : ℕ) → k < length l.made.items → is_rejoined l.edit (plain_all l.items) (l.from + characters (take k l.made.items)) ≡ false;
+      items : l.old.items ≡ xs;
+      passed : IsPassed (horizon l.edit l.at) l.old;
+      earlier : (k : ℕ) → k < length l.made.items → is_rejoined l.edit (plain_all xs) (from + characters (take k l.made.items)) ≡ false;
     }
 
 abbrev pub decreases-loop-at : goal.decreases-loop-at

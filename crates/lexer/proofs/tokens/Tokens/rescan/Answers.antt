@@ -1,11 +1,12 @@
 use Rattle.std.proofs.Common.{arith, sym, ap, subst, ◌≡◌, ◌∙◌, ℕ, ◌≤◌, ◌^◌, List, ◌++◌, length, take, drop, length-append, length-drop}
 use Rattle.std.proofs.lemmas.List.{length-take, append_assoc}
-use Rattle.definitions.specs.TokenEdits.{front, splice, made as made_by}
+use Rattle.definitions.specs.TokenEdits.{IsSpliced, front, splice, plain_splice, made as made_by}
 use Rattle.lexer.specs.declared.sums.Token.{Token}
-use Rattle.lexer.specs.Tokens.{characters, Fits, AreTokensOf}
+use Rattle.lexer.specs.Tokens.{Fits, AreTokensOf}
 use Rattle.lexer.specs.Rescans.{plain_all, change, significant_kinds, IsEdited, IsRemade, AreRescanned}
 use Rattle.lexer.proofs.Totals.{few}
 use Rattle.lexer.proofs.Rescanned.{front_to, remade_tokens, remade_marked, remade_kept, remade_fits, scanned_is, spliced}
+use Rattle.lexer.proofs.SignificantKinds.{spliced_kinds}
 use Rattle.lexer.proofs.tokens.Tokens.rescan.Goals as goal
 
 listed : (xs slots made : List Token) (n m to : ℕ) (new : List Token) → new ≡ (take n xs ++ slots) ++ drop to xs → n ≡ m → slots ≡ made → new ≡ take m xs ++ (made ++ drop to xs)
@@ -20,7 +21,8 @@ remake-requires-clause-front g c =
     let skips = c.args.grammar.now.skips in
     let u = g.S.Source.text c.args.source.now in
     let h : IsEdited rules skips e xs u = subst (λ d. IsEdited rules skips e d.items u) (sym c.self.view_is) c.requires.edited in
-    c.kept_front-front.ensures.end ∙ ap (λ n. characters (take n xs)) (c.kept_front-front.ensures.front rules h.text h.tokens.tokens)
+    let place : c.kept_front-front.result.0 ≡ front e (plain_all xs) = c.kept_front-front.ensures.front rules h.text h.tokens.tokens in
+    subst (λ s. s.place ≡ front e (plain_all s.items)) (sym c.new-old.ensures) place
 
 pub splice_of-splice-requires-clause-ordered : goal.splice_of-splice-requires-clause-ordered
 splice_of-splice-requires-clause-ordered g c =
@@ -29,11 +31,11 @@ splice_of-splice-requires-clause-ordered g c =
     let rules = c.args.grammar.now.patterns in
     let skips = c.args.grammar.now.skips in
     let u = g.S.Source.text c.args.source.now in
+    let h : IsEdited rules skips e xs u = subst (λ d. IsEdited rules skips e d.items u) (sym c.self.view_is) c.requires.edited in
+    let place : c.kept_front-front.result.0 ≡ front e (plain_all xs) = c.kept_front-front.ensures.front rules h.text h.tokens.tokens in
     let made = c.in_ok-made.made.items in
     let to = c.in_ok-made.to in
-    let h : IsEdited rules skips e xs u = subst (λ d. IsEdited rules skips e d.items u) (sym c.self.view_is) c.requires.edited in
-    let r : IsRemade rules skips e xs u made to = c.in_ok-made.ensures in
-    let place : c.kept_front-front.result.0 ≡ front e (plain_all xs) = c.kept_front-front.ensures.front rules h.text h.tokens.tokens in
+    let r : IsRemade rules skips e xs u made to = subst (λ s. IsRemade rules skips e s.items u made to) c.new-old.ensures c.in_ok-made.ensures in
     omega (arith, place, front_to rules skips e xs u h made to r c.self.invariant)
 
 pub replace-requires-clause-ordered : goal.replace-requires-clause-ordered
@@ -43,11 +45,11 @@ replace-requires-clause-ordered g c =
     let rules = c.args.grammar.now.patterns in
     let skips = c.args.grammar.now.skips in
     let u = g.S.Source.text c.args.source.now in
+    let h : IsEdited rules skips e xs u = subst (λ d. IsEdited rules skips e d.items u) (sym c.self.view_is) c.requires.edited in
+    let place : c.kept_front-front.result.0 ≡ front e (plain_all xs) = c.kept_front-front.ensures.front rules h.text h.tokens.tokens in
     let made = c.in_ok-made.made.items in
     let to = c.in_ok-made.to in
-    let h : IsEdited rules skips e xs u = subst (λ d. IsEdited rules skips e d.items u) (sym c.self.view_is) c.requires.edited in
-    let r : IsRemade rules skips e xs u made to = c.in_ok-made.ensures in
-    let place : c.kept_front-front.result.0 ≡ front e (plain_all xs) = c.kept_front-front.ensures.front rules h.text h.tokens.tokens in
+    let r : IsRemade rules skips e xs u made to = subst (λ s. IsRemade rules skips e s.items u made to) c.new-old.ensures c.in_ok-made.ensures in
     omega (arith, place, front_to rules skips e xs u h made to r c.self.invariant)
 
 pub replace-requires-clause-fits : goal.replace-requires-clause-fits
@@ -57,15 +59,14 @@ replace-requires-clause-fits g c =
     let rules = c.args.grammar.now.patterns in
     let skips = c.args.grammar.now.skips in
     let u = g.S.Source.text c.args.source.now in
+    let h : IsEdited rules skips e xs u = subst (λ d. IsEdited rules skips e d.items u) (sym c.self.view_is) c.requires.edited in
+    let place : c.kept_front-front.result.0 ≡ front e (plain_all xs) = c.kept_front-front.ensures.front rules h.text h.tokens.tokens in
     let made = c.in_ok-made.made.items in
     let to = c.in_ok-made.to in
-    let h : IsEdited rules skips e xs u = subst (λ d. IsEdited rules skips e d.items u) (sym c.self.view_is) c.requires.edited in
-    let r : IsRemade rules skips e xs u made to = c.in_ok-made.ensures in
-    let place : c.kept_front-front.result.0 ≡ front e (plain_all xs) = c.kept_front-front.ensures.front rules h.text h.tokens.tokens in
-    let ordered : front e (plain_all xs) ≤ to = front_to rules skips e xs u h made to r c.self.invariant in
-    let slots : c.in_ok-slots.slots ≡ made = c.in_ok-slots.ensures in
-    let n : length (take (front e (plain_all xs)) xs ++ (made ++ drop to xs)) ≤ 2 ^ 30 = few (take (front e (plain_all xs)) xs ++ (made ++ drop to xs)) (remade_fits rules skips e xs u h made to r c.self.invariant c.requires.small) in
-    omega (arith, n, place, ordered, r.within, ap length slots, length-append (take (front e (plain_all xs)) xs) (made ++ drop to xs), length-append made (drop to xs), length-take (front e (plain_all xs)) xs, length-drop to xs)
+    let r : IsRemade rules skips e xs u made to = subst (λ s. IsRemade rules skips e s.items u made to) c.new-old.ensures c.in_ok-made.ensures in
+    let new = take (front e (plain_all xs)) xs ++ (made ++ drop to xs) in
+    let n : length new ≤ 2 ^ 30 = few new (remade_fits rules skips e xs u h made to r c.self.invariant c.requires.small) in
+    omega (arith, n, place, front_to rules skips e xs u h made to r c.self.invariant, r.within, ap length c.in_ok-slots.ensures, length-append (take (front e (plain_all xs)) xs) (made ++ drop to xs), length-append made (drop to xs), length-take (front e (plain_all xs)) xs, length-drop to xs)
 
 pub invariant_of-self : goal.invariant_of-self
 invariant_of-self g c =
@@ -74,72 +75,41 @@ invariant_of-self g c =
     let rules = c.args.grammar.now.patterns in
     let skips = c.args.grammar.now.skips in
     let u = g.S.Source.text c.args.source.now in
+    let h : IsEdited rules skips e xs u = subst (λ d. IsEdited rules skips e d.items u) (sym c.self.view_is) c.requires.edited in
+    let place : c.kept_front-front.result.0 ≡ front e (plain_all xs) = c.kept_front-front.ensures.front rules h.text h.tokens.tokens in
     let made = c.in_ok-made.made.items in
     let to = c.in_ok-made.to in
-    let h : IsEdited rules skips e xs u = subst (λ d. IsEdited rules skips e d.items u) (sym c.self.view_is) c.requires.edited in
-    let r : IsRemade rules skips e xs u made to = c.in_ok-made.ensures in
-    let place : c.kept_front-front.result.0 ≡ front e (plain_all xs) = c.kept_front-front.ensures.front rules h.text h.tokens.tokens in
-    let list : c.replace.new.self ≡ take (front e (plain_all xs)) xs ++ (made ++ drop to xs) = listed xs c.in_ok-slots.slots made c.kept_front-front.result.0 (front e (plain_all xs)) to c.replace.new.self c.replace.ensures.list place c.in_ok-slots.ensures in
+    let r : IsRemade rules skips e xs u made to = subst (λ s. IsRemade rules skips e s.items u made to) c.new-old.ensures c.in_ok-made.ensures in
+    let new = take (front e (plain_all xs)) xs ++ (made ++ drop to xs) in
+    let list : c.replace.new.self ≡ new = listed xs c.in_ok-slots.slots made c.kept_front-front.result.0 (front e (plain_all xs)) to c.replace.new.self c.replace.ensures.list place c.in_ok-slots.ensures in
     subst Fits (sym list) (remade_fits rules skips e xs u h made to r c.self.invariant c.requires.small)
 
-pub returns-clause-tokens : goal.returns-clause-tokens
-returns-clause-tokens g c =
+pub returns : goal.returns
+returns g c =
     let xs = c.self.inside.items in
     let e = c.args.edit in
     let rules = c.args.grammar.now.patterns in
     let skips = c.args.grammar.now.skips in
     let u = g.S.Source.text c.args.source.now in
+    let h : IsEdited rules skips e xs u = subst (λ d. IsEdited rules skips e d.items u) (sym c.self.view_is) c.requires.edited in
+    let place : c.kept_front-front.result.0 ≡ front e (plain_all xs) = c.kept_front-front.ensures.front rules h.text h.tokens.tokens in
     let made = c.in_ok-made.made.items in
     let to = c.in_ok-made.to in
-    let h : IsEdited rules skips e xs u = subst (λ d. IsEdited rules skips e d.items u) (sym c.self.view_is) c.requires.edited in
-    let r : IsRemade rules skips e xs u made to = c.in_ok-made.ensures in
-    let place : c.kept_front-front.result.0 ≡ front e (plain_all xs) = c.kept_front-front.ensures.front rules h.text h.tokens.tokens in
-    let list : c.replace.new.self ≡ take (front e (plain_all xs)) xs ++ (made ++ drop to xs) = listed xs c.in_ok-slots.slots made c.kept_front-front.result.0 (front e (plain_all xs)) to c.replace.new.self c.replace.ensures.list place c.in_ok-slots.ensures in
-    subst (λ ys. AreTokensOf rules skips u ys) (sym list) (record { tokens = remade_tokens rules skips e xs u h made to r; marked = remade_marked rules skips e xs u h made to r })
-
-pub returns-clause-kept : goal.returns-clause-kept
-returns-clause-kept g c =
-    let xs = c.self.inside.items in
-    let e = c.args.edit in
-    let rules = c.args.grammar.now.patterns in
-    let skips = c.args.grammar.now.skips in
-    let u = g.S.Source.text c.args.source.now in
-    let made = c.in_ok-made.made.items in
-    let to = c.in_ok-made.to in
-    let h : IsEdited rules skips e xs u = subst (λ d. IsEdited rules skips e d.items u) (sym c.self.view_is) c.requires.edited in
-    let r : IsRemade rules skips e xs u made to = c.in_ok-made.ensures in
-    let place : c.kept_front-front.result.0 ≡ front e (plain_all xs) = c.kept_front-front.ensures.front rules h.text h.tokens.tokens in
-    let list : c.replace.new.self ≡ take (front e (plain_all xs)) xs ++ (made ++ drop to xs) = listed xs c.in_ok-slots.slots made c.kept_front-front.result.0 (front e (plain_all xs)) to c.replace.new.self c.replace.ensures.list place c.in_ok-slots.ensures in
-    subst (λ ys. AreRescanned e c.args.self.now.items ys) (sym list) (subst (λ d. AreRescanned e d.items (take (front e (plain_all xs)) xs ++ (made ++ drop to xs))) c.self.view_is (remade_kept rules skips e xs u h made to r))
-
-pub returns-clause-splice : goal.returns-clause-splice
-returns-clause-splice g c =
-    let xs = c.self.inside.items in
-    let e = c.args.edit in
-    let rules = c.args.grammar.now.patterns in
-    let skips = c.args.grammar.now.skips in
-    let u = g.S.Source.text c.args.source.now in
-    let made = c.in_ok-made.made.items in
-    let to = c.in_ok-made.to in
-    let h : IsEdited rules skips e xs u = subst (λ d. IsEdited rules skips e d.items u) (sym c.self.view_is) c.requires.edited in
-    let r : IsRemade rules skips e xs u made to = c.in_ok-made.ensures in
-    let place : c.kept_front-front.result.0 ≡ front e (plain_all xs) = c.kept_front-front.ensures.front rules h.text h.tokens.tokens in
-    let list : c.replace.new.self ≡ take (front e (plain_all xs)) xs ++ (made ++ drop to xs) = listed xs c.in_ok-slots.slots made c.kept_front-front.result.0 (front e (plain_all xs)) to c.replace.new.self c.replace.ensures.list place c.in_ok-slots.ensures in
-    c.splice_of-splice.ensures ∙ ap (λ n. change xs n to c.in_ok-kinds.kinds.items) place ∙ ap (change xs (front e (plain_all xs)) to) (c.in_ok-kinds.ensures ∙ ap significant_kinds c.deref.ensures.value)
-    ∙ spliced rules skips e xs u h made to r c.self.invariant
-    ∙ ap (λ ys. splice skips e (plain_all xs) (plain_all ys)) (sym list) ∙ ap (λ d. splice skips e (plain_all d.items) (plain_all c.replace.new.self)) c.self.view_is
-
-pub returns-clause-scanned : goal.returns-clause-scanned
-returns-clause-scanned g c =
-    let xs = c.self.inside.items in
-    let e = c.args.edit in
-    let rules = c.args.grammar.now.patterns in
-    let skips = c.args.grammar.now.skips in
-    let u = g.S.Source.text c.args.source.now in
-    let made = c.in_ok-made.made.items in
-    let to = c.in_ok-made.to in
-    let h : IsEdited rules skips e xs u = subst (λ d. IsEdited rules skips e d.items u) (sym c.self.view_is) c.requires.edited in
-    let r : IsRemade rules skips e xs u made to = c.in_ok-made.ensures in
-    let place : c.kept_front-front.result.0 ≡ front e (plain_all xs) = c.kept_front-front.ensures.front rules h.text h.tokens.tokens in
-    let list : c.replace.new.self ≡ take (front e (plain_all xs)) xs ++ (made ++ drop to xs) = listed xs c.in_ok-slots.slots made c.kept_front-front.result.0 (front e (plain_all xs)) to c.replace.new.self c.replace.ensures.list place c.in_ok-slots.ensures in
-    c.len-self-inside.ensures ∙ ap length c.in_ok-slots.ensures ∙ subst (λ ys. length made ≡ length (made_by e (plain_all c.args.self.now.items) (plain_all ys))) (sym list) (subst (λ d. length made ≡ length (made_by e (plain_all d.items) (plain_all (take (front e (plain_all xs)) xs ++ (made ++ drop to xs))))) c.self.view_is (scanned_is rules skips e xs u h made to r))
+    let r : IsRemade rules skips e xs u made to = subst (λ s. IsRemade rules skips e s.items u made to) c.new-old.ensures c.in_ok-made.ensures in
+    let new = take (front e (plain_all xs)) xs ++ (made ++ drop to xs) in
+    let list : c.replace.new.self ≡ new = listed xs c.in_ok-slots.slots made c.kept_front-front.result.0 (front e (plain_all xs)) to c.replace.new.self c.replace.ensures.list place c.in_ok-slots.ensures in
+    let kinds = c.in_ok-kinds.ensures ∙ ap significant_kinds c.deref.ensures.value in
+    let told = c.splice_of-splice.ensures ∙ ap (λ n. change xs n to c.in_ok-kinds.kinds.items) place ∙ ap (change xs (front e (plain_all xs)) to) kinds in
+    record {
+      tokens = subst (AreTokensOf rules skips u) (sym list) (record { tokens = remade_tokens rules skips e xs u h made to r; marked = remade_marked rules skips e xs u h made to r });
+      kept = subst (λ ys. AreRescanned e c.args.self.now.items ys) (sym list) (subst (λ d. AreRescanned e d.items new) c.self.view_is (remade_kept rules skips e xs u h made to r));
+      splice = told ∙ spliced rules skips e xs u h made to r c.self.invariant
+          ∙ ap (λ ys. splice skips e (plain_all xs) (plain_all ys)) (sym list) ∙ ap (λ d. splice skips e (plain_all d.items) (plain_all c.replace.new.self)) c.self.view_is;
+      kinds = subst (λ ys. IsSpliced (plain_splice c.splice_of-splice.result) (significant_kinds c.args.self.now.items) (significant_kinds ys)) (sym list)
+          (subst (λ d. IsSpliced (plain_splice c.splice_of-splice.result) (significant_kinds d.items) (significant_kinds new)) c.self.view_is
+          (subst (λ s. IsSpliced s (significant_kinds xs) (significant_kinds new)) (sym told) (spliced_kinds xs made (front e (plain_all xs)) to (front_to rules skips e xs u h made to r c.self.invariant))));
+      scanned = c.len-self-inside.ensures ∙ ap length c.in_ok-slots.ensures
+          ∙ subst (λ ys. length made ≡ length (made_by e (plain_all c.args.self.now.items) (plain_all ys))) (sym list)
+          (subst (λ d. length made ≡ length (made_by e (plain_all d.items) (plain_all new))) c.self.view_is (scanned_is rules skips e xs u h made to r));
+      err = tt;
+    }

@@ -1,0 +1,10 @@
+use Rattle.std.proofs.Common.{◌≡◌, ◌-◌, drop, slice_range, take}
+use Rattle.definitions.specs.TokenEdits.{same_kinds}
+use Rattle.lexer.specs.Rescans.{significant_kinds}
+use Rattle.lexer.proofs.tokens.have_kinds.Given as goal
+
+abbrev pub invariant-loop : goal.invariant-loop
+invariant-loop l = record {
+  ahead : l.ahead ≡ drop l.counter l.items;
+  left : same_kinds (significant_kinds (take (l.to - l.counter) l.ahead)) l.left ≡ same_kinds (significant_kinds (slice_range l.items l.from l.to)) l.kinds;
+}

@@ -1,0 +1,15 @@
+use Rattle.std.proofs.Common.{◌≡◌, length}
+use Rattle.lexer.specs.Walks.{IsWalk, IsPassed}
+use Rattle.lexer.proofs.walk.Walk.go_to.Given as goal
+
+abbrev pub invariant-loop-self : goal.invariant-loop-self
+invariant-loop-self l =
+    let w = l.self-inside in
+    record {
+      walk : IsWalk w.items.now w.ahead w.place w.start;
+      items : w.items.now ≡ l.fn.self.items;
+      passed : IsPassed l.offset l.fn.self → IsPassed l.offset (record { items = w.items.now; place = w.place });
+    }
+
+abbrev pub decreases-loop-self : goal.decreases-loop-self
+decreases-loop-self l = length l.self-inside.ahead

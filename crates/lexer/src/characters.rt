@@ -1,0 +1,26 @@
+//! A list of characters as a source.
+
+ghost use Rattle.std.specs.Prelude.{◌<◌, length};
+
+use dfa::Source;
+
+/// Characters in one vector, whose window is the whole of it. A scan of a whole text reads each of them, so that a look-up in the
+/// text for each would take most of its time.
+#[derive(Clone, Copy)]
+pub struct Characters<'a>(pub &'a [char]);
+
+impl<'a> Source for Characters<'a> {
+    ghost text = { λ s. s.0.now };
+
+    ghost in_window = { λ s i. i < length s.0.now };
+
+    fn len(&self) -> usize {
+        self.0.len()
+    }
+
+    fn get(&self, i: usize) -> char {
+        self.0[i]
+    }
+
+    ghost inside = { λ s i h. h };
+}
