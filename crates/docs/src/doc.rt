@@ -18,7 +18,7 @@ ghost use Rattle.docs.specs.declared.doc.DocFault.TheVariants.{NoMemory};
 ghost use Rattle.docs.specs.Faults.{doc_fault};
 
 use crate::language::Language;
-use definitions::{Diagnostic, Position, Range};
+use definitions::{Diagnostic, Position, Range, Unit};
 use lexer::Tokens;
 use parser::laws::stack_has_the_nodes_of_the_document;
 use parser::{Parse, Verdict};
@@ -119,7 +119,7 @@ impl Doc {
         } = self;
         // The read opens the invariant of the text.
         let _length = text.len();
-        text.change(alloc, range, new)?;
+        text.change(alloc, Unit::Utf16, range, new)?;
         Ok(Doc::of(alloc, language, version, text)?)
     }
 
@@ -291,7 +291,7 @@ impl Doc {
             &self.tokens,
             &self.store,
             self.parse.stack(),
-            self.text.offset(position),
+            self.text.offset(Unit::Utf16, position),
         )
     }
 }

@@ -11,7 +11,7 @@ use crate::significant::Significant;
 use definitions::laws::{expected_unique, folds_unique, selection_unique, tokens_unique};
 use dfa::{Automaton, DfaFault};
 use grammar::{Grammar, GrammarCause, GrammarFault};
-use lexer::{Tokens, Whole, each_text_has_tokens};
+use lexer::{Characters, Tokens, each_text_has_tokens};
 use parser::Parse;
 use parser::laws::{each_list_has_a_verdict, each_viable_list_has_expected};
 use std::alloc::{AllocError, Global};
@@ -123,11 +123,12 @@ impl Language {
     {
         // The read opens the invariant of the text.
         let _length = text.len();
+        let characters = text.characters(alloc)?;
         let (tokens, kinds) = Tokens::scan_with_kinds(
             alloc,
             &self.grammar,
             &self.automaton,
-            &Whole(text),
+            &Characters(&characters),
         )?;
         Ok((tokens, Significant { kinds }))
     }

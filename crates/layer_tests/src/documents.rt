@@ -3,7 +3,7 @@
 use std::alloc::{AllocError, Global};
 use std::process::Abort;
 use std::test::Fail;
-use text::{LONGEST_TEXT, Position, Range, Text, TextFault};
+use text::{LONGEST_TEXT, Position, Range, Text, TextFault, Unit};
 
 fn at(line: u32, character: u32) -> Position {
     Position { line, character }
@@ -26,7 +26,11 @@ fn filled(alloc: Global, c: char, count: usize) -> Result<String, AllocError> {
 fn expect_positions(rt: &impl Abort, text: &Text, rows: &[(usize, u32, u32)]) {
     for row in rows {
         let (offset, line, character) = *row;
-        assert_eq!(rt; text.position(offset), at(line, character), "at {offset}");
+        assert_eq!(rt;
+            text.position(Unit::Utf16, offset),
+            at(line, character),
+            "at {offset}"
+        );
     }
 }
 
@@ -35,7 +39,7 @@ fn breaks_apart_are_two_and_together_one(rt: HostRuntime) -> Result<(), Fail> {
     let alloc = rt.alloc();
     let mut text = Text::open(alloc, "1\rX\n2")?;
     expect_positions(&rt, &text, &[(2, 1, 0), (3, 1, 1), (4, 2, 0), (5, 2, 1)]);
-    text.change(alloc, between(at(1, 0), at(1, 1)), "")?;
+    text.change(alloc, Unit::Utf16, between(at(1, 0), at(1, 1)), "")?;
     assert_eq!(rt; text.to_string(alloc)?.as_str(), "1\r\n2");
     expect_positions(&rt, &text, &[(1, 0, 1), (2, 0, 1), (3, 1, 0), (4, 1, 1)]);
     Ok(())
@@ -47,7 +51,7 @@ fn characters_past_the_first_plane_count_two(rt: HostRuntime) -> Result<(), Fail
     for c in ['\u{10000}', '\u{1f600}', '\u{10ffff}'] {
         let mut text = Text::open(alloc, format!(in alloc; "{c}1")?.as_str())?;
         expect_positions(&rt, &text, &[(0, 0, 0), (1, 0, 2), (2, 0, 3)]);
-        text.change(alloc, between(at(0, 1), at(0, 1)), "5")?;
+        text.change(alloc, Unit::Utf16, between(at(0, 1), at(0, 1)), "5")?;
         let wanted = format!(in alloc; "5{c}1")?;
         assert_eq!(rt; text.to_string(alloc)?.as_str(), wanted.as_str());
         expect_positions(&rt, &text, &[(1, 0, 1), (2, 0, 3)]);
@@ -58,12 +62,12 @@ fn characters_past_the_first_plane_count_two(rt: HostRuntime) -> Result<(), Fail
 #[test]
 fn a_walk_tells_each_position(rt: HostRuntime) -> Result<(), Fail> {
     let text = Text::open(rt.alloc(), "1\r\n\u{1f600}2")?;
-    let mut places = text.places();
+    let mut places = text.places(Unit::Utf16);
     for (line, character) in [(0, 0), (0, 1), (0, 1), (1, 0), (1, 2), (1, 3), (1, 3)] {
         assert_eq!(rt; places.position(), at(line, character));
         places.advance(1);
     }
-    let mut places = text.places();
+    let mut places = text.places(Unit::Utf16);
     places.advance(4);
     assert_eq!(rt; places.position(), at(1, 2));
     Ok(())
@@ -73,33 +77,15 @@ fn a_walk_tells_each_position(rt: HostRuntime) -> Result<(), Fail> {
 fn changes_follow_one_another(rt: HostRuntime) -> Result<(), Fail> {
     let alloc = rt.alloc();
     let mut text = Text::open(alloc, "")?;
-    text.change(alloc, between(at(0, 0), at(0, 0)), "12")?;
-    text.change(alloc, between(at(0, 0), at(0, 1)), "")?;
+    text.change(alloc, Unit::Utf16, between(at(0, 0), at(0, 0)), "12")?;
+    text.change(alloc, Unit::Utf16, between(at(0, 0), at(0, 1)), "")?;
     assert_eq!(rt; text.to_string(alloc)?.as_str(), "2");
-    text.change(alloc, None, "1+2")?;
+    text.change(alloc, Unit::Utf16, None, "1+2")?;
     assert_eq!(rt; text.to_string(alloc)?.as_str(), "1+2");
-    text.change(alloc, between(at(0, 3), at(0, 1)), "")?;
+    text.change(alloc, Unit::Utf16, between(at(0, 3), at(0, 1)), "")?;
     assert_eq!(rt; text.to_string(alloc)?.as_str(), "1");
-    text.change(alloc, between(at(99, 0), at(99, 0)), "+3")?;
+    text.change(alloc, Unit::Utf16, between(at(99, 0), at(99, 0)), "+3")?;
     assert_eq!(rt; text.to_string(alloc)?.as_str(), "1+3");
-    Ok(())
-}
-
-#[test]
-fn a_break_behind_a_line_of_any_length(rt: HostRuntime) -> Result<(), Fail> {
-    let alloc = rt.alloc();
-    for n in [0u32, 1, 2, 1022, 1023, 1024, 1025, 2100] {
-        let count = n as usize;
-        let line = filled(alloc, 'x', count)?;
-        let whole = Text::open(alloc, format!(in alloc; "{line}\r\ny")?.as_str())?;
-        let mut joined = Text::open(alloc, format!(in alloc; "{line}\ry")?.as_str())?;
-        assert_eq!(rt; joined.len(), count + 2);
-        joined.replace(alloc, count + 1, count + 1, "\n")?;
-        for text in [&whole, &joined] {
-            expect_positions(&rt, text, &[(count + 1, 0, n), (count + 2, 1, 0)]);
-            assert_eq!(rt; text.offset(at(1, 0)), count + 2);
-        }
-    }
     Ok(())
 }
 
@@ -107,9 +93,9 @@ fn a_break_behind_a_line_of_any_length(rt: HostRuntime) -> Result<(), Fail> {
 fn a_text_may_have_so_many_bytes(rt: HostRuntime) -> Result<(), Fail> {
     let alloc = rt.alloc();
     let mut text = Text::open(alloc, filled(alloc, '1', 1_048_575)?.as_str())?;
-    text.change(alloc, between(at(0, 0), at(0, 0)), "1")?;
+    text.change(alloc, Unit::Utf16, between(at(0, 0), at(0, 0)), "1")?;
     assert_eq!(rt; text.bytes(), 1_048_576);
-    let more = text.change(alloc, between(at(0, 0), at(0, 0)), "1");
+    let more = text.change(alloc, Unit::Utf16, between(at(0, 0), at(0, 0)), "1");
     assert_eq!(rt; more, Err(TextFault::TooLarge));
     assert_eq!(rt; text.bytes(), 1_048_576);
     let long = filled(alloc, '1', 1_048_577)?;
@@ -117,10 +103,10 @@ fn a_text_may_have_so_many_bytes(rt: HostRuntime) -> Result<(), Fail> {
         Text::open(alloc, long.as_str()).err(),
         Some(TextFault::TooLarge)
     );
-    text.change(alloc, None, "1")?;
+    text.change(alloc, Unit::Utf16, None, "1")?;
     assert_eq!(rt; text.bytes(), 1);
     assert_eq!(rt;
-        text.change(alloc, None, long.as_str()),
+        text.change(alloc, Unit::Utf16, None, long.as_str()),
         Err(TextFault::TooLarge)
     );
     Ok(())
@@ -154,9 +140,9 @@ fn each_call_answers(rt: HostRuntime) -> Result<(), Fail> {
     assert!(rt; text.bytes() == 10);
     text.replace(alloc, 1, 3, "bc")?;
     assert!(rt; text.to_string(alloc)?.as_str() == "abc\n\u{1f600}z");
-    let changed = text.changed(alloc, None, "q")?;
-    assert!(rt; changed.to_string(alloc)?.as_str() == "q");
-    assert!(rt; text.to_string(alloc)?.as_str() == "abc\n\u{1f600}z");
+    let characters = text.characters(alloc)?;
+    assert!(rt; characters.len() == 6);
+    assert!(rt; characters[4] == '\u{1f600}');
     assert!(rt; 4 < text.len());
     assert!(rt; text.at(4) == '\u{1f600}');
     let mut rest = text.chars_from(4);
@@ -177,7 +163,7 @@ fn offsets_and_positions_of_a_text(rt: HostRuntime) -> Result<(), Fail> {
         (2, 0, 6),
     ] {
         assert_eq!(rt;
-            text.offset(at(line, character)),
+            text.offset(Unit::Utf16, at(line, character)),
             offset,
             "at {line}:{character}"
         );

@@ -2,9 +2,9 @@
 
 ghost use Rattle.std.specs.Prelude.{◌<◌};
 
-use measured_text::{Position, Text, Unit};
 use std::alloc::{AllocError, Global};
 use std::test::Fail;
+use text::{Position, Text, Unit};
 
 fn at(line: u32, character: u32) -> Position {
     Position { line, character }

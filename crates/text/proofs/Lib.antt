@@ -1,5 +1,6 @@
-mod Scan
+mod Few
+mod Filled
 mod Lines
-mod Along
 mod Sizes
 mod Onward
+mod Spliced

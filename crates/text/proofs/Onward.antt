@@ -1,17 +1,38 @@
 -- How the position of an offset follows from that of the offset before it.
-use Rattle.std.specs.Prelude.{◌≡◌, ℕ, zero, suc, ◌+◌, ◌-◌, ◌*◌, ◌<◌, ◌≤◌, Bool, true, false, List, [], ◌∷◌, length, take, drop, slice_index}
+use Rattle.std.specs.Prelude.{◌≡◌, ℕ, zero, suc, ◌+◌, ◌-◌, ◌*◌, ◌<◌, ◌≤◌, ◌⊎◌, Bool, true, false, not, ◌||◌, ◌==◌, nat_lt, List, [], ◌∷◌, length, take, drop, slice_index}
 use Rattle.std.specs.List.{prefix_len}
-use Rattle.std.proofs.Common.{arith, sym, ap, subst, inl, inr, ◌∙◌}
-use Rattle.std.proofs.lemmas.Bool.{cases_lt, cases_Bool, false≢true}
-use Rattle.std.proofs.lemmas.List.{get_or-drop, get_or-take, length-take, take_more, take_all}
+use Rattle.std.proofs.Common.{arith, cond, length-drop, refl, sym, ap, subst, inl, inr, ◌∙◌}
+use Rattle.std.proofs.lemmas.Bool.{cases_lt, cases_Bool, false≢true, ne_eqb}
+use Rattle.std.proofs.lemmas.Str.{len_utf8_bounds}
+use Rattle.std.proofs.lemmas.List.{drop_more, get_or-drop, get_or-take, length-take, take_more, take_all}
 use Rattle.std.proofs.lemmas.List.Folds.{length-prefix_len}
 use Rattle.std.proofs.lemmas.List.Sums.{prefix_len_passes, sum_by_push, sum_by-cons}
 use Rattle.definitions.specs.declared.Position.{Position}
-use Rattle.definitions.specs.declared.Unit.TheVariants.{Utf16}
+use Rattle.definitions.specs.declared.Unit.{Unit as Encoding}
+use Rattle.definitions.specs.declared.Unit.TheVariants.{Utf8, Utf16, Utf32}
 use Rattle.definitions.specs.Text.{ends_break, line_of, line_start, line_from, unit, units, position}
 use Rattle.definitions.proofs.InLine.{in_line_end}
-use Rattle.text.proofs.Scan.{is_of_line, units-none, unit-le}
 use Rattle.text.proofs.Lines.{Reached, Reached-start, Reached-break, Reached-same, Reached-end}
+
+-- the character is of the line
+abbrev pub is_of_line : ℕ → Bool
+is_of_line c = not (c == 10 || c == 13)
+
+pub of_line : (c : ℕ) → (c ≡ 10 → ⊥) → (c ≡ 13 → ⊥) → is_of_line c ≡ true
+of_line c a b = rw (ne_eqb c 10 a, ne_eqb c 13 b) refl
+
+units-none : (encoding : Encoding) (xs : List ℕ) (i : ℕ) → units encoding (take (i - i) xs) ≡ 0
+unfolding units
+units-none encoding xs i = let zero_many : i - i ≡ 0 = omega arith in ap (λ n. units encoding (take n xs)) zero_many
+
+unit-le : (encoding : Encoding) (c : ℕ) → unit encoding c ≤ 4
+unit-le Utf8 c = (len_utf8_bounds c).1
+unit-le Utf16 c = go (nat_lt c 0x1_0000)
+  where
+    go : (b : Bool) → cond b 1 2 ≤ 4
+    go true = omega arith
+    go false = omega arith
+unit-le Utf32 c = omega arith
 
 -- whether a break ends behind place i
 abbrev pub is_end : List ℕ → ℕ → Bool
@@ -65,16 +86,16 @@ start-le t i l =
     omega (arith, r.before, (Reached-end t i h.0 h.1 r).1)
 
 -- the units before offset i in the line from s
-abbrev count : List ℕ → ℕ → ℕ → ℕ
-count t s i = units Utf16 (take (i - s) (line_from s t))
+abbrev count : Encoding → List ℕ → ℕ → ℕ → ℕ
+count encoding t s i = units encoding (take (i - s) (line_from s t))
 
-units-le : (xs : List ℕ) → units Utf16 xs ≤ 2 * length xs
+units-le : (encoding : Encoding) (xs : List ℕ) → units encoding xs ≤ 4 * length xs
 unfolding units
-units-le [] = omega arith
-units-le (c ∷ xs) = omega (arith, sum_by-cons (unit Utf16) c xs, unit-le c, units-le xs)
+units-le encoding [] = omega arith
+units-le encoding (c ∷ xs) = omega (arith, sum_by-cons (unit encoding) c xs, unit-le encoding c, units-le encoding xs)
 
-count-le : (t : List ℕ) (s i : ℕ) → count t s i ≤ 2 * i
-count-le t s i = omega (arith, units-le (take (i - s) (line_from s t)), length-take (i - s) (line_from s t))
+count-le : (encoding : Encoding) (t : List ℕ) (s i : ℕ) → count encoding t s i ≤ 4 * i
+count-le encoding t s i = omega (arith, units-le encoding (take (i - s) (line_from s t)), length-take (i - s) (line_from s t))
 
 -- a line ends where a character is not of it
 line-short : (t : List ℕ) (s i : ℕ) → s ≤ i → i < length t → is_of_line (slice_index t i) ≡ false → length (line_from s t) ≤ i - s
@@ -99,59 +120,59 @@ line-get t s k l =
     let long : length (take n (drop s t)) ≡ n = length-prefix_len is_of_line (drop s t) in
     get_or-take n (drop s t) k 0 (omega (arith, long, l)) ∙ get_or-drop s t k 0
 
-count-same : (t : List ℕ) (s i : ℕ) → s ≤ i → i < length t → is_of_line (slice_index t i) ≡ false → count t s (i + 1) ≡ count t s i
-count-same t s i l m e =
+count-same : (encoding : Encoding) (t : List ℕ) (s i : ℕ) → s ≤ i → i < length t → is_of_line (slice_index t i) ≡ false → count encoding t s (i + 1) ≡ count encoding t s i
+count-same encoding t s i l m e =
     let short = line-short t s i l m e in
-    ap (units Utf16) (take_all (i + 1 - s) (line_from s t) (omega (arith, short)) ∙ sym (take_all (i - s) (line_from s t) short))
+    ap (units encoding) (take_all (i + 1 - s) (line_from s t) (omega (arith, short)) ∙ sym (take_all (i - s) (line_from s t) short))
 
-count-more : (t : List ℕ) (s i : ℕ) → s ≤ i → i - s < length (line_from s t) → count t s (i + 1) ≡ count t s i + unit Utf16 (slice_index t i)
+count-more : (encoding : Encoding) (t : List ℕ) (s i : ℕ) → s ≤ i → i - s < length (line_from s t) → count encoding t s (i + 1) ≡ count encoding t s i + unit encoding (slice_index t i)
 unfolding units
-count-more t s i l m =
+count-more encoding t s i l m =
     let step : i + 1 - s ≡ i - s + 1 = omega arith in
     let same : s + (i - s) ≡ i = omega arith in
     let next : slice_index (line_from s t) (i - s) ≡ slice_index t i = line-get t s (i - s) m ∙ ap (slice_index t) same in
-    ap (λ n. units Utf16 (take n (line_from s t))) step
-    ∙ ap (units Utf16) (take_more (line_from s t) (i - s) 0 m)
-    ∙ sum_by_push (unit Utf16) (take (i - s) (line_from s t)) (slice_index (line_from s t) (i - s))
-    ∙ ap (λ c. count t s i + unit Utf16 c) next
+    ap (λ n. units encoding (take n (line_from s t))) step
+    ∙ ap (units encoding) (take_more (line_from s t) (i - s) 0 m)
+    ∙ sum_by_push (unit encoding) (take (i - s) (line_from s t)) (slice_index (line_from s t) (i - s))
+    ∙ ap (λ c. count encoding t s i + unit encoding c) next
 
 -- a position as its two numbers
 place : ℕ → ℕ → Position
 place l c = record { line = l; character = c }
 
-pub position-start : (t : List ℕ) → ◌≡◌ {A = Position} (record { line = 0; character = 0 }) (position Utf16 t 0)
+pub position-start : (encoding : Encoding) (t : List ℕ) → ◌≡◌ {A = Position} (record { line = 0; character = 0 }) (position encoding t 0)
 unfolding position
-position-start t =
+position-start encoding t =
     let l : 0 ≡ line_of t 0 = omega (arith, line_of-le t 0 (omega arith)) in
-    let c : 0 ≡ count t (line_start t (line_of t 0)) 0 = omega (arith, count-le t (line_start t (line_of t 0)) 0) in
+    let c : 0 ≡ count encoding t (line_start t (line_of t 0)) 0 = omega (arith, count-le encoding t (line_start t (line_of t 0)) 0) in
     λ i. record { line = l i; character = c i }
 
-pub position-line : (t : List ℕ) (i : ℕ) → i ≤ length t → (position Utf16 t i).line ≤ i
+pub position-line : (encoding : Encoding) (t : List ℕ) (i : ℕ) → i ≤ length t → (position encoding t i).line ≤ i
 unfolding position
-position-line t i l = line_of-le t i l
+position-line encoding t i l = line_of-le t i l
 
-pub position-character : (t : List ℕ) (i : ℕ) → (position Utf16 t i).character ≤ 2 * i
+pub position-character : (encoding : Encoding) (t : List ℕ) (i : ℕ) → (position encoding t i).character ≤ 4 * i
 unfolding position
-position-character t i = count-le t (line_start t (line_of t i)) i
+position-character encoding t i = count-le encoding t (line_start t (line_of t i)) i
 
-module _ (t : List ℕ) (i : ℕ) (p : Position) (l : i < length t) (is : p ≡ position Utf16 t i) where
-  pub position-break : is_end t i ≡ true → ◌≡◌ {A = Position} (record { line = p.line + 1; character = 0 }) (position Utf16 t (i + 1))
+module _ (encoding : Encoding) (t : List ℕ) (i : ℕ) (p : Position) (l : i < length t) (is : p ≡ position encoding t i) where
+  pub position-break : is_end t i ≡ true → ◌≡◌ {A = Position} (record { line = p.line + 1; character = 0 }) (position encoding t (i + 1))
   unfolding position
   position-break e =
       let b = line-break t i l e in
       let line : p.line + 1 ≡ line_of t (i + 1) = ap (λ q. q.line + 1) is ∙ sym b.0 in
-      let none : 0 ≡ count t (line_start t (line_of t (i + 1))) (i + 1) = sym (ap (λ s. count t s (i + 1)) b.1 ∙ units-none Utf16 (line_from (i + 1) t) (i + 1)) in
+      let none : 0 ≡ count encoding t (line_start t (line_of t (i + 1))) (i + 1) = sym (ap (λ s. count encoding t s (i + 1)) b.1 ∙ units-none encoding (line_from (i + 1) t) (i + 1)) in
       λ k. record { line = line k; character = none k }
 
-  pub position-same : is_end t i ≡ false → is_of_line (slice_index t i) ≡ false → p ≡ position Utf16 t (i + 1)
+  pub position-same : is_end t i ≡ false → is_of_line (slice_index t i) ≡ false → p ≡ position encoding t (i + 1)
   unfolding position
   position-same e f =
       let same = line-same t i l e in
       let line : line_of t i ≡ line_of t (i + 1) = sym same in
-      let units : count t (line_start t (line_of t i)) i ≡ count t (line_start t (line_of t (i + 1))) (i + 1) = sym (ap (λ n. count t (line_start t n) (i + 1)) same ∙ count-same t (line_start t (line_of t i)) i (start-le t i (omega arith)) l f) in
+      let units : count encoding t (line_start t (line_of t i)) i ≡ count encoding t (line_start t (line_of t (i + 1))) (i + 1) = sym (ap (λ n. count encoding t (line_start t n) (i + 1)) same ∙ count-same encoding t (line_start t (line_of t i)) i (start-le t i (omega arith)) l f) in
       is ∙ (λ k. record { line = line k; character = units k })
 
-  pub position-more : is_end t i ≡ false → is_of_line (slice_index t i) ≡ true → ◌≡◌ {A = Position} (record { line = p.line; character = p.character + unit Utf16 (slice_index t i) }) (position Utf16 t (i + 1))
+  pub position-more : is_end t i ≡ false → is_of_line (slice_index t i) ≡ true → ◌≡◌ {A = Position} (record { line = p.line; character = p.character + unit encoding (slice_index t i) }) (position encoding t (i + 1))
   unfolding position
   position-more e f =
       let same = line-same t i l e in
@@ -160,6 +181,35 @@ module _ (t : List ℕ) (i : ℕ) (p : Position) (l : i < length t) (is : p ≡ 
       let s : ℕ = line_start t (line_of t i) in
       let long : i + 1 ≤ s + length (line_from s t) = subst (λ n. i + 1 ≤ line_start t n + length (line_from (line_start t n) t)) same inside in
       let line : p.line ≡ line_of t (i + 1) = ap (λ q. q.line) is ∙ sym same in
-      let more : p.character + unit Utf16 (slice_index t i) ≡ count t (line_start t (line_of t (i + 1))) (i + 1) =
-      ap (λ q. q.character + unit Utf16 (slice_index t i)) is ∙ sym (ap (λ n. count t (line_start t n) (i + 1)) same ∙ count-more t s i (start-le t i (omega arith)) (omega (arith, start-le t i (omega arith)))) in
+      let more : p.character + unit encoding (slice_index t i) ≡ count encoding t (line_start t (line_of t (i + 1))) (i + 1) =
+      ap (λ q. q.character + unit encoding (slice_index t i)) is ∙ sym (ap (λ n. count encoding t (line_start t n) (i + 1)) same ∙ count-more encoding t s i (start-le t i (omega arith)) (omega (arith, start-le t i (omega arith)))) in
       λ k. record { line = line k; character = more k }
+
+-- the same where the text from place i on is known: a character and what comes behind it
+pub at_place : (t rest : List ℕ) (i c : ℕ) → drop i t ≡ c ∷ rest → (i < length t) × (c ≡ slice_index t i) × (rest ≡ drop (i + 1) t)
+at_place t rest i c e = go (cases_lt i (length t))
+  where
+    go : (i < length t) ⊎ (length t ≤ i) → (i < length t) × (c ≡ slice_index t i) × (rest ≡ drop (i + 1) t)
+    go (inl l) =
+        let same : c ∷ rest ≡ slice_index t i ∷ drop (i + 1) t = sym e ∙ drop_more t i 0 l in
+        (l, ap (λ xs. slice_index xs 0) same, ap (drop 1) same)
+    go (inr l) = absurd (omega (arith, l, ap length e, length-drop i t))
+
+-- a walk from a character to what comes behind it
+module _ (encoding : Encoding) (t rest : List ℕ) (i c : ℕ) (p : Position) (e : drop i t ≡ c ∷ rest) (is : p ≡ position encoding t i) where
+  pub behind_break : ends_break c rest ≡ true → ◌≡◌ {A = Position} (record { line = p.line + 1; character = 0 }) (position encoding t (i + 1))
+  behind_break h =
+      let at = at_place t rest i c e in
+      position-break encoding t i p at.0 is ((λ k. ends_break (sym at.1 k) (sym at.2 k)) ∙ h)
+
+  pub behind_return : ends_break c rest ≡ false → c ≡ 13 → p ≡ position encoding t (i + 1)
+  behind_return h r =
+      let at = at_place t rest i c e in
+      position-same encoding t i p at.0 is ((λ k. ends_break (sym at.1 k) (sym at.2 k)) ∙ h) (ap is_of_line (sym at.1 ∙ r))
+
+  pub behind_other : ends_break c rest ≡ false → (c ≡ 13 → ⊥) → ◌≡◌ {A = Position} (record { line = p.line; character = p.character + unit encoding c }) (position encoding t (i + 1))
+  behind_other h r =
+      let at = at_place t rest i c e in
+      let goes_on : is_end t i ≡ false = (λ k. ends_break (sym at.1 k) (sym at.2 k)) ∙ h in
+      let joined : ◌≡◌ {A = Position} (record { line = p.line; character = p.character + unit encoding c }) (record { line = p.line; character = p.character + unit encoding (slice_index t i) }) = λ k. record { line = p.line; character = p.character + unit encoding (at.1 k) } in
+      joined ∙ position-more encoding t i p at.0 is goes_on (ap is_of_line (sym at.1) ∙ of_line c (ends-line t i c goes_on at.1) r)

@@ -1,11 +1,20 @@
 -- How many bytes a text and its parts have in UTF-8.
-use Rattle.std.specs.Prelude.{◌≡◌, ℕ, ◌+◌, ◌-◌, ◌<◌, ◌≤◌, List, [], ◌∷◌, ◌++◌, length, take, drop, slice_index_or, encode_utf8, encode_utf8_all}
+use Rattle.std.specs.Prelude.{◌≡◌, ℕ, ◌+◌, ◌*◌, ◌-◌, ◌≤◌, List, ◌++◌, length, take, drop, encode_utf8_all}
 use Rattle.std.specs.Str.{IsUtf8, chars}
 use Rattle.std.proofs.Common.{arith, sym, ap, ◌∙◌, length-append}
-use Rattle.std.proofs.lemmas.List.{take_more, take-append-drop, drop-drop}
-use Rattle.std.proofs.lemmas.Str.{encodes-append}
+use Rattle.std.proofs.lemmas.List.{take-append-drop}
+use Rattle.std.proofs.Math.Seq.{take-add}
+use Rattle.std.proofs.lemmas.Str.{encodes-append, length-le-encodes}
 use Rattle.definitions.specs.Text.{edit}
 use Rattle.definitions.proofs.Characters.{encodes-chars}
+use Rattle.definitions.specs.Text.{units}
+use Rattle.definitions.specs.declared.Unit.TheVariants.{Utf8}
+use Rattle.std.specs.List.{concat}
+use Rattle.pieces.specs.declared.places.Cut.{Cut}
+use Rattle.pieces.specs.Places.{IsCut}
+use Rattle.pieces.proofs.Joins.{units-bytes}
+use Rattle.text.specs.Stored.{IsStored}
+use Rattle.text.proofs.Few.{few}
 
 -- how many bytes the characters have
 abbrev pub size : List ℕ → ℕ
@@ -17,35 +26,38 @@ size-append xs ys = ap length (encodes-append xs ys) ∙ length-append (encode_u
 pub size-take : (t : List ℕ) (i : ℕ) → size (take i t) + size (drop i t) ≡ size t
 size-take t i = sym (size-append (take i t) (drop i t)) ∙ ap size (take-append-drop i t)
 
-size-one : (c : ℕ) → size (c ∷ []) ≡ length (encode_utf8 c)
-size-one c = length-append (encode_utf8 c) [] ∙ omega arith
-
--- one character more
-pub size_more : (t : List ℕ) (i c : ℕ) → i < length t → c ≡ slice_index_or t i c → size (take (i + 1) t) ≡ size (take i t) + length (encode_utf8 c)
-size_more t i c l e =
-    ap size (take_more t i c l)
-    ∙ size-append (take i t) (slice_index_or t i c ∷ [])
-    ∙ ap (λ d. size (take i t) + size (d ∷ [])) (sym e)
-    ∙ ap (λ n. size (take i t) + n) (size-one c)
-
 pub size-chars : (bs : List ℕ) → IsUtf8 bs → size (chars bs) ≡ length bs
 size-chars bs u = ap length (encodes-chars bs u)
 
--- an edit adds what is new, and takes what lay between a and b
-pub size-edit : (t : List ℕ) (a b : ℕ) (s : List ℕ) → a ≤ b → size (edit t a b s) + size (take (b - a) (drop a t)) ≡ size t + size s
-size-edit t a b s l =
-    let removed : ℕ = size (take (b - a) (drop a t)) in
-    let parts : size (edit t a b s) ≡ size (take a t) + size s + size (drop b t) = size-append (take a t ++ s) (drop b t) ∙ ap (λ n. n + size (drop b t)) (size-append (take a t) s) in
-    let reach : a + (b - a) ≡ b = omega arith in
-    let rest : size (drop (b - a) (drop a t)) ≡ size (drop b t) = ap size (drop-drop (b - a) a t ∙ ap (λ n. drop n t) reach) in
-    omega (arith, parts, rest, size-take t a, size-take (drop a t) (b - a))
+-- what an edit keeps, from the bytes before each of its ends
+pub record IsKept (t : List ℕ) (a b before behind bytes : ℕ) : Type 0 where
+  pub within : behind ≤ bytes
+  pub few : before + (bytes - behind) ≤ bytes
+  pub edited : (s : List ℕ) → size (edit t a b s) ≡ before + (bytes - behind) + size s
 
-pub size-take-le : (t : List ℕ) (i : ℕ) → size (take i t) ≤ size t
-size-take-le t i = omega (arith, size-take t i)
+kept : (t : List ℕ) (a b before behind bytes : ℕ) → a ≤ b → before ≡ units Utf8 (take a t) → behind ≡ units Utf8 (take b t) → bytes ≡ size t → IsKept t a b before behind bytes
+kept t a b before behind bytes l e f g =
+    let far : b ≡ a + (b - a) = omega (arith, l) in
+    let parts : size (take b t) ≡ size (take a t) + size (take (b - a) (drop a t)) = ap size (ap (λ n. take n t) far ∙ take-add a (b - a) t) ∙ size-append (take a t) (take (b - a) (drop a t)) in
+    let one : before ≡ size (take a t) = e ∙ units-bytes (take a t) in
+    let two : behind ≡ size (take b t) = f ∙ units-bytes (take b t) in
+    let rest = size-take t b in
+    record {
+      within = omega (arith, two, rest, g);
+      few = omega (arith, one, two, parts, rest, g);
+      edited = λ s. omega (arith, size-append (take a t ++ s) (drop b t), size-append (take a t) s, one, two, rest, g);
+    }
 
-pub size-part-le : (t : List ℕ) (a n : ℕ) → size (take n (drop a t)) ≤ size t
-size-part-le t a n = omega (arith, size-take (drop a t) n, size-take t a)
+pub kept_cut : (ps : List (List ℕ)) (t : List ℕ) (a b bytes : ℕ) (start end : Cut) → concat ps ≡ t → a ≤ b → IsCut ps a start → IsCut ps b end → bytes ≡ size t → IsKept t a b start.bytes end.bytes bytes
+kept_cut ps t a b bytes start end view l p q e =
+    kept t a b start.bytes end.bytes bytes l (p.bytes ∙ ap (λ u. units Utf8 (take a u)) view) (q.bytes ∙ ap (λ u. units Utf8 (take b u)) view) e
 
--- the same of the counts that an edit goes by
-pub size-edited : (t : List ℕ) (a b : ℕ) (s : List ℕ) (bytes removed : ℕ) → a ≤ b → bytes ≡ size t → removed ≡ size (take (b - a) (drop a t)) → size (edit t a b s) ≡ bytes - removed + size s
-size-edited t a b s bytes removed l e f = omega (arith, e, f, size-edit t a b s l, size-part-le t a (b - a))
+-- a text that is stored has few bytes and few pieces
+pub bytes_le : (ps : List (List ℕ)) → IsStored ps → units Utf8 (concat ps) ≤ 1048576
+bytes_le ps h = omega (arith, units-bytes (concat ps), h.few)
+
+pub length_le : (ps : List (List ℕ)) → IsStored ps → length (concat ps) ≤ 1048576
+length_le ps h = omega (arith, length-le-encodes (concat ps), h.few)
+
+pub pieces_le : (ps : List (List ℕ)) → IsStored ps → 509 * length ps ≤ size (concat ps) + 509
+pieces_le ps h = omega (arith, few ps, units-bytes (concat ps), h.small)

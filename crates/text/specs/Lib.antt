@@ -1,3 +1,4 @@
+pub mod Gaps
 pub mod Places
 pub mod Stored
 pub use Rattle.definitions.specs.Text

@@ -1,16 +1,18 @@
 -- A place in a text.
-use Rattle.std.specs.Prelude.{◌≡◌, ◌<◌, ◌≤◌, ◌^◌, ℕ, List, length}
+use Rattle.std.specs.Prelude.{◌≡◌, ◌<◌, ◌≤◌, ◌^◌, ℕ, List, length, drop}
 use Rattle.definitions.specs.declared.Position.{Position}
-use Rattle.definitions.specs.declared.Unit.TheVariants.{Utf16}
+use Rattle.definitions.specs.declared.Unit.{Unit as Encoding}
 use Rattle.definitions.specs.Text as of
 
--- a text and an offset in it
+-- a text, an offset in it, and the unit in which its position is told
 pub record Place : Type 0 where
   pub text : List ℕ
   pub offset : ℕ
+  pub unit : Encoding
 
--- the offset lies in the text, and has this position
-pub record IsPlaced (text : List ℕ) (offset : ℕ) (at : Position) : Type 0 where
+-- the offset lies in the text, with so much of it ahead, and has this position
+pub record IsPlaced (text left : List ℕ) (offset : ℕ) (unit : Encoding) (at : Position) : Type 0 where
   pub within : offset ≤ length text
-  pub few : length text < 2 ^ 31
-  pub is : at ≡ of.position Utf16 text offset
+  pub few : length text < 2 ^ 29
+  pub ahead : left ≡ drop offset text
+  pub is : at ≡ of.position unit text offset

@@ -1,9 +1,17 @@
--- What holds of the characters and the byte count that a `Text` keeps.
-use Rattle.std.specs.Prelude.{◌≡◌, ◌≤◌, ℕ, List, length, encode_utf8_all}
-use Rattle.definitions.specs.Text.{IsText}
+-- What holds of the pieces that a `Text` keeps.
+use Rattle.std.specs.Prelude.{ℕ, ◌≤◌, Bool, nat_lt, List, length, count_by, encode_utf8_all}
+use Rattle.std.specs.List.{concat}
+use Rattle.definitions.specs.Text.{IsText, units}
+use Rattle.definitions.specs.declared.Unit.TheVariants.{Utf8}
+use Rattle.pieces.specs.declared.cuts.TheConstants.{SHORTEST_OF_SEVERAL}
 use Rattle.text.specs.declared.document.TheConstants.{LONGEST_TEXT}
 
-pub record IsStored (characters : List ℕ) (bytes : ℕ) : Type 0 where
-  pub text : IsText characters
-  pub counted : bytes ≡ length (encode_utf8_all characters)
-  pub few : bytes ≤ LONGEST_TEXT
+-- a piece with fewer bytes than each of several has where a text is cut anew
+abbrev pub is_small : List ℕ → Bool
+is_small piece = nat_lt (units Utf8 piece) SHORTEST_OF_SEVERAL
+
+-- the pieces are of characters, have not too many bytes, and are few: at most one of them is small
+pub record IsStored (pieces : List (List ℕ)) : Type 0 where
+  pub text : IsText (concat pieces)
+  pub few : length (encode_utf8_all (concat pieces)) ≤ LONGEST_TEXT
+  pub small : count_by is_small pieces ≤ 1

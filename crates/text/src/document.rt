@@ -1,15 +1,17 @@
 //! The text of a document.
 
-ghost use Rattle.std.specs.Prelude.{◌≡◌, ◌+◌, ◌<◌, ◌≤◌, ◌^◌, ◌↔◌, ℕ, List, length, drop, slice_index, ◌++◌, Err, IfOk, OnOk, OnErr, string_bytes, encode_utf8_all};
-ghost use Rattle.std.specs.Iterator.{YieldsFirst, item_count};
+ghost use Rattle.std.specs.Prelude.{◌≡◌, ◌+◌, ◌*◌, ◌<◌, ◌≤◌, ◌↔◌, ℕ, List, length, drop, slice_index, Err, IfOk, OnOk, OnErr, string_bytes, encode_utf8_all};
+ghost use Rattle.std.specs.List.{concat};
 ghost use Rattle.std.specs.Str.{chars};
 ghost use Rattle.definitions.specs.Text.{IsText, edit, changed};
 ghost use Rattle.definitions.specs.Text as of;
-ghost use Rattle.definitions.specs.declared.Unit.TheVariants.{Utf16};
 
+use crate::characters::Chars;
+use crate::gaps::{Splice, splice_between};
 use crate::places::Places;
-use crate::positions;
-use definitions::{Position, Range};
+use definitions::{Position, Range, Unit};
+use pieces::{Piece, SHORTEST_OF_SEVERAL, cut_at, pieces_of};
+use seqtree::{Seq, Slots};
 use std::alloc::{AllocError, Global};
 use std::marker::Model;
 
@@ -37,22 +39,23 @@ impl From<AllocError> for TextFault {
 
 /// The text of a document (LSP 3.17, "Text Documents"): its characters, of at most [`LONGEST_TEXT`] bytes in UTF-8.
 ///
-/// Offsets count characters, and positions count lines and UTF-16 units (LSP 3.17, "Position").
+/// Offsets count characters, and positions count lines and units (LSP 3.17, "Position"). The text lies in pieces, so that
+/// an edit costs the pieces that it touches, the new characters, and the logarithm of the length.
 #[derive(Drop)]
 pub struct Text {
-    characters: Vec<char>,
-    bytes: usize,
+    pieces: Seq<Piece>,
 }
 
 impl Model for Text {
     ghost use Rattle.std.specs.Prelude.{List, ℕ};
+    ghost use Rattle.std.specs.List.{concat};
     ghost use Rattle.text.specs.Stored.{IsStored};
 
     ghost Value = { List ℕ };
 
-    ghost view = { λ t. t.characters.items };
+    ghost view = { λ t. concat t.pieces };
 
-    ghost invariant = { λ t. IsStored t.characters.items t.bytes };
+    ghost invariant = { λ t. IsStored t.pieces };
 }
 
 impl Text {
@@ -64,12 +67,13 @@ impl Text {
         ensures limit { LONGEST_TEXT ≡ 1048576 }
         ensures too_large { (result ≡ Err TextFault.TooLarge) ↔ (LONGEST_TEXT < length text.now) }
     {
-        let bytes = text.len();
-        if bytes > LONGEST_TEXT {
+        if text.len() > LONGEST_TEXT {
             return Err(TextFault::TooLarge);
         }
-        let characters = edited(alloc, &[], 0, 0, text)?;
-        Ok(Text { characters, bytes })
+        let items = Slots::make(alloc, pieces_of(alloc, text)?)?;
+        let mut pieces = Seq::new();
+        pieces.replace(0, 0, items);
+        Ok(Text { pieces })
     }
 
     /// Puts `new` in the place of the characters from offset `a` up to offset `b`.
@@ -84,36 +88,15 @@ impl Text {
         ensures too_large { (result ≡ Err TextFault.TooLarge)
             ↔ (LONGEST_TEXT < length (encode_utf8_all (edit self.old a b (chars new.now)))) }
     {
-        *self = self.replaced(alloc, a, b, new)?;
-        Ok(())
-    }
-
-    /// The text with `new` in the place of the characters from offset `a` up to offset `b`.
-    fn replaced(&self, alloc: Global, a: usize, b: usize, new: &str) -> Result<Text, TextFault>
-        requires ordered { a ≤ b }
-        requires in_range { b ≤ length self.now }
-        ensures edited { IfOk result (λ text. text ≡ edit self.now a b (chars new.now)) }
-        ensures too_large { (result ≡ Err TextFault.TooLarge)
-            ↔ (LONGEST_TEXT < length (encode_utf8_all (edit self.now a b (chars new.now)))) }
-    {
-        let kept = self.bytes_outside(a, b);
+        let start = cut_at(&self.pieces, a);
+        let end = cut_at(&self.pieces, b);
+        let kept = start.bytes + (self.bytes() - end.bytes);
         if new.len() > LONGEST_TEXT - kept {
             return Err(TextFault::TooLarge);
         }
-        let characters = edited(alloc, &self.characters, a, b, new)?;
-        let bytes = kept + new.len();
-        Ok(Text { characters, bytes })
-    }
-
-    /// How many bytes the characters before offset `a` and from offset `b` on have.
-    fn bytes_outside(&self, a: usize, b: usize) -> usize
-        requires ordered { a ≤ b }
-        requires in_range { b ≤ length self.now }
-        ensures edited { (s : List ℕ) →
-            length (encode_utf8_all (edit self.now a b s)) ≡ result + length (encode_utf8_all s) }
-        ensures few { result ≤ LONGEST_TEXT }
-    {
-        self.bytes() - utf8_len(&self.characters[a..b])
+        let Splice { from, to, items } = splice_between(alloc, &self.pieces, start, end, new)?;
+        self.pieces.replace(from, to, items);
+        Ok(())
     }
 
     /// Makes one change of a document (LSP 3.17, "TextDocumentContentChangeEvent"): puts `new` in the place of the
@@ -124,43 +107,32 @@ impl Text {
     pub fn change(
         &mut self,
         alloc: Global,
+        unit: Unit,
         range: Option<Range>,
         new: &str,
     ) -> Result<(), TextFault>
-        ensures changed { OnOk result (self.new ≡ changed Utf16 self.old range (chars new.now)) }
+        ensures changed { OnOk result (self.new ≡ changed unit self.old range (chars new.now)) }
         ensures unchanged { OnErr result (self.new ≡ self.old) }
-        ensures too_large { let wanted = changed Utf16 self.old range (chars new.now) in
+        ensures too_large { let wanted = changed unit self.old range (chars new.now) in
             (result ≡ Err TextFault.TooLarge) ↔ (LONGEST_TEXT < length (encode_utf8_all wanted)) }
     {
-        *self = self.changed(alloc, range, new)?;
-        Ok(())
+        let (a, b) = self.span(unit, range);
+        self.replace(alloc, a, b, new)
     }
 
-    /// The text after one change, as [`Text::change`] makes it, beside this one.
-    ///
-    /// `TooLarge` exactly where the new text would have more than [`LONGEST_TEXT`] bytes.
-    pub fn changed(&self, alloc: Global, range: Option<Range>, new: &str) -> Result<Text, TextFault>
-        ensures changed { IfOk result (λ text.
-            text ≡ changed Utf16 self.now range (chars new.now)) }
-        ensures too_large { let wanted = changed Utf16 self.now range (chars new.now) in
-            (result ≡ Err TextFault.TooLarge) ↔ (LONGEST_TEXT < length (encode_utf8_all wanted)) }
-    {
-        let (a, b) = self.span(range);
-        self.replaced(alloc, a, b, new)
-    }
-
-    /// The offsets of a range in ascending order, or those of the whole text.
-    fn span(&self, range: Option<Range>) -> (usize, usize)
+    /// The offsets of a range in ascending order, or those of the whole text where there is none: what a change of a document
+    /// takes away.
+    pub fn span(&self, unit: Unit, range: Option<Range>) -> (usize, usize)
         ensures edits { (s : List ℕ) →
-            changed Utf16 self.now range s ≡ edit self.now result.0 result.1 s }
+            changed unit self.now range s ≡ edit self.now result.0 result.1 s }
         ensures ordered { result.0 ≤ result.1 }
         ensures in_range { result.1 ≤ length self.now }
     {
         match range {
             None => (0, self.len()),
             Some(range) => {
-                let start = self.offset(range.start);
-                let end = self.offset(range.end);
+                let start = self.offset(unit, range.start);
+                let end = self.offset(unit, range.end);
                 (start.min(end), start.max(end))
             }
         }
@@ -168,26 +140,26 @@ impl Text {
 
     /// The offset of a position (LSP 3.17, "Position"): past the end of a line it is the end of the line, past the last
     /// line the end of the text, and between the units of one character the start of that character.
-    pub fn offset(&self, position: Position) -> usize
-        ensures is { result ≡ of.offset Utf16 self.now position }
+    pub fn offset(&self, unit: Unit, position: Position) -> usize
+        ensures is { result ≡ of.offset unit self.now position }
         ensures within { result ≤ length self.now }
     {
-        positions::offset(&self.characters, position)
+        pieces::offset(&self.pieces, unit, position)
     }
 
     /// The position of an offset (LSP 3.17, "Position"). Between a `\r` and its `\n` it is the end of the line, and past
     /// the end of the text the end of the text.
-    pub fn position(&self, offset: usize) -> Position
-        ensures { result ≡ of.position Utf16 self.now offset }
+    pub fn position(&self, unit: Unit, offset: usize) -> Position
+        ensures { result ≡ of.position unit self.now offset }
     {
-        positions::position(&self.characters, offset.min(self.len()))
+        pieces::position(&self.pieces, unit, offset)
     }
 
     /// A walk over the text, from its start, that tells positions as it goes.
-    pub fn places(&self) -> Places<'_>
-        ensures { result ≡ record { text = self.now; offset = 0 } }
+    pub fn places(&self, unit: Unit) -> Places<'_>
+        ensures { result ≡ record { text = self.now; offset = 0; unit = unit } }
     {
-        Places::new(&self.characters)
+        Places::new(&self.pieces, unit)
     }
 
     /// How many characters the text has.
@@ -196,7 +168,7 @@ impl Text {
         ensures few { result ≤ LONGEST_TEXT }
         ensures characters { IsText self.now }
     {
-        self.characters.len()
+        pieces::characters(&self.pieces)
     }
 
     /// How many bytes the text has in UTF-8, at most [`LONGEST_TEXT`].
@@ -204,25 +176,34 @@ impl Text {
         ensures count { result ≡ length (encode_utf8_all self.now) }
         ensures few { result ≤ LONGEST_TEXT }
     {
-        self.bytes
+        pieces::bytes(&self.pieces)
     }
 
-    /// The character at an offset.
+    /// The character at an offset. The steps are a logarithm of the length, and those within one piece.
     pub fn at(&self, offset: usize) -> char
         requires { offset < length self.now }
         ensures { result ≡ slice_index self.now offset }
     {
-        self.characters[offset]
+        pieces::character(&self.pieces, offset)
     }
 
     /// The characters from an offset on, none from the end of the text on.
     pub fn chars_from(&self, offset: usize) -> Chars<'_>
         ensures { result ≡ drop offset self.now }
     {
-        let start = offset.min(self.len());
-        Chars {
-            rest: &self.characters[start..],
+        let cut = cut_at(&self.pieces, offset);
+        Chars::new(cut.back, self.pieces.iter_from(cut.piece + 1))
+    }
+
+    /// All characters, one behind the other, for readers that go by offsets through the whole text.
+    pub fn characters(&self, alloc: Global) -> Result<Vec<char>, AllocError>
+        ensures { IfOk result (λ characters. characters.items ≡ self.now) }
+    {
+        let mut characters = Vec::with_capacity(alloc, self.len())?;
+        for c in self.chars_from(0) {
+            characters.push(c)?;
         }
+        Ok(characters)
     }
 
     /// The whole text in UTF-8.
@@ -230,79 +211,18 @@ impl Text {
         ensures { IfOk result (λ string. string_bytes string ≡ encode_utf8_all self.now) }
     {
         let mut string = String::with_capacity(alloc, self.bytes())?;
-        for c in self.chars_from(0) {
-            string.push(c)?;
+        for piece in self.pieces.iter_from(0) {
+            string.push_str(piece.text())?;
         }
         Ok(string)
     }
-}
 
-/// The characters of a text from an offset on, in order.
-#[derive(Drop)]
-pub struct Chars<'a> {
-    rest: &'a [char],
-}
-
-impl<'a> Model for Chars<'a> {
-    ghost use Rattle.std.specs.Prelude.{ℕ, List};
-
-    ghost Value = { List ℕ };
-
-    ghost view = { λ c. c.rest.now };
-}
-
-impl<'a> Iterator for Chars<'a> {
-    type Item = char;
-
-    ghost next_gives = { YieldsFirst (λ s. s) };
-
-    ghost remaining = { item_count (λ s. s) };
-
-    fn next(&mut self) -> Option<char> {
-        let (first, rest) = self.rest.split_first()?;
-        self.rest = rest;
-        Some(*first)
+    /// The pieces of the text, in order. They are few: but for one, each has at least [`SHORTEST_OF_SEVERAL`] bytes.
+    pub fn pieces(&self) -> &Seq<Piece>
+        ensures text { concat result.now ≡ self.now }
+        ensures few { SHORTEST_OF_SEVERAL * length result.now
+            ≤ length (encode_utf8_all self.now) + SHORTEST_OF_SEVERAL }
+    {
+        &self.pieces
     }
-}
-
-/// How many bytes the characters have in UTF-8.
-fn utf8_len(characters: &[char]) -> usize
-    requires { length (encode_utf8_all characters.now) < 2 ^ 64 }
-    ensures { result ≡ length (encode_utf8_all characters.now) }
-{
-    let mut bytes = 0;
-    for c in characters {
-        bytes += c.len_utf8();
-    }
-    bytes
-}
-
-/// The characters with `new` in place of those from `a` up to `b`, in memory of the exact size.
-fn edited(
-    alloc: Global,
-    old: &[char],
-    a: usize,
-    b: usize,
-    new: &str,
-) -> Result<Vec<char>, AllocError>
-    requires ordered { a ≤ b }
-    requires in_range { b ≤ length old.now }
-    requires fits { length old.now + length new.now < 2 ^ 64 }
-    ensures { IfOk result (λ characters. characters.items ≡ edit old.now a b (chars new.now)) }
-{
-    let mut characters = Vec::with_capacity(alloc, a + new.chars().count() + (old.len() - b))?;
-    characters.extend_from_slice(&old[..a])?;
-    append(&mut characters, new)?;
-    characters.extend_from_slice(&old[b..])?;
-    Ok(characters)
-}
-
-/// Appends the characters of `new`.
-fn append(characters: &mut Vec<char>, new: &str) -> Result<(), AllocError>
-    ensures { OnOk result (characters.new.items ≡ characters.old.items ++ chars new.now) }
-{
-    for c in new.chars() {
-        characters.push(c)?;
-    }
-    Ok(())
 }

@@ -14,5 +14,4 @@ pub mod Significant
 pub mod Sorting
 pub mod Telling
 pub mod Walking
-pub mod Walk
 pub mod Writing

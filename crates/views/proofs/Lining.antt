@@ -29,6 +29,7 @@ AreMarked skips items = All (λ x. x.skipped ≡ is_skipped skips x.kind) items
 -- it, and the rest of the tokens begins there.
 pub record IsLined (skips : List Bool) (t : List ℕ) (items : List Token) (lines : List (ℕ × ℕ)) (at : Place) (rest : List Token) : Type 0 where
   pub offset : ℕ
+  pub unit : at.unit ≡ Utf16
   pub text : at.text ≡ t
   pub place : at.offset ≡ min offset (length t)
   pub told : lines ++ lines_from skips t offset rest ≡ lines_from skips t 0 items
@@ -38,13 +39,13 @@ line-position : (t : List ℕ) (o : ℕ) → (position Utf16 t o).line ≡ line_
 unfolding position
 line-position t o = refl
 
-line-place : (t : List ℕ) (at : Place) (o : ℕ) → at.text ≡ t → at.offset ≡ min o (length t) → (position Utf16 at.text at.offset).line ≡ line_of t o
-line-place t at o e p = ap (λ q. q.line) (position-place t at o e p) ∙ line-position t o
+line-place : (t : List ℕ) (at : Place) (o : ℕ) → at.unit ≡ Utf16 → at.text ≡ t → at.offset ≡ min o (length t) → (position at.unit at.text at.offset).line ≡ line_of t o
+line-place t at o w e p = ap (λ q. q.line) (position-place t at o w e p) ∙ line-position t o
 
-pub lined_none : (skips : List Bool) (t : List ℕ) (items : List Token) (at : Place) → at.text ≡ t → at.offset ≡ 0 → AreMarked skips items → IsLined skips t items [] at items
-lined_none skips t items at e p m = record { offset = 0; text = e; place = omega (arith, p); told = refl; marked = m }
+pub lined_none : (skips : List Bool) (t : List ℕ) (items : List Token) (at : Place) → at.unit ≡ Utf16 → at.text ≡ t → at.offset ≡ 0 → AreMarked skips items → IsLined skips t items [] at items
+lined_none skips t items at w e p m = record { offset = 0; unit = w; text = e; place = omega (arith, p); told = refl; marked = m }
 
-module _ (skips : List Bool) (t : List ℕ) (items : List Token) (lines : List (ℕ × ℕ)) (at next : Place) (x : Token) (rest : List Token) (h : IsLined skips t items lines at (x ∷ rest)) (e : next.text ≡ at.text) (p : next.offset ≡ min (at.offset + x.length) (length at.text)) where
+module _ (skips : List Bool) (t : List ℕ) (items : List Token) (lines : List (ℕ × ℕ)) (at next : Place) (x : Token) (rest : List Token) (h : IsLined skips t items lines at (x ∷ rest)) (v : next.unit ≡ at.unit) (e : next.text ≡ at.text) (p : next.offset ≡ min (at.offset + x.length) (length at.text)) where
   more : ℕ
   more = h.offset + x.length
 
@@ -72,20 +73,22 @@ module _ (skips : List Bool) (t : List ℕ) (items : List Token) (lines : List (
   pub lined_skipped : x.skipped ≡ true → IsLined skips t items lines next rest
   lined_skipped s = record {
     offset = h.offset + x.length;
+    unit = v ∙ h.unit;
     text = next_text;
     place = next_place;
     told = ap (λ l. lines ++ l) (sym (from_first true (sym mark ∙ s))) ∙ h.told;
     marked = marks;
   }
 
-  pub lined_more : x.skipped ≡ false → (l : ℕ × ℕ) → l.0 ≡ (position Utf16 at.text at.offset).line → l.1 ≡ (position Utf16 next.text next.offset).line → IsLined skips t items (lines ++ l ∷ []) next rest
+  pub lined_more : x.skipped ≡ false → (l : ℕ × ℕ) → l.0 ≡ (position at.unit at.text at.offset).line → l.1 ≡ (position next.unit next.text next.offset).line → IsLined skips t items (lines ++ l ∷ []) next rest
   unfolding first_line
   lined_more s l from to =
-      let start = from ∙ line-place t at h.offset h.text h.place in
-      let end = to ∙ line-place t next (h.offset + x.length) next_text next_place in
+      let start = from ∙ line-place t at h.offset h.unit h.text h.place in
+      let end = to ∙ line-place t next (h.offset + x.length) (v ∙ h.unit) next_text next_place in
       let same : l ≡ first_line = λ i. (start i, end i) in
       record {
         offset = h.offset + x.length;
+        unit = v ∙ h.unit;
         text = next_text;
         place = next_place;
         told = append_assoc lines (l ∷ []) (lines_from skips t (h.offset + x.length) rest)

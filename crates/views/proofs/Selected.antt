@@ -16,11 +16,11 @@ use Rattle.lexer.specs.declared.sums.Token.{Token as Stored}
 use Rattle.lexer.specs.Tokens.{AreTokensOf, is_significant, plain}
 use Rattle.trees.specs.declared.store.Child.{Child}
 use Rattle.trees.specs.Cells.{Cell}
-use Rattle.views.specs.Around.{AreNested, IsAround, IsSpanOf, inside, is_same, offsets_of, spans_all}
+use Rattle.views.specs.Around.{IsAround, IsSpanOf, inside, is_same, offsets_of, spans_all}
 use Rattle.views.specs.Told.{AreRootsOf, IsSelectionOf, placed_parts, trees_of_roots}
 use Rattle.views.proofs.Apart.{place_of_offset, places_around}
 use Rattle.views.proofs.Located.{few}
-use Rattle.views.proofs.Selecting.{are_spans, told_cover, told_nested}
+use Rattle.views.proofs.Selecting.{are_spans, told_cover}
 use Rattle.views.proofs.Significant.{count_of_parts}
 
 module _ (file : FileGrammar) (t : List ℕ) (tokens : List Token) (trees : List Tree) (symbols : List Symbol)
@@ -38,9 +38,6 @@ module _ (file : FileGrammar) (t : List ℕ) (tokens : List Token) (trees : List
 
   spans_lie : (o reached first : ℕ) → IsAround (placed_parts file tokens) o reached first → All (IsSpanOf (length (placed_parts file tokens))) (dedup is_same (spans_all reached first 0 trees))
   spans_lie o reached first a = are_spans file.patterns file.skips t tokens h file.grammar trees symbols roots o reached first parts_cover a
-
-  nested_lie : (o reached first : ℕ) → IsAround (placed_parts file tokens) o reached first → AreNested (length t) (told reached first)
-  nested_lie o reached first a = told_nested file.patterns file.skips t tokens h file.grammar trees symbols roots o reached first parts_cover a
 
   -- each offset has a selection
   pub some_selection : (o : ℕ) → (ranges : List Range) × IsSelectionOf file t tokens trees o ranges
@@ -73,9 +70,6 @@ module _ (file : FileGrammar) (t : List ℕ) (items : List Stored) (cells : List
     same =
         let kept = λ (m : ℕ) (ss : List (ℕ × ℕ)). shortened ((0, m) ∷ inside (0, m) (map (offsets_of (placed_parts file (map plain items))) ss)) in
         some ∙ (λ i. kept (whole i) (all i))
-
-    pub nested_roots : AreNested (length t) offsets
-    nested_roots = subst (AreNested (length t)) (sym same) (nested_lie file t (map plain items) (trees_of_roots cells roots) r.symbols h.tokens r.are_trees r.covered o reached first a)
 
     pub selected_roots : (ranges : List Range) → ranges ≡ reverse (map (range_of Utf16 t) offsets) → IsSelectionOf file t (map plain items) (trees_of_roots cells roots) o ranges
     selected_roots ranges is =

@@ -6,7 +6,7 @@ use Rattle.std.proofs.Common.{arith, refl, sym, ap, subst, inl, inr, ◌∙◌, 
 use Rattle.std.proofs.lemmas.Bool.{and_parts, and_from, and_cases, eqb-true, eqb-false, eq-eqb, cases_lt, cases_order, lt-ltb, le-ltb}
 use Rattle.std.proofs.Math.ListN.{get_or-map}
 use Rattle.std.proofs.lemmas.List.{length-map}
-use Rattle.std.proofs.lemmas.List.Elements.{All-cons, All-head, All-tail, All-map, All-weaker, All-contains, All-drop}
+use Rattle.std.proofs.lemmas.List.Elements.{All-head, All-tail, All-map, All-weaker, All-contains}
 use Rattle.std.proofs.lemmas.List.Kept.{AllPairs-cons, Contains-dedup, Contains-from_dedup}
 use Rattle.definitions.specs.declared.Symbol.{Symbol}
 use Rattle.definitions.specs.declared.expression.Expression.{Expression}
@@ -16,8 +16,8 @@ use Rattle.definitions.specs.Tokens.{Token, Placed, AreTokens, placed, significa
 use Rattle.definitions.specs.Trees.{Grammar, Tree, HaveRoots, all_kinds}
 use Rattle.definitions.proofs.Ordered.{Contains-first, Contains-later, Contains-cases, Contains-none}
 use Rattle.views.proofs.NodesFrom.{nodes_from_start, nodes_from_within}
-use Rattle.views.specs.Around.{AreNested, IsAround, starts_at, ends_at, offsets_of, spans_all, is_same, inside, IsSpanOf, Holds}
-use Rattle.views.proofs.Nested.{All-each, AllPairs-none, AllPairs-head, AllPairs-tail, AllPairs-weaker, AllPairs-drop, same_span, nested_dedup}
+use Rattle.views.specs.Around.{IsAround, starts_at, ends_at, offsets_of, spans_all, is_same, inside, IsSpanOf, Holds}
+use Rattle.views.proofs.Nested.{All-each, AllPairs-none, AllPairs-head, AllPairs-tail, same_span, nested_dedup}
 use Rattle.views.proofs.Around.{IsSpanFrom, span_all, node_all, nested_all}
 use Rattle.views.proofs.Apart.{IsWithin, Ends, significant_within, significant_apart, start_before_end, end_within, ends_before}
 
@@ -159,13 +159,6 @@ module _ (n : ℕ) (parts : List Placed) (h : All (IsWithin 0 n) parts) (k : All
   offsets_within : (s : ℕ × ℕ) → IsSpanOf (length parts) s → Holds (0, n) (offsets_of parts s)
   offsets_within s p = (omega arith, end_within 0 n parts h (s.1 - 1) (omega (arith, p.filled, p.to)))
 
-  -- from a start up to an end of the text
-  offsets_lie : (s : ℕ × ℕ) → IsSpanOf (length parts) s → ((offsets_of parts s).0 ≤ (offsets_of parts s).1) × ((offsets_of parts s).1 ≤ n)
-  offsets_lie s p =
-      let here : starts_at parts s.0 < ends_at parts s.0 = start_before_end 0 n parts h s.0 (omega (arith, p.filled, p.to)) in
-      let later : ends_at parts s.0 ≤ ends_at parts (s.1 - 1) = ends_keep s.0 (s.1 - 1) (omega (arith, p.filled)) (omega (arith, p.filled, p.to)) in
-      (omega (arith, here, later), end_within 0 n parts h (s.1 - 1) (omega (arith, p.filled, p.to)))
-
 -- the whole and what is inside, of which the last 31
 pub shortened_is : (w : ℕ × ℕ) (rs : List (ℕ × ℕ)) → shortened (w ∷ rs) ≡ w ∷ drop (length rs - 31) rs
 shortened_is w rs = go (cases_lt 32 (length (w ∷ rs)))
@@ -207,26 +200,6 @@ module _ (rules : List Expression) (skips : List Bool) (t : List ℕ) (tokens : 
 
     in_text : All (Holds (0, length t)) told
     in_text = All-map (Holds (0, length t)) (offsets_of parts) spans (All-weaker (IsSpanOf (length parts)) (λ s. Holds (0, length t) (offsets_of parts s)) (offsets_within (length t) parts lie apart) spans are_spans)
-
-    -- what is told of them is nested
-    pub told_nested : AreNested (length t) (shortened ((0, length t) ∷ inside (0, length t) told))
-    told_nested = subst (AreNested (length t)) (sym (shortened_is (0, length t) (inside (0, length t) told))) (record { nested = pairs; lie = each })
-      where
-        rest : ℕ
-        rest = length (inside (0, length t) told) - 31
-
-        pairs : AllPairs Holds ((0, length t) ∷ drop rest (inside (0, length t) told))
-        pairs = AllPairs-cons Holds (0, length t) (drop rest (inside (0, length t) told))
-            (All-drop (Holds (0, length t)) rest (inside (0, length t) told) (All-inside (Holds (0, length t)) (0, length t) told in_text))
-            (AllPairs-drop Holds rest (inside (0, length t) told) (AllPairs-weaker Encloses Holds (λ r s e. (e.0, e.1)) (inside (0, length t) told) (AllPairs-inside Encloses (0, length t) told nested)))
-
-        lies : ℕ × ℕ → Type 0
-        lies s = (s.0 ≤ s.1) × (s.1 ≤ length t)
-
-        each : All lies ((0, length t) ∷ drop rest (inside (0, length t) told))
-        each = All-cons lies (0, length t) (drop rest (inside (0, length t) told)) (omega arith, omega arith)
-            (All-drop lies rest (inside (0, length t) told) (All-inside lies (0, length t) told
-            (All-map lies (offsets_of parts) spans (All-weaker (IsSpanOf (length parts)) (λ s. lies (offsets_of parts s)) (offsets_lie (length t) parts lie apart) spans are_spans))))
 
     only : (r : ℕ × ℕ) → Contains (inside (0, length t) told) r → (r ≢ (0, length t)) × (n : Node) × IsNodeOf g trees n × Covers parts o n × (r ≡ span parts n)
     only r c =

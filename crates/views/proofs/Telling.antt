@@ -18,36 +18,39 @@ use Rattle.views.specs.Views.{row_of, row_bytes, in_utf8, rows_from, rows_of}
 -- it, and the rest of the tokens begins there.
 pub record IsTold (f : FileGrammar) (t : List ℕ) (items : List Token) (rows : List Row) (at : Place) (rest : List Token) : Type 0 where
   pub offset : ℕ
+  pub unit : at.unit ≡ Utf16
   pub text : at.text ≡ t
   pub place : at.offset ≡ min offset (length t)
   pub told : map row_of rows ++ rows_from f t offset rest ≡ rows_of f t items
   pub spelled : map row_bytes rows ≡ map in_utf8 (map row_of rows)
 
 -- the walk has the position of the offset
-pub position-place : (t : List ℕ) (at : Place) (o : ℕ) → at.text ≡ t → at.offset ≡ min o (length t) → position Utf16 at.text at.offset ≡ position Utf16 t o
-position-place t at o e p = ap (λ u. position Utf16 u at.offset) e ∙ ap (position Utf16 t) p ∙ position-min Utf16 t o
+pub position-place : (t : List ℕ) (at : Place) (o : ℕ) → at.unit ≡ Utf16 → at.text ≡ t → at.offset ≡ min o (length t) → position at.unit at.text at.offset ≡ position Utf16 t o
+position-place t at o w e p = ap (λ v. position v at.text at.offset) w ∙ ap (λ u. position Utf16 u at.offset) e ∙ ap (position Utf16 t) p ∙ position-min Utf16 t o
 
 pub min-more : (n o k : ℕ) → min (min o n + k) n ≡ min (o + k) n
 min-more n o k = omega arith
 
-pub told_none : (f : FileGrammar) (t : List ℕ) (items : List Token) (at : Place) → at.text ≡ t → at.offset ≡ 0 → IsTold f t items [] at items
-told_none f t items at e p = record { offset = 0; text = e; place = omega (arith, p); told = refl; spelled = refl }
+pub told_none : (f : FileGrammar) (t : List ℕ) (items : List Token) (at : Place) → at.unit ≡ Utf16 → at.text ≡ t → at.offset ≡ 0 → IsTold f t items [] at items
+told_none f t items at w e p = record { offset = 0; unit = w; text = e; place = omega (arith, p); told = refl; spelled = refl }
 
 pub told_more : (f : FileGrammar) (t : List ℕ) (items : List Token) (rows : List Row) (at next : Place) (x : Token) (rest : List Token) (r : Row)
-    → IsTold f t items rows at (x ∷ rest) → next.text ≡ at.text → next.offset ≡ min (at.offset + x.length) (length at.text)
-    → chars r.name.now ≡ kind_name f.names x.kind → IsUtf8 r.name.now → r.range.start ≡ position Utf16 at.text at.offset → r.range.end ≡ position Utf16 next.text next.offset
+    → IsTold f t items rows at (x ∷ rest) → next.unit ≡ at.unit → next.text ≡ at.text → next.offset ≡ min (at.offset + x.length) (length at.text)
+    → chars r.name.now ≡ kind_name f.names x.kind → IsUtf8 r.name.now → r.range.start ≡ position at.unit at.text at.offset → r.range.end ≡ position next.unit next.text next.offset
     → IsTold f t items (rows ++ r ∷ []) next rest
-told_more f t items rows at next x rest r h e p name utf8 from to =
+told_more f t items rows at next x rest r h v e p name utf8 from to =
+    let unit : next.unit ≡ Utf16 = v ∙ h.unit in
     let text : next.text ≡ t = e ∙ h.text in
     let place : next.offset ≡ min (h.offset + x.length) (length t) =
     p ∙ ap (λ n. min (at.offset + x.length) (length n)) h.text ∙ ap (λ n. min (n + x.length) (length t)) h.place ∙ min-more (length t) h.offset x.length in
-    let start = from ∙ position-place t at h.offset h.text h.place in
-    let end = to ∙ position-place t next (h.offset + x.length) text place in
+    let start = from ∙ position-place t at h.offset h.unit h.text h.place in
+    let end = to ∙ position-place t next (h.offset + x.length) unit text place in
     let row : row_of r ≡ (kind_name f.names x.kind, range_of Utf16 t (h.offset, h.offset + x.length)) = λ i. (name i, record { start = start i; end = end i }) in
     let bytes : r.name.now ≡ encode_utf8_all (chars r.name.now) = sym (encodes-chars r.name.now utf8) in
     let spelled : row_bytes r ≡ in_utf8 (row_of r) = λ i. (bytes i, r.range) in
     record {
       offset = h.offset + x.length;
+      unit = unit;
       text = text;
       place = place;
       told = ap (λ rs. rs ++ rows_from f t (h.offset + x.length) rest) (map-append row_of rows (r ∷ []))

@@ -7,30 +7,17 @@
 --     IsBranchAround cells children from point branch      the branch found among these children
 --     offsets_of parts s      the offsets of a span of places
 --     inside w rs      the spans rs without the first one, where that is w
---     AreNested n offsets      each span holds the later ones
-use Rattle.std.specs.Prelude.{ℕ, ◌+◌, ◌-◌, ◌^◌, ◌≡◌, true, ◌<◌, ◌≤◌, ◌↔◌, Bool, ◌&&◌, ◌==◌, nat_lt, if◌then◌else◌, List, [], ◌∷◌, ◌++◌, length, map, slice_index, Option, Some, None, All, AllPairs}
+use Rattle.std.specs.Prelude.{ℕ, ◌+◌, ◌-◌, ◌^◌, ◌≡◌, true, ◌<◌, ◌≤◌, ◌↔◌, Bool, ◌&&◌, ◌==◌, nat_lt, if◌then◌else◌, List, [], ◌∷◌, ◌++◌, length, map, slice_index, Option, Some, None}
 use Rattle.definitions.specs.Answers.{end_of}
 use Rattle.definitions.specs.Tokens.{Placed}
 use Rattle.definitions.specs.TreeEdits.{plain}
 use Rattle.definitions.specs.Trees.{Tree, Forest, Leaf, Branch, Nil, Cons, yield, yields}
-use Rattle.seqtree.specs.Goal.{StaysReached}
-use Rattle.lexer.specs.declared.sums.Sums.{Sums}
-use Rattle.lexer.specs.Laws.{after_character_stays}
-use Rattle.lexer.specs.Sums.{joined}
 use Rattle.trees.specs.declared.store.Child.{Child}
 use Rattle.trees.specs.declared.store.Child.TheVariants.{Token as Leaf_child, Node}
 use Rattle.trees.specs.Cells.{Cell, AreBelow, tree}
-use Rattle.views.specs.declared.selections.AtOffset.{AtOffset}
 use Rattle.views.specs.declared.selections.Branch.{Branch as Found}
 use Rattle.views.specs.declared.selections.Point.{Point}
 use Rattle.views.specs.Told.{trees_of_roots}
-
--- whether the tokens have more characters than stand before the offset
-abbrev pub is_behind : AtOffset → Sums → Bool
-is_behind g s = nat_lt g.offset s.characters
-
-pub behind_stays : StaysReached joined is_behind
-behind_stays g s r h = after_character_stays (record { offset = g.offset }) s r h
 
 abbrev pub starts_at : List Placed → ℕ → ℕ
 starts_at parts k = slice_index (map (λ x. x.start) parts) k
@@ -97,8 +84,3 @@ pub record IsSpanOf (n : ℕ) (s : ℕ × ℕ) : Type 0 where
 -- the first span holds the second
 abbrev pub Holds : ℕ × ℕ → ℕ × ℕ → Type 0
 Holds r s = (r.0 ≤ s.0) × (s.1 ≤ r.1)
-
--- spans of offsets in a text of n characters, each of which holds the later ones
-pub record AreNested (n : ℕ) (offsets : List (ℕ × ℕ)) : Type 0 where
-  pub nested : AllPairs Holds offsets
-  pub lie : All (λ s. (s.0 ≤ s.1) × (s.1 ≤ n)) offsets

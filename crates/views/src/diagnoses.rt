@@ -12,7 +12,7 @@ ghost use Rattle.views.specs.Diagnostics.{in_utf8, told_bytes, told_of};
 ghost use Rattle.views.specs.Told.{IsDiagnosis};
 
 use crate::parts::span_of;
-use definitions::{Diagnostic, Range};
+use definitions::{Diagnostic, Range, Unit};
 use grammar::Grammar;
 use lexer::{Kind, Tokens};
 use parser::{Parse, Verdict};
@@ -51,14 +51,14 @@ pub fn diagnostic(
             let part = span_of(tokens, k);
             let message = message_of(alloc, grammar, Some(part.kind), expected)?;
             let range = Range {
-                start: text.position(part.start),
-                end: text.position(part.end),
+                start: text.position(Unit::Utf16, part.start),
+                end: text.position(Unit::Utf16, part.end),
             };
             Ok(Some(Diagnostic { range, message }))
         }
         Verdict::FaultAtEnd => {
             let message = message_of(alloc, grammar, None, expected)?;
-            let end = text.position(text.len());
+            let end = text.position(Unit::Utf16, text.len());
             let range = Range { start: end, end };
             Ok(Some(Diagnostic { range, message }))
         }

@@ -10,6 +10,7 @@ ghost use Rattle.trees.specs.Cells.{AreBelow};
 ghost use Rattle.views.specs.Folds.{lines_of, SpanLines, AreAscending, AreSpanned, with_own};
 ghost use Rattle.views.specs.Told.{AreFoldsOf, AreRootsOf, trees_of_roots};
 
+use definitions::Unit;
 use grammar::Grammar;
 use lexer::Tokens;
 use std::alloc::{AllocError, Global};
@@ -55,7 +56,7 @@ fn lines_of(alloc: Global, text: &Text, tokens: &Tokens) -> Result<Vec<(u32, u32
         ≡ lines_of text.now (significant skips (placed 0 (map plain tokens.now.items)))) }
 {
     let mut lines = Vec::with_capacity(alloc, tokens.significant())?;
-    let mut places = text.places();
+    let mut places = text.places(Unit::Utf16);
     for token in tokens.items().iter_from(0) {
         let first = places.position().line;
         places.advance(token.length as usize);

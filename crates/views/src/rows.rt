@@ -3,7 +3,7 @@
 ghost use Rattle.std.specs.Prelude.{◌≡◌, map, IfOk};
 ghost use Rattle.views.specs.Views.{row_of, row_bytes, in_utf8, rows_of};
 
-use definitions::Range;
+use definitions::{Range, Unit};
 use grammar::Grammar;
 use lexer::Tokens;
 use std::alloc::{AllocError, Global};
@@ -29,7 +29,7 @@ pub fn token_rows<'a>(
         map row_bytes rows.items ≡ map in_utf8 (rows_of grammar.now text.now tokens.now.items)) }
 {
     let mut rows = Vec::with_capacity(alloc, tokens.count())?;
-    let mut places = text.places();
+    let mut places = text.places(Unit::Utf16);
     for token in tokens.items().iter_from(0) {
         let start = places.position();
         places.advance(token.length as usize);

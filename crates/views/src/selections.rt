@@ -5,44 +5,24 @@ ghost use Rattle.std.specs.List.{dedup};
 ghost use Rattle.definitions.specs.declared.expression.Expression.{Expression};
 ghost use Rattle.definitions.specs.declared.Unit.TheVariants.{Utf16};
 ghost use Rattle.definitions.specs.Answers.{range_of, shortened};
-ghost use Rattle.definitions.specs.Text.{position};
 ghost use Rattle.definitions.specs.Tokens.{is_skipped, placed, significant};
 ghost use Rattle.definitions.specs.Trees.{all_kinds};
 ghost use Rattle.grammar.specs.Grammars.{FileGrammar};
 ghost use Rattle.lexer.specs.Tokens.{plain, is_significant, AreTokensOf};
 ghost use Rattle.trees.specs.Cells.{AreBelow};
-ghost use Rattle.views.specs.Around.{AreNested, IsAround, IsBranchAround, IsSpanOf, inside, is_same, spans_all};
+ghost use Rattle.views.specs.Around.{IsAround, IsBranchAround, IsSpanOf, inside, is_same, spans_all};
 ghost use Rattle.views.specs.Around as of;
 ghost use Rattle.views.specs.Told.{AreRootsOf, IsSelectionOf, trees_of_roots};
 
 use crate::parts::span_of;
-use definitions::{Position, Range};
-use lexer::{Sums, Tokens};
-use seqtree::Goal;
+use definitions::{Range, Unit};
+use lexer::{AfterCharacter, Tokens};
 use std::alloc::{AllocError, Global};
-use text::{Places, Text};
+use text::Text;
 use trees::{Child, NodeId, Store};
 
 /// How many ranges are told at most.
 const MOST_RANGES: usize = 32;
-
-/// Looks for the token that holds the character at this offset.
-#[derive(Clone, Copy, Debug, PartialEq, Eq)]
-struct AtOffset {
-    offset: usize,
-}
-
-impl Goal<Sums> for AtOffset {
-    ghost use Rattle.views.specs.Around.{is_behind, behind_stays};
-
-    ghost reaches = { is_behind };
-
-    ghost stays = { behind_stays };
-
-    fn reached(&self, sum: &Sums) -> bool {
-        self.offset < sum.characters as usize
-    }
-}
 
 /// An offset, as two places among the significant tokens.
 #[derive(Clone, Copy, Debug, PartialEq, Eq)]
@@ -95,7 +75,7 @@ fn point_of(tokens: &Tokens, offset: usize) -> Point
         result.reached result.first }
     ensures near { result.reached ≤ result.first + 1 }
 {
-    let (place, before) = tokens.items().locate(&AtOffset { offset });
+    let (place, before) = tokens.items().locate(&AfterCharacter { offset });
     let first = before.significant as usize;
     let reached = match tokens.token(place) {
         Some(token) if !token.skipped => first + 1,
@@ -213,63 +193,21 @@ fn offsets_of(tokens: &Tokens, span: (usize, usize)) -> (usize, usize)
     )
 }
 
-/// The ranges of these offsets, in the opposite order. Each holds the next one, so that one walk over the text tells all
-/// positions: the starts from the first on, and then the ends from the last on.
+/// The ranges of these offsets, in the opposite order.
 fn ranges_of(
     alloc: Global,
     text: &Text,
     offsets: &[(usize, usize)],
 ) -> Result<Vec<Range>, AllocError>
-    requires { AreNested (length text.now) offsets.now }
     ensures { IfOk result (λ ranges.
         ranges.items ≡ reverse (map (range_of Utf16 text.now) offsets.now)) }
 {
-    let mut places = text.places();
-    let (mut starts, mut at) = starts_of(alloc, &mut places, offsets)?;
     let mut ranges = Vec::with_capacity(alloc, offsets.len())?;
-    while let Some(start) = starts.pop() {
-        let end = offsets[starts.len()].1;
+    for (start, end) in offsets.iter().rev() {
         ranges.push(Range {
-            start,
-            end: position_at(&mut places, at, end),
+            start: text.position(Unit::Utf16, *start),
+            end: text.position(Unit::Utf16, *end),
         })?;
-        at = end;
     }
     Ok(ranges)
-}
-
-/// The positions of the starts, and the last start.
-fn starts_of(
-    alloc: Global,
-    places: &mut Places<'_>,
-    offsets: &[(usize, usize)],
-) -> Result<(Vec<Position>, usize), AllocError>
-    requires start { places.old.offset ≡ 0 }
-    requires nested { AreNested (length places.old.text) offsets.now }
-    ensures starts { IfOk result (λ r.
-        r.0.items ≡ map (λ s. position Utf16 places.old.text s.0) offsets.now) }
-    ensures last { IfOk result (λ r. All (λ s. r.1 ≤ s.1) offsets.now) }
-    ensures walk { IfOk result (λ r.
-        (places.new.text ≡ places.old.text) × (places.new.offset ≡ r.1)) }
-{
-    let mut starts = Vec::with_capacity(alloc, offsets.len())?;
-    let mut at = 0;
-    for (start, _) in offsets {
-        starts.push(position_at(places, at, *start))?;
-        at = *start;
-    }
-    Ok((starts, at))
-}
-
-/// Goes on from one offset to another, and tells its position.
-fn position_at(places: &mut Places<'_>, at: usize, offset: usize) -> Position
-    requires at { places.old.offset ≡ at }
-    requires ordered { at ≤ offset }
-    requires within { offset ≤ length places.old.text }
-    ensures is { result ≡ position Utf16 places.old.text offset }
-    ensures text { places.new.text ≡ places.old.text }
-    ensures offset { places.new.offset ≡ offset }
-{
-    places.advance(offset - at);
-    places.position()
 }

@@ -1,9 +1,8 @@
-use Rattle.std.proofs.Common.{length}
-use Rattle.views.proofs.Walk.{IsClosing}
+use Rattle.std.proofs.Common.{◌≡◌, ◌++◌, map}
+use Rattle.std.specs.Prelude.{reverse}
+use Rattle.definitions.specs.declared.Unit.TheVariants.{Utf16}
+use Rattle.definitions.specs.Answers.{range_of}
 use Rattle.views.proofs.selections.ranges_of.Given as goal
 
 abbrev pub invariant-loop-start : goal.invariant-loop-start
-invariant-loop-start l = IsClosing l.text l.offsets l.starts.items l.ranges.items l.places l.at
-
-abbrev pub decreases-loop-start : goal.decreases-loop-start
-decreases-loop-start l = length l.starts.items
+invariant-loop-start l = l.ranges.items ++ reverse (map (range_of Utf16 l.text) l.start-iterator.iter.rest.now) ≡ reverse (map (range_of Utf16 l.text) l.offsets)

@@ -5,9 +5,9 @@ use Rattle.definitions.specs.declared.Unit.TheVariants.{Utf16}
 use Rattle.definitions.specs.Answers.{range_of}
 use Rattle.grammar.specs.Grammars.{FileGrammar}
 use Rattle.lexer.specs.Tokens.{is_significant, plain}
-use Rattle.views.specs.Around.{AreNested, IsAround, IsSpanOf}
+use Rattle.views.specs.Around.{IsAround, IsSpanOf}
 use Rattle.views.specs.Told.{placed_parts}
-use Rattle.views.proofs.Selected.{nested_roots, roots_fit, spans_stand, selected_roots}
+use Rattle.views.proofs.Selected.{roots_fit, spans_stand, selected_roots}
 use Rattle.views.proofs.selections.selection.Goals as goal
 
 pub spans_around-requires-clause-fits : goal.spans_around-requires-clause-fits
@@ -22,15 +22,6 @@ offsets_told-requires c =
     let around : IsAround (placed_parts file (map plain c.args.tokens.now.items)) c.args.offset c.point_of.result.reached c.point_of.result.first = c.point_of.ensures.around file.patterns file.skips c.args.text.now c.requires.1 short in
     subst (All (IsSpanOf (count_by is_significant c.args.tokens.now.items))) (sym (c.deref.ensures.value ∙ c.in_ok-spans.ensures))
     (spans_stand file c.args.text.now c.args.tokens.now.items c.args.store.now c.args.roots.now c.requires.1 c.requires.2 c.args.offset c.point_of.result.reached c.point_of.result.first around)
-
-pub ranges_of-requires : goal.ranges_of-requires
-ranges_of-requires c =
-    let short : length c.args.text.now ≤ 1073741824 = omega (arith, c.len.ensures.count, c.len.ensures.few) in
-    let file : FileGrammar = c.requires.0 in
-    let around : IsAround (placed_parts file (map plain c.args.tokens.now.items)) c.args.offset c.point_of.result.reached c.point_of.result.first = c.point_of.ensures.around file.patterns file.skips c.args.text.now c.requires.1 short in
-    let spans = c.deref.ensures.value ∙ c.in_ok-spans.ensures in
-    subst (AreNested (length c.args.text.now)) (sym c.deref-2.ensures.value)
-    (nested_roots file c.args.text.now c.args.tokens.now.items c.args.store.now c.args.roots.now c.requires.1 c.requires.2 c.args.offset c.point_of.result.reached c.point_of.result.first around c.len.result c.deref.result.now c.in_ok-offsets.offsets.items c.len.ensures.count spans (c.in_ok-offsets.ensures file.skips c.requires.1.marked))
 
 pub returns : goal.returns
 returns c = λ file h r.

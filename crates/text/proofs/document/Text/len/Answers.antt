@@ -1,6 +1,9 @@
 use Rattle.std.proofs.Common.{arith}
-use Rattle.std.proofs.lemmas.Str.{length-le-encodes}
+use Rattle.text.proofs.Sizes.{bytes_le, length_le}
 use Rattle.text.proofs.document.Text.len.Goals as goal
 
+pub characters-requires : goal.characters-requires
+characters-requires c = omega (arith, bytes_le c.self.inside.pieces c.self.invariant)
+
 pub returns-clause-few : goal.returns-clause-few
-returns-clause-few c = omega (arith, c.len.ensures, length-le-encodes c.self.inside.characters.items, c.self.invariant.counted, c.self.invariant.few)
+returns-clause-few c = omega (arith, c.characters.ensures, length_le c.self.inside.pieces c.self.invariant)

@@ -1,6 +1,6 @@
-use Rattle.std.proofs.Common.{arith, ap, length}
-use Rattle.std.proofs.lemmas.Str.{length-le-encodes}
+use Rattle.std.proofs.Common.{arith}
+use Rattle.text.proofs.Sizes.{bytes_le}
 use Rattle.text.proofs.document.Text.offset.Goals as goal
 
 pub offset-requires : goal.offset-requires
-offset-requires c = omega (arith, length-le-encodes c.self.inside.characters.items, c.self.invariant.counted, c.self.invariant.few, ap length c.deref.ensures.value)
+offset-requires c = omega (arith, bytes_le c.self.inside.pieces c.self.invariant)

@@ -1,6 +1,7 @@
 use Rattle.std.proofs.Common.{◌≡◌, ◌++◌}
 use Rattle.std.specs.Prelude.{string_bytes, encode_utf8_all}
+use Rattle.std.specs.List.{concat}
 use Rattle.text.proofs.document.Text.to_string.Given as goal
 
-abbrev pub invariant-loop-c : goal.invariant-loop-c
-invariant-loop-c l = string_bytes l.string ++ encode_utf8_all l.c-iterator ≡ encode_utf8_all l.self
+abbrev pub invariant-loop-piece : goal.invariant-loop-piece
+invariant-loop-piece l = string_bytes l.string ++ encode_utf8_all (concat l.piece-iterator) ≡ encode_utf8_all l.self

@@ -1,7 +1,12 @@
-use Rattle.std.proofs.Common.{◌≡◌}
-use Rattle.definitions.specs.declared.Unit.TheVariants.{Utf16}
-use Rattle.definitions.specs.Text as of
+use Rattle.std.proofs.Common.{◌≡◌, ◌+◌}
+use Rattle.std.specs.List.{concat}
+use Rattle.text.specs.Places.{IsPlaced}
 use Rattle.text.proofs.places.Places.advance.Given as goal
 
-abbrev pub invariant-loop-i : goal.invariant-loop-i
-invariant-loop-i l = l.position ≡ of.position Utf16 l.text l.i
+abbrev pub invariant-loop : goal.invariant-loop
+invariant-loop l = record {
+  placed : IsPlaced (concat l.self-inside.pieces.now) l.self-inside.ahead l.self-inside.offset l.self-inside.unit l.self-inside.position;
+  text : concat l.self-inside.pieces.now ≡ l.fn.self.text;
+  unit : l.self-inside.unit ≡ l.fn.self.unit;
+  far : l.self-inside.offset ≡ l.fn.self.offset + l.counter;
+}

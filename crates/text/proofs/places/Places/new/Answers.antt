@@ -1,6 +1,14 @@
-use Rattle.std.proofs.Common.{arith}
+use Rattle.std.proofs.Common.{arith, ◌++◌, ◌∙◌}
+use Rattle.std.specs.List.{concat}
+use Rattle.std.proofs.lemmas.Str.{chars-nil}
 use Rattle.text.proofs.Onward.{position-start}
 use Rattle.text.proofs.places.Places.new.Goals as goal
 
 pub invariant_of-result : goal.invariant_of-result
-invariant_of-result c = record { within = omega arith; few = c.requires; is = position-start c.args.text.now }
+invariant_of-result c =
+    record {
+      within = omega arith;
+      few = c.requires;
+      ahead = c.new.ensures ∙ (λ i. chars-nil i ++ concat (c.iter_from.ensures i));
+      is = position-start c.args.unit (concat c.args.pieces.now);
+    }

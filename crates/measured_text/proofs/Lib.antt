@@ -1,6 +1,0 @@
-mod Few
-mod Filled
-mod Lines
-mod Sizes
-mod Onward
-mod Spliced

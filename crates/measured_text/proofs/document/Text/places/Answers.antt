@@ -1,6 +1,0 @@
-use Rattle.std.proofs.Common.{arith}
-use Rattle.measured_text.proofs.Sizes.{length_le}
-use Rattle.measured_text.proofs.document.Text.places.Goals as goal
-
-pub new-requires : goal.new-requires
-new-requires c = omega (arith, length_le c.self.inside.pieces c.self.invariant)

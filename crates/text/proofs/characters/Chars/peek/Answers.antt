@@ -1,0 +1,28 @@
+use Rattle.std.proofs.Common.{arith, refl, ap, sym, subst, ◌∙◌, ◌≡◌, ◌<◌, ◌++◌, ℕ, List, [], ◌∷◌, Option, None, Some, length, true}
+use Rattle.std.specs.Prelude.{slice_get, is_some}
+use Rattle.std.specs.List.{concat}
+use Rattle.std.specs.Str.{chars}
+use Rattle.std.proofs.lemmas.Bool.{false≢true}
+use Rattle.std.proofs.lemmas.List.{append-nil}
+use Rattle.std.proofs.lemmas.Option.{none-some}
+use Rattle.text.proofs.characters.Chars.peek.Goals as goal
+
+front_get : (xs ys : List ℕ) (c : ℕ) → Some c ≡ slice_get xs 0 → Some c ≡ slice_get (xs ++ ys) 0
+front_get [] ys c h = absurd (none-some c (sym h))
+front_get (x ∷ xs) ys c h = h
+
+no_pieces : (ps : List (List ℕ)) → length ps ≡ 0 → concat ps ≡ []
+no_pieces [] e = refl
+no_pieces (p ∷ ps) e = absurd (omega (arith, e))
+
+peeked : (bs : List ℕ) (ps : List (List ℕ)) (r : Option ℕ) → (length bs ≡ 0 → length ps ≡ 0) → (0 < length bs → is_some r ≡ true) → r ≡ slice_get (chars bs) 0 → r ≡ slice_get (chars bs ++ concat ps) 0
+peeked bs ps (Some c) full some h = front_get (chars bs) (concat ps) c h
+peeked [] ps None full some h = h ∙ ap (λ t. slice_get t 0) (sym (append-nil (chars [])) ∙ ap (λ t. chars [] ++ t) (sym (no_pieces ps (full refl))))
+peeked (b ∷ bs) ps None full some h = absurd (false≢true (some (omega arith)))
+
+pub returns : goal.returns
+returns c =
+    let steps = c.next.ensures.steps in
+    let text : c.chars.result.rest.now ≡ c.self.inside.present.now = c.chars.ensures.rest in
+    peeked c.self.inside.present.now c.self.inside.pieces c.next.result c.self.invariant (subst (λ t. 0 < length t → is_some c.next.result ≡ true) text steps.1) (steps.2 ∙ ap (λ t. slice_get (chars t) 0) text)
+    ∙ ap (λ t. slice_get t 0) c.self.view_is

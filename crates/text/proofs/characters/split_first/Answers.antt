@@ -1,0 +1,10 @@
+use Rattle.std.proofs.lemmas.Str.{chars_past_char}
+use Rattle.std.proofs.Common.{sym, ap, ◌∷◌, ◌∙◌}
+use Rattle.std.specs.Str.{chars}
+use Rattle.text.proofs.characters.split_first.Goals as goal
+
+pub returns : goal.returns
+returns c =
+    let steps = c.in_ok-first.ensures.steps in
+    chars_past_char c.args.text.now c.next.new.self.rest.now c.in_ok-first.first c.utf8.text (sym c.chars-rest.ensures.rest ∙ steps.0)
+    ∙ ap (λ t. c.in_ok-first.first ∷ chars t) (sym c.as_str.ensures)
