@@ -1,11 +1,11 @@
 -- A shift makes no branch, and a reduction one. How many of a list's branches carry a number.
-use Rattle.std.proofs.Common.{◌≡◌, ◌≢◌, ℕ, ◌+◌, Bool, true, false, List, [], ◌∷◌, ◌++◌, Option, ap, arith, refl}
+use Rattle.std.proofs.Common.{◌≡◌, ◌≢◌, ℕ, ◌+◌, Bool, true, false, List, [], ◌∷◌, ◌++◌, Option, ap, arith, refl, sym, ◌∙◌}
 use Rattle.std.specs.Prelude.{◌==◌, if◌then◌else◌}
 use Rattle.std.proofs.lemmas.Bool.{eq-eqb, eqb-true}
 use Rattle.definitions.specs.declared.Kind.{Kind}
 use Rattle.definitions.specs.Trees.{Grammar, Tree, Leaf, Branch, trees}
 use Rattle.definitions.specs.Nodes.{all_branches}
-use Rattle.definitions.specs.TreeEdits.{Stamped, StampedBranch, StampedCons, StampedForest, StampedLeaf, StampedNil, StampedBelow, StampedTop, stamped_trees}
+use Rattle.definitions.specs.TreeEdits.{Stamped, StampedBranch, StampedCons, StampedForest, StampedLeaf, StampedNil, StampedIn, StampedBelow, StampedPast, StampedTop, plain, stamped_trees}
 use Rattle.theory.specs.Machine.{Reduces}
 use Rattle.theory.proofs.Reused.{branches-append, branches-trees}
 use Rattle.trees.specs.declared.store.Child.{Child}
@@ -13,9 +13,9 @@ use Rattle.trees.specs.declared.store.Child.TheVariants.{Token}
 use Rattle.trees.specs.Cells.{Cell}
 use Rattle.parser.specs.Machine.{plain_of}
 use Rattle.parser.specs.Parses.{branches_by, branches_of_by, all_branches_by}
-use Rattle.parser.specs.Run.{NoneIsMadeBy}
+use Rattle.parser.specs.Run.{AreOlder}
 use Rattle.parser.proofs.Reductions.{plain-append}
-use Rattle.parser.proofs.Stamping.{none_behind, none_first}
+use Rattle.parser.proofs.Stamping.{stamped_in_front}
 
 pub shift_count : (cells : List Cell) (stack : List Child) (k : Kind) → all_branches (plain_of cells (stack ++ (Token k ∷ []))) ≡ all_branches (plain_of cells stack)
 shift_count cells stack k = omega (arith, ap all_branches (plain-append cells stack (Token k ∷ [])), branches-append (plain_of cells stack) (Leaf k ∷ []))
@@ -30,7 +30,7 @@ pub by-append : (n : ℕ) (xs ys : List Stamped) → all_branches_by n (xs ++ ys
 by-append n [] ys = omega arith
 by-append n (x ∷ xs) ys = omega (arith, by-append n xs ys)
 
-by-forest : (n : ℕ) (ts : StampedForest) → all_branches_by n (stamped_trees ts) ≡ branches_of_by n ts
+pub by-forest : (n : ℕ) (ts : StampedForest) → all_branches_by n (stamped_trees ts) ≡ branches_of_by n ts
 by-forest n StampedNil = refl
 by-forest n (StampedCons t ts) = ap (λ m. branches_by n t + m) (by-forest n ts)
 
@@ -40,21 +40,28 @@ by-branch n p kids ts e =
     let here : ◌≡◌ {A = ℕ} (if n == n then 1 else 0) 1 = ap (λ b. if b then 1 else 0) (eq-eqb n n refl) in
     omega (arith, here, by-forest n ts, ap (all_branches_by n) e)
 
+pub other_number : (born n : ℕ) → (born == n) ≡ false → born ≢ n
+other_number born n no_match same = let both : true ≡ false = sym (eq-eqb born n same) ∙ no_match in cc both
+
 other : (n born : ℕ) → born ≢ n → (b : Bool) → (born == n) ≡ b → ◌≡◌ {A = ℕ} (if b then 1 else 0) 0
 other n born differ true e = absurd (differ (eqb-true born n e))
 other n born differ false e = refl
 
 -- trees without the number have no such branches
+abbrev pub HaveNone : ℕ → List Stamped → Type 0
+HaveNone n ts = (lefts : List Tree) (p born : ℕ) (us : StampedForest) → StampedIn ts lefts p born us → born ≢ n
+
 mutual
-  by-none_tree : (n : ℕ) (s : Stamped) → NoneIsMadeBy n (s ∷ []) → branches_by n s ≡ 0
-  by-none_tree n (StampedLeaf k) h = refl
-  by-none_tree n (StampedBranch p born ts) h =
+  without_tree : (n : ℕ) (s : Stamped) → HaveNone n (s ∷ []) → branches_by n s ≡ 0
+  without_tree n (StampedLeaf k) h = refl
+  without_tree n (StampedBranch p born ts) h =
       let here : ◌≡◌ {A = ℕ} (if born == n then 1 else 0) 0 = other n born (h [] p born ts StampedTop) (born == n) refl in
-      omega (arith, here, by-none_forest n ts (λ lefts q b us w. h lefts q b us (StampedBelow w)))
+      omega (arith, here, without n ts (λ lefts q b us w. h lefts q b us (StampedBelow w)))
 
-  by-none_forest : (n : ℕ) (ts : StampedForest) → NoneIsMadeBy n (stamped_trees ts) → branches_of_by n ts ≡ 0
-  by-none_forest n StampedNil h = refl
-  by-none_forest n (StampedCons t ts) h = omega (arith, by-none_tree n t (none_first n t (stamped_trees ts) h), by-none_forest n ts (none_behind n t (stamped_trees ts) h))
+  pub without : (n : ℕ) (ts : StampedForest) → HaveNone n (stamped_trees ts) → branches_of_by n ts ≡ 0
+  without n StampedNil h = refl
+  without n (StampedCons t ts) h =
+      omega (arith, without_tree n t (λ lefts p born us w. h lefts p born us (stamped_in_front (stamped_trees ts) w)), without n ts (λ lefts p born us w. h (plain t ∷ lefts) p born us (StampedPast w)))
 
-pub by-none : (n : ℕ) (s : Stamped) → NoneIsMadeBy n (s ∷ []) → all_branches_by n (s ∷ []) ≡ 0
-by-none n s h = omega (arith, by-none_tree n s h)
+pub by-none : (n : ℕ) (s : Stamped) → AreOlder n (s ∷ []) → all_branches_by n (s ∷ []) ≡ 0
+by-none n s h = omega (arith, without_tree n s (λ lefts p born us w e. omega (arith, e, h lefts p born us w)))

@@ -13,5 +13,9 @@ pub mod Reusing
 pub mod Running
 pub mod Stamping
 pub mod Plain
-pub mod Again
 pub mod StackNodes
+pub mod Built
+pub mod Edits
+pub mod Cuts
+pub mod Prepared
+pub mod Replaced

@@ -23,6 +23,10 @@ look_drop [] (suc i) = refl
 look_drop (k ∷ ks) zero = refl
 look_drop (k ∷ ks) (suc i) = look_drop ks i
 
+-- the first of the kinds that are left
+pub look_first : (ks : List Kind) (i : ℕ) (k : Kind) (rest : List Kind) → k ∷ rest ≡ drop i ks → Some k ≡ slice_get ks i
+look_first ks i k rest e = ap (λ l. look_at l None) e ∙ sym (look_drop ks i)
+
 -- the production of a branch is one of the grammar's
 pub tree_production : (g : Grammar) (t : Tree) (s : Stamped) (p born : ℕ) (f : StampedForest) → t ≡ plain s → s ≡ StampedBranch p born f → (m : ℕ) → IsTree g t (Nonterminal m) → (right : List Symbol) × HasProduction g p m right × AreTrees g (plain_all f) right
 tree_production g t s p born f e e' m h = subst (λ u. IsTree g u (Nonterminal m)) (e ∙ ap plain e') h

@@ -4,7 +4,6 @@ use Rattle.std.proofs.lemmas.List.{append_cancel_right}
 use mathlib.Core.List.{head-eq_of_cons-eq}
 use Rattle.definitions.specs.declared.Kind.{Kind}
 use Rattle.definitions.specs.declared.Kind.TheVariants.{Rule as Token}
-use Rattle.definitions.specs.declared.Symbol.{Symbol}
 use Rattle.definitions.specs.declared.Symbol.TheVariants.{Rule as Terminal, Nonterminal}
 use Rattle.definitions.specs.Trees.{Grammar, Tree, Leaf, Branch, HaveRoots, yield, all_kinds}
 use Rattle.definitions.specs.TreeEdits.{StampedBranch, StampedLeaf, plain, plain_all}
@@ -25,16 +24,16 @@ use Rattle.trees.specs.Cells.{Cell, AreBelow, all_trees, forest_in, tree, trees_
 use Rattle.trees.proofs.Cells.{all_below-more}
 use Rattle.tables.specs.Tables.{Sets, IsStateOf}
 use Rattle.parser.specs.Machine.{plain_of, HasStates, HasMade}
-use Rattle.parser.specs.Input.{leaves, input_of, IsInput, Skips}
+use Rattle.parser.specs.Input.{leaves, input_of, AreParts, IsInput, Skips}
 use Rattle.parser.specs.Front.{Offers, IsReusable, BeginsWithNoNode}
-use Rattle.parser.specs.Parses.{all_branches_by}
-use Rattle.parser.specs.Run.{makes, AreStampedBy, NoneIsMadeBy, SoFar}
+use Rattle.parser.specs.Parses.{AreUpTo, all_branches_by}
+use Rattle.parser.specs.Run.{makes, AreStampedBy, AreOlder, SoFar}
 use Rattle.parser.proofs.Counts.{by-append, by-branch, by-none}
-use Rattle.parser.proofs.Front.{after_drop, dropped, first_fits, tail_roots}
+use Rattle.parser.proofs.Front.{after_drop, dropped, first_fits}
 use Rattle.parser.proofs.Moves.{Reached, states_push}
 use Rattle.parser.proofs.Reductions.{plain-append, plain-stay, below-append, below-front, made_trees}
 use Rattle.parser.proofs.Reusing.{look_drop}
-use Rattle.parser.proofs.Stamping.{none_behind, none_first, nowhere_stamped, stamped-children, stamps_made, stamps_taken, stamps_token, trees_of-append}
+use Rattle.parser.proofs.Stamping.{none_behind, none_first, nowhere_stamped, older_up_to, stamped-children, stamps_made, stamps_taken, stamps_token, trees_of-append, up_to-append, up_to-leaf, up_to-made}
 use Rattle.parser.proofs.Stamps.{below_on, grown_by_one, made_stamped, trees-stay}
 
 pub kinds_leaves : (ks : List Kind) → all_kinds (leaves ks) ≡ ks
@@ -71,9 +70,9 @@ module _ (g : Grammar) where
       let y = yield (plain (tree cells c)) in
       let empty : length y ≡ 0 = omega (arith, ap length e, length-append y (all_kinds (plain_of cells gone))) in
       let none = nothing_behind y (all_kinds (plain_of cells gone)) e in
-      let step = dropped g cells [] kinds read c (gone ++ rest) h.symbols h.roots h.covers empty in
-      let more = skipped cells kinds read gone rest none (record { below = h.below.1; symbols = step.0.0; roots = step.0.1; covers = step.1 }) in
-      (more.0, λ s f d. (dropped g cells s kinds read c (gone ++ rest) h.symbols h.roots h.covers empty).2 f (more.1 s f d))
+      let step = dropped g cells [] kinds read c (gone ++ rest) h.parts h.covers empty in
+      let more = skipped cells kinds read gone rest none (record { below = h.below.1; parts = step.0; covers = step.1 }) in
+      (more.0, λ s f d. (dropped g cells s kinds read c (gone ++ rest) h.parts h.covers empty).2 f (more.1 s f d))
     where
       nothing_behind : (x y : List Kind) → x ++ y ≡ [] → y ≡ []
       nothing_behind [] y e = e
@@ -98,9 +97,8 @@ module _ (g : Grammar) where
   pub record Behind (cells : List Cell) (kinds : List Kind) (read : ℕ) (now rest : List Child) (k : Kind) : Type 0 where
     pub shape : input_of cells now kinds read ≡ Leaf k ∷ input_of cells rest kinds (read + 1)
     pub below : AreBelow (length cells) rest
-    pub symbols : List Symbol
-    pub roots : HaveRoots g (plain_of cells rest) symbols
-    pub older : (n : ℕ) → NoneIsMadeBy n (all_trees cells now) → NoneIsMadeBy n (all_trees cells rest)
+    pub parts : AreParts g (plain_of cells rest)
+    pub older : (n : ℕ) → AreOlder n (all_trees cells now) → AreOlder n (all_trees cells rest)
 
   behind_leaves : (cells : List Cell) (kinds : List Kind) (read : ℕ) (k : Kind) → slice_get kinds read ≡ Some k → Behind cells kinds read [] [] k
   behind_leaves cells kinds read k is =
@@ -109,8 +107,7 @@ module _ (g : Grammar) where
       record {
         shape = ap (λ n. leaves (drop n kinds)) here ∙ ap leaves (drop_at kinds read k is) ∙ ap (λ n. Leaf k ∷ leaves (drop n kinds)) there;
         below = tt;
-        symbols = [];
-        roots = tt;
+        parts = tt;
         older = λ n o. o;
       }
 
@@ -120,12 +117,10 @@ module _ (g : Grammar) where
       let shape = tail_shape cells (TokenChild j) rest kinds read in
       let kinds_are : j ∷ all_kinds (input_of cells rest kinds (read + 1)) ≡ k ∷ drop (read + 1) kinds = sym (ap all_kinds shape) ∙ h.covers ∙ drop_at kinds read k is in
       let same : j ≡ k = head-eq_of_cons-eq kinds_are in
-      let tail = tail_roots g [] kinds read (Leaf j) (plain_of cells rest) h.symbols h.roots in
       record {
         shape = shape ∙ ap (λ l. Leaf l ∷ input_of cells rest kinds (read + 1)) same;
         below = h.below.1;
-        symbols = tail.0;
-        roots = tail.1;
+        parts = h.parts.1;
         older = λ n o. none_behind n (tree cells (TokenChild j)) (all_trees cells rest) o;
       }
 
@@ -145,7 +140,7 @@ module _ (t : Sets) (whole : List Tree) (kinds : List Kind) (before number : ℕ
   offered now offers f d = subst (λ s. Tries t.grammar s h.now f) h.top_is (h.offers (plain_of cells stack) f (offers f d))
 
   -- a tree is taken over
-  pub taken_on : (now' rest' : List Child) (id : NodeId) (next : ℕ) → now' ≡ Node id ∷ rest' → IsInput t.grammar cells now' kinds read → Offers t.grammar (plain_of cells stack) (input_of cells now' kinds read) (input_of cells rest kinds read) → NoneIsMadeBy number (all_trees cells now') → IsReusable t cells (plain_of cells stack) kinds read id next → SoFar t whole kinds before number cells (stack ++ (Node id ∷ [])) (states ++ (next ∷ [])) (read + length (yield (plain (tree cells (Node id))))) rest'
+  pub taken_on : (now' rest' : List Child) (id : NodeId) (next : ℕ) → now' ≡ Node id ∷ rest' → IsInput t.grammar cells now' kinds read → Offers t.grammar (plain_of cells stack) (input_of cells now' kinds read) (input_of cells rest kinds read) → AreOlder number (all_trees cells now') → IsReusable t cells (plain_of cells stack) kinds read id next → SoFar t whole kinds before number cells (stack ++ (Node id ∷ [])) (states ++ (next ∷ [])) (read + length (yield (plain (tree cells (Node id))))) rest'
   taken_on now' rest' id next now_is input' offers older' r =
       let g = t.grammar in
       let u = plain (tree cells (Node id)) in
@@ -163,16 +158,15 @@ module _ (t : Sets) (whole : List Tree) (kinds : List Kind) (before number : ℕ
       let tries' = offered now' offers (Take u ts) tries in
       let can' = subst (λ s. CanReuse g s u (all_kinds ts)) h.top_is can in
       let step : Goes_on g h.top h.now (h.top ++ (u ∷ [])) ts = Reuses u ts tries' can' Ends in
-      let older : NoneIsMadeBy number (all_trees cells on) = subst (λ l. NoneIsMadeBy number (all_trees cells l)) now_is older' in
+      let older : AreOlder number (all_trees cells on) = subst (λ l. AreOlder number (all_trees cells l)) now_is older' in
       let first = none_first number (tree cells (Node id)) (all_trees cells rest') older in
       let stamps = stamps_taken g h.run u ts tries' can' number (all_trees cells stack) (tree cells (Node id)) h.top_is refl first h.stamps in
-      let tail = tail_roots g [] kinds read u (plain_of cells rest') input.symbols input.roots in
       record {
         has_states = states_push t trees (plain_of cells (stack ++ (Node id ∷ []))) states h.has_states (Nonterminal r.left) next (subst (λ l. HaveRoots g l (symbols ++ (Nonterminal r.left ∷ []))) (sym trees') roots) (r.goes symbols h.has_states.roots);
         below = below-append (length cells) stack (Node id ∷ []) h.below (input.below.0, tt);
         within = first_fits g [] kinds read u (plain_of cells rest') input.covers r.can.not_empty;
         whole_is = h.whole_is;
-        input = record { below = input.below.1; symbols = tail.0; roots = tail.1; covers = covers };
+        input = record { below = input.below.1; parts = input.parts.1; covers = covers };
         now = ts;
         left = covers;
         offers = λ s f d. d;
@@ -182,11 +176,12 @@ module _ (t : Sets) (whole : List Tree) (kinds : List Kind) (before number : ℕ
         count = omega (arith, h.count, makes_join g h.run step);
         stamps = subst (AreStampedBy g (goes_on_join g h.run step) number) (sym (trees_of-append (trees_from [] cells) stack (Node id ∷ []))) stamps;
         made = omega (arith, ap (all_branches_by number) (trees_of-append (trees_from [] cells) stack (Node id ∷ [])), by-append number (all_trees cells stack) (tree cells (Node id) ∷ []), by-none number (tree cells (Node id)) first, h.made, makes_join g h.run step);
+        up_to = subst (AreUpTo number) (sym (trees_of-append (trees_from [] cells) stack (Node id ∷ []))) (up_to-append number (all_trees cells stack) (tree cells (Node id) ∷ []) h.up_to (older_up_to number (tree cells (Node id) ∷ []) first));
         older = none_behind number (tree cells (Node id)) (all_trees cells rest') older;
       }
 
   -- a token comes onto the stack
-  pub shifted_on : (now' rest' : List Child) (k : Kind) (a next : ℕ) → Behind t.grammar cells kinds read now' rest' k → IsInput t.grammar cells now' kinds read → Offers t.grammar (plain_of cells stack) (input_of cells now' kinds read) (input_of cells rest kinds read) → NoneIsMadeBy number (all_trees cells now') → k ≡ Token a → read < length kinds → HasMove t.grammar h.has_states.symbols (Some k) Shift → IsStateOf t (h.has_states.symbols ++ (Terminal a ∷ [])) next → SoFar t whole kinds before number cells (stack ++ (TokenChild k ∷ [])) (states ++ (next ∷ [])) (read + 1) rest'
+  pub shifted_on : (now' rest' : List Child) (k : Kind) (a next : ℕ) → Behind t.grammar cells kinds read now' rest' k → IsInput t.grammar cells now' kinds read → Offers t.grammar (plain_of cells stack) (input_of cells now' kinds read) (input_of cells rest kinds read) → AreOlder number (all_trees cells now') → k ≡ Token a → read < length kinds → HasMove t.grammar h.has_states.symbols (Some k) Shift → IsStateOf t (h.has_states.symbols ++ (Terminal a ∷ [])) next → SoFar t whole kinds before number cells (stack ++ (TokenChild k ∷ [])) (states ++ (next ∷ [])) (read + 1) rest'
   shifted_on now' rest' k a next behind input offers older' rule within called there =
       let g = t.grammar in
       let trees = plain_of cells stack in
@@ -204,7 +199,7 @@ module _ (t : Sets) (whole : List Tree) (kinds : List Kind) (before number : ℕ
         below = below-append (length cells) stack (TokenChild k ∷ []) h.below (tt, tt);
         within = omega (arith, within);
         whole_is = h.whole_is;
-        input = record { below = behind.below; symbols = behind.symbols; roots = behind.roots; covers = covers };
+        input = record { below = behind.below; parts = behind.parts; covers = covers };
         now = ts;
         left = covers;
         offers = λ s f d. d;
@@ -214,11 +209,12 @@ module _ (t : Sets) (whole : List Tree) (kinds : List Kind) (before number : ℕ
         count = omega (arith, h.count, makes_join g h.run step);
         stamps = subst (AreStampedBy g (goes_on_join g h.run step) number) (sym (trees_of-append (trees_from [] cells) stack (TokenChild k ∷ []))) (stamps_token g h.run step (λ below x m. m) number (all_trees cells stack) k h.stamps);
         made = omega (arith, ap (all_branches_by number) (trees_of-append (trees_from [] cells) stack (TokenChild k ∷ [])), by-append number (all_trees cells stack) (StampedLeaf k ∷ []), h.made, makes_join g h.run step);
+        up_to = subst (AreUpTo number) (sym (trees_of-append (trees_from [] cells) stack (TokenChild k ∷ []))) (up_to-append number (all_trees cells stack) (StampedLeaf k ∷ []) h.up_to (up_to-leaf number k));
         older = behind.older number older';
       }
 
   -- a branch is made
-  pub reduced_on : (now' : List Child) → BeginsWithNoNode now' → Offers t.grammar (plain_of cells stack) (input_of cells now' kinds read) (input_of cells rest kinds read) → (p : ℕ) (new : List Cell) (stack' : List Child) (states' : List ℕ) → HasMade cells stack p number new stack' → Reduces t.grammar (plain_of cells stack) (slice_get kinds read) (plain_of new stack') → HasStates t (plain_of new stack') states' → (rest' : List Child) → IsInput t.grammar cells rest' kinds read → ((s : List Tree) → Offers t.grammar s (input_of cells rest' kinds read) (input_of cells rest kinds read)) → NoneIsMadeBy number (all_trees cells rest') → SoFar t whole kinds before number new stack' states' read rest'
+  pub reduced_on : (now' : List Child) → BeginsWithNoNode now' → Offers t.grammar (plain_of cells stack) (input_of cells now' kinds read) (input_of cells rest kinds read) → (p : ℕ) (new : List Cell) (stack' : List Child) (states' : List ℕ) → HasMade cells stack p number new stack' → Reduces t.grammar (plain_of cells stack) (slice_get kinds read) (plain_of new stack') → HasStates t (plain_of new stack') states' → (rest' : List Child) → IsInput t.grammar cells rest' kinds read → ((s : List Tree) → Offers t.grammar s (input_of cells rest' kinds read) (input_of cells rest kinds read)) → AreOlder number (all_trees cells rest') → SoFar t whole kinds before number new stack' states' read rest'
   reduced_on now' begins offers p new stack' states' made r has_states' rest' input' offers' older' =
       let g = t.grammar in
       let trees = plain_of cells stack in
@@ -248,7 +244,7 @@ module _ (t : Sets) (whole : List Tree) (kinds : List Kind) (before number : ℕ
         below = below_on cells stack p number new stack' made h.below;
         within = h.within;
         whole_is = h.whole_is;
-        input = record { below = all_below-more (length cells) (length new) (omega (arith, long)) rest' input'.below; symbols = input'.symbols; roots = subst (λ l. HaveRoots g l input'.symbols) (sym stays) input'.roots; covers = ap all_kinds same ∙ input'.covers };
+        input = record { below = all_below-more (length cells) (length new) (omega (arith, long)) rest' input'.below; parts = subst (AreParts g) (sym stays) input'.parts; covers = ap all_kinds same ∙ input'.covers };
         now = h.now;
         left = h.left;
         offers = λ s f d. h.offers s f (offers' s f (subst (λ l. Tries g s l f) same d));
@@ -258,7 +254,8 @@ module _ (t : Sets) (whole : List Tree) (kinds : List Kind) (before number : ℕ
         count = omega (arith, h.count, makes_join g h.run step, long);
         stamps = subst (AreStampedBy g (goes_on_join g h.run step) number) (sym now_stamped) stamps;
         made = omega (arith, ap (all_branches_by number) now_stamped, ap (all_branches_by number) parts, by-append number (all_trees cells under) (StampedBranch p number f ∷ []), by-append number (all_trees cells under) (all_trees cells made.kids), by-branch number p (all_trees cells made.kids) f (stamped-children (trees_from [] cells) made.kids), h.made, makes_join g h.run step);
-        older = subst (NoneIsMadeBy number) (sym same_rest) older';
+        up_to = subst (AreUpTo number) (sym now_stamped) (up_to-made number p (all_trees cells under) (all_trees cells made.kids) f (stamped-children (trees_from [] cells) made.kids) (subst (AreUpTo number) parts h.up_to));
+        older = subst (AreOlder number) (sym same_rest) older';
       }
 
   -- it is a run of the plain machine
@@ -281,7 +278,7 @@ module _ (t : Sets) (whole : List Tree) (kinds : List Kind) (before number : ℕ
           (s.0 ++ (Leaf last.1 ∷ []), (last.0, last.1, s.0, last.2, s.1, s.2, refl), s.3)
 
 -- a machine that has read nothing
-pub begun : (t : Sets) (kinds : List Kind) (number : ℕ) (cells : List Cell) (start : ℕ) (input : List Child) → IsStateOf t [] start → IsInput t.grammar cells input kinds 0 → NoneIsMadeBy number (all_trees cells input) → SoFar t (input_of cells input kinds 0) kinds (length cells) number cells [] (start ∷ []) 0 input
+pub begun : (t : Sets) (kinds : List Kind) (number : ℕ) (cells : List Cell) (start : ℕ) (input : List Child) → IsStateOf t [] start → IsInput t.grammar cells input kinds 0 → AreOlder number (all_trees cells input) → SoFar t (input_of cells input kinds 0) kinds (length cells) number cells [] (start ∷ []) 0 input
 begun t kinds number cells start input there h older = record {
   has_states = record { symbols = []; roots = tt; long = omega arith; each = first };
   below = tt;
@@ -297,6 +294,7 @@ begun t kinds number cells start input there h older = record {
   count = omega arith;
   stamps = λ lefts p born us w. absurd (nowhere_stamped w refl);
   made = refl;
+  up_to = λ lefts p born us w. absurd (nowhere_stamped w refl);
   older = older;
 }
   where
@@ -306,4 +304,4 @@ begun t kinds number cells start input there h older = record {
 
 -- the list of no trees, with all kinds behind it
 pub no_input : (g : Grammar) (cells : List Cell) (kinds : List Kind) → IsInput g cells [] kinds 0
-no_input g cells kinds = record { below = tt; symbols = []; roots = tt; covers = kinds_leaves (drop 0 kinds) }
+no_input g cells kinds = record { below = tt; parts = tt; covers = kinds_leaves (drop 0 kinds) }

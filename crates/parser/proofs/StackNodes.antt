@@ -1,5 +1,5 @@
 -- The nodes and the kinds of what stands on the stack.
-use Rattle.std.proofs.Common.{◌≡◌, ◌↔◌, ◌⊎◌, ℕ, ◌≤◌, List, [], ◌∷◌, ◌++◌, length, take, refl, sym, ap, ◌∙◌, subst, inl, inr, ⊎_elim, arith, length-take}
+use Rattle.std.proofs.Common.{◌≡◌, ◌↔◌, ◌⊎◌, ℕ, ◌≤◌, List, [], ◌∷◌, ◌++◌, length, take, drop, refl, sym, ap, ◌∙◌, subst, inl, inr, ⊎_elim, arith, length-append, take-append-drop}
 use Rattle.std.proofs.lemmas.List.{append-nil}
 use Rattle.definitions.specs.declared.Kind.{Kind}
 use Rattle.definitions.specs.Trees.{Grammar, Tree, Forest, Leaf, Branch, all_kinds, yield}
@@ -41,11 +41,19 @@ settled_kinds g (k ∷ x) trees h =
     let last : last_leaf (k ∷ x) ≡ Leaf h.last ∷ [] = ap last_leaf h.kinds ∙ last-append (all_kinds trees) h.last in
     ap (λ l. all_kinds (trees ++ l)) last ∙ kinds-append trees (Leaf h.last ∷ []) ∙ sym h.kinds
 
-pub stacked_length : (g : Grammar) (kinds : List Kind) (v : Verdict) (stack : List Tree) → IsVerdict g kinds v → AreStacked g kinds v stack → length (all_kinds stack) ≤ length kinds
-stacked_length g kinds (HasTree t) stack h s =
+-- the kinds of the stack are the first ones
+pub stacked_front : (g : Grammar) (kinds : List Kind) (v : Verdict) (stack : List Tree) → IsVerdict g kinds v → AreStacked g kinds v stack → (rest : List Kind) × (kinds ≡ all_kinds stack ++ rest)
+stacked_front g kinds (HasTree t) stack h s =
     let all : all_kinds stack ≡ kinds = ap all_kinds s.stack_is ∙ ap (λ l. all_kinds (l ++ [])) s.are ∙ append-nil (yield t) ∙ h.kinds in
-    omega (arith, ap length all)
-stacked_length g kinds (FaultAt k) stack h s =
-    omega (arith, ap length (ap all_kinds s.stack_is ∙ settled_kinds g (take k kinds) s.trees s.are), length-take k kinds)
-stacked_length g kinds FaultAtEnd stack h s =
-    omega (arith, ap length (ap all_kinds s.stack_is ∙ settled_kinds g kinds s.trees s.are))
+    ([], sym (append-nil (all_kinds stack) ∙ all))
+stacked_front g kinds (FaultAt k) stack h s =
+    let all : all_kinds stack ≡ take k kinds = ap all_kinds s.stack_is ∙ settled_kinds g (take k kinds) s.trees s.are in
+    (drop k kinds, sym (ap (λ l. l ++ drop k kinds) all ∙ take-append-drop k kinds))
+stacked_front g kinds FaultAtEnd stack h s =
+    let all : all_kinds stack ≡ kinds = ap all_kinds s.stack_is ∙ settled_kinds g kinds s.trees s.are in
+    ([], sym (append-nil (all_kinds stack) ∙ all))
+
+pub stacked_length : (g : Grammar) (kinds : List Kind) (v : Verdict) (stack : List Tree) → IsVerdict g kinds v → AreStacked g kinds v stack → length (all_kinds stack) ≤ length kinds
+stacked_length g kinds v stack h s =
+    let front = stacked_front g kinds v stack h s in
+    omega (arith, ap length front.1, length-append (all_kinds stack) front.0)

@@ -1,5 +1,5 @@
 -- The stamps that a run leaves: of the branches on its stack, those that it has made carry its number.
-use Rattle.std.proofs.Common.{◌≡◌, ◌↔◌, ◌⊎◌, ℕ, List, [], ◌∷◌, ◌++◌, refl, sym, ap, ◌∙◌, subst, inl, inr, ⊎_elim, arith}
+use Rattle.std.proofs.Common.{◌≡◌, ◌↔◌, ◌⊎◌, ◌≤◌, ◌<◌, ℕ, List, [], ◌∷◌, ◌++◌, refl, sym, ap, ◌∙◌, subst, inl, inr, ⊎_elim, arith}
 use Rattle.std.proofs.lemmas.List.{append-nil}
 use mathlib.Core.List.{head-eq_of_cons-eq, tail-eq_of_cons-eq}
 use Rattle.definitions.specs.declared.Kind.{Kind}
@@ -12,7 +12,8 @@ use Rattle.theory.proofs.Reused.{stands_branches, branches-trees}
 use Rattle.trees.specs.declared.store.Child.{Child}
 use Rattle.trees.specs.Cells.{tree_of, trees_of, forest_of}
 use Rattle.parser.specs.Machine.{IsMadeBy, AreMadeBy}
-use Rattle.parser.specs.Run.{AreStampedBy, NoneIsMadeBy}
+use Rattle.parser.specs.Parses.{AreUpTo}
+use Rattle.parser.specs.Run.{AreStampedBy, AreOlder}
 
 -- a stamped branch of two lists joined
 pub stamped_split : (one two : List Stamped) {lefts : List Tree} {p born : ℕ} {us : StampedForest} → StampedIn (one ++ two) lefts p born us → StampedIn one lefts p born us ⊎ ((more : List Tree) × StampedIn two more p born us × (lefts ≡ plain_trees one ++ more))
@@ -35,7 +36,7 @@ nowhere_stamped StampedTop e = cc e
 nowhere_stamped (StampedBelow w) e = cc e
 nowhere_stamped (StampedPast w) e = cc e
 
-pub none_in_nothing : (n : ℕ) → NoneIsMadeBy n []
+pub none_in_nothing : (n : ℕ) → AreOlder n []
 none_in_nothing n lefts p born us w = absurd (nowhere_stamped w refl)
 
 leaf_is_branch : (k : Kind) (p born : ℕ) (us : StampedForest) → StampedBranch p born us ≡ StampedLeaf k → ⊥
@@ -65,27 +66,51 @@ pub trees_of-append : (ts : List Stamped) (xs ys : List Child) → trees_of ts (
 trees_of-append ts [] ys = refl
 trees_of-append ts (x ∷ xs) ys = ap (λ l. tree_of ts x ∷ l) (trees_of-append ts xs ys)
 
-plain-stamped : (us : StampedForest) → plain_trees (stamped_trees us) ≡ trees (plain_all us)
+pub plain-stamped : (us : StampedForest) → plain_trees (stamped_trees us) ≡ trees (plain_all us)
 plain-stamped StampedNil = refl
 plain-stamped (StampedCons t ts) = ap (λ l. plain t ∷ l) (plain-stamped ts)
 
 -- of a list whose trees carry no such number, neither does what is behind its first tree, nor what an opened tree leaves
-pub none_behind : (n : ℕ) (s : Stamped) (ts : List Stamped) → NoneIsMadeBy n (s ∷ ts) → NoneIsMadeBy n ts
+pub none_behind : (n : ℕ) (s : Stamped) (ts : List Stamped) → AreOlder n (s ∷ ts) → AreOlder n ts
 none_behind n s ts h lefts p born us w = h (plain s ∷ lefts) p born us (StampedPast w)
 
-pub none_first : (n : ℕ) (s : Stamped) (ts : List Stamped) → NoneIsMadeBy n (s ∷ ts) → NoneIsMadeBy n (s ∷ [])
+pub none_first : (n : ℕ) (s : Stamped) (ts : List Stamped) → AreOlder n (s ∷ ts) → AreOlder n (s ∷ [])
 none_first n s ts h lefts p born us w = h lefts p born us (stamped_in_front ts w)
 
-pub none_opened : (n q born : ℕ) (f : StampedForest) (ts : List Stamped) → NoneIsMadeBy n (StampedBranch q born f ∷ ts) → NoneIsMadeBy n (stamped_trees f ++ ts)
+pub none_opened : (n q born : ℕ) (f : StampedForest) (ts : List Stamped) → AreOlder n (StampedBranch q born f ∷ ts) → AreOlder n (stamped_trees f ++ ts)
 none_opened n q other f ts h lefts p born us w =
     ⊎_elim
     (λ a. h lefts p born us (StampedBelow a))
     (λ b. h (Branch q (plain_all f) ∷ b.0) p born us (StampedPast b.1))
     (stamped_split (stamped_trees f) ts w)
 
-pub none_gone : (n : ℕ) (gone ts : List Stamped) → NoneIsMadeBy n (gone ++ ts) → NoneIsMadeBy n ts
+pub none_gone : (n : ℕ) (gone ts : List Stamped) → AreOlder n (gone ++ ts) → AreOlder n ts
 none_gone n [] ts h = h
 none_gone n (s ∷ gone) ts h = none_gone n gone ts (none_behind n s (gone ++ ts) h)
+
+-- stamps up to a number
+pub older_up_to : (n : ℕ) (ts : List Stamped) → AreOlder n ts → AreUpTo n ts
+older_up_to n ts h lefts p born us w = omega (arith, h lefts p born us w)
+
+pub up_to_older : (n m : ℕ) (ts : List Stamped) → n < m → AreUpTo n ts → AreOlder m ts
+up_to_older n m ts lt h lefts p born us w = omega (arith, lt, h lefts p born us w)
+
+pub up_to-leaf : (n : ℕ) (k : Kind) → AreUpTo n (StampedLeaf k ∷ [])
+up_to-leaf n k lefts p born us w = absurd (no_branch_in_leaf k w refl)
+
+pub up_to-append : (n : ℕ) (one two : List Stamped) → AreUpTo n one → AreUpTo n two → AreUpTo n (one ++ two)
+up_to-append n one two h k lefts p born us w = ⊎_elim (λ a. h lefts p born us a) (λ b. k b.0 p born us b.1) (stamped_split one two w)
+
+up_to-branch : (n q : ℕ) (f : StampedForest) → AreUpTo n (stamped_trees f) → {lefts : List Tree} {p born : ℕ} {us : StampedForest} → InBranch q n f lefts p born us → born ≤ n
+up_to-branch n q f h Itself = omega arith
+up_to-branch n q f h (Under {lefts = lefts} {p = p} {born = born} {us = us} w) = h lefts p born us w
+
+-- a new branch of this number stands in the place of its children
+pub up_to-made : (n q : ℕ) (under kids : List Stamped) (f : StampedForest) → stamped_trees f ≡ kids → AreUpTo n (under ++ kids) → AreUpTo n (under ++ (StampedBranch q n f ∷ []))
+up_to-made n q under kids f is h =
+    up_to-append n under (StampedBranch q n f ∷ [])
+    (λ lefts p born us w. h lefts p born us (stamped_in_front kids w))
+    (λ lefts p born us w. up_to-branch n q f (subst (AreUpTo n) (sym is) (λ lefts p born us w. h (plain_trees under ++ lefts) p born us (stamped_behind under w))) (in_branch q n f w))
 
 module _ (g : Grammar) where
   -- a branch that two runs make is made by one of them
@@ -108,7 +133,7 @@ module _ (g : Grammar) where
       (λ b. absurd (no_branch_in_leaf k b.1 refl))
       (stamped_split ts (StampedLeaf k ∷ []) w)
 
-  pub stamps_taken : {s i i' : List Tree} {top : List Tree} (run : Goes_on g s i top i') (u : Tree) (rest : List Tree) (f : Tries g top i' (Take u rest)) (c : CanReuse g top u (all_kinds rest)) (number : ℕ) (ts : List Stamped) (v : Stamped) → plain_trees ts ≡ top → plain v ≡ u → NoneIsMadeBy number (v ∷ []) → AreStampedBy g run number ts → AreStampedBy g (goes_on_join g run (Reuses u rest f c Ends)) number (ts ++ (v ∷ []))
+  pub stamps_taken : {s i i' : List Tree} {top : List Tree} (run : Goes_on g s i top i') (u : Tree) (rest : List Tree) (f : Tries g top i' (Take u rest)) (c : CanReuse g top u (all_kinds rest)) (number : ℕ) (ts : List Stamped) (v : Stamped) → plain_trees ts ≡ top → plain v ≡ u → AreOlder number (v ∷ []) → AreStampedBy g run number ts → AreStampedBy g (goes_on_join g run (Reuses u rest f c Ends)) number (ts ++ (v ∷ []))
   stamps_taken {top = top} run u rest f c number ts v top_is v_is none h lefts p born us w =
       let step : Goes_on g top _ (top ++ (u ∷ [])) rest = Reuses u rest f c Ends in
       let node = Branch p (plain_all us) in
@@ -118,7 +143,7 @@ module _ (g : Grammar) where
       let stands : StandsIn (u ∷ []) b.0 node = subst (λ l. StandsIn (l ∷ []) b.0 node) v_is (stamped_stands b.1) in
       let place : top ++ b.0 ≡ lefts = ap (λ l. l ++ b.0) (sym top_is) ∙ sym b.2 in
       let takes = join_takes g run step lefts node (inr (inl (b.0, stands, place))) in
-      ((λ e. absurd (none b.0 p born us b.1 e)), (λ m. absurd (not_both g (goes_on_join g run step) lefts p (plain_all us) takes m))))
+      ((λ e. absurd (omega (arith, e, none b.0 p born us b.1))), (λ m. absurd (not_both g (goes_on_join g run step) lefts p (plain_all us) takes m))))
       (stamped_split ts (v ∷ []) w)
 
   module _ {s i top now top' : List Tree} (run : Goes_on g s i top now) (step : Goes_on g top now top' now) (number q : ℕ) (under kids : List Stamped) (f : StampedForest) (kids_are : stamped_trees f ≡ kids) (makes : (below : List Tree) (w : Tree) → MakesAt g step below w ↔ ((plain_trees under ≡ below) × (Branch q (plain_all f) ≡ w))) (h : AreStampedBy g run number (under ++ kids)) where

@@ -1,8 +1,8 @@
 -- The input of the machine: trees of the store, and behind them the kinds that these don't cover.
 use Rattle.std.specs.Prelude.{◌≡◌, ℕ, ◌+◌, ◌<◌, List, [], ◌∷◌, ◌++◌, length, drop, Option, MatchOption}
 use Rattle.definitions.specs.declared.Kind.{Kind}
-use Rattle.definitions.specs.declared.Symbol.{Symbol}
-use Rattle.definitions.specs.Trees.{Grammar, Tree, Leaf, HaveRoots, all_kinds, yield}
+use Rattle.definitions.specs.declared.Symbol.TheVariants.{Nonterminal}
+use Rattle.definitions.specs.Trees.{Grammar, Tree, Leaf, Branch, IsTree, all_kinds, yield}
 use Rattle.definitions.specs.TreeEdits.{plain}
 use Rattle.trees.specs.declared.store.Child.{Child}
 use Rattle.trees.specs.Cells.{Cell, AreBelow, tree}
@@ -25,11 +25,20 @@ before_leaves ts kinds read = ts ++ leaves (drop (read + length (all_kinds ts)) 
 abbrev pub input_of : List Cell → List Child → List Kind → ℕ → List Tree
 input_of cells cs kinds read = before_leaves (plain_of cells cs) kinds read
 
--- the children are in the store, are trees of the grammar, and with the kinds behind them are what is left of the kinds
+-- a kind, or a tree of the grammar
+abbrev pub IsPart : Grammar → Tree → Type 0
+IsPart g (Leaf k) = Unit {0}
+IsPart g (Branch p ts) = (left : ℕ) × IsTree g (Branch p ts) (Nonterminal left)
+
+abbrev pub AreParts : Grammar → List Tree → Type 0
+AreParts g [] = Unit {0}
+AreParts g (t ∷ ts) = IsPart g t × AreParts g ts
+
+-- the children are in the store, are kinds and trees of the grammar, and with the kinds behind them are what is left of the
+-- kinds
 pub record IsInput (g : Grammar) (cells : List Cell) (cs : List Child) (kinds : List Kind) (read : ℕ) : Type 0 where
   pub below : AreBelow (length cells) cs
-  pub symbols : List Symbol
-  pub roots : HaveRoots g (plain_of cells cs) symbols
+  pub parts : AreParts g (plain_of cells cs)
   pub covers : all_kinds (input_of cells cs kinds read) ≡ drop read kinds
 
 -- the first child has kinds, where there is one

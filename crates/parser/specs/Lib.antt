@@ -1,3 +1,4 @@
+pub mod Cuts
 pub mod Front
 pub mod Input
 pub mod Machine

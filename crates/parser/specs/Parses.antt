@@ -3,12 +3,12 @@
 --     IsParseOf t kinds cells parse      the parse by the tables t of these kinds, with its nodes in these cells
 --     before_fault kinds v      the kinds before a fault, and none where there is a tree
 --     AreExpectedAt g kinds v looks      at a fault exactly what may stand behind the kinds before it
-use Rattle.std.specs.Prelude.{◌≡◌, ℕ, ◌+◌, ◌-◌, ◌<◌, ◌==◌, if◌then◌else◌, List, [], ◌∷◌, ◌++◌, length, take, slice_index_or, Option}
+use Rattle.std.specs.Prelude.{◌≡◌, ℕ, ◌+◌, ◌-◌, ◌<◌, ◌≤◌, ◌==◌, if◌then◌else◌, List, [], ◌∷◌, ◌++◌, length, take, slice_index_or, Option}
 use Rattle.definitions.specs.declared.Kind.{Kind}
 use Rattle.definitions.specs.declared.Symbol.{Symbol}
 use Rattle.definitions.specs.Trees.{Grammar, Tree, Leaf, HaveRoots}
 use Rattle.definitions.specs.Nodes.{all_branches}
-use Rattle.definitions.specs.TreeEdits.{Stamped, StampedBranch, StampedCons, StampedForest, StampedLeaf, StampedNil, plain}
+use Rattle.definitions.specs.TreeEdits.{Stamped, StampedBranch, StampedCons, StampedForest, StampedIn, StampedLeaf, StampedNil, plain}
 use Rattle.definitions.specs.Sentences.{IsVerdict}
 use Rattle.definitions.specs.Sentences.{Verdict as Answer, HasTree, FaultAt, FaultAtEnd}
 use Rattle.definitions.specs.DocumentNodes.{AreDocumentTrees}
@@ -85,11 +85,17 @@ abbrev pub all_branches_by : ℕ → List Stamped → ℕ
 all_branches_by number [] = 0
 all_branches_by number (t ∷ ts) = branches_by number t + all_branches_by number ts
 
--- the parse of these kinds by these tables, with its nodes in these cells: where it stops, and what it counts
+-- each of these trees' branches was made by this edit or by one before it
+abbrev pub AreUpTo : ℕ → List Stamped → Type 0
+AreUpTo number ts = (lefts : List Tree) (p born : ℕ) (us : StampedForest) → StampedIn ts lefts p born us → born ≤ number
+
+-- the parse of these kinds by these tables, with its nodes in these cells: where it stops, what it counts, and that no edit
+-- behind its own has made a branch of it
 pub record IsParseOf (t : Sets) (kinds : List Kind) (cells : List Cell) (parse : Stop) : Type 0 where
   pub stop : IsStop t kinds cells parse.verdict parse.stack parse.state
   pub branches : parse.branches ≡ all_branches (plain_of cells parse.stack)
   pub built : parse.built ≡ all_branches_by parse.number (all_trees cells parse.stack)
+  pub older : AreUpTo parse.number (all_trees cells parse.stack)
 
 -- the machine has stopped with this stack, under the last of these states
 abbrev pub IsStoppedAt : Sets → List Kind → List Cell → Verdict → List Child → List ℕ → Type 0

@@ -1,5 +1,5 @@
 -- How far a run of the machine over an input of trees has come.
-use Rattle.std.specs.Prelude.{◌≡◌, ◌≢◌, ◌↔◌, ℕ, ◌+◌, ◌≤◌, List, [], length, drop}
+use Rattle.std.specs.Prelude.{◌≡◌, ◌↔◌, ℕ, ◌+◌, ◌≤◌, ◌<◌, List, [], length, drop}
 use Rattle.definitions.specs.declared.Kind.{Kind}
 use Rattle.definitions.specs.Trees.{Grammar, Tree, Branch, all_kinds}
 use Rattle.definitions.specs.TreeEdits.{Stamped, StampedForest, StampedIn, plain_all}
@@ -10,7 +10,7 @@ use Rattle.tables.specs.Tables.{Sets}
 use Rattle.parser.specs.Machine.{plain_of, HasStates}
 use Rattle.parser.specs.Input.{input_of, IsInput}
 use Rattle.parser.specs.Front.{Offers}
-use Rattle.parser.specs.Parses.{all_branches_by}
+use Rattle.parser.specs.Parses.{AreUpTo, all_branches_by}
 
 -- how many branches a run makes
 abbrev pub makes : (g : Grammar) {s i s' i' : List Tree} → Goes_on g s i s' i' → ℕ
@@ -23,9 +23,9 @@ makes g (Makes s1 f t n r more) = 1 + makes g more
 abbrev pub AreStampedBy : (g : Grammar) {s i s' i' : List Tree} → Goes_on g s i s' i' → ℕ → List Stamped → Type 0
 AreStampedBy g run number ts = (lefts : List Tree) (p born : ℕ) (us : StampedForest) → StampedIn ts lefts p born us → (born ≡ number) ↔ MakesAt g run lefts (Branch p (plain_all us))
 
--- none of these trees' branches carries the number
-abbrev pub NoneIsMadeBy : ℕ → List Stamped → Type 0
-NoneIsMadeBy number ts = (lefts : List Tree) (p born : ℕ) (us : StampedForest) → StampedIn ts lefts p born us → born ≢ number
+-- each of these trees' branches was made by an edit before this one
+abbrev pub AreOlder : ℕ → List Stamped → Type 0
+AreOlder number ts = (lefts : List Tree) (p born : ℕ) (us : StampedForest) → StampedIn ts lefts p born us → born < number
 
 -- the machine has come from the whole input, whose kinds these are, to this stack and to what is left of the input. The store
 -- had as many nodes before, and has one more for each branch that was made; these carry the number
@@ -44,7 +44,8 @@ pub record SoFar (t : Sets) (whole : List Tree) (kinds : List Kind) (before numb
   pub count : length cells ≡ before + makes t.grammar run
   pub stamps : AreStampedBy t.grammar run number (all_trees cells stack)
   pub made : all_branches_by number (all_trees cells stack) ≡ makes t.grammar run
-  pub older : NoneIsMadeBy number (all_trees cells rest)
+  pub up_to : AreUpTo number (all_trees cells stack)
+  pub older : AreOlder number (all_trees cells rest)
 
 -- a run over the whole input has come to this stack
 pub record IsMadeByRun (t : Sets) (whole : List Tree) (kinds : List Kind) (before number : ℕ) (cells : List Cell) (stack : List Child) : Type 0 where

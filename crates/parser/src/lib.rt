@@ -5,8 +5,6 @@ mod input;
 pub mod laws;
 mod machine;
 mod parse;
+mod prepare;
 
 pub use parse::{Parse, Verdict};
-
-#[cfg(test)]
-mod tests;

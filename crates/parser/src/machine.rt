@@ -16,7 +16,7 @@ ghost use Rattle.tables.specs.Tables.{IsAccepted, IsStateOf};
 ghost use Rattle.parser.specs.Machine.{plain_of, HasStates, HasMade};
 ghost use Rattle.parser.specs.Input.{input_of, IsFull, IsInput, IsOpened};
 ghost use Rattle.parser.specs.Front.{Offers, IsReusable, IsOffer};
-ghost use Rattle.parser.specs.Run.{NoneIsMadeBy, SoFar};
+ghost use Rattle.parser.specs.Run.{AreOlder, SoFar};
 ghost use Rattle.parser.specs.Parses.{IsStoppedAt};
 
 use crate::Verdict;
@@ -143,15 +143,15 @@ impl Machine {
             (input_of store.now input.new all self.now.read)
             (input_of store.now input.old all self.now.read)) }
         ensures older { IfOk result (λ _. (number : ℕ)
-            → NoneIsMadeBy number (all_trees store.now input.old)
-            → NoneIsMadeBy number (all_trees store.now input.new)) }
+            → AreOlder number (all_trees store.now input.old)
+            → AreOlder number (all_trees store.now input.new)) }
         ensures offer { let stack = plain_of store.now self.now.stack.items in
             let all = K.kinds kinds.now in
             IfOk result (λ f. IsOffer tables.now store.now stack all self.now.read input.new f) }
     {
         'edge: while let Some(child) = input.first() {
             match child {
-                Child::Token(_) => break,
+                Child::Token(kind) => return Ok(Front::Next(Some(kind))),
                 Child::Node(id) => {
                     if store.tokens(id) > 0 {
                         if let Some(next) = self.passes(tables, store, kinds, id) {

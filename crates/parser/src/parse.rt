@@ -1,17 +1,22 @@
 //! The parse of a list of kinds.
 
-ghost use Rattle.std.specs.Prelude.{◌≡◌, ◌+◌, ◌^◌, ◌<◌, List, length, min, take, IfOk, OnErr};
+ghost use Rattle.std.specs.Prelude.{◌≡◌, ◌+◌, ◌<◌, ◌≤◌, List, [], length, min, take, IfOk, OnErr};
 ghost use Rattle.definitions.specs.declared.Kind.{Kind};
 ghost use Rattle.definitions.specs.Nodes.{all_branches};
+ghost use Rattle.definitions.specs.TokenEdits.{IsSpliced, plain_splice};
+ghost use Rattle.definitions.specs.TreeEdits.{AreStampedExactly, Built};
 ghost use Rattle.trees.specs.Cells.{AreBelow, Cell, KeepsTrees, all_trees, forest_in, most};
-ghost use Rattle.tables.specs.Tables.{Sets};
+ghost use Rattle.tables.specs.Tables.{IsAccepted, Sets};
+ghost use Rattle.theory.specs.Reuse.{IsPrepared};
 ghost use Rattle.parser.specs.Machine.{plain_of, AreMadeBy};
 ghost use Rattle.parser.specs.Input.{input_of, IsInput};
-ghost use Rattle.parser.specs.Run.{IsMadeByRun, NoneIsMadeBy};
-ghost use Rattle.parser.specs.Parses.{AreExpectedAt, IsParseOf, IsStop, all_branches_by, verdict_in};
+ghost use Rattle.parser.specs.Run.{IsMadeByRun, AreOlder};
+ghost use Rattle.parser.specs.Parses.{AreExpectedAt, IsParseOf, verdict_in};
 
 use crate::input::Input;
 use crate::machine::Machine;
+use crate::prepare::prepare;
+use definitions::KindSplice;
 use std::alloc::{AllocError, Global};
 use std::marker::Model;
 use tables::{Expected, Tables};
@@ -66,9 +71,9 @@ fn branches_of(store: &Store, children: &[Child]) -> u64
     branches
 }
 
-/// The parse of the kinds, over trees that begin at the first of them. Its new nodes have this number. Where memory is
-/// refused, some nodes may stay.
-pub(crate) fn parsed<K: Kinds>(
+/// The parse of the kinds, over trees that begin at the first of them. Its new nodes have this number. After a refusal some
+/// nodes may stay.
+fn parsed<K: Kinds>(
     alloc: Global,
     tables: &Tables,
     store: &mut Store,
@@ -77,31 +82,30 @@ pub(crate) fn parsed<K: Kinds>(
     number: u64,
 ) -> Result<Parse, AllocError>
     requires input { IsInput tables.now.grammar store.old input (K.kinds kinds.now) 0 }
-    requires older { NoneIsMadeBy number (all_trees store.old input) }
-    ensures stop { IfOk result
-        (λ p. IsStop tables.now (K.kinds kinds.now) store.new p.verdict p.stack p.state) }
+    requires older { AreOlder number (all_trees store.old input) }
+    ensures accepted { IsAccepted tables.now.grammar }
+    ensures parse { IfOk result (λ p. IsParseOf tables.now (K.kinds kinds.now) store.new p) }
     ensures run { IfOk result
         (λ p. IsMadeByRun tables.now (input_of store.old input (K.kinds kinds.now) 0)
         (K.kinds kinds.now) (length store.old) number store.new p.stack) }
     ensures grown { take (length store.old) store.new ≡ store.old }
-    ensures branches { IfOk result
-        (λ p. p.branches ≡ min most (all_branches (plain_of store.new p.stack))) }
-    ensures built { IfOk result
-        (λ p. p.built ≡ all_branches_by p.number (all_trees store.new p.stack)) }
     ensures number { IfOk result (λ p. p.number ≡ number) }
     ensures count { IfOk result (λ p. length store.new ≡ length store.old + p.built) }
-    ensures room { IfOk result (λ _. length store.new < 2 ^ 64) }
 {
     let before = store.len();
     let mut machine = Machine::new(alloc, tables)?;
     let verdict = machine.run(alloc, tables, store, kinds, input, number)?;
     let state = machine.state();
-    let branches = branches_of(store, &machine.stack) as usize;
+    let branches = branches_of(store, &machine.stack);
+    if branches == u64::MAX {
+        // no memory holds so many, and there may be more than the count tells
+        return Err(AllocError);
+    }
     Ok(Parse {
         verdict,
         stack: machine.stack,
         state,
-        branches,
+        branches: branches as usize,
         built: store.len() - before,
         number,
     })
@@ -135,6 +139,79 @@ impl Parse {
                 Err(refusal)
             }
         }
+    }
+
+    /// The parse after a splice of the kinds, as edit `number`. It takes over each old node that the splice leaves as it was,
+    /// where it can stand as it is among the new ones. New nodes carry the number, and stand behind all others of the store.
+    /// Where the number is not above that of the last edit, everything is built anew.
+    ///
+    /// After a refusal parse and store are as before.
+    pub fn change<K: Kinds>(
+        &mut self,
+        alloc: Global,
+        tables: &Tables,
+        store: &mut Store,
+        kinds: &K,
+        splice: KindSplice,
+        number: u64,
+    ) -> Result<(), AllocError>
+        requires { (old : List Kind) × IsParseOf tables.now old store.old self.old
+            × IsSpliced (plain_splice splice) old (K.kinds kinds.now) }
+        ensures parse { IfOk result
+            (λ _. IsParseOf tables.now (K.kinds kinds.now) store.new self.new) }
+        ensures number { IfOk result (λ _. self.new.number ≡ number) }
+        ensures stamps { let change = plain_splice splice in
+            self.old.number < number → IfOk result (λ _. AreStampedExactly number change
+            (plain_of store.old self.old.stack) (all_trees store.new self.new.stack)) }
+        ensures built { let change = plain_splice splice in
+            self.old.number < number → IfOk result
+            (λ _. Built change (plain_of store.old self.old.stack) 0
+            (plain_of store.new self.new.stack) self.new.built) }
+        ensures anew { number ≤ self.old.number → IfOk result
+            (λ _. AreMadeBy number (forest_in store.new self.new.stack)) }
+        ensures grown { take (length store.old) store.new ≡ store.old }
+        ensures count { IfOk result (λ _. length store.new ≡ length store.old + self.new.built) }
+        ensures refused { OnErr result ((self.new ≡ self.old) × (store.new ≡ store.old)) }
+    {
+        let before = store.len();
+        let input = self.left_by(alloc, store, &splice, number)?;
+        match parsed(alloc, tables, store, kinds, input, number) {
+            Ok(parse) => {
+                *self = parse;
+                Ok(())
+            }
+            Err(refusal) => {
+                store.truncate(before);
+                Err(refusal)
+            }
+        }
+    }
+
+    /// What the splice leaves of the trees of the stack, with the new kinds between. It is nothing where the number is not above
+    /// that of the last edit.
+    fn left_by(
+        &self,
+        alloc: Global,
+        store: &Store,
+        splice: &KindSplice,
+        number: u64,
+    ) -> Result<Input, AllocError>
+        requires { (t : Sets) × (old : List Kind) × (new : List Kind)
+            × IsParseOf t old store.now self.now × IsSpliced (plain_splice splice.now) old new }
+        ensures input { (t : Sets) (old new : List Kind) → IsParseOf t old store.now self.now
+            → IsSpliced (plain_splice splice.now) old new
+            → IfOk result (λ input. IsInput t.grammar store.now input new 0) }
+        ensures older { IfOk result (λ input. AreOlder number (all_trees store.now input)) }
+        ensures anew { number ≤ self.now.number → IfOk result (λ input. input ≡ []) }
+        ensures prepared { let change = plain_splice splice.now in
+            let trees = plain_of store.now self.now.stack in
+            self.now.number < number → (kinds : List Kind)
+            → IfOk result (λ input. IsPrepared change trees (input_of store.now input kinds 0)) }
+    {
+        if number <= self.number {
+            return Ok(Input::new(alloc));
+        }
+        prepare(alloc, store, &self.stack, splice)
     }
 
     /// The tree, or the fault.

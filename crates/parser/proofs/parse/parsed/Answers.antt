@@ -1,4 +1,4 @@
-use Rattle.std.proofs.Common.{arith, sym, subst, [], ◌∷◌, length}
+use Rattle.std.proofs.Common.{sym, subst, [], ◌∷◌, length}
 use Rattle.parser.specs.Input.{input_of}
 use Rattle.parser.specs.Run.{SoFar}
 use Rattle.parser.proofs.Running.{begun}
@@ -22,8 +22,3 @@ pub returns-clause-run : goal.returns-clause-run
 returns-clause-run g c =
     let there = c.in_ok-verdict.ensures.so_far in
     record { states = c.run.new.self.states.items; read = c.run.new.self.read; rest = there.0; so_far = there.1 }
-
-pub returns-clause-built : goal.returns-clause-built
-returns-clause-built g c =
-    let there = c.in_ok-verdict.ensures.so_far in
-    omega (arith, there.1.count, there.1.made)

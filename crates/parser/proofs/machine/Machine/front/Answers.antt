@@ -1,19 +1,31 @@
 use Rattle.std.proofs.Common.{◌≡◌, ◌<◌, ◌∷◌, ◌++◌, [], length, sym, ap, ◌∙◌, subst, arith}
 use Rattle.definitions.specs.Trees.{all_kinds, yield}
-use Rattle.definitions.specs.TreeEdits.{plain}
-use Rattle.trees.specs.declared.store.Child.TheVariants.{Node}
+use Rattle.definitions.specs.TreeEdits.{plain, plain_all}
+use Rattle.trees.specs.declared.store.Child.TheVariants.{Node, Token}
 use Rattle.trees.specs.Cells.{all_trees, tree}
 use Rattle.trees.proofs.Cells.{all_below-more}
 use Rattle.theory.specs.Reuse.{Tries}
 use Rattle.parser.specs.Machine.{plain_of}
 use Rattle.parser.specs.Input.{input_of, IsInput}
-use Rattle.parser.proofs.Front.{weight, opened, dropped}
+use Rattle.parser.proofs.Front.{weight, branch_root, opened, dropped}
 use Rattle.parser.proofs.Inputs.{IsOpening, taken, no_kinds, none_counted, kids_kinds, opening_begins, opening_on}
+use Rattle.parser.specs.Front.{BeginsWithNoNode}
 use Rattle.parser.proofs.Reductions.{below-append}
-use Rattle.parser.specs.Run.{NoneIsMadeBy}
+use Rattle.parser.proofs.Reusing.{look_first}
+use Rattle.parser.specs.Run.{AreOlder}
 use Rattle.parser.proofs.Stamping.{none_behind}
 use Rattle.parser.proofs.Stamps.{opened_older}
 use Rattle.parser.proofs.machine.Machine.front.Goals as goal
+
+pub passes-requires-clause-root : goal.passes-requires-clause-root
+passes-requires-clause-root g c =
+    let kinds = g.K.Kinds.kinds c.args.kinds.now in
+    let cells = c.args.store.now in
+    let id = c.in-Node.id in
+    let node : c.edge.input ≡ Node id ∷ c.in-Some.ensures.0 = c.in-Some.ensures.1 ∙ ap (λ x. x ∷ c.in-Some.ensures.0) c.in-Node.is in
+    let inp = subst (λ l. IsInput c.args.tables.now.grammar cells l kinds c.args.self.now.read) node c.edge.invariant.input in
+    let t = c.tokens.ensures.tree in
+    branch_root c.args.tables.now.grammar t.0 (plain_all t.2) (plain (tree cells (Node id))) (ap plain t.3) inp.parts.0
 
 pub edge-preserved-in-Continue-1 : goal.edge-preserved-in-Continue-1
 edge-preserved-in-Continue-1 g c =
@@ -28,16 +40,16 @@ edge-preserved-in-Continue-1 g c =
     let node : c.edge.input ≡ Node id ∷ c.in-Some.ensures.0 = c.in-Some.ensures.1 ∙ ap (λ x. x ∷ c.in-Some.ensures.0) c.in-Node.is in
     let old : c.edge.input ≡ Node id ∷ rest = taken c.take.result c.edge.input rest c.in-Some.ensures.0 (Node id) c.take.ensures node in
     let inp = subst (λ l. IsInput gr cells l kinds read) old c.edge.invariant.input in
-    let step = opened gr cells stack kinds read id rest kids c.children.ensures.tree.0 c.children.ensures.tree.1 c.children.ensures.tree.2 inp.symbols inp.roots inp.covers c.in_default-passes.ensures in
+    let step = opened gr cells stack kinds read id rest kids c.children.ensures.tree.0 c.children.ensures.tree.1 c.children.ensures.tree.2 inp.parts inp.covers c.in_default-passes.ensures in
     let inside : id.index < length cells = inp.below.0 in
     let below = below-append (length cells) kids rest (all_below-more id.index (length cells) (omega (arith, inside)) kids c.children.ensures.below) inp.below.1 in
-    let made : IsInput gr cells (kids ++ rest) kinds read = record { below = below; symbols = step.0.0; roots = step.0.1; covers = step.1 } in
+    let made : IsInput gr cells (kids ++ rest) kinds read = record { below = below; parts = step.0; covers = step.1 } in
     let new : c.put_all.new.self ≡ kids ++ rest = c.in_ok-put_all-in-Node.ensures in
     let same : all_kinds (plain_of cells kids) ≡ yield (plain (tree cells (Node id))) = kids_kinds cells kids id c.children.ensures.tree.0 c.children.ensures.tree.1 c.children.ensures.tree.2 in
     record {
       input = subst (λ l. IsInput gr cells l kinds read) (sym new) made;
       offers = (λ f d. c.edge.invariant.offers f (subst (λ l. Tries gr stack (input_of cells l kinds read) f) (sym old) (step.2 f (subst (λ l. Tries gr stack (input_of cells l kinds read) f) new d))));
-      older = λ n h. subst (λ l. NoneIsMadeBy n (all_trees cells l)) (sym new) (opened_older n cells kids rest id c.children.ensures.tree.0 c.children.ensures.tree.1 c.children.ensures.tree.2 (subst (λ l. NoneIsMadeBy n (all_trees cells l)) old (c.edge.invariant.older n h)));
+      older = λ n h. subst (λ l. AreOlder n (all_trees cells l)) (sym new) (opened_older n cells kids rest id c.children.ensures.tree.0 c.children.ensures.tree.1 c.children.ensures.tree.2 (subst (λ l. AreOlder n (all_trees cells l)) old (c.edge.invariant.older n h)));
       opening = subst (IsOpening cells c.args.input.now) (sym new) (opening_on cells c.args.input.now c.edge.input rest kids (Node id) c.requires.full c.edge.invariant.opening old same);
     }
 
@@ -54,7 +66,7 @@ edge-smaller-in-Continue-1 g c =
     let node : c.edge.input ≡ Node id ∷ c.in-Some.ensures.0 = c.in-Some.ensures.1 ∙ ap (λ x. x ∷ c.in-Some.ensures.0) c.in-Node.is in
     let old : c.edge.input ≡ Node id ∷ rest = taken c.take.result c.edge.input rest c.in-Some.ensures.0 (Node id) c.take.ensures node in
     let inp = subst (λ l. IsInput gr cells l kinds read) old c.edge.invariant.input in
-    let step = opened gr cells stack kinds read id rest kids c.children.ensures.tree.0 c.children.ensures.tree.1 c.children.ensures.tree.2 inp.symbols inp.roots inp.covers c.in_default-passes.ensures in
+    let step = opened gr cells stack kinds read id rest kids c.children.ensures.tree.0 c.children.ensures.tree.1 c.children.ensures.tree.2 inp.parts inp.covers c.in_default-passes.ensures in
     let new : c.put_all.new.self ≡ kids ++ rest = c.in_ok-put_all-in-Node.ensures in
     subst (λ l. weight (plain_of cells l) < weight (plain_of cells c.edge.input)) (sym new) (subst (λ l. weight (plain_of cells (kids ++ rest)) < weight (plain_of cells l)) (sym old) step.3)
 
@@ -72,13 +84,24 @@ edge-preserved g c =
     let inp = subst (λ l. IsInput gr cells l kinds read) old c.edge.invariant.input in
     let zero_tokens : c.tokens.result ≡ 0 = omega (arith, c.if-tokens-gt0.false) in
     let empty = none_counted (length (yield (plain (tree cells (Node id))))) (sym c.tokens.ensures.is ∙ zero_tokens) in
-    let step = dropped gr cells stack kinds read (Node id) rest inp.symbols inp.roots inp.covers empty in
+    let step = dropped gr cells stack kinds read (Node id) rest inp.parts inp.covers empty in
     record {
-      input = record { below = inp.below.1; symbols = step.0.0; roots = step.0.1; covers = step.1 };
+      input = record { below = inp.below.1; parts = step.0; covers = step.1 };
       offers = (λ f d. c.edge.invariant.offers f (subst (λ l. Tries gr stack (input_of cells l kinds read) f) (sym old) (step.2 f d)));
-      older = λ n h. none_behind n (tree cells (Node id)) (all_trees cells rest) (subst (λ l. NoneIsMadeBy n (all_trees cells l)) old (c.edge.invariant.older n h));
+      older = λ n h. none_behind n (tree cells (Node id)) (all_trees cells rest) (subst (λ l. AreOlder n (all_trees cells l)) old (c.edge.invariant.older n h));
       opening = opening_on cells c.args.input.now c.edge.input rest [] (Node id) c.requires.full c.edge.invariant.opening old (sym (no_kinds (yield (plain (tree cells (Node id)))) empty));
     }
+
+pub returns-in-Token-clause-offer : goal.returns-in-Token-clause-offer
+returns-in-Token-clause-offer g c =
+    let kinds = g.K.Kinds.kinds c.args.kinds.now in
+    let read = c.args.self.now.read in
+    let cells = c.args.store.now in
+    let rest = c.in-Some.ensures.0 in
+    let k = c.in-Token.kind in
+    let token : c.edge.input ≡ Token k ∷ rest = c.in-Some.ensures.1 ∙ ap (λ x. x ∷ rest) c.in-Token.is in
+    let inp = subst (λ l. IsInput c.args.tables.now.grammar cells l kinds read) token c.edge.invariant.input in
+    (look_first kinds read k _ inp.covers, subst BeginsWithNoNode (sym token) tt)
 
 pub edge-init : goal.edge-init
 edge-init g c = record { input = c.requires.input; offers = λ f d. d; older = λ n h. h; opening = opening_begins c.args.store.now c.args.input.now }

@@ -3,7 +3,7 @@ use Rattle.parser.specs.Machine.{plain_of}
 use Rattle.parser.specs.Input.{input_of, IsInput}
 use Rattle.parser.specs.Front.{Offers}
 use Rattle.trees.specs.Cells.{all_trees}
-use Rattle.parser.specs.Run.{NoneIsMadeBy}
+use Rattle.parser.specs.Run.{AreOlder}
 use Rattle.parser.proofs.Front.{weight}
 use Rattle.parser.proofs.Inputs.{IsOpening}
 use Rattle.parser.proofs.machine.Machine.front.Given as goal
@@ -12,7 +12,7 @@ abbrev pub invariant-edge : goal.invariant-edge
 invariant-edge g l = record {
   input : IsInput l.tables.grammar l.store l.input (g.K.Kinds.kinds l.kinds) l.self.read;
   offers : Offers l.tables.grammar (plain_of l.store l.self.stack.items) (input_of l.store l.input (g.K.Kinds.kinds l.kinds) l.self.read) (input_of l.store l.initial.input (g.K.Kinds.kinds l.kinds) l.self.read);
-  older : (number : ℕ) → NoneIsMadeBy number (all_trees l.store l.initial.input) → NoneIsMadeBy number (all_trees l.store l.input);
+  older : (number : ℕ) → AreOlder number (all_trees l.store l.initial.input) → AreOlder number (all_trees l.store l.input);
   opening : IsOpening l.store l.initial.input l.input;
 }
 

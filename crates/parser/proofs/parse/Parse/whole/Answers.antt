@@ -1,7 +1,7 @@
 use Rattle.std.proofs.Common.{◌+◌, arith, drop, length, subst, sym}
 use Rattle.trees.specs.Cells.{all_trees}
 use Rattle.parser.specs.Input.{input_of, IsInput}
-use Rattle.parser.specs.Run.{IsMadeByRun, NoneIsMadeBy}
+use Rattle.parser.specs.Run.{IsMadeByRun, AreOlder}
 use Rattle.parser.proofs.Plain.{plain_count, plain_stamps}
 use Rattle.parser.proofs.Running.{no_input}
 use Rattle.parser.proofs.Stamping.{none_in_nothing}
@@ -14,7 +14,7 @@ parsed-requires-clause-input g c =
     subst (λ l. IsInput c.args.tables.now.grammar c.args.store.now l kinds 0) (sym c.new.ensures) (no_input c.args.tables.now.grammar c.args.store.now kinds)
 
 pub parsed-requires-clause-older : goal.parsed-requires-clause-older
-parsed-requires-clause-older g c = subst (λ l. NoneIsMadeBy 0 (all_trees c.args.store.now l)) (sym c.new.ensures) (none_in_nothing 0)
+parsed-requires-clause-older g c = subst (λ l. AreOlder 0 (all_trees c.args.store.now l)) (sym c.new.ensures) (none_in_nothing 0)
 
 pub returns-in-Ok-clause-stamps : goal.returns-in-Ok-clause-stamps
 returns-in-Ok-clause-stamps g c =
@@ -40,13 +40,6 @@ pub returns-in-Ok-clause-built : goal.returns-in-Ok-clause-built
 returns-in-Ok-clause-built g c =
     let count = returns-in-Ok-clause-count g c in
     omega (arith, c.in-Ok.ensures.count, count)
-
-pub returns-in-Ok-clause-parse : goal.returns-in-Ok-clause-parse
-returns-in-Ok-clause-parse g c = record {
-  stop = c.in-Ok.ensures.stop;
-  branches = let built = returns-in-Ok-clause-built g c in omega (arith, c.in-Ok.ensures.branches, built, c.in-Ok.ensures.count, c.in-Ok.ensures.room);
-  built = c.in-Ok.ensures.built;
-}
 
 pub returns-in-Ok-clause-kept : goal.returns-in-Ok-clause-kept
 returns-in-Ok-clause-kept g c = trees_stay c.args.store.now c.parsed.new.store c.parsed.ensures.grown

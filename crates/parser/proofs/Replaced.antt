@@ -1,0 +1,152 @@
+-- The children that a splice leaves, with the new kinds between them, are an input for the kinds after the splice.
+use Rattle.std.proofs.Common.{◌≡◌, ◌≢◌, ◌⊎◌, ℕ, ◌+◌, ◌-◌, ◌<◌, ◌≤◌, List, [], ◌∷◌, ◌++◌, length, take, drop, map, refl, sym, ap, ◌∙◌, subst, inl, inr, ⊎_elim, arith, append_assoc, length-append, take-append-drop}
+use Rattle.std.proofs.Math.Seq.{drop-append_seam, take-append_seam, take-append-add}
+use Rattle.std.proofs.lemmas.Bool.{cases_lt}
+use Rattle.std.proofs.lemmas.List.{append-nil}
+use Rattle.definitions.specs.declared.Kind.{Kind}
+use Rattle.definitions.specs.Trees.{Grammar, Tree, Branch, Leaf, all_kinds}
+use Rattle.definitions.specs.TreeEdits.{plain_all}
+use Rattle.definitions.specs.Nodes.{StandsIn, place_of}
+use Rattle.definitions.specs.TokenEdits.{Splice, spliced}
+use Rattle.theory.specs.Reuse.{IsPrepared}
+use Rattle.theory.proofs.Made.{stamped_stands}
+use Rattle.theory.proofs.Sound.{kinds-append}
+use Rattle.trees.specs.declared.store.Child.{Child}
+use Rattle.trees.specs.declared.store.Child.TheVariants.{Token}
+use Rattle.trees.specs.Cells.{Cell, AreBelow, all_trees}
+use Rattle.parser.specs.Machine.{plain_of}
+use Rattle.parser.specs.Input.{AreParts, IsInput, before_leaves, input_of, leaves}
+use Rattle.parser.specs.Run.{AreOlder}
+use Rattle.parser.specs.Cuts.{Cut}
+use Rattle.parser.proofs.Running.{kinds_leaves}
+use Rattle.parser.proofs.Front.{parts-append}
+use Rattle.parser.proofs.Reductions.{below-append, plain-append}
+use Rattle.parser.proofs.Cuts.{cut_behind, cut_below, cut_kinds, cut_older, cut_parts, older-append}
+use Rattle.parser.proofs.Prepared.{no_branch, place-append, prepared_short, prepared_within}
+
+-- new has the new kinds in the place of what the splice takes away of the old trees, or what there is of these where they end
+-- before the splice
+pub data IsReplaced (cells : List Cell) (s : Splice) (old : List Child) : List Child → Type 0 where
+  Within : {front back gone rest : List Child} → Cut cells s.from old front back → place_of (plain_of cells front) ≡ s.from → Cut cells (s.to - s.from) back gone rest → place_of (plain_of cells gone) ≤ s.to - s.from → (place_of (plain_of cells gone) ≡ s.to - s.from) ⊎ (rest ≡ []) → IsReplaced cells s old (front ++ (map Token s.kinds ++ rest))
+  Short : {front : List Child} → Cut cells s.from old front [] → place_of (plain_of cells front) < s.from → IsReplaced cells s old front
+
+-- kinds as children
+plain-tokens : (cells : List Cell) (ks : List Kind) → plain_of cells (map Token ks) ≡ leaves ks
+plain-tokens cells [] = refl
+plain-tokens cells (k ∷ ks) = ap (λ l. Leaf k ∷ l) (plain-tokens cells ks)
+
+below-tokens : (n : ℕ) (ks : List Kind) → AreBelow n (map Token ks)
+below-tokens n [] = tt
+below-tokens n (k ∷ ks) = (tt, below-tokens n ks)
+
+parts-leaves : (g : Grammar) (ks : List Kind) → AreParts g (leaves ks)
+parts-leaves g [] = tt
+parts-leaves g (k ∷ ks) = (tt, parts-leaves g ks)
+
+older-tokens : (n : ℕ) (cells : List Cell) (ks : List Kind) → AreOlder n (all_trees cells (map Token ks))
+older-tokens n cells ks lefts p born us w = absurd (no_branch ks (subst (λ l. StandsIn l lefts (Branch p (plain_all us))) (plain-tokens cells ks) (stamped_stands w)))
+
+-- trees whose kinds begin a list are covered by it
+covers_front : (ts : List Tree) (ks tail : List Kind) → ks ≡ all_kinds ts ++ tail → all_kinds (before_leaves ts ks 0) ≡ ks
+covers_front ts ks tail e =
+    let at : 0 + length (all_kinds ts) ≡ length (all_kinds ts) = omega arith in
+    let rest : drop (0 + length (all_kinds ts)) ks ≡ tail = ap (λ n. drop n ks) at ∙ ap (drop (length (all_kinds ts))) e ∙ drop-append_seam (all_kinds ts) tail in
+    kinds-append ts (leaves (drop (0 + length (all_kinds ts)) ks)) ∙ ap (λ l. all_kinds ts ++ l) (kinds_leaves (drop (0 + length (all_kinds ts)) ks) ∙ rest) ∙ sym e
+
+covered : (ts : List Tree) (ks : List Kind) → all_kinds (before_leaves ts ks 0) ≡ ks → ks ≡ all_kinds ts ++ drop (0 + length (all_kinds ts)) ks
+covered ts ks e = sym e ∙ kinds-append ts (leaves (drop (0 + length (all_kinds ts)) ks)) ∙ ap (λ l. all_kinds ts ++ l) (kinds_leaves (drop (0 + length (all_kinds ts)) ks))
+
+take_at : (ks x y : List Kind) (n : ℕ) → ks ≡ x ++ y → length x ≡ n → take n ks ≡ x
+take_at ks x y n e l = ap (λ m. take m ks) (sym l) ∙ ap (take (length x)) e ∙ take-append_seam x y
+
+drop_at : (ks x y : List Kind) (n : ℕ) → ks ≡ x ++ y → length x ≡ n → drop n ks ≡ y
+drop_at ks x y n e l = ap (λ m. drop m ks) (sym l) ∙ ap (drop (length x)) e ∙ drop-append_seam x y
+
+take_more : (ks x y : List Kind) (n : ℕ) → ks ≡ x ++ y → length x ≤ n → take n ks ≡ x ++ take (n - length x) y
+take_more ks x y n e l = let at : n ≡ length x + (n - length x) = omega (arith, l) in ap (λ m. take m ks) at ∙ ap (take (length x + (n - length x))) e ∙ take-append-add x y (n - length x)
+
+module _ (cells : List Cell) (s : Splice) (ordered : s.from ≤ s.to) where
+  -- the list of children, as trees
+  within_trees : (front rest : List Child) → plain_of cells (front ++ (map Token s.kinds ++ rest)) ≡ plain_of cells front ++ (leaves s.kinds ++ plain_of cells rest)
+  within_trees front rest =
+      plain-append cells front (map Token s.kinds ++ rest) ∙ ap (λ l. plain_of cells front ++ l) (plain-append cells (map Token s.kinds) rest ∙ ap (λ l. l ++ plain_of cells rest) (plain-tokens cells s.kinds))
+
+  pub replaced_prepared : (s.from ≡ s.to → length s.kinds ≢ 0) → {old new : List Child} → IsReplaced cells s old new → (ks : List Kind) → IsPrepared s (plain_of cells old) (input_of cells new ks 0)
+  replaced_prepared changes {old} (Within {front = front} {rest = rest} first reached second fits filled) ks =
+      let trees = within_trees front rest in
+      let behind = drop (0 + place_of (plain_of cells (front ++ (map Token s.kinds ++ rest)))) ks in
+      subst (λ l. IsPrepared s (plain_of cells old) (l ++ leaves behind)) (sym trees) (prepared_within s cells ordered changes first reached second fits (⊎_elim (λ e. inl e) (λ e. inr (ap (plain_of cells) e)) filled) behind)
+  replaced_prepared changes (Short {front = front} first short) ks =
+      prepared_short s cells ordered changes first refl short (drop (0 + place_of (plain_of cells front)) ks)
+
+  pub replaced_older : (number : ℕ) {old new : List Child} → IsReplaced cells s old new → AreOlder number (all_trees cells old) → AreOlder number (all_trees cells new)
+  replaced_older number (Within {front = front} {rest = rest} first reached second fits filled) h =
+      let one = cut_older cells number first h in
+      let two = cut_older cells number second one.1 in
+      older-append number cells front (map Token s.kinds ++ rest) one.0 (older-append number cells (map Token s.kinds) rest (older-tokens number cells s.kinds) two.1)
+  replaced_older number (Short first short) h = (cut_older cells number first h).0
+
+  pub replaced_below : (n : ℕ) {old new : List Child} → IsReplaced cells s old new → AreBelow n old → AreBelow n new
+  replaced_below n (Within {front = front} {rest = rest} first reached second fits filled) h =
+      let one = cut_below cells n first h in
+      let two = cut_below cells n second one.1 in
+      below-append n front (map Token s.kinds ++ rest) one.0 (below-append n (map Token s.kinds) rest (below-tokens n s.kinds) two.1)
+  replaced_below n (Short first short) h = (cut_below cells n first h).0
+
+  replaced_parts : (g : Grammar) {old new : List Child} → IsReplaced cells s old new → AreParts g (plain_of cells old) → AreParts g (plain_of cells new)
+  replaced_parts g (Within {front = front} {rest = rest} first reached second fits filled) h =
+      let one = cut_parts cells g first h in
+      let two = cut_parts cells g second one.1 in
+      subst (AreParts g) (sym (within_trees front rest)) (parts-append g (plain_of cells front) (leaves s.kinds ++ plain_of cells rest) one.0 (parts-append g (leaves s.kinds) (plain_of cells rest) (parts-leaves g s.kinds) two.1))
+  replaced_parts g (Short first short) h = (cut_parts cells g first h).0
+
+  -- the kinds of the new list begin the kinds after the splice
+  begins : {old new : List Child} → IsReplaced cells s old new → (ks tail : List Kind) → ks ≡ all_kinds (plain_of cells old) ++ tail → (more : List Kind) × (spliced s ks ≡ all_kinds (plain_of cells new) ++ more)
+  begins {old} (Within {front = front} {back = back} {gone = gone} {rest = rest} first reached second fits filled) ks tail e =
+      let f = all_kinds (plain_of cells front) in
+      let b = all_kinds (plain_of cells back) in
+      let d = all_kinds (plain_of cells gone) in
+      let r = all_kinds (plain_of cells rest) in
+      let split : ks ≡ f ++ (b ++ tail) = e ∙ ap (λ l. l ++ tail) (cut_kinds cells first) ∙ append_assoc f b tail in
+      let split_back : b ++ tail ≡ d ++ (r ++ tail) = ap (λ l. l ++ tail) (cut_kinds cells second) ∙ append_assoc d r tail in
+      let split_to : ks ≡ (f ++ d) ++ (r ++ tail) = split ∙ ap (λ l. f ++ l) split_back ∙ sym (append_assoc f d (r ++ tail)) in
+      let at_from : take s.from ks ≡ f = take_at ks f (b ++ tail) s.from split reached in
+      let new : all_kinds (plain_of cells (front ++ (map Token s.kinds ++ rest))) ≡ f ++ (s.kinds ++ r) = ap all_kinds (within_trees front rest) ∙ kinds-append (plain_of cells front) (leaves s.kinds ++ plain_of cells rest) ∙ ap (λ l. f ++ l) (kinds-append (leaves s.kinds) (plain_of cells rest) ∙ ap (λ l. l ++ r) (kinds_leaves s.kinds)) in
+      let joined : (more : List Kind) → drop s.to ks ≡ r ++ more → spliced s ks ≡ all_kinds (plain_of cells (front ++ (map Token s.kinds ++ rest))) ++ more = λ more e'.
+      (λ i. at_from i ++ (s.kinds ++ e' i)) ∙ sym (append_assoc f (s.kinds ++ r) more ∙ ap (λ l. f ++ l) (append_assoc s.kinds r more)) ∙ ap (λ l. l ++ more) (sym new) in
+      ⊎_elim
+      (λ all. (tail, joined tail (drop_at ks (f ++ d) (r ++ tail) s.to split_to (omega (arith, length-append f d, reached, all, ordered)))))
+      (λ none. (drop s.to ks, joined (drop s.to ks) (ap (λ l. l ++ drop s.to ks) (sym (ap (λ l. all_kinds (plain_of cells l)) none)))))
+      filled
+  begins (Short {front = front} first short) ks tail e =
+      let f = all_kinds (plain_of cells front) in
+      let split : ks ≡ f ++ tail = e ∙ ap (λ l. l ++ tail) (cut_kinds cells first ∙ append-nil f) in
+      let rest = take (s.from - length f) tail in
+      (rest ++ (s.kinds ++ drop s.to ks), ap (λ l. l ++ (s.kinds ++ drop s.to ks)) (take_more ks f tail s.from split (omega (arith, short))) ∙ append_assoc f rest (s.kinds ++ drop s.to ks))
+
+  pub replaced_input : (g : Grammar) {old new : List Child} → IsReplaced cells s old new → (ks : List Kind) → IsInput g cells old ks 0 → IsInput g cells new (spliced s ks) 0
+  replaced_input g {old} {new} r ks h =
+      let b = begins r ks (drop (0 + place_of (plain_of cells old)) ks) (covered (plain_of cells old) ks h.covers) in
+      record {
+        below = replaced_below (length cells) r h.below;
+        parts = replaced_parts g r h.parts;
+        covers = covers_front (plain_of cells new) (spliced s ks) b.0 b.1;
+      }
+
+-- the trees that stay whole in front, and what the first cut behind them leaves
+module _ (cells : List Cell) (s : Splice) (old : List Child) (whole left missing : ℕ) (start front back : List Child) (at : place_of (plain_of cells (take whole old)) + left ≡ s.from) (start_is : start ≡ drop whole old) (cut : Cut cells left start front back) (left_is : place_of (plain_of cells front) + missing ≡ left) where
+  first_cut : Cut cells s.from old (take whole old ++ front) back
+  first_cut = subst (λ l. Cut cells s.from l (take whole old ++ front) back) (take-append-drop whole old) (cut_behind cells (take whole old) left s.from at (subst (λ l. Cut cells left l front back) start_is cut))
+
+  first_place : place_of (plain_of cells (take whole old ++ front)) + missing ≡ s.from
+  first_place = omega (arith, at, left_is, ap place_of (plain-append cells (take whole old) front), place-append (plain_of cells (take whole old)) (plain_of cells front))
+
+  pub within : missing ≡ 0 → (gone rest new : List Child) (wanting : ℕ) → Cut cells (s.to - s.from) back gone rest → place_of (plain_of cells gone) + wanting ≡ s.to - s.from → (0 < wanting → rest ≡ []) → new ≡ take whole old ++ (front ++ (map Token s.kinds ++ rest)) → IsReplaced cells s old new
+  within none gone rest new wanting second rest_is used_up e =
+      let filled : (place_of (plain_of cells gone) ≡ s.to - s.from) ⊎ (rest ≡ []) = ⊎_elim (λ some. inr (used_up some)) (λ all. inl (omega (arith, rest_is, all))) (cases_lt 0 wanting) in
+      subst (IsReplaced cells s old) (append_assoc (take whole old) front (map Token s.kinds ++ rest) ∙ sym e) (Within first_cut (omega (arith, first_place, none)) second (omega (arith, rest_is)) filled)
+
+  pub short : 0 < missing → back ≡ [] → (new : List Child) → new ≡ take whole old ++ (front ++ back) → IsReplaced cells s old new
+  short some none new e =
+      let same : take whole old ++ front ≡ new = ap (λ l. take whole old ++ l) (sym (append-nil front) ∙ ap (λ l. front ++ l) (sym none)) ∙ sym e in
+      subst (IsReplaced cells s old) same (Short (subst (Cut cells s.from old (take whole old ++ front)) none first_cut) (omega (arith, first_place, some)))

@@ -1,0 +1,74 @@
+use Rattle.std.proofs.Common.{◌≡◌, ◌≢◌, ℕ, ◌+◌, ◌-◌, ◌<◌, List, [], ◌++◌, length, take, drop, map, sym, ap, ◌∙◌, subst, arith, rules, length-drop}
+use Rattle.std.proofs.lemmas.List.{append-nil, take_all}
+use Rattle.definitions.specs.Trees.{all_kinds}
+use Rattle.theory.specs.Reuse.{IsPrepared}
+use Rattle.trees.specs.Cells.{AreBelow}
+use Rattle.parser.specs.Machine.{plain_of}
+use Rattle.parser.specs.Input.{input_of}
+use Rattle.parser.proofs.Reductions.{below-drop}
+use Rattle.definitions.specs.TokenEdits.{plain_splice}
+use Rattle.trees.specs.declared.store.Child.{Child}
+use Rattle.trees.specs.declared.store.Child.TheVariants.{Token}
+use Rattle.parser.proofs.Cuts.{cut_below}
+use Rattle.parser.proofs.Prepared.{prepared_same}
+use Rattle.parser.proofs.Replaced.{IsReplaced, replaced_input, replaced_older, replaced_prepared, within, short}
+use Rattle.parser.proofs.prepare.prepare.Goals as goal
+use Rattle.parser.proofs.prepare.prepare.Goals.{then-missing-eq0+in_ok-take_front+in_ok-put_kinds, else-missing-eq0, else-splice-via-then-splice+else-is_empty, else-splice-via-else-splice}
+
+-- what is put in front of nothing, from a place on
+behind : (old start none : List Child) (n : ℕ) → start ≡ take (length old - n) (drop n old) ++ none → none ≡ [] → start ≡ drop n old
+behind old start none n e empty = e ∙ ap (λ l. take (length old - n) (drop n old) ++ l) empty ∙ append-nil (take (length old - n) (drop n old)) ∙ take_all (length old - n) (drop n old) (omega (arith, length-drop n old))
+
+pub returns-then-is_empty-clause-prepared : goal.returns-then-is_empty-clause-prepared
+returns-then-is_empty-clause-prepared c kinds =
+    let cells = c.args.store.now in
+    let old = c.args.old.now in
+    let s = plain_splice c.args.splice.now in
+    let none : length s.kinds ≡ 0 = search rules in
+    let same : c.put_all.new.self ≡ old = c.in_ok-put_all.ensures ∙ ap (λ l. old ++ l) c.new-input.ensures ∙ append-nil old in
+    subst (λ l. IsPrepared s (plain_of cells old) (input_of cells l kinds 0)) (sym same) (prepared_same s (plain_of cells old) (drop (0 + length (all_kinds (plain_of cells old))) kinds) c.if-splice.true none)
+
+pub take_front-requires-clause-below : goal.take_front-requires-clause-below
+take_front-requires-clause-below c =
+    let n = length c.args.store.now in
+    let old = c.args.old.now in
+    let whole = c.fitting-whole.result.0 in
+    subst (AreBelow n) (sym (behind old c.put_all-2.new.self c.new-input.result whole c.in_ok-put_all-2.ensures c.new-input.ensures)) (below-drop n whole old c.requires.below)
+
+pub take_front-requires-then-missing-eq0-clause-below : goal.take_front-requires-then-missing-eq0-clause-below
+take_front-requires-then-missing-eq0-clause-below c =
+    let cells = c.args.store.now in
+    let n = length cells in
+    let old = c.args.old.now in
+    let whole = c.fitting-whole.result.0 in
+    let start = subst (AreBelow n) (sym (behind old c.put_all-2.new.self c.new-input.result whole c.in_ok-put_all-2.ensures c.new-input.ensures)) (below-drop n whole old c.requires.below) in
+    (cut_below cells n c.in_ok-front.ensures.cut start).1
+
+pub returns : goal.returns
+returns c =
+    let cells = c.args.store.now in
+    let old = c.args.old.now in
+    let s = plain_splice c.args.splice.now in
+    let whole = c.fitting-whole.result.0 in
+    let front = c.in_ok-front.front.items in
+    let new = c.put_all-4.new.self in
+    let start_is = behind old c.put_all-2.new.self c.new-input.result whole c.in_ok-put_all-2.ensures c.new-input.ensures in
+    let changes : s.from ≡ s.to → length s.kinds ≢ 0 = elim c.else-splice.branch [
+      | else-splice-via-then-splice+else-is_empty w ↦ λ e n. let some : length s.kinds ≢ 0 = search rules in some n
+      | else-splice-via-else-splice w ↦ λ e. absurd (w.if-splice.false e)
+    ] in
+    let new_is : new ≡ take whole old ++ (front ++ c.if-missing-eq0.input) = c.in_ok-put_all-4.ensures ∙ ap (λ l. take whole old ++ l) (c.in_ok-put_all-3.ensures ∙ ap (λ l. l ++ c.if-missing-eq0.input) c.deref-2.ensures.value) in
+    let r : IsReplaced cells s old new = elim c.if-missing-eq0.branch [
+      | then-missing-eq0+in_ok-take_front+in_ok-put_kinds w ↦
+          let rest = w.take_front-then-missing-eq0.new.trees in
+          let put : w.put_kinds.new.trees ≡ map Token s.kinds ++ rest = w.in_ok-put_kinds.ensures ∙ ap (λ l. map Token l ++ rest) w.deref.ensures.value in
+          within cells s old whole c.fitting-whole.result.1 c.in_ok-front.missing c.put_all-2.new.self front c.take_front.new.trees c.fitting-whole.ensures.left start_is c.in_ok-front.ensures.cut c.in_ok-front.ensures.left w.if-missing-eq0.true w.in_ok-take_front.field-0.0.items rest new w.in_ok-take_front.field-0.1 w.in_ok-take_front.ensures.cut w.in_ok-take_front.ensures.left w.in_ok-take_front.ensures.used_up (new_is ∙ ap (λ l. take whole old ++ (front ++ l)) (w.input-is ∙ put))
+      | else-missing-eq0 w ↦
+          let some : 0 < c.in_ok-front.missing = omega (arith, w.if-missing-eq0.false) in
+          short cells s old whole c.fitting-whole.result.1 c.in_ok-front.missing c.put_all-2.new.self front c.take_front.new.trees c.fitting-whole.ensures.left start_is c.in_ok-front.ensures.cut c.in_ok-front.ensures.left some (c.in_ok-front.ensures.used_up some) new (new_is ∙ ap (λ l. take whole old ++ (front ++ l)) w.input-is)
+    ] in
+    record {
+      input = λ g kinds h fits. replaced_input cells s c.requires.ordered g r kinds h;
+      prepared = λ kinds. replaced_prepared cells s c.requires.ordered changes r kinds;
+      older = λ number h. replaced_older cells s c.requires.ordered number r h;
+    }

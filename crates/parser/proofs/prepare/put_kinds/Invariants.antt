@@ -1,0 +1,6 @@
+use Rattle.std.proofs.Common.{◌≡◌, ◌++◌, ◌-◌, length, drop, map}
+use Rattle.trees.specs.declared.store.Child.TheVariants.{Token}
+use Rattle.parser.proofs.prepare.put_kinds.Given as goal
+
+abbrev pub invariant-kinds : goal.invariant-kinds
+invariant-kinds l = l.trees ≡ map Token (drop (length l.kinds - l.i) l.kinds) ++ l.initial.trees

@@ -1,0 +1,125 @@
+//! The input of the machine behind an edit: what a splice leaves of the old trees, with the new kinds in their place.
+
+ghost use Rattle.std.specs.Prelude.{◌≡◌, ◌+◌, ◌<◌, ◌≤◌, ◌++◌, [], ℕ, List, length, map, take, slice_get, IfOk, IfSome};
+ghost use Rattle.definitions.specs.declared.Kind.{Kind};
+ghost use Rattle.definitions.specs.Nodes.{place_of};
+ghost use Rattle.definitions.specs.Trees.{Grammar};
+ghost use Rattle.definitions.specs.TokenEdits.{plain_splice, spliced};
+ghost use Rattle.trees.specs.declared.store.Child.TheVariants.{Token};
+ghost use Rattle.trees.specs.Cells.{AreBelow, all_trees, most};
+ghost use Rattle.theory.specs.Reuse.{IsPrepared};
+ghost use Rattle.parser.specs.Cuts.{Cut, kinds_in};
+ghost use Rattle.parser.specs.Machine.{plain_of};
+ghost use Rattle.parser.specs.Input.{input_of, IsInput};
+ghost use Rattle.parser.specs.Run.{AreOlder};
+
+use crate::input::Input;
+use definitions::{Kind, KindSplice};
+use std::alloc::{AllocError, Global};
+use trees::{Child, Store};
+
+/// How many of the children, from the first one on, stand whole among the first `n` kinds, and how many of these kinds are left
+/// behind them.
+fn fitting(store: &Store, children: &[Child], n: u64) -> (usize, u64)
+    requires below { AreBelow (length store.now) children.now }
+    requires counted { n < most }
+    ensures within { result.0 ≤ length children.now }
+    ensures left { place_of (plain_of store.now (take result.0 children.now)) + result.1 ≡ n }
+    ensures next { IfSome (slice_get children.now result.0) (λ c. result.1 < kinds_in store.now c) }
+{
+    let mut left = n;
+    let mut whole = 0;
+    for child in children {
+        let count = store.tokens_of(*child);
+        if count > left {
+            break;
+        }
+        left -= count;
+        whole += 1;
+    }
+    (whole, left)
+}
+
+/// Takes the trees of the first `n` kinds away, and answers them, and how many of the `n` kinds there weren't. A tree that has
+/// kinds on both sides is opened.
+fn take_front(
+    alloc: Global,
+    store: &Store,
+    trees: &mut Input,
+    n: u64,
+) -> Result<(Vec<Child>, u64), AllocError>
+    requires below { AreBelow (length store.now) trees.old }
+    requires counted { n < most }
+    ensures cut { IfOk result (λ r. Cut store.now n trees.old r.0.items trees.new) }
+    ensures left { IfOk result (λ r. place_of (plain_of store.now r.0.items) + r.1 ≡ n) }
+    ensures used_up { IfOk result (λ r. 0 < r.1 → trees.new ≡ []) }
+{
+    let mut taken = Vec::new(alloc);
+    let mut left = n;
+    'kinds: while left > 0 {
+        let Some(child) = trees.take() else {
+            break;
+        };
+        let count = store.tokens_of(child);
+        if count <= left {
+            left -= count;
+            taken.push(child)?;
+        } else if let Child::Node(id) = child {
+            trees.put_all(store.children(id))?;
+        }
+    }
+    Ok((taken, left))
+}
+
+/// Puts the kinds in front of the list.
+fn put_kinds(trees: &mut Input, kinds: &[Kind]) -> Result<(), AllocError>
+    ensures { IfOk result (λ _. trees.new ≡ map Token kinds.now ++ trees.old) }
+{
+    'kinds: for i in 0..kinds.len() {
+        trees.put(Child::Token(kinds[kinds.len() - 1 - i]))?;
+    }
+    Ok(())
+}
+
+/// The old trees, with the new kinds in the place of what the splice takes away. Of the trees that it touches only the parts
+/// that it leaves are there.
+///
+/// A splice that changes anything and ends at 18,446,744,073,709,551,615 is refused: the store counts no further.
+pub fn prepare(
+    alloc: Global,
+    store: &Store,
+    old: &[Child],
+    splice: &KindSplice,
+) -> Result<Input, AllocError>
+    requires below { AreBelow (length store.now) old.now }
+    requires ordered { splice.now.from ≤ splice.now.to }
+    ensures input { let change = plain_splice splice.now in
+        (g : Grammar) (kinds : List Kind) → IsInput g store.now old.now kinds 0
+        → splice.now.to ≤ length kinds
+        → IfOk result (λ input. IsInput g store.now input (spliced change kinds) 0) }
+    ensures prepared { let change = plain_splice splice.now in
+        let trees = plain_of store.now old.now in
+        (kinds : List Kind)
+        → IfOk result (λ input. IsPrepared change trees (input_of store.now input kinds 0)) }
+    ensures older { (number : ℕ) → AreOlder number (all_trees store.now old.now)
+        → IfOk result (λ input. AreOlder number (all_trees store.now input)) }
+{
+    let mut input = Input::new(alloc);
+    if splice.from == splice.to && splice.kinds.is_empty() {
+        input.put_all(old)?;
+        return Ok(input);
+    }
+    if splice.to == usize::MAX {
+        return Err(AllocError);
+    }
+    let (whole, left) = fitting(store, old, splice.from as u64);
+    input.put_all(&old[whole..])?;
+    let (front, missing) = take_front(alloc, store, &mut input, left)?;
+    if missing == 0 {
+        take_front(alloc, store, &mut input, (splice.to - splice.from) as u64)?;
+        put_kinds(&mut input, &splice.kinds)?;
+    }
+    input.put_all(&front)?;
+    input.put_all(&old[..whole])?;
+    Ok(input)
+}
