@@ -1,5 +1,5 @@
 -- A text's refusal, passed on as a document's.
-use Rattle.std.proofs.Common.{◌≡◌, ◌↔◌, ◌<◌, ℕ, Bool, true, false, List, length, refl, sym, ap, ◌∙◌, leb-true, leb-false}
+use Rattle.std.proofs.Common.{◌≡◌, ◌↔◌, ◌<◌, ℕ, Bool, true, false, List, length, refl, sym, ap, subst, ◌∙◌, leb-true, leb-false}
 use Rattle.std.specs.Prelude.{Option, Some, None, Result, Ok, Err, nat_le, encode_utf8_all}
 use Rattle.std.specs.Str.{chars, IsUtf8}
 use Rattle.definitions.specs.Text.{IsText, changed, range_start, range_end}
@@ -39,6 +39,11 @@ pub IsText-changed : (t : List ℕ) (range : Option Range) (bs : List ℕ) → I
 unfolding changed
 IsText-changed t None bs is utf8 = IsText-edit t 0 (length t) (chars bs) is (IsText-chars bs utf8)
 IsText-changed t (Some r) bs is utf8 = IsText-edit t (range_start Utf16 t r) (range_end Utf16 t r) (chars bs) is (IsText-chars bs utf8)
+
+-- a change is too large where the edit that it comes to is
+pub large_edit : {S : Type 0} (made : Result S TextFault) {changed_text edited : List ℕ} → changed_text ≡ edited
+    → (made ≡ Err text.TooLarge) ↔ (1_048_576 < length (encode_utf8_all edited)) → (made ≡ Err text.TooLarge) ↔ (1_048_576 < length (encode_utf8_all changed_text))
+large_edit made same by = subst (λ t. (made ≡ Err text.TooLarge) ↔ (1_048_576 < length (encode_utf8_all t))) (sym same) by
 
 module _ {S : Type 0} (made : Result S TextFault) (large over : Type 0) (by : (made ≡ Err text.TooLarge) ↔ large) (same : over ↔ large) where
   -- a text that was made is not too large

@@ -18,7 +18,7 @@ ghost use Rattle.docs.specs.declared.doc.DocFault.TheVariants.{NoMemory};
 ghost use Rattle.docs.specs.Faults.{doc_fault};
 
 use crate::language::Language;
-use definitions::{Diagnostic, Position, Range, Unit};
+use definitions::{Diagnostic, Edit, Position, Range, Unit};
 use lexer::Tokens;
 use parser::laws::stack_has_the_nodes_of_the_document;
 use parser::{Parse, Verdict};
@@ -115,12 +115,28 @@ impl Doc {
         let Doc {
             version,
             mut text,
-            ..
+            mut tokens,
+            mut store,
+            mut parse,
         } = self;
-        // The read opens the invariant of the text.
-        let _length = text.len();
-        text.change(alloc, Unit::Utf16, range, new)?;
-        Ok(Doc::of(alloc, language, version, text)?)
+        let before = text.len();
+        let (from, to) = text.span(Unit::Utf16, range);
+        text.replace(alloc, from, to, new)?;
+        let edit = Edit {
+            at: from,
+            removed: to - from,
+            inserted: text.len() - (before - (to - from)),
+            number: parse.number().saturating_add(1),
+        };
+        let splice = language.rescan(alloc, &mut tokens, &text, edit)?;
+        language.reparse(alloc, &mut parse, &mut store, &tokens, splice, edit.number)?;
+        Ok(Doc {
+            version,
+            text,
+            tokens,
+            store,
+            parse,
+        })
     }
 
     /// Scans and parses a text. Refuses for memory alone.

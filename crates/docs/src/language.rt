@@ -1,17 +1,20 @@
 //! The language of a grammar file: its grammar, the automaton of its token rules, and its tables.
 
-ghost use Rattle.std.specs.Prelude.{◌≡◌, IfOk, IfErr};
-ghost use Rattle.lexer.specs.Rescans.{significant_kinds};
+ghost use Rattle.std.specs.Prelude.{◌≡◌, List, IfOk, IfErr};
+ghost use Rattle.definitions.specs.declared.Kind.{Kind};
+ghost use Rattle.definitions.specs.TokenEdits.{IsSpliced, plain_splice};
+ghost use Rattle.lexer.specs.Rescans.{IsEdited, significant_kinds};
 ghost use Rattle.lexer.specs.Tokens.{AreTokensOf};
 ghost use Rattle.parser.specs.Parses.{IsParseOf};
 ghost use Rattle.docs.specs.Languages.{IsLanguageOf, IsLoadFault};
 ghost use Rattle.docs.specs.Answers.{AlwaysAnswers, AnswersOnce};
 
-use crate::significant::Significant;
+use crate::significant::{Listed, Significant};
 use definitions::laws::{expected_unique, folds_unique, selection_unique, tokens_unique};
+use definitions::{Edit, KindSplice};
 use dfa::{Automaton, DfaFault};
 use grammar::{Grammar, GrammarCause, GrammarFault};
-use lexer::{Characters, Tokens, each_text_has_tokens};
+use lexer::{Characters, Tokens, Whole, each_text_has_tokens};
 use parser::Parse;
 use parser::laws::{each_list_has_a_verdict, each_viable_list_has_expected};
 use std::alloc::{AllocError, Global};
@@ -112,11 +115,7 @@ impl Language {
     }
 
     /// The tokens of a text, and the kinds of the significant ones. Refuses for memory alone.
-    pub(crate) fn scan(
-        &self,
-        alloc: Global,
-        text: &Text,
-    ) -> Result<(Tokens, Significant), AllocError>
+    pub(crate) fn scan(&self, alloc: Global, text: &Text) -> Result<(Tokens, Listed), AllocError>
         ensures tokens { IfOk result (λ r.
             AreTokensOf self.now.file.patterns self.now.file.skips text.now r.0.items) }
         ensures kinds { IfOk result (λ r. r.1.kinds.items ≡ significant_kinds r.0.items) }
@@ -130,7 +129,7 @@ impl Language {
             &self.automaton,
             &Characters(&characters),
         )?;
-        Ok((tokens, Significant { kinds }))
+        Ok((tokens, Listed { kinds }))
     }
 
     /// The parse of these kinds, with its nodes in the store. Refuses for memory alone.
@@ -138,11 +137,58 @@ impl Language {
         &self,
         alloc: Global,
         store: &mut Store,
-        kinds: &Significant,
+        kinds: &Listed,
     ) -> Result<Parse, AllocError>
         ensures { IfOk result (IsParseOf self.now.tables kinds.now.kinds.items store.new) }
     {
         Parse::whole(alloc, &self.tables, store, kinds)
+    }
+
+    /// Brings the tokens to the text after an edit, and answers how the kinds of the significant ones change. Refuses for memory
+    /// alone.
+    pub(crate) fn rescan(
+        &self,
+        alloc: Global,
+        tokens: &mut Tokens,
+        text: &Text,
+        edit: Edit,
+    ) -> Result<KindSplice, AllocError>
+        requires { IsEdited self.now.file.patterns self.now.file.skips edit tokens.old.items
+            text.now }
+        ensures tokens { IfOk result (λ _.
+            AreTokensOf self.now.file.patterns self.now.file.skips text.now tokens.new.items) }
+        ensures splice { IfOk result (λ s. IsSpliced (plain_splice s)
+            (significant_kinds tokens.old.items) (significant_kinds tokens.new.items)) }
+    {
+        // The read opens the invariant of the text.
+        let _length = text.len();
+        tokens.rescan(alloc, &self.grammar, &self.automaton, &Whole(text), edit)
+    }
+
+    /// Brings the parse to the tokens after an edit of this number, whose kinds the splice has changed. Refuses for memory
+    /// alone.
+    pub(crate) fn reparse(
+        &self,
+        alloc: Global,
+        parse: &mut Parse,
+        store: &mut Store,
+        tokens: &Tokens,
+        splice: KindSplice,
+        number: u64,
+    ) -> Result<(), AllocError>
+        requires { (old : List Kind) × IsParseOf self.now.tables old store.old parse.old
+            × IsSpliced (plain_splice splice) old (significant_kinds tokens.now.items) }
+        ensures { let kinds = significant_kinds tokens.now.items in
+            IfOk result (λ _. IsParseOf self.now.tables kinds store.new parse.new) }
+    {
+        parse.change(
+            alloc,
+            &self.tables,
+            store,
+            &Significant(tokens),
+            splice,
+            number,
+        )
     }
 
     /// Each text that fits has a reading by the language, and each reading all that can be told of it; of each there is one.
