@@ -40,7 +40,7 @@ forest-more ts more [] h = refl
 forest-more ts more (c ∷ cs) h = λ i. StampedCons (tree-more ts more c h.0 i) (forest-more ts more cs h.1 i)
 
 -- what stands among the first m nodes stands among more
-below-more : (m n : ℕ) → m ≤ n → (c : Child) → IsBelow m c → IsBelow n c
+pub below-more : (m n : ℕ) → m ≤ n → (c : Child) → IsBelow m c → IsBelow n c
 below-more m n l (Token k) h = tt
 below-more m n l (Node id) h = omega (arith, l, h)
 

@@ -2,6 +2,7 @@
 //! it stays in its store.
 #![tactic(auto)]
 
+mod compaction;
 mod kinds;
 pub mod laws;
 mod store;

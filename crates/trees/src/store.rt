@@ -71,7 +71,8 @@ impl Model for Node {
 
 /// The nodes of trees, each behind those of its children.
 ///
-/// A [`NodeId`] means one tree until the store is cut at or below it. No call but [`branch`](Store::branch) takes memory.
+/// A [`NodeId`] means one tree until the store is cut at or below it, or compacted. No calls but
+/// [`branch`](Store::branch) and [`compact`](Store::compact) take memory.
 #[derive(Drop)]
 pub struct Store {
     nodes: Vec<Node>,
