@@ -150,6 +150,72 @@ fn a_refused_branch_leaves_the_store(rt: HostRuntime) -> Result<(), Fail> {
     Ok(())
 }
 
+/// The roots share a node, and one of them stands twice. The node over both is below none.
+#[test]
+fn compacting_keeps_the_trees_of_the_roots(rt: HostRuntime) -> Result<(), Fail> {
+    let alloc = rt.alloc();
+    let mut store = Store::new(alloc);
+    let [_, left, second, _] = sum(alloc, &mut store)?;
+    assert!(rt; left.index < store.len());
+    assert!(rt; second.index < store.len());
+    let children = [Child::Node(second), PLUS, Child::Node(left)];
+    let other = store.branch(alloc, 0, &children, 7)?;
+    assert!(rt; left.index < store.len());
+    assert!(rt; other.index < store.len());
+    let mut roots = [other, left, other];
+    store.compact(alloc, &mut roots)?;
+    let [other, left, again] = roots;
+    assert_eq!(rt; store.len(), 4);
+    assert!(rt; again == other);
+    assert!(rt; other.index < store.len());
+    assert!(rt; left.index < store.len());
+    assert_eq!(rt; store.production(other), 0);
+    assert_eq!(rt; store.born(other), 7);
+    assert_eq!(rt; store.tokens(other), 3);
+    assert_eq!(rt; store.size(other), 4);
+    assert!(rt; store.child(other, 1) == Some(PLUS));
+    assert!(rt; store.child(other, 2) == Some(Child::Node(left)));
+    assert_eq!(rt; store.born(left), 5);
+    assert_eq!(rt; store.size(left), 2);
+    match store.child(other, 0) {
+        Some(Child::Node(second)) => {
+            assert!(rt; second.index < store.len());
+            assert_eq!(rt; store.born(second), 6);
+            assert!(rt; store.child(second, 0) == Some(NUMBER));
+        }
+        _ => return Err("no node")?,
+    }
+    store.compact(alloc, &mut [])?;
+    assert_eq!(rt; store.len(), 0);
+    Ok(())
+}
+
+/// Passes whichever allocation of the compaction fails.
+#[test]
+fn a_refused_compaction_changes_nothing(rt: HostRuntime) -> Result<(), Fail> {
+    let alloc = rt.alloc();
+    let mut store = Store::new(alloc);
+    let [_, _, _, whole] = sum(alloc, &mut store)?;
+    assert!(rt; whole.index < store.len());
+    let last = store.branch(alloc, 3, &[Child::Node(whole); 9], 8)?;
+    let _dropped = store.branch(alloc, 2, &[NUMBER], 9)?;
+    assert!(rt; last.index < store.len());
+    let mut roots = [last];
+    match store.compact(alloc, &mut roots) {
+        Ok(()) => assert_eq!(rt; store.len(), 5),
+        Err(AllocError) => {
+            assert_eq!(rt; store.len(), 6);
+            assert!(rt; roots[0] == last);
+        }
+    }
+    let [last] = roots;
+    assert!(rt; last.index < store.len());
+    assert_eq!(rt; store.born(last), 8);
+    assert_eq!(rt; store.tokens(last), 27);
+    assert_eq!(rt; store.size(last), 37);
+    Ok(())
+}
+
 /// Kinds in a vector.
 #[derive(Drop)]
 struct Row {
