@@ -19,3 +19,5 @@ pub mod Edits
 pub mod Cuts
 pub mod Prepared
 pub mod Replaced
+pub mod Renaming
+pub mod Bounded

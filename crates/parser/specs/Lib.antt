@@ -4,3 +4,4 @@ pub mod Input
 pub mod Machine
 pub mod Parses
 pub mod Run
+pub mod Compact

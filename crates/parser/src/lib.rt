@@ -1,6 +1,7 @@
 //! LR(1) parsing of the kinds of tokens by canonical tables (Knuth 1965).
 #![tactic(auto)]
 
+mod compact;
 mod input;
 pub mod laws;
 mod machine;

@@ -11,8 +11,10 @@ ghost use Rattle.theory.specs.Reuse.{IsPrepared};
 ghost use Rattle.parser.specs.Machine.{plain_of, AreMadeBy};
 ghost use Rattle.parser.specs.Input.{input_of, IsInput};
 ghost use Rattle.parser.specs.Run.{IsMadeByRun, AreOlder};
-ghost use Rattle.parser.specs.Parses.{AreExpectedAt, IsParseOf, verdict_in};
+ghost use Rattle.parser.specs.Compact.{IsLonger, IsSameParse, bound, verdict_on};
+ghost use Rattle.parser.specs.Parses.{AreExpectedAt, IsAlone, IsParseOf, verdict_in};
 
+use crate::compact::compact;
 use crate::input::Input;
 use crate::machine::Machine;
 use crate::prepare::prepare;
@@ -69,6 +71,23 @@ fn branches_of(store: &Store, children: &[Child]) -> u64
         branches = branches.saturating_add(store.size_of(*child));
     }
     branches
+}
+
+/// How many nodes a store may have for a parse of so many branches.
+fn bound(branches: usize) -> usize
+    ensures { result ≡ min most (bound branches) }
+{
+    branches.saturating_mul(2).saturating_add(1024)
+}
+
+/// The verdict, where these are the trees of the stack under other names.
+fn verdict_on(verdict: Verdict, stack: &[Child]) -> Verdict
+    ensures { result ≡ verdict_on verdict stack.now }
+{
+    match (verdict, stack.first()) {
+        (Verdict::Tree(_), Some(Child::Node(id))) => Verdict::Tree(*id),
+        _ => verdict,
+    }
 }
 
 /// The parse of the kinds, over trees that begin at the first of them. Its new nodes have this number. After a refusal some
@@ -169,13 +188,14 @@ impl Parse {
             (plain_of store.new self.new.stack) self.new.built) }
         ensures anew { number ≤ self.old.number → IfOk result
             (λ _. AreMadeBy number (forest_in store.new self.new.stack)) }
-        ensures grown { take (length store.old) store.new ≡ store.old }
-        ensures count { IfOk result (λ _. length store.new ≡ length store.old + self.new.built) }
+        ensures bound { IfOk result (λ _. length store.new ≤ bound self.new.branches) }
+        ensures kept { IfOk result (λ _.
+            length store.old + self.new.built ≤ bound self.new.branches
+            → IsLonger store.old self.new.built store.new) }
         ensures refused { OnErr result ((self.new ≡ self.old) × (store.new ≡ store.old)) }
     {
         let before = store.len();
-        let input = self.left_by(alloc, store, &splice, number)?;
-        match parsed(alloc, tables, store, kinds, input, number) {
+        match self.changed(alloc, tables, store, kinds, &splice, number) {
             Ok(parse) => {
                 *self = parse;
                 Ok(())
@@ -185,6 +205,73 @@ impl Parse {
                 Err(refusal)
             }
         }
+    }
+
+    /// The same as another parse. Where memory is refused, some nodes may stay.
+    fn changed<K: Kinds>(
+        &self,
+        alloc: Global,
+        tables: &Tables,
+        store: &mut Store,
+        kinds: &K,
+        splice: &KindSplice,
+        number: u64,
+    ) -> Result<Parse, AllocError>
+        requires { (old : List Kind) × IsParseOf tables.now old store.old self.now
+            × IsSpliced (plain_splice splice.now) old (K.kinds kinds.now) }
+        ensures parse { IfOk result (λ p. IsParseOf tables.now (K.kinds kinds.now) store.new p) }
+        ensures number { IfOk result (λ p. p.number ≡ number) }
+        ensures stamps { let change = plain_splice splice.now in
+            self.now.number < number → IfOk result (λ p. AreStampedExactly number change
+            (plain_of store.old self.now.stack) (all_trees store.new p.stack)) }
+        ensures built { let change = plain_splice splice.now in
+            self.now.number < number → IfOk result
+            (λ p. Built change (plain_of store.old self.now.stack) 0
+            (plain_of store.new p.stack) p.built) }
+        ensures anew { number ≤ self.now.number → IfOk result
+            (λ p. AreMadeBy number (forest_in store.new p.stack)) }
+        ensures bound { IfOk result (λ p. length store.new ≤ bound p.branches) }
+        ensures kept { IfOk result (λ p. length store.old + p.built ≤ bound p.branches
+            → IsLonger store.old p.built store.new) }
+        ensures refused { OnErr result (take (length store.old) store.new ≡ store.old) }
+    {
+        let input = self.left_by(alloc, store, splice, number)?;
+        let parse = parsed(alloc, tables, store, kinds, input, number)?;
+        parse.bounded(alloc, store)
+    }
+
+    /// This parse, in a store within the bound: where there are more nodes, those of no tree of the stack are given up.
+    ///
+    /// After a refusal the store is as before.
+    fn bounded(self, alloc: Global, store: &mut Store) -> Result<Parse, AllocError>
+        requires below { AreBelow (length store.old) self.stack }
+        requires alone { IsAlone self.verdict self.stack }
+        requires branches { self.branches ≡ all_branches (plain_of store.old self.stack) }
+        ensures same { IfOk result (IsSameParse store.old self store.new) }
+        ensures bound { IfOk result (λ p. length store.new ≤ bound p.branches) }
+        ensures kept { length store.old ≤ bound self.branches → store.new ≡ store.old }
+        ensures refused { OnErr result (store.new ≡ store.old) }
+    {
+        if store.len() <= bound(self.branches) {
+            return Ok(self);
+        }
+        let Parse {
+            verdict,
+            mut stack,
+            state,
+            branches,
+            built,
+            number,
+        } = self;
+        compact(alloc, store, &mut stack)?;
+        Ok(Parse {
+            verdict: verdict_on(verdict, &stack),
+            stack,
+            state,
+            branches,
+            built,
+            number,
+        })
     }
 
     /// What the splice leaves of the trees of the stack, with the new kinds between. It is nothing where the number is not above

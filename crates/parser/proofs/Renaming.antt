@@ -1,0 +1,71 @@
+-- Children that are renamed mean what they meant.
+use Rattle.std.specs.Prelude.{◌≡◌, ℕ, suc, ◌+◌, List, [], ◌∷◌, length}
+use Rattle.std.proofs.Common.{refl, sym, ap, subst, ◌++◌, take, arith}
+use Rattle.std.proofs.lemmas.List.{take_at}
+use mathlib.Core.List.{head-eq_of_cons-eq, tail-eq_of_cons-eq}
+use Rattle.definitions.specs.Nodes.{branches}
+use Rattle.definitions.specs.TreeEdits.{StampedLeaf, plain}
+use Rattle.trees.specs.declared.store.NodeId.{NodeId}
+use Rattle.trees.specs.declared.store.Child.{Child}
+use Rattle.trees.specs.declared.store.Child.TheVariants.{Token, Node}
+use Rattle.trees.specs.Cells.{Cell, AreBelow, all_trees, tree}
+use Rattle.trees.specs.Compaction.{nodes, sizes}
+use Rattle.definitions.specs.Sentences.{HasTree}
+use Rattle.parser.specs.declared.parse.Verdict.{Verdict}
+use Rattle.parser.specs.declared.parse.Verdict.TheVariants.{Tree as TreeAt, FaultAt, FaultAtEnd}
+use Rattle.parser.specs.Compact.{node_ids, renamed, verdict_on}
+use Rattle.parser.specs.Parses.{IsAlone, verdict_in}
+
+pub renamed_trees : (old new : List Cell) (cs : List Child) (names : List NodeId) → all_trees new (nodes names) ≡ all_trees old (nodes (node_ids cs)) → all_trees new (renamed cs names) ≡ all_trees old cs
+renamed_trees old new [] names e = refl
+renamed_trees old new (Token k ∷ cs) names e = ap (λ ts. StampedLeaf k ∷ ts) (renamed_trees old new cs names e)
+renamed_trees old new (Node id ∷ cs) [] e = absurd (let f : [] ≡ tree old (Node id) ∷ all_trees old (nodes (node_ids cs)) = e in let g : ⊥ = cc f in g)
+renamed_trees old new (Node id ∷ cs) (name ∷ names) e =
+    let first : tree new (Node name) ≡ tree old (Node id) = head-eq_of_cons-eq e in
+    let rest = renamed_trees old new cs names (tail-eq_of_cons-eq e) in
+    λ i. first i ∷ rest i
+
+-- names that mean what others meant are as many
+pub as_many : (old new : List Cell) (names ids : List NodeId) → all_trees new (nodes names) ≡ all_trees old (nodes ids) → length names ≡ length ids
+as_many old new [] [] e = refl
+as_many old new [] (id ∷ ids) e = absurd (let f : [] ≡ tree old (Node id) ∷ all_trees old (nodes ids) = e in let g : ⊥ = cc f in g)
+as_many old new (name ∷ names) [] e = absurd (let f : tree new (Node name) ∷ all_trees new (nodes names) ≡ [] = e in let g : ⊥ = cc f in g)
+as_many old new (name ∷ names) (id ∷ ids) e = ap suc (as_many old new names ids (tail-eq_of_cons-eq e))
+
+pub renamed_below : (n : ℕ) (cs : List Child) (names : List NodeId) → length names ≡ length (node_ids cs) → AreBelow n (nodes names) → AreBelow n (renamed cs names)
+renamed_below n [] names e h = tt
+renamed_below n (Token k ∷ cs) names e h = (tt, renamed_below n cs names e h)
+renamed_below n (Node id ∷ cs) [] e h = absurd (omega (arith, e))
+renamed_below n (Node id ∷ cs) (name ∷ names) e h = (h.0, renamed_below n cs names (omega (arith, e)) h.1)
+
+pub ids_below : (n : ℕ) (cs : List Child) → AreBelow n cs → AreBelow n (nodes (node_ids cs))
+ids_below n [] h = tt
+ids_below n (Token k ∷ cs) h = ids_below n cs h.1
+ids_below n (Node id ∷ cs) h = (h.0, ids_below n cs h.1)
+
+pub ids_sizes : (cells : List Cell) (cs : List Child) → sizes cells (nodes (node_ids cs)) ≡ sizes cells cs
+ids_sizes cells [] = refl
+ids_sizes cells (Token k ∷ cs) = omega (arith, ids_sizes cells cs)
+ids_sizes cells (Node id ∷ cs) = ap (λ n. branches (plain (tree cells (Node id))) + n) (ids_sizes cells cs)
+
+pub renamed_long : (cs : List Child) (names : List NodeId) → length (renamed cs names) ≡ length cs
+renamed_long [] names = refl
+renamed_long (Token k ∷ cs) names = ap suc (renamed_long cs names)
+renamed_long (Node id ∷ cs) [] = ap suc (renamed_long cs [])
+renamed_long (Node id ∷ cs) (name ∷ names) = ap suc (renamed_long cs names)
+
+-- the verdict on renamed trees
+pub verdict_stays : (old new : List Cell) (v : Verdict) (cs : List Child) (names : List NodeId) → IsAlone v cs → all_trees new (renamed cs names) ≡ all_trees old cs
+    → (verdict_in new (verdict_on v (renamed cs names)) ≡ verdict_in old v) × IsAlone (verdict_on v (renamed cs names)) (renamed cs names)
+verdict_stays old new (TreeAt id) cs names alone trees = by names (subst (λ l. all_trees new (renamed l names) ≡ all_trees old l) alone trees)
+  where
+    by : (names : List NodeId) → all_trees new (renamed (Node id ∷ []) names) ≡ all_trees old (Node id ∷ [])
+        → (verdict_in new (verdict_on (TreeAt id) (renamed cs names)) ≡ verdict_in old (TreeAt id)) × IsAlone (verdict_on (TreeAt id) (renamed cs names)) (renamed cs names)
+    by [] e = rw alone (ap (λ t. HasTree (plain t)) (head-eq_of_cons-eq e), refl)
+    by (name ∷ names) e = rw alone (ap (λ t. HasTree (plain t)) (head-eq_of_cons-eq e), refl)
+verdict_stays old new (FaultAt k) cs names alone trees = (refl, tt)
+verdict_stays old new FaultAtEnd cs names alone trees = (refl, tt)
+
+-- what was written back into a vector
+pub written : (new rest : List Child) (n : ℕ) → n ≡ length new → take n (new ++ rest) ≡ new
+written new rest n e = take_at new rest n (sym e)

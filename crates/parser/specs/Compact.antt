@@ -1,0 +1,50 @@
+-- A parse whose store is compacted.
+--     bound branches      how many nodes a store may have for a parse of so many branches
+--     IsLonger old n new      a store has n nodes more, behind the old ones
+--     IsSameParse old p new q      in the cells new the parse q is what p is in the cells old
+use Rattle.std.specs.Prelude.{◌≡◌, ℕ, ◌+◌, ◌*◌, List, [], ◌∷◌, length, take}
+use Rattle.trees.specs.declared.store.NodeId.{NodeId}
+use Rattle.trees.specs.declared.store.Child.{Child}
+use Rattle.trees.specs.declared.store.Child.TheVariants.{Token, Node}
+use Rattle.trees.specs.Cells.{Cell, AreBelow, all_trees}
+use Rattle.parser.specs.declared.parse.Verdict.{Verdict}
+use Rattle.parser.specs.declared.parse.Verdict.TheVariants.{Tree as TreeAt, FaultAt, FaultAtEnd}
+use Rattle.parser.specs.Parses.{IsAlone, Stop, verdict_in}
+
+abbrev pub bound : ℕ → ℕ
+bound branches = 2 * branches + 1024
+
+abbrev pub IsLonger : List Cell → ℕ → List Cell → Type 0
+IsLonger old n new = (take (length old) new ≡ old) × (length new ≡ length old + n)
+
+-- the same trees and verdict, under other names, and the same state and counts
+pub record IsSameParse (old : List Cell) (p : Stop) (new : List Cell) (q : Stop) : Type 0 where
+  pub trees : all_trees new q.stack ≡ all_trees old p.stack
+  pub below : AreBelow (length new) q.stack
+  pub verdict : verdict_in new q.verdict ≡ verdict_in old p.verdict
+  pub alone : IsAlone q.verdict q.stack
+  pub state : q.state ≡ p.state
+  pub branches : q.branches ≡ p.branches
+  pub built : q.built ≡ p.built
+  pub number : q.number ≡ p.number
+
+-- the verdict where the first child of the stack is the tree
+abbrev pub verdict_on : Verdict → List Child → Verdict
+verdict_on (TreeAt id) (Node name ∷ cs) = TreeAt name
+verdict_on (TreeAt id) (Token k ∷ cs) = TreeAt id
+verdict_on (TreeAt id) [] = TreeAt id
+verdict_on (FaultAt k) cs = FaultAt k
+verdict_on FaultAtEnd cs = FaultAtEnd
+
+-- the nodes among children
+abbrev pub node_ids : List Child → List NodeId
+node_ids [] = []
+node_ids (Token k ∷ cs) = node_ids cs
+node_ids (Node id ∷ cs) = id ∷ node_ids cs
+
+-- the children with these names in the place of their nodes, one after another
+abbrev pub renamed : List Child → List NodeId → List Child
+renamed [] names = []
+renamed (Token k ∷ cs) names = Token k ∷ renamed cs names
+renamed (Node id ∷ cs) [] = Node id ∷ renamed cs []
+renamed (Node id ∷ cs) (name ∷ names) = Node name ∷ renamed cs names
