@@ -62,7 +62,10 @@ fn assert_node(
     assert!(rt; index < store.len());
     assert_eq!(rt; store.production(id), production);
     assert_eq!(rt; store.born(id), 0);
-    assert!(rt; store.children(id) == children);
+    assert_eq!(rt; store.child_count(id), children.len());
+    for (k, child) in children.iter().enumerate() {
+        assert!(rt; store.child(id, k) == Some(*child));
+    }
 }
 
 /// Which of the five token rules, and whether the end, may stand at the fault.

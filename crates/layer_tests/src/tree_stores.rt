@@ -3,7 +3,7 @@
 use std::alloc::{AllocError, Global};
 use std::process::Abort;
 use std::test::Fail;
-use trees::{Child, Kind, Kinds, NodeId, Store};
+use trees::{Child, Children, Kind, Kinds, NodeId, Store};
 
 const NUMBER: Child = Child::Token(Kind::Rule(0));
 
@@ -46,7 +46,13 @@ fn branches_over_tokens_and_nodes(rt: HostRuntime) -> Result<(), Fail> {
     assert!(rt; store.child(whole, 2) == Some(Child::Node(second)));
     assert!(rt; store.child(whole, 3) == None);
     assert!(rt; store.child(whole, 18_446_744_073_709_551_615) == None);
-    assert!(rt; store.children(whole) == [Child::Node(left), PLUS, Child::Node(second)].as_slice());
+    assert_eq!(rt; store.child_count(whole), 3);
+    assert_eq!(rt; store.children(whole).count(), 3);
+    assert!(rt; store.children(whole).next_back() == Some(Child::Node(second)));
+    assert!(rt; Children::of(&[PLUS, NUMBER]).next_back() == Some(NUMBER));
+    for (k, child) in store.children(whole).enumerate() {
+        assert!(rt; store.child(whole, k) == Some(child), "at {k}");
+    }
     assert_eq!(rt; store.tokens_of(PLUS), 1);
     assert_eq!(rt; store.size_of(PLUS), 0);
     assert_eq!(rt; store.tokens_of(Child::Node(whole)), 3);
@@ -124,6 +130,39 @@ fn more_children_than_stand_inline(rt: HostRuntime) -> Result<(), Fail> {
     assert!(rt; store.child(id, 38) == Some(NUMBER));
     assert!(rt; store.child(id, 39) == Some(PLUS));
     assert!(rt; store.child(id, 40) == None);
+    Ok(())
+}
+
+/// Numbers on both sides of what 32 bits hold.
+#[test]
+fn kinds_and_productions_of_any_number(rt: HostRuntime) -> Result<(), Fail> {
+    let alloc = rt.alloc();
+    let mut store = Store::new(alloc);
+    let kinds = [
+        Kind::Invalid,
+        Kind::Rule(2_147_483_646),
+        Kind::Rule(2_147_483_647),
+        Kind::Rule(18_446_744_073_709_551_615),
+    ];
+    for kind in kinds {
+        let id = store.branch(alloc, 1, &[NUMBER, Child::Token(kind)], 2)?;
+        assert!(rt; id.index < store.len());
+        assert_eq!(rt; store.child_count(id), 2);
+        assert!(rt; store.child(id, 0) == Some(NUMBER));
+        assert!(rt; store.child(id, 1) == Some(Child::Token(kind)));
+        assert!(rt; store.child(id, 2) == None);
+        assert!(rt; store.children(id).last() == Some(Child::Token(kind)));
+        assert_eq!(rt; store.production(id), 1);
+        assert_eq!(rt; store.born(id), 2);
+        assert_eq!(rt; store.tokens(id), 2);
+    }
+    for number in [4_294_967_295, 4_294_967_296, GREATEST] {
+        let id = store.branch(alloc, number as usize, &[PLUS], number)?;
+        assert!(rt; id.index < store.len());
+        assert_eq!(rt; store.production(id), number as usize);
+        assert_eq!(rt; store.born(id), number);
+        assert!(rt; store.child(id, 0) == Some(PLUS));
+    }
     Ok(())
 }
 

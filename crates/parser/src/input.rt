@@ -9,7 +9,7 @@ ghost use Rattle.parser.specs.Input.{BeginsWith, IsFull, IsOpened, Skips};
 
 use std::alloc::{AllocError, Global};
 use std::marker::Model;
-use trees::{Child, Store};
+use trees::{Child, Children, Store};
 
 /// A list of trees of a store. The first one stands last in the vector.
 #[derive(Drop)]
@@ -73,11 +73,11 @@ impl Input {
     }
 
     /// Puts a list in front.
-    pub fn put_all(&mut self, children: &[Child]) -> Result<(), AllocError>
-        ensures { IfOk result (λ _. self.new ≡ children.now ++ self.old) }
+    pub fn put_all(&mut self, children: Children<'_>) -> Result<(), AllocError>
+        ensures { IfOk result (λ _. self.new ≡ children.entry ++ self.old) }
     {
-        'children: for i in 0..children.len() {
-            self.put(children[children.len() - 1 - i])?;
+        for child in children.rev() {
+            self.put(child)?;
         }
         Ok(())
     }

@@ -16,7 +16,7 @@ ghost use Rattle.parser.specs.Run.{AreOlder};
 use crate::input::Input;
 use definitions::{Kind, KindSplice};
 use std::alloc::{AllocError, Global};
-use trees::{Child, Store};
+use trees::{Child, Children, Store};
 
 /// How many of the children, from the first one on, stand whole among the first `n` kinds, and how many of these kinds are left
 /// behind them.
@@ -106,20 +106,20 @@ pub fn prepare(
 {
     let mut input = Input::new(alloc);
     if splice.from == splice.to && splice.kinds.is_empty() {
-        input.put_all(old)?;
+        input.put_all(Children::of(old))?;
         return Ok(input);
     }
     if splice.to == usize::MAX {
         return Err(AllocError);
     }
     let (whole, left) = fitting(store, old, splice.from as u64);
-    input.put_all(&old[whole..])?;
+    input.put_all(Children::of(&old[whole..]))?;
     let (front, missing) = take_front(alloc, store, &mut input, left)?;
     if missing == 0 {
         take_front(alloc, store, &mut input, (splice.to - splice.from) as u64)?;
         put_kinds(&mut input, &splice.kinds)?;
     }
-    input.put_all(&front)?;
-    input.put_all(&old[..whole])?;
+    input.put_all(Children::of(&front))?;
+    input.put_all(Children::of(&old[..whole]))?;
     Ok(input)
 }

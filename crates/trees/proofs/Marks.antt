@@ -1,5 +1,5 @@
 -- Marks of the nodes of some trees, and what they weigh.
-use Rattle.std.proofs.Common.{◌≡◌, ◌≢◌, ℕ, ◌+◌, ◌-◌, ◌<◌, ◌≤◌, zero, suc, Bool, true, false, cond, nat_lt, List, [], ◌∷◌, ◌++◌, length, take, set, replicate, get_or, refl, sym, ap, ◌∙◌, subst, arith, inl, inr}
+use Rattle.std.proofs.Common.{◌≡◌, ◌≢◌, ℕ, ◌+◌, ◌-◌, ◌<◌, ◌≤◌, zero, suc, Bool, true, false, cond, nat_lt, List, [], ◌∷◌, ◌++◌, length, take, set, replicate, get_or, append_assoc, refl, sym, ap, ◌∙◌, subst, arith, inl, inr}
 use Rattle.std.proofs.lemmas.Bool.{cases_lt}
 use Rattle.std.proofs.lemmas.Bool.Decides.{nat_tests}
 use Rattle.std.proofs.lemmas.List.{length-set, get_or-set_same, get_or-set_other, take_more, get_or_past, get_or_default, get_or-map, length-map, length-replicate}
@@ -92,6 +92,13 @@ below-append : (n : ℕ) (xs ys : List Child) → AreBelow n (xs ++ ys) → AreB
 below-append n [] ys h = (tt, h)
 below-append n (x ∷ xs) ys h = let r = below-append n xs ys h.1 in ((h.0, r.0), r.1)
 
+-- the next of children that come in order
+pub next-below : (n : ℕ) (all done rest next : List Child) (c : Child) → done ++ rest ≡ all → rest ≡ c ∷ next → AreBelow n all → IsBelow n c
+next-below n all done rest next c e f h = (subst (AreBelow n) f (below-append n done rest (subst (AreBelow n) (sym e) h)).1).0
+
+pub next-all : (all done rest next : List Child) (c : Child) → done ++ rest ≡ all → rest ≡ c ∷ next → done ++ (c ∷ []) ++ next ≡ all
+next-all all done rest next c e f = append_assoc done (c ∷ []) next ∙ ap (λ l. done ++ l) (sym f) ∙ e
+
 marked-append : (ms : List Bool) (xs ys : List Child) → AreMarked ms xs → AreMarked ms ys → AreMarked ms (xs ++ ys)
 marked-append ms [] ys h k = k
 marked-append ms (x ∷ xs) ys h k = (h.0, marked-append ms xs ys h.1 k)
@@ -104,7 +111,7 @@ sizes-append : (cells : List Cell) (xs ys : List Child) → sizes cells (xs ++ y
 sizes-append cells [] ys = omega arith
 sizes-append cells (x ∷ xs) ys = omega (arith, sizes-append cells xs ys)
 
-marking-append : (xs ys : List Child) (a b d : List Bool) → IsMarking xs a b → IsMarking ys b d → IsMarking (xs ++ ys) a d
+pub marking-append : (xs ys : List Child) (a b d : List Bool) → IsMarking xs a b → IsMarking ys b d → IsMarking (xs ++ ys) a d
 marking-append xs ys a b d p q = record {
   long = q.long ∙ p.long;
   kept = λ c h. q.kept c (p.kept c h);

@@ -4,8 +4,8 @@ ghost use Rattle.std.specs.Prelude.{◌≡◌, ◌+◌, ◌<◌, ◌≤◌, [], 
 ghost use Rattle.trees.specs.Cells.{AreBelow, IsBelow, KeepsTrees, all_trees, cell_of, tree};
 ghost use Rattle.trees.specs.Compaction.{AreClosedFrom, AreMarks, AreMoved, IsMarking, IsMove, nodes, renamed, renamed_node, sizes, weigh, weight};
 
+use crate::children::Children;
 use crate::store::{Child, NodeId, Store};
-use smallvec::SmallVec;
 use std::alloc::{AllocError, Global};
 
 impl Store {
@@ -91,24 +91,20 @@ impl Moved {
         ensures count { OnOk result (length self.new.store ≡ length self.old.store + 1) }
     {
         let children = self.renamed(alloc, from.children(id))?;
-        self.store.branch(
-            alloc,
-            from.production(id),
-            children.as_slice(),
-            from.born(id),
-        )?;
+        self.store
+            .branch(alloc, from.production(id), &children, from.born(id))?;
         Ok(())
     }
 
     /// The children, by their new names.
-    fn renamed(&self, alloc: Global, children: &[Child]) -> Result<SmallVec<Child, 3>, AllocError>
-        requires { AreBelow (length self.now.names.items) children.now }
+    fn renamed(&self, alloc: Global, children: Children<'_>) -> Result<Vec<Child>, AllocError>
+        requires { AreBelow (length self.now.names.items) children }
         ensures { IfOk result
-            (λ new. new.items ≡ map (renamed self.now.names.items) children.now) }
+            (λ new. new.items ≡ map (renamed self.now.names.items) children.entry) }
     {
-        let mut new = SmallVec::new(alloc);
+        let mut new = Vec::new(alloc);
         for child in children {
-            new.push(renamed(*child, &self.names))?;
+            new.push(renamed(child, &self.names))?;
         }
         Ok(new)
     }
@@ -143,12 +139,12 @@ fn mark_roots(roots: &[NodeId], marks: &mut [bool])
     }
 }
 
-fn mark_all(children: &[Child], marks: &mut [bool])
-    requires { AreBelow (length marks.old) children.now }
-    ensures { IsMarking children.now marks.old marks.new }
+fn mark_all(children: Children<'_>, marks: &mut [bool])
+    requires { AreBelow (length marks.old) children }
+    ensures { IsMarking children.entry marks.old marks.new }
 {
     for child in children {
-        mark(*child, marks);
+        mark(child, marks);
     }
 }
 

@@ -2,11 +2,14 @@
 //! it stays in its store.
 #![tactic(auto)]
 
+mod children;
 mod compaction;
 mod kinds;
 pub mod laws;
+mod node;
 mod store;
 
+pub use children::Children;
 pub use definitions::Kind;
 pub use kinds::Kinds;
 pub use store::{Child, NodeId, Store};

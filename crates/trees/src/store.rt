@@ -7,8 +7,9 @@ ghost use Rattle.definitions.specs.TreeEdits.{plain, StampedBranch, StampedFores
 ghost use Rattle.trees.specs.declared.store.Child.{Child};
 ghost use Rattle.trees.specs.Cells.{cell_of, most, tree, forest_in, trees_from, forest_of, IsBelow, AreBelow, IsStore, IsGrown, KeepsTrees, tokens_below, branches_below};
 
+use crate::children::Children;
+use crate::node::{Label, Node};
 use definitions::Kind;
-use smallvec::SmallVec;
 use std::alloc::{AllocError, Global};
 use std::marker::Model;
 
@@ -25,48 +26,6 @@ pub enum Child {
     Token(Kind),
     /// An earlier node of the same store.
     Node(NodeId),
-}
-
-/// An `invalid` token: what a `SmallVec` holds in its free places.
-impl Default for Child {
-    ghost use Rattle.std.specs.Prelude.{◌≡◌};
-    ghost use Rattle.definitions.specs.declared.Kind.TheVariants.{Invalid};
-    ghost use Rattle.trees.specs.declared.store.Child.TheVariants.{Token};
-
-    ghost is_default = { λ c. c ≡ Token Invalid };
-
-    fn default() -> Child {
-        Child::Token(Kind::Invalid)
-    }
-}
-
-/// A branch of a tree. The counts are those of the whole tree below it, so that no call has to walk a tree.
-#[derive(Drop)]
-struct Node {
-    /// The number of its production.
-    production: usize,
-    /// The number of the edit that made it.
-    born: u64,
-    /// How many tokens its tree has.
-    tokens: u64,
-    /// How many branches its tree has, its own included.
-    size: u64,
-    /// Its children, from left to right.
-    children: SmallVec<Child, 3>,
-}
-
-impl Model for Node {
-    ghost use Rattle.trees.specs.Cells.{Cell};
-
-    ghost Value = { Cell };
-
-    ghost view = { λ n. record {
-      production = n.production;
-      born = n.born;
-      tokens = n.tokens;
-      size = n.size;
-      children = n.children.items;
-    } };
 }
 
 /// The nodes of trees, each behind those of its children.
@@ -114,7 +73,7 @@ impl Store {
         ensures tree { (born : ℕ) × (below : StampedForest) ×
             (tree self.now (Child.Node id) ≡ StampedBranch result born below) }
     {
-        self.nodes[id.index].production
+        self.nodes[id.index].label().production
     }
 
     /// The number of the edit that made a node.
@@ -124,7 +83,7 @@ impl Store {
         ensures tree { (production : ℕ) × (below : StampedForest) ×
             (tree self.now (Child.Node id) ≡ StampedBranch production result below) }
     {
-        self.nodes[id.index].born
+        self.nodes[id.index].label().born
     }
 
     /// How many tokens the tree of a node has, or 18,446,744,073,709,551,615 where it has more.
@@ -134,7 +93,7 @@ impl Store {
         ensures tree { (production born : ℕ) × (below : StampedForest) ×
             (tree self.now (Child.Node id) ≡ StampedBranch production born below) }
     {
-        self.nodes[id.index].tokens
+        self.nodes[id.index].label().tokens
     }
 
     /// How many branches the tree of a node has, itself among them, or 18,446,744,073,709,551,615 where it has more.
@@ -142,7 +101,7 @@ impl Store {
         requires { id.index < length self.now }
         ensures { result ≡ min most (branches (plain (tree self.now (Child.Node id)))) }
     {
-        self.nodes[id.index].size
+        self.nodes[id.index].label().size
     }
 
     /// Child number `k` of a node, counted from 0; none past the last one.
@@ -155,20 +114,27 @@ impl Store {
             ≡ StampedBranch production born (forest_in self.now children)) ×
             (result ≡ slice_get children k) }
     {
-        self.children(id).get(k).copied()
+        self.nodes[id.index].child(k)
     }
 
     /// The children of a node, in order.
-    pub fn children(&self, id: NodeId) -> &[Child]
+    pub fn children(&self, id: NodeId) -> Children<'_>
         requires { id.index < length self.now }
-        ensures is { result.now ≡ (cell_of self.now id).children }
-        ensures below { AreBelow id.index result.now }
+        ensures is { result ≡ (cell_of self.now id).children }
+        ensures below { AreBelow id.index result }
         ensures tree { (production born : ℕ) ×
             (tree self.now (Child.Node id)
-            ≡ StampedBranch production born (forest_of (trees_from [] self.now) result.now)) }
+            ≡ StampedBranch production born (forest_of (trees_from [] self.now) result)) }
     {
-        let node = &self.nodes[id.index];
-        node.children.as_slice()
+        self.nodes[id.index].children()
+    }
+
+    /// How many children a node has.
+    pub fn child_count(&self, id: NodeId) -> usize
+        requires { id.index < length self.now }
+        ensures { result ≡ length (cell_of self.now id).children }
+    {
+        self.nodes[id.index].child_count()
     }
 
     /// How many tokens the tree of a child has, or 18,446,744,073,709,551,615 where it has more.
@@ -228,15 +194,15 @@ impl Store {
         ensures err { OnErr result (self.new ≡ self.old) }
     {
         let (tokens, size) = self.counts(children);
-        let children = SmallVec::from_slice(alloc, children)?;
-        let index = self.len();
-        self.nodes.push(Node {
+        let label = Label {
             production,
             born,
             tokens,
             size,
-            children,
-        })?;
+        };
+        let node = Node::new(alloc, label, children)?;
+        let index = self.len();
+        self.nodes.push(node)?;
         Ok(NodeId { index })
     }
 

@@ -1,5 +1,5 @@
 -- The spans of children in a store.
-use Rattle.std.proofs.Common.{◌≡◌, ◌+◌, ◌^◌, ◌<◌, ◌≤◌, min, ℕ, zero, suc, true, false, List, [], ◌∷◌, ◌++◌, length, drop, slice_index_or, refl, sym, ap, ◌∙◌, subst, arith, length-append}
+use Rattle.std.proofs.Common.{◌≡◌, ◌+◌, ◌^◌, ◌<◌, ◌≤◌, min, ℕ, true, false, List, [], ◌∷◌, ◌++◌, length, refl, sym, ap, ◌∙◌, subst, arith, length-append}
 use Rattle.std.specs.Prelude.{Option, Some, None, MatchOption, IfSome}
 use Rattle.definitions.specs.Trees.{trees, yield, yields, all_kinds}
 use Rattle.definitions.specs.TreeEdits.{Stamped, StampedBranch, plain, plain_all, plain_trees}
@@ -8,7 +8,7 @@ use Rattle.trees.specs.declared.store.Child.{Child}
 use Rattle.trees.specs.declared.store.Child.TheVariants.{Token, Node}
 use Rattle.trees.specs.declared.store.NodeId.{NodeId}
 use Rattle.trees.specs.Cells.{Cell, most, tree, tree_of, trees_of, trees_from, forest_of, IsBelow, AreBelow}
-use Rattle.trees.proofs.Cells.{all_below-more, below-at}
+use Rattle.trees.proofs.Cells.{all_below-more}
 use Rattle.views.specs.declared.selections.Branch.{Branch as Found}
 use Rattle.views.specs.declared.selections.Point.{Point}
 use Rattle.views.specs.Told.{trees_of_roots}
@@ -24,63 +24,62 @@ forest_trees ts (c ∷ cs) = ap (λ rest. plain (tree_of ts c) ∷ rest) (forest
 node_below : (n : ℕ) (id : NodeId) → IsBelow n (Node id) → id.index < n
 node_below n id h = h
 
--- the child at place k, and those behind it
-split_at : (cs : List Child) (k : ℕ) (c any : Child) → k < length cs → c ≡ slice_index_or cs k any → drop k cs ≡ c ∷ drop (suc k) cs
-split_at [] k c any l e = absurd (omega arith)
-split_at (d ∷ cs) zero c any l e = ap (λ x. x ∷ cs) (sym e)
-split_at (d ∷ cs) (suc k) c any l e = split_at cs k c any (omega arith) e
+-- the search among the children comes to the last ones, of which the first token has the place `start`
+pub record IsSearching (cells : List Cell) (children : List Child) (from : ℕ) (point : Point) (rest : List Child) (start : ℕ) : Type 0 where
+  pub kept : start + length (all_kinds (trees_of_roots cells rest)) ≡ from + length (all_kinds (trees_of_roots cells children))
+  pub spans : spans_all point.reached point.first from (trees_of_roots cells children) ≡ spans_all point.reached point.first start (trees_of_roots cells rest)
+  pub below : (n : ℕ) → AreBelow n children → AreBelow n rest
 
--- the search among the children comes to child k, whose first token has the place `start`
-pub record IsSearching (cells : List Cell) (children : List Child) (from : ℕ) (point : Point) (k start : ℕ) : Type 0 where
-  pub kept : start + length (all_kinds (trees_of_roots cells (drop k children))) ≡ from + length (all_kinds (trees_of_roots cells children))
-  pub spans : spans_all point.reached point.first from (trees_of_roots cells children) ≡ spans_all point.reached point.first start (trees_of_roots cells (drop k children))
+-- they begin with a child
+module _ (cells : List Cell) (children : List Child) (from : ℕ) (point : Point) (rest : List Child) (start : ℕ) (s : IsSearching cells children from point rest start)
+    (c : Child) (next : List Child) (is : rest ≡ c ∷ next) where
+  below_next : (n : ℕ) → AreBelow n children → AreBelow n (c ∷ next)
+  below_next n h = subst (AreBelow n) is (s.below n h)
 
-module _ (cells : List Cell) (children : List Child) (from : ℕ) (point : Point) (k start : ℕ) (s : IsSearching cells children from point k start) where
-  module _ (fits : from + length (all_kinds (trees_of_roots cells children)) < 2 ^ 64) (c any : Child) (l : k < length children) (is : c ≡ slice_index_or children k any)
-      (n : ℕ) (counted : n ≡ min most (length (yield (plain (tree cells c))))) where
-    split : drop k children ≡ c ∷ drop (suc k) children
-    split = split_at children k c any l is
+  pub searching_below : (n : ℕ) → AreBelow n children → IsBelow n c
+  searching_below n h = (below_next n h).0
 
-    left : start + length (all_kinds (trees_of_roots cells (c ∷ drop (suc k) children))) ≡ from + length (all_kinds (trees_of_roots cells children))
-    left = ap (λ cs. start + length (all_kinds (trees_of_roots cells cs))) (sym split) ∙ s.kept
+  module _ (fits : from + length (all_kinds (trees_of_roots cells children)) < 2 ^ 64) (n : ℕ) (counted : n ≡ min most (length (yield (plain (tree cells c))))) where
+    left : start + length (all_kinds (trees_of_roots cells (c ∷ next))) ≡ from + length (all_kinds (trees_of_roots cells children))
+    left = ap (λ cs. start + length (all_kinds (trees_of_roots cells cs))) (sym is) ∙ s.kept
 
-    long : length (all_kinds (trees_of_roots cells (c ∷ drop (suc k) children))) ≡ length (yield (plain (tree cells c))) + length (all_kinds (trees_of_roots cells (drop (suc k) children)))
-    long = length-append (yield (plain (tree cells c))) (all_kinds (trees_of_roots cells (drop (suc k) children)))
+    long : length (all_kinds (trees_of_roots cells (c ∷ next))) ≡ length (yield (plain (tree cells c))) + length (all_kinds (trees_of_roots cells next))
+    long = length-append (yield (plain (tree cells c))) (all_kinds (trees_of_roots cells next))
 
     exact : n ≡ length (yield (plain (tree cells c)))
-    exact = omega (arith, left, long)
+    exact = omega (arith, counted, fits, left, long)
 
-    end_fits : start + n < 2 ^ 64
-    end_fits = omega (arith, left, long, exact)
+    pub end_fits : start + n < 2 ^ 64
+    end_fits = omega (arith, fits, left, long, exact)
 
-    behind : spans_all point.reached point.first from (trees_of_roots cells children) ≡ spans_all point.reached point.first start (trees_of_roots cells (c ∷ drop (suc k) children))
-    behind = s.spans ∙ ap (λ cs. spans_all point.reached point.first start (trees_of_roots cells cs)) split
+    behind : spans_all point.reached point.first from (trees_of_roots cells children) ≡ spans_all point.reached point.first start (trees_of_roots cells (c ∷ next))
+    behind = s.spans ∙ ap (λ cs. spans_all point.reached point.first start (trees_of_roots cells cs)) is
 
     -- the child doesn't stand around the offset
-    pub searching_next : is_around point.reached point.first start (start + n) ≡ false → IsSearching cells children from point (k + 1) (start + n)
+    pub searching_next : is_around point.reached point.first start (start + n) ≡ false → IsSearching cells children from point next (start + n)
     searching_next e =
-        let next : suc k ≡ k + 1 = omega arith in
         let none : spans_of point.reached point.first start (plain (tree cells c)) ≡ [] = around_none point.reached point.first start (plain (tree cells c)) (ap (λ m. is_around point.reached point.first start (start + m)) (sym exact) ∙ e) in
-        subst (λ j. IsSearching cells children from point j (start + n)) next (record {
+        record {
           kept = omega (arith, left, long, exact);
           spans = behind
-              ∙ ap (λ ss. ss ++ spans_all point.reached point.first (start + length (yield (plain (tree cells c)))) (trees_of_roots cells (drop (suc k) children))) none
-              ∙ ap (λ m. spans_all point.reached point.first (start + m) (trees_of_roots cells (drop (suc k) children))) (sym exact);
-        })
+              ∙ ap (λ ss. ss ++ spans_all point.reached point.first (start + length (yield (plain (tree cells c)))) (trees_of_roots cells next)) none
+              ∙ ap (λ m. spans_all point.reached point.first (start + m) (trees_of_roots cells next)) (sym exact);
+          below = λ m h. (below_next m h).1;
+        }
 
     -- it does
     module _ (near : point.reached ≤ point.first + 1) (e : is_around point.reached point.first start (start + n) ≡ true) where
       own : spans_all point.reached point.first from (trees_of_roots cells children) ≡ spans_of point.reached point.first start (plain (tree cells c))
-      own = behind ∙ only_first point.reached point.first near start (plain (tree cells c)) (trees_of_roots cells (drop (suc k) children)) (ap (λ m. is_around point.reached point.first start (start + m)) (sym exact) ∙ e)
+      own = behind ∙ only_first point.reached point.first near start (plain (tree cells c)) (trees_of_roots cells next) (ap (λ m. is_around point.reached point.first start (start + m)) (sym exact) ∙ e)
 
       pub searching_found : (r : Option Found) → r ≡ branch_at c start (start + n) → MatchOption r (spans_all point.reached point.first from (trees_of_roots cells children) ≡ []) (λ b. IsBranchAround cells children from point b)
-      searching_found r f = subst (λ o. MatchOption o (spans_all point.reached point.first from (trees_of_roots cells children) ≡ []) (λ b. IsBranchAround cells children from point b)) (sym f) (go c is exact own)
+      searching_found r f = subst (λ o. MatchOption o (spans_all point.reached point.first from (trees_of_roots cells children) ≡ []) (λ b. IsBranchAround cells children from point b)) (sym f) (go c searching_below exact own)
         where
-          go : (d : Child) → d ≡ slice_index_or children k any → n ≡ length (yield (plain (tree cells d))) → spans_all point.reached point.first from (trees_of_roots cells children) ≡ spans_of point.reached point.first start (plain (tree cells d))
+          go : (d : Child) → ((m : ℕ) → AreBelow m children → IsBelow m d) → n ≡ length (yield (plain (tree cells d))) → spans_all point.reached point.first from (trees_of_roots cells children) ≡ spans_of point.reached point.first start (plain (tree cells d))
               → MatchOption (branch_at d start (start + n)) (spans_all point.reached point.first from (trees_of_roots cells children) ≡ []) (λ b. IsBranchAround cells children from point b)
-          go (Token kind) at counted spans = spans
-          go (Node id) at counted spans = record {
-            below = λ m h. node_below m id (below-at m children k (Node id) any h l at);
+          go (Token kind) among counted spans = spans
+          go (Node id) among counted spans = record {
+            below = λ m h. node_below m id (among m h);
             around = e;
             to = ap (λ m. start + m) counted;
             fits = end_fits;

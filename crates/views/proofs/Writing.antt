@@ -1,7 +1,7 @@
 -- The text of a tree, written front to back.
 use Rattle.std.specs.Prelude.{◌≡◌, ℕ, ◌<◌, List, [], ◌∷◌, ◌++◌, length, map, flat_map, codes, All, slice_index, slice_index_or}
 use Rattle.std.specs.Str.{chars, IsUtf8}
-use Rattle.std.proofs.Common.{arith, refl, sym, ap, subst, ◌∙◌, append_assoc, length-append, Bor}
+use Rattle.std.proofs.Common.{arith, refl, sym, ap, subst, ◌∙◌, append_assoc, length-append}
 use Rattle.std.proofs.Math.Seq.{get_or-append_seam}
 use Rattle.std.proofs.lemmas.List.{append-nil, get_or_append_left}
 use Rattle.std.proofs.lemmas.List.Concat.{flat_map-cons}
@@ -44,19 +44,15 @@ rest-cons f cells c cs =
     ap (λ x. x ++ codes ")") (flat_map-cons (λ d. codes " " ++ child_text f cells d) c cs)
     ∙ append_assoc (codes " " ++ child_text f cells c) (flat_map (λ d. codes " " ++ child_text f cells d) cs) (codes ")")
 
-pub no_items : (cs : List Child) → length cs ≡ 0 → cs ≡ []
-no_items [] e = refl
-no_items (c ∷ cs) e = absurd (omega (arith, e))
-
 -- what is left of the text of all nodes that are open, the last one first
-abbrev pub pending : FileGrammar → List Cell → List (Bor (List Child)) → List ℕ
+abbrev pub pending : FileGrammar → List Cell → List (List Child) → List ℕ
 pending f cells [] = []
-pending f cells (s ∷ stack) = pending f cells stack ++ rest_text f cells s.now
+pending f cells (s ∷ stack) = pending f cells stack ++ rest_text f cells s
 
-pub pending-push : (f : FileGrammar) (cells : List Cell) (stack : List (Bor (List Child))) (s : Bor (List Child)) → pending f cells (stack ++ s ∷ []) ≡ rest_text f cells s.now ++ pending f cells stack
-pending-push f cells [] s = sym (append-nil (rest_text f cells s.now))
+pub pending-push : (f : FileGrammar) (cells : List Cell) (stack : List (List Child)) (s : List Child) → pending f cells (stack ++ s ∷ []) ≡ rest_text f cells s ++ pending f cells stack
+pending-push f cells [] s = sym (append-nil (rest_text f cells s))
 pending-push f cells (r ∷ stack) s =
-    ap (λ x. x ++ rest_text f cells r.now) (pending-push f cells stack s) ∙ append_assoc (rest_text f cells s.now) (pending f cells stack) (rest_text f cells r.now)
+    ap (λ x. x ++ rest_text f cells r) (pending-push f cells stack s) ∙ append_assoc (rest_text f cells s) (pending f cells stack) (rest_text f cells r)
 
 -- the production of a node, told twice
 same_production : (s : Stamped) (p q b d : ℕ) (us vs : StampedForest) → s ≡ StampedBranch p b us → s ≡ StampedBranch q d vs → q ≡ p
@@ -79,40 +75,40 @@ begun f cells id old middle new n p cs made over u v e g named below =
     }
 
 -- these bytes are written, and what the open nodes leave is the rest of the text
-pub record IsWriting (f : FileGrammar) (cells : List Cell) (all bytes : List ℕ) (stack : List (Bor (List Child))) : Type 0 where
-  pub below : All (λ s. AreBelow (length cells) s.now) stack
+pub record IsWriting (f : FileGrammar) (cells : List Cell) (all bytes : List ℕ) (stack : List (List Child)) : Type 0 where
+  pub below : All (λ s. AreBelow (length cells) s) stack
   pub whole : chars bytes ++ pending f cells stack ≡ all
 
-abbrev Below : List Cell → Bor (List Child) → Type 0
-Below cells s = AreBelow (length cells) s.now
+abbrev Below : List Cell → List Child → Type 0
+Below cells s = AreBelow (length cells) s
 
-below-push : (cells : List Cell) (stack : List (Bor (List Child))) (s : Bor (List Child)) → All (Below cells) stack → Below cells s → All (Below cells) (stack ++ s ∷ [])
+below-push : (cells : List Cell) (stack : List (List Child)) (s : List Child) → All (Below cells) stack → Below cells s → All (Below cells) (stack ++ s ∷ [])
 below-push cells stack s h k = All-append (Below cells) stack (s ∷ []) h (All-cons (Below cells) s [] k (All-nil (Below cells)))
 
-pub writing_begun : (f : FileGrammar) (cells : List Cell) (id : NodeId) (old new : List ℕ) (s : Bor (List Child)) → old ≡ [] → IsBegun f cells id old new s.now → IsWriting f cells (text_of f (plain (tree cells (Node id)))) new (s ∷ [])
+pub writing_begun : (f : FileGrammar) (cells : List Cell) (id : NodeId) (old new : List ℕ) (s : List Child) → old ≡ [] → IsBegun f cells id old new s → IsWriting f cells (text_of f (plain (tree cells (Node id)))) new (s ∷ [])
 writing_begun f cells id old new s e b = record {
   below = below-push cells [] s (All-nil (Below cells)) b.below;
-  whole = ap (λ x. x ++ rest_text f cells s.now) (b.written ∙ ap (λ x. x ++ b.front) (ap chars e ∙ chars-nil)) ∙ b.rest;
+  whole = ap (λ x. x ++ rest_text f cells s) (b.written ∙ ap (λ x. x ++ b.front) (ap chars e ∙ chars-nil)) ∙ b.rest;
 }
 
 -- where no node is open, they are the text
-pub written : (f : FileGrammar) (cells : List Cell) (all bytes : List ℕ) (stack : List (Bor (List Child))) → length stack ≡ 0 → IsWriting f cells all bytes stack → chars bytes ≡ all
+pub written : (f : FileGrammar) (cells : List Cell) (all bytes : List ℕ) (stack : List (List Child)) → length stack ≡ 0 → IsWriting f cells all bytes stack → chars bytes ≡ all
 written f cells all bytes [] e w = sym (append-nil (chars bytes)) ∙ w.whole
 written f cells all bytes (s ∷ stack) e w = absurd (omega (arith, e))
 
 -- the last open node
-module _ (f : FileGrammar) (cells : List Cell) (all bytes : List ℕ) (stack : List (Bor (List Child))) (s : Bor (List Child)) (w : IsWriting f cells all bytes (stack ++ s ∷ [])) where
+module _ (f : FileGrammar) (cells : List Cell) (all bytes : List ℕ) (stack : List (List Child)) (s : List Child) (w : IsWriting f cells all bytes (stack ++ s ∷ [])) where
   here : Below cells s
   here = subst (Below cells) (get_or-append_seam stack s [] s) (w.below (length stack) s (omega (arith, length-append stack (s ∷ []))))
 
   others : All (Below cells) stack
   others = λ k d l. subst (Below cells) (get_or_append_left stack (s ∷ []) d k l) (w.below k d (omega (arith, l, length-append stack (s ∷ []))))
 
-  left : chars bytes ++ (rest_text f cells s.now ++ pending f cells stack) ≡ all
+  left : chars bytes ++ (rest_text f cells s ++ pending f cells stack) ≡ all
   left = ap (λ x. chars bytes ++ x) (sym (pending-push f cells stack s)) ∙ w.whole
 
   -- has no more children
-  pub writing_closed : (new : List ℕ) → IsUtf8 bytes → s.now ≡ [] → new ≡ bytes ++ codes ")" → IsWriting f cells all new stack
+  pub writing_closed : (new : List ℕ) → IsUtf8 bytes → s ≡ [] → new ≡ bytes ++ codes ")" → IsWriting f cells all new stack
   unfolding chars
   writing_closed new u e n = record {
     below = others;
@@ -123,21 +119,21 @@ module _ (f : FileGrammar) (cells : List Cell) (all bytes : List ℕ) (stack : L
         ∙ left;
   }
 
-  pub smaller_closed : s.now ≡ [] → length (pending f cells stack) < length (pending f cells (stack ++ s ∷ []))
+  pub smaller_closed : s ≡ [] → length (pending f cells stack) < length (pending f cells (stack ++ s ∷ []))
   smaller_closed e =
       let long = ap length (pending-push f cells stack s ∙ ap (λ cs. rest_text f cells cs ++ pending f cells stack) e) in
       omega (arith, long)
 
   -- has another child
-  module _ (c : Child) (r : Bor (List Child)) (e : s.now ≡ c ∷ r.now) where
-    next : rest_text f cells s.now ++ pending f cells stack ≡ codes " " ++ (child_text f cells c ++ pending f cells (stack ++ r ∷ []))
+  module _ (c : Child) (r : List Child) (e : s ≡ c ∷ r) where
+    next : rest_text f cells s ++ pending f cells stack ≡ codes " " ++ (child_text f cells c ++ pending f cells (stack ++ r ∷ []))
     next =
         ap (λ cs. rest_text f cells cs ++ pending f cells stack) e
-        ∙ ap (λ x. x ++ pending f cells stack) (rest-cons f cells c r.now)
-        ∙ ap (λ x. codes " " ++ x) (append_assoc (child_text f cells c) (rest_text f cells r.now) (pending f cells stack))
+        ∙ ap (λ x. x ++ pending f cells stack) (rest-cons f cells c r)
+        ∙ ap (λ x. codes " " ++ x) (append_assoc (child_text f cells c) (rest_text f cells r) (pending f cells stack))
         ∙ ap (λ x. codes " " ++ (child_text f cells c ++ x)) (sym (pending-push f cells stack r))
 
-    parts : AreBelow (length cells) (c ∷ r.now)
+    parts : AreBelow (length cells) (c ∷ r)
     parts = subst (AreBelow (length cells)) e here
 
     pub child_below : IsBelow (length cells) c
@@ -168,19 +164,19 @@ module _ (f : FileGrammar) (cells : List Cell) (all bytes : List ℕ) (stack : L
             ∙ spaced_left;
       }
 
-      pub writing_node : (id : NodeId) (new : List ℕ) (d : Bor (List Child)) → c ≡ Node id → IsBegun f cells id spaced new d.now → IsWriting f cells all new (stack ++ r ∷ [] ++ d ∷ [])
+      pub writing_node : (id : NodeId) (new : List ℕ) (d : List Child) → c ≡ Node id → IsBegun f cells id spaced new d → IsWriting f cells all new (stack ++ r ∷ [] ++ d ∷ [])
       writing_node id new d is b = record {
         below = below-push cells (stack ++ r ∷ []) d rest_below b.below;
         whole = ap (λ x. chars new ++ x) (pending-push f cells (stack ++ r ∷ []) d)
-            ∙ ap (λ x. x ++ (rest_text f cells d.now ++ pending f cells (stack ++ r ∷ []))) b.written
-            ∙ append_assoc (chars spaced) b.front (rest_text f cells d.now ++ pending f cells (stack ++ r ∷ []))
-            ∙ ap (λ x. chars spaced ++ x) (sym (append_assoc b.front (rest_text f cells d.now) (pending f cells (stack ++ r ∷ []))) ∙ ap (λ x. x ++ pending f cells (stack ++ r ∷ [])) (b.rest ∙ ap (child_text f cells) (sym is)))
+            ∙ ap (λ x. x ++ (rest_text f cells d ++ pending f cells (stack ++ r ∷ []))) b.written
+            ∙ append_assoc (chars spaced) b.front (rest_text f cells d ++ pending f cells (stack ++ r ∷ []))
+            ∙ ap (λ x. chars spaced ++ x) (sym (append_assoc b.front (rest_text f cells d) (pending f cells (stack ++ r ∷ []))) ∙ ap (λ x. x ++ pending f cells (stack ++ r ∷ [])) (b.rest ∙ ap (child_text f cells) (sym is)))
             ∙ spaced_left;
       }
 
-      pub smaller_node : (id : NodeId) (new : List ℕ) (d : Bor (List Child)) → c ≡ Node id → IsBegun f cells id spaced new d.now → length (pending f cells (stack ++ r ∷ [] ++ d ∷ [])) < length (pending f cells (stack ++ s ∷ []))
+      pub smaller_node : (id : NodeId) (new : List ℕ) (d : List Child) → c ≡ Node id → IsBegun f cells id spaced new d → length (pending f cells (stack ++ r ∷ [] ++ d ∷ [])) < length (pending f cells (stack ++ s ∷ []))
       smaller_node id new d is b =
           let long = ap length (pending-push f cells stack s ∙ next) in
           let one = ap length (pending-push f cells (stack ++ r ∷ []) d) in
           let node = ap length (b.rest ∙ ap (child_text f cells) (sym is)) in
-          omega (arith, long, one, node, length-append b.front (rest_text f cells d.now), length-append (rest_text f cells d.now) (pending f cells (stack ++ r ∷ [])), length-append (child_text f cells c) (pending f cells (stack ++ r ∷ [])))
+          omega (arith, long, one, node, length-append b.front (rest_text f cells d), length-append (rest_text f cells d) (pending f cells (stack ++ r ∷ [])), length-append (child_text f cells c) (pending f cells (stack ++ r ∷ [])))

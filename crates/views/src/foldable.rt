@@ -15,12 +15,12 @@ use grammar::Grammar;
 use lexer::Tokens;
 use std::alloc::{AllocError, Global};
 use text::Text;
-use trees::{Child, Store};
+use trees::{Child, Children, Store};
 
 /// Siblings that are still to be gone over, and the place of the first one's first token.
-#[derive(Clone, Copy)]
+#[derive(Drop)]
 struct Siblings<'a> {
-    children: &'a [Child],
+    children: Children<'a>,
     from: usize,
 }
 
@@ -88,27 +88,24 @@ fn spanned(
     let mut pairs = Vec::new(alloc);
     let mut open = Vec::new(alloc);
     open.push(Siblings {
-        children: roots,
+        children: Children::of(roots),
         from: 0,
     })?;
-    while let Some(Siblings { children, from }) = open.pop() {
-        let Some((child, rest)) = children.split_first() else {
+    while let Some(Siblings { mut children, from }) = open.pop() {
+        let Some(child) = children.next() else {
             continue;
         };
-        let to = from + store.tokens_of(*child) as usize;
-        open.push(Siblings {
-            children: rest,
-            from: to,
-        })?;
+        let to = from + store.tokens_of(child) as usize;
+        open.push(Siblings { children, from: to })?;
         let Child::Node(id) = child else {
             continue;
         };
         let Some(pair) = span(lines, from, to) else {
             continue;
         };
-        add_own(grammar, store.production(*id), pair, &mut pairs)?;
+        add_own(grammar, store.production(id), pair, &mut pairs)?;
         open.push(Siblings {
-            children: store.children(*id),
+            children: store.children(id),
             from,
         })?;
     }

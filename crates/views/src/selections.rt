@@ -19,7 +19,7 @@ use definitions::{Range, Unit};
 use lexer::{AfterCharacter, Tokens};
 use std::alloc::{AllocError, Global};
 use text::Text;
-use trees::{Child, NodeId, Store};
+use trees::{Child, Children, NodeId, Store};
 
 /// How many ranges are told at most.
 const MOST_RANGES: usize = 32;
@@ -99,7 +99,7 @@ fn spans_around(
         roots.now))) }
 {
     let mut spans = Vec::new(alloc);
-    let mut next = branch_around(store, roots, 0, point);
+    let mut next = branch_around(store, Children::of(roots), 0, point);
     while let Some(branch) = next {
         spans.push((branch.from, branch.to))?;
         next = branch_around(store, store.children(branch.id), branch.from, point);
@@ -109,19 +109,19 @@ fn spans_around(
 }
 
 /// The one of these children that stands around an offset, if it is a branch. Their first token has the place `from`.
-fn branch_around(store: &Store, children: &[Child], from: usize, point: Point) -> Option<Branch>
-    requires below { AreBelow (length store.now) children.now }
-    requires fits { from + length (all_kinds (trees_of_roots store.now children.now)) < 2 ^ 64 }
+fn branch_around(store: &Store, children: Children<'_>, from: usize, point: Point) -> Option<Branch>
+    requires below { AreBelow (length store.now) children }
+    requires fits { from + length (all_kinds (trees_of_roots store.now children)) < 2 ^ 64 }
     requires near { point.reached ≤ point.first + 1 }
     ensures { MatchOption result
-        (spans_all point.reached point.first from (trees_of_roots store.now children.now) ≡ [])
-        (λ branch. IsBranchAround store.now children.now from point branch) }
+        (spans_all point.reached point.first from (trees_of_roots store.now children.entry) ≡ [])
+        (λ branch. IsBranchAround store.now children.entry from point branch) }
 {
     let mut start = from;
     for child in children {
-        let end = start + store.tokens_of(*child) as usize;
+        let end = start + store.tokens_of(child) as usize;
         if start < point.reached && point.first < end {
-            return branch_at(*child, start, end);
+            return branch_at(child, start, end);
         }
         start = end;
     }

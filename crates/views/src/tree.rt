@@ -10,7 +10,7 @@ ghost use Rattle.views.specs.Views.{text_of, IsBegun};
 
 use grammar::Grammar;
 use std::alloc::{AllocError, Global};
-use trees::{Child, NodeId, Store};
+use trees::{Child, Children, NodeId, Store};
 
 /// The text of the tree of a node. A token is its kind's name. A branch is, in parentheses, the name of its nonterminal
 /// and the texts of its children, with a space before each. Refuses for memory alone.
@@ -30,16 +30,16 @@ pub fn tree_text(
     let mut text = String::new(alloc);
     let mut open = Vec::new(alloc);
     open.push(begin(grammar, store, root, &mut text)?)?;
-    while let Some(children) = open.pop() {
-        let Some((child, rest)) = children.split_first() else {
+    while let Some(mut children) = open.pop() {
+        let Some(child) = children.next() else {
             text.push(')')?;
             continue;
         };
-        open.push(rest)?;
+        open.push(children)?;
         text.push(' ')?;
         match child {
-            Child::Token(kind) => text.push_str(grammar.kind_name(*kind))?,
-            Child::Node(id) => open.push(begin(grammar, store, *id, &mut text)?)?,
+            Child::Token(kind) => text.push_str(grammar.kind_name(kind))?,
+            Child::Node(id) => open.push(begin(grammar, store, id, &mut text)?)?,
         }
     }
     Ok(text)
@@ -51,11 +51,11 @@ fn begin<'a>(
     store: &'a Store,
     id: NodeId,
     text: &mut String,
-) -> Result<&'a [Child], AllocError>
+) -> Result<Children<'a>, AllocError>
     requires { id.index < length store.now }
     ensures { IfOk result (λ children.
         IsBegun grammar.now store.now id (string_bytes text.old) (string_bytes text.new)
-        children.now) }
+        children) }
 {
     text.push('(')?;
     text.push_str(name_of(grammar, store.production(id)))?;

@@ -16,8 +16,8 @@ use Rattle.parser.proofs.prepare.prepare.Goals as goal
 use Rattle.parser.proofs.prepare.prepare.Goals.{then-missing-eq0+in_ok-take_front+in_ok-put_kinds, else-missing-eq0, else-splice-via-then-splice+else-is_empty, else-splice-via-else-splice}
 
 -- what is put in front of nothing, from a place on
-behind : (old start none : List Child) (n : ℕ) → start ≡ take (length old - n) (drop n old) ++ none → none ≡ [] → start ≡ drop n old
-behind old start none n e empty = e ∙ ap (λ l. take (length old - n) (drop n old) ++ l) empty ∙ append-nil (take (length old - n) (drop n old)) ∙ take_all (length old - n) (drop n old) (omega (arith, length-drop n old))
+behind : (old part start none : List Child) (n : ℕ) → part ≡ take (length old - n) (drop n old) → start ≡ part ++ none → none ≡ [] → start ≡ drop n old
+behind old part start none n is e empty = e ∙ ap (λ l. part ++ l) empty ∙ append-nil part ∙ is ∙ take_all (length old - n) (drop n old) (omega (arith, length-drop n old))
 
 pub returns-then-is_empty-clause-prepared : goal.returns-then-is_empty-clause-prepared
 returns-then-is_empty-clause-prepared c kinds =
@@ -25,7 +25,7 @@ returns-then-is_empty-clause-prepared c kinds =
     let old = c.args.old.now in
     let s = plain_splice c.args.splice.now in
     let none : length s.kinds ≡ 0 = search rules in
-    let same : c.put_all.new.self ≡ old = c.in_ok-put_all.ensures ∙ ap (λ l. old ++ l) c.new-input.ensures ∙ append-nil old in
+    let same : c.put_all.new.self ≡ old = c.in_ok-put_all.ensures ∙ ap (λ l. c.of.result ++ l) c.new-input.ensures ∙ append-nil c.of.result ∙ c.of.ensures in
     subst (λ l. IsPrepared s (plain_of cells old) (input_of cells l kinds 0)) (sym same) (prepared_same s (plain_of cells old) (drop (0 + length (all_kinds (plain_of cells old))) kinds) c.if-splice.true none)
 
 pub take_front-requires-clause-below : goal.take_front-requires-clause-below
@@ -33,7 +33,7 @@ take_front-requires-clause-below c =
     let n = length c.args.store.now in
     let old = c.args.old.now in
     let whole = c.fitting-whole.result.0 in
-    subst (AreBelow n) (sym (behind old c.put_all-2.new.self c.new-input.result whole c.in_ok-put_all-2.ensures c.new-input.ensures)) (below-drop n whole old c.requires.below)
+    subst (AreBelow n) (sym (behind old c.of-2.result c.put_all-2.new.self c.new-input.result whole c.of-2.ensures c.in_ok-put_all-2.ensures c.new-input.ensures)) (below-drop n whole old c.requires.below)
 
 pub take_front-requires-then-missing-eq0-clause-below : goal.take_front-requires-then-missing-eq0-clause-below
 take_front-requires-then-missing-eq0-clause-below c =
@@ -41,7 +41,7 @@ take_front-requires-then-missing-eq0-clause-below c =
     let n = length cells in
     let old = c.args.old.now in
     let whole = c.fitting-whole.result.0 in
-    let start = subst (AreBelow n) (sym (behind old c.put_all-2.new.self c.new-input.result whole c.in_ok-put_all-2.ensures c.new-input.ensures)) (below-drop n whole old c.requires.below) in
+    let start = subst (AreBelow n) (sym (behind old c.of-2.result c.put_all-2.new.self c.new-input.result whole c.of-2.ensures c.in_ok-put_all-2.ensures c.new-input.ensures)) (below-drop n whole old c.requires.below) in
     (cut_below cells n c.in_ok-front.ensures.cut start).1
 
 pub returns : goal.returns
@@ -52,12 +52,12 @@ returns c =
     let whole = c.fitting-whole.result.0 in
     let front = c.in_ok-front.front.items in
     let new = c.put_all-4.new.self in
-    let start_is = behind old c.put_all-2.new.self c.new-input.result whole c.in_ok-put_all-2.ensures c.new-input.ensures in
+    let start_is = behind old c.of-2.result c.put_all-2.new.self c.new-input.result whole c.of-2.ensures c.in_ok-put_all-2.ensures c.new-input.ensures in
     let changes : s.from ≡ s.to → length s.kinds ≢ 0 = elim c.else-splice.branch [
       | else-splice-via-then-splice+else-is_empty w ↦ λ e n. let some : length s.kinds ≢ 0 = search rules in some n
       | else-splice-via-else-splice w ↦ λ e. absurd (w.if-splice.false e)
     ] in
-    let new_is : new ≡ take whole old ++ (front ++ c.if-missing-eq0.input) = c.in_ok-put_all-4.ensures ∙ ap (λ l. take whole old ++ l) (c.in_ok-put_all-3.ensures ∙ ap (λ l. l ++ c.if-missing-eq0.input) c.deref-2.ensures.value) in
+    let new_is : new ≡ take whole old ++ (front ++ c.if-missing-eq0.input) = c.in_ok-put_all-4.ensures ∙ (λ i. c.of-4.ensures i ++ (c.in_ok-put_all-3.ensures ∙ ap (λ l. l ++ c.if-missing-eq0.input) (c.of-3.ensures ∙ c.deref-2.ensures.value)) i) in
     let r : IsReplaced cells s old new = elim c.if-missing-eq0.branch [
       | then-missing-eq0+in_ok-take_front+in_ok-put_kinds w ↦
           let rest = w.take_front-then-missing-eq0.new.trees in

@@ -36,8 +36,8 @@ kinds-smaller-in-Continue-branch-2 c =
     let cells = c.args.store.now in
     let old : c.kinds.trees ≡ Node c.in-Node.id ∷ c.take.new.self = c.in-Some.ensures ∙ ap (λ x. x ∷ c.take.new.self) c.in-Node.is in
     let is = c.children.ensures in
-    let of_id : AreChildren cells c.in-Node.id c.children.result.now = record { below = is.below; production = is.tree.0; born = is.tree.1; is = is.tree.2 } in
-    subst (λ l. weight (plain_of cells l) < weight (plain_of cells c.kinds.trees)) (sym c.in_ok-put_all.ensures) (subst (λ l. weight (plain_of cells (c.children.result.now ++ c.take.new.self)) < weight (plain_of cells l)) (sym old) (opened_lighter cells of_id c.take.new.self))
+    let of_id : AreChildren cells c.in-Node.id c.children.result = record { below = is.below; production = is.tree.0; born = is.tree.1; is = is.tree.2 } in
+    subst (λ l. weight (plain_of cells l) < weight (plain_of cells c.kinds.trees)) (sym c.in_ok-put_all.ensures) (subst (λ l. weight (plain_of cells (c.children.result ++ c.take.new.self)) < weight (plain_of cells l)) (sym old) (opened_lighter cells of_id c.take.new.self))
 
 pub kinds-preserved-in-Continue-branch-2 : goal.kinds-preserved-in-Continue-branch-2
 kinds-preserved-in-Continue-branch-2 c =
@@ -46,8 +46,8 @@ kinds-preserved-in-Continue-branch-2 c =
     let id = c.in-Node.id in
     let old : c.kinds.trees ≡ Node id ∷ rest = c.in-Some.ensures ∙ ap (λ x. x ∷ rest) c.in-Node.is in
     let is = c.children.ensures in
-    let of_id : AreChildren cells id c.children.result.now = record { below = is.below; production = is.tree.0; born = is.tree.1; is = is.tree.2 } in
-    let new : c.put_all.new.self ≡ c.children.result.now ++ rest = c.in_ok-put_all.ensures in
+    let of_id : AreChildren cells id c.children.result = record { below = is.below; production = is.tree.0; born = is.tree.1; is = is.tree.2 } in
+    let new : c.put_all.new.self ≡ c.children.result ++ rest = c.in_ok-put_all.ensures in
     let counts : c.tokens_of-count.result ≡ min most (kinds_in cells (Node id)) = c.tokens_of-count.ensures ∙ ap (λ x. min most (kinds_in cells x)) c.in-Node.is in
     let less : c.kinds.left < kinds_in cells (Node id) = not_counted (kinds_in cells (Node id)) c.kinds.left (omega (arith, counts, c.if-count-left.false)) in
     record {

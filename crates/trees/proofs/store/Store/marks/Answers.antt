@@ -35,12 +35,12 @@ loop-index-preserved-then-index c =
     let cells = c.args.self.now in
     let l : i < length marks = omega (arith, c.loop-index.invariant.long, c.loop-index.auto.index, c.len-index.ensures.is, c.loop-index-test.true) in
     let over = c.children.ensures.tree in
-    let whole = marks-pass cells (nodes c.args.roots.now) id marks new c.children.result.now
+    let whole = marks-pass cells (nodes c.args.roots.now) id marks new c.children.result
     (before cells (nodes c.args.roots.now) c.loop-index.index marks c.loop-index-test.true c.loop-index.invariant)
     (read marks i c.index.result.now true l c.index.ensures c.if-index.true)
     c.children.ensures.is
-    (size-node cells id over.0 over.1 c.children.result.now over.2)
+    (size-node cells id over.0 over.1 c.children.result over.2)
     c.children.ensures.below
-    (subst (λ m. IsMarking c.children.result.now m new) c.deref_mut-then-index.ensures.value c.mark_all.ensures) in
+    (subst (λ m. IsMarking c.children.result m new) c.deref_mut-then-index.ensures.value c.mark_all.ensures) in
     let is : take c.loop-index.marks.len (new ++ drop (length new) marks) ≡ new = written c.loop-index.marks.len new _ (omega (arith, c.mark_all.ensures.long, c.deref_mut-then-index.ensures.len)) in
     rw is whole
