@@ -1,0 +1,10 @@
+use Rattle.lexer.specs.Rescans.{significant_kinds}
+use Rattle.lexer.specs.Tokens.{AreTokensOf}
+use Rattle.parser.specs.Parses.{IsParseOf}
+use Rattle.edit_tests.proofs.rows.check.Given as goal
+
+abbrev pub invariant-rows : goal.invariant-rows
+invariant-rows g l = record {
+  tokens : AreTokensOf l.language.grammar.patterns l.language.grammar.skips l.document.text l.document.tokens.items;
+  parse : IsParseOf l.language.tables (significant_kinds l.document.tokens.items) l.document.store l.document.parse;
+}
