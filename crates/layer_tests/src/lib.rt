@@ -21,3 +21,5 @@ mod text_pieces;
 mod token_patterns;
 #[cfg(test)]
 mod tree_stores;
+#[cfg(test)]
+mod units;
