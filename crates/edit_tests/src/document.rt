@@ -10,7 +10,7 @@ use definitions::{Edit, Kind};
 use dfa::Automaton;
 use grammar::Grammar;
 use lexer::{Tokens, Whole};
-use parser::Parse;
+use parser::{Parse, Verdict};
 use std::alloc::Global;
 use std::process::Abort;
 use std::test::Fail;
@@ -85,6 +85,22 @@ pub fn open(alloc: Global, language: &Language, text: &str) -> Result<Document, 
         store,
         parse,
     })
+}
+
+/// What is told of a parse.
+#[derive(Clone, Copy, PartialEq, Eq)]
+pub enum Told {
+    Tree,
+    FaultAt(usize),
+    FaultAtEnd,
+}
+
+pub fn told_of(parse: &Parse) -> Told {
+    match parse.verdict() {
+        Verdict::Tree(_) => Told::Tree,
+        Verdict::FaultAt(k) => Told::FaultAt(k),
+        Verdict::FaultAtEnd => Told::FaultAtEnd,
+    }
 }
 
 /// The edit of a number: a piece in the place of some characters.

@@ -4,4 +4,10 @@
 #[cfg(test)]
 mod document;
 #[cfg(test)]
+mod every_edit;
+#[cfg(test)]
+mod facts;
+#[cfg(test)]
+mod reads;
+#[cfg(test)]
 mod rows;

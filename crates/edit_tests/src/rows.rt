@@ -6,20 +6,11 @@ ghost use Rattle.lexer.specs.Tokens.{AreTokensOf};
 ghost use Rattle.lexer.specs.Rescans.{significant_kinds};
 ghost use Rattle.parser.specs.Parses.{IsParseOf};
 
-use crate::document::{Change, Document, Language, apply, load, open};
-use parser::Verdict;
+use crate::document::{Change, Document, Language, Told, apply, load, open, told_of};
 use std::alloc::Global;
 use std::process::Abort;
 use std::test::Fail;
 use worked::{LISTS, SUMS};
-
-/// What is told of a parse.
-#[derive(Clone, Copy, PartialEq, Eq)]
-enum Told {
-    Tree,
-    FaultAt(usize),
-    FaultAtEnd,
-}
 
 /// How many tokens and branches there are, how many of them the last edit made, and what is told.
 #[derive(Clone, Copy, PartialEq, Eq)]
@@ -41,17 +32,12 @@ struct Row<'a> {
 
 fn outcome_of(document: &Document) -> Outcome {
     let (branches, built) = document.parse.counts();
-    let told = match document.parse.verdict() {
-        Verdict::Tree(_) => Told::Tree,
-        Verdict::FaultAt(k) => Told::FaultAt(k),
-        Verdict::FaultAtEnd => Told::FaultAtEnd,
-    };
     Outcome {
         tokens: document.tokens.count(),
         scanned: document.tokens.scanned(),
         branches,
         built,
-        told,
+        told: told_of(&document.parse),
     }
 }
 

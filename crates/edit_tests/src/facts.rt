@@ -1,0 +1,155 @@
+//! What a document's tokens and trees are, in flat lists.
+
+ghost use Rattle.std.specs.Prelude.{List};
+ghost use Rattle.definitions.specs.declared.Kind.{Kind as TokenKind};
+ghost use Rattle.trees.specs.Cells.{Cell};
+ghost use Rattle.lexer.specs.Rescans.{significant_kinds};
+ghost use Rattle.parser.specs.Parses.{IsParseOf};
+
+use crate::document::{Document, Language, Told, told_of};
+use definitions::Kind;
+use lexer::{Token, Tokens};
+use parser::Parse;
+use std::alloc::{AllocError, Global};
+use tables::Tables;
+use trees::{Child, Children, NodeId, Store};
+
+/// No walk over the trees of so short texts takes more steps.
+const MOST_STEPS: usize = 1_000;
+
+/// A token, and the offset at which it starts.
+#[derive(Clone, Copy)]
+pub struct Placed {
+    pub start: usize,
+    pub token: Token,
+}
+
+/// A branch with the tokens `from..to` as its yield. It and the branches below it are `size` ones.
+#[derive(Clone, Copy)]
+pub struct Branch {
+    pub production: usize,
+    pub from: usize,
+    pub to: usize,
+    pub size: usize,
+    pub born: u64,
+}
+
+/// The tokens of a document, the branches of its trees in preorder, and what is told of its parse.
+#[derive(Drop)]
+pub struct Facts {
+    pub tokens: Vec<Placed>,
+    pub branches: Vec<Branch>,
+    pub told: Told,
+    pub expected: Vec<Option<usize>>,
+}
+
+fn placed_tokens(alloc: Global, tokens: &Tokens) -> Result<Vec<Placed>, AllocError> {
+    let mut all = Vec::new(alloc);
+    let mut start: usize = 0;
+    for i in 0..tokens.count() {
+        if let Some(token) = tokens.token(i) {
+            let token = *token;
+            all.push(Placed { start, token })?;
+            start = start.saturating_add(token.length as usize);
+        }
+    }
+    Ok(all)
+}
+
+fn push_reversed(pending: &mut Vec<Child>, children: Children<'_>) -> Result<(), AllocError> {
+    for child in children.rev() {
+        pending.push(child)?;
+    }
+    Ok(())
+}
+
+/// The branch of a node whose first token is this one. None where there is no such node.
+fn branch_at(store: &Store, id: NodeId, from: usize) -> Option<Branch> {
+    if id.index >= store.len() {
+        return None;
+    }
+    Some(Branch {
+        production: store.production(id),
+        from,
+        to: from.saturating_add(store.tokens(id) as usize),
+        size: store.size(id) as usize,
+        born: store.born(id),
+    })
+}
+
+fn push_children(pending: &mut Vec<Child>, store: &Store, id: NodeId) -> Result<(), AllocError> {
+    if id.index < store.len() {
+        push_reversed(pending, store.children(id))?;
+    }
+    Ok(())
+}
+
+/// The branches of the trees, in preorder.
+fn branches_of(alloc: Global, store: &Store, trees: &[Child]) -> Result<Vec<Branch>, AllocError> {
+    let mut pending = Vec::new(alloc);
+    push_reversed(&mut pending, Children::of(trees))?;
+    let mut branches = Vec::new(alloc);
+    let mut at: usize = 0;
+    for _ in 0..MOST_STEPS {
+        match pending.pop() {
+            None => return Ok(branches),
+            Some(Child::Token(_)) => at = at.saturating_add(1),
+            Some(Child::Node(id)) => {
+                if let Some(branch) = branch_at(store, id, at) {
+                    branches.push(branch)?;
+                }
+                push_children(&mut pending, store, id)?;
+            }
+        }
+    }
+    Ok(branches)
+}
+
+/// What may stand at the fault.
+fn expected_of(
+    alloc: Global,
+    tables: &Tables,
+    parse: &Parse,
+) -> Result<Vec<Option<usize>>, AllocError>
+    requires { (kinds : List TokenKind) × (cells : List Cell)
+        × IsParseOf tables.now kinds cells parse.now }
+{
+    let mut looks = Vec::new(alloc);
+    for look in parse.expected(tables) {
+        looks.push(look)?;
+    }
+    Ok(looks)
+}
+
+/// What is so of a document.
+pub fn facts_of(
+    alloc: Global,
+    language: &Language,
+    document: &Document,
+) -> Result<Facts, AllocError>
+    requires { IsParseOf language.now.tables (significant_kinds document.now.tokens.items)
+        document.now.store document.now.parse }
+{
+    Ok(Facts {
+        tokens: placed_tokens(alloc, &document.tokens)?,
+        branches: branches_of(alloc, &document.store, document.parse.stack())?,
+        told: told_of(&document.parse),
+        expected: expected_of(alloc, &language.tables, &document.parse)?,
+    })
+}
+
+/// The kinds of the significant ones of the tokens `from..to`.
+pub fn kinds_in(
+    alloc: Global,
+    tokens: &[Placed],
+    from: usize,
+    to: usize,
+) -> Result<Vec<Kind>, AllocError> {
+    let mut kinds = Vec::new(alloc);
+    for (k, placed) in tokens.iter().enumerate() {
+        if from <= k && k < to && !placed.token.skipped {
+            kinds.push(placed.token.kind)?;
+        }
+    }
+    Ok(kinds)
+}
