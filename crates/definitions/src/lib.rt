@@ -65,3 +65,20 @@ pub struct Diagnostic {
     pub range: Range,
     pub message: String,
 }
+
+/// How much there is of a document, and how much its last edit has made. Opening makes all there is, as edit 0.
+#[derive(Clone, Copy, Debug, PartialEq, Eq)]
+pub struct Stats {
+    /// The number of the last edit.
+    pub edit: u64,
+    /// How many tokens it has made.
+    pub scanned: u64,
+    /// How many tokens there are.
+    pub tokens: u64,
+    /// How many nodes the document's trees have.
+    pub branches: u64,
+    /// How many of them the last edit has made.
+    pub built: u64,
+    /// How many nodes are kept in memory.
+    pub nodes: u64,
+}

@@ -123,6 +123,7 @@ impl Text {
     /// The offsets of a range in ascending order, or those of the whole text where there is none: what a change of a document
     /// takes away.
     pub fn span(&self, unit: Unit, range: Option<Range>) -> (usize, usize)
+        ensures is { result ≡ of.span unit self.now range }
         ensures edits { (s : List ℕ) →
             changed unit self.now range s ≡ edit self.now result.0 result.1 s }
         ensures ordered { result.0 ≤ result.1 }
