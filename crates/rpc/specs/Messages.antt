@@ -34,11 +34,13 @@ pub data Question : Type 0 where
   its_folds : Question
   its_selections : List Position → Question
 
--- what a request asks; about a document it has the document's URI
+-- what a request asks; about a document it has the document's URI; `stats` asks for how much there is of a document, and what its
+-- last edit made
 pub data Asked : Type 0 where
   initialize : Asked
   shutdown : Asked
   about : List ℕ → Question → Asked
+  stats : List ℕ → Asked
 
 -- a text for a range, or for the whole
 pub record ChangeSaid : Type 0 where
@@ -87,6 +89,7 @@ call_view call.Shutdown = shutdown
 call_view (call.Text uri) = about (string_bytes uri) its_text
 call_view (call.Tokens uri) = about (string_bytes uri) its_tokens
 call_view (call.Tree uri) = about (string_bytes uri) its_tree
+call_view (call.Stats uri) = stats (string_bytes uri)
 call_view (call.FoldingRange uri) = about (string_bytes uri) its_folds
 call_view (call.SelectionRange uri positions) = about (string_bytes uri) (its_selections positions.items)
 

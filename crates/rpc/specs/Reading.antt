@@ -15,7 +15,7 @@ use Rattle.definitions.specs.declared.Range.{Range}
 use Rattle.rpc.specs.declared.message.Message.{Message}
 use Rattle.rpc.specs.declared.message.RpcFault.{RpcFault}
 use Rattle.rpc.specs.Fields.{integer_of, text_at, integer_at, natural_at, has_key}
-use Rattle.rpc.specs.Messages.{Ident, named, numbered, Question, its_text, its_tokens, its_tree, its_folds, its_selections, initialize, shutdown, about, ChangeSaid, unfit_open, unfit_change, unfit_close, Told, initialized, exit, open_text, change_text, close, malformed, request, notice, ignored, invalid, unknown, params, Heard, unread, refused, said, heard_of}
+use Rattle.rpc.specs.Messages.{Ident, named, numbered, Question, its_text, its_tokens, its_tree, its_folds, its_selections, initialize, shutdown, about, stats, ChangeSaid, unfit_open, unfit_change, unfit_close, Told, initialized, exit, open_text, change_text, close, malformed, request, notice, ignored, invalid, unknown, params, Heard, unread, refused, said, heard_of}
 
 -- ---- parts of a value
 
@@ -103,6 +103,11 @@ abbrev pub asked_about : Question → Ident → Option (List ℕ) → Heard
 asked_about question id (Some uri) = said (request id (about uri question))
 asked_about question id None = refused (params id false)
 
+-- the parameters have the URI of the document whose counts are asked for
+abbrev pub asked_stats : Ident → Option (List ℕ) → Heard
+asked_stats id (Some uri) = said (request id (stats uri))
+asked_stats id None = refused (params id false)
+
 -- the parameters have that URI, and positions in the document
 abbrev pub asked_selections : Ident → Option (List ℕ) → Option (List Position) → Heard
 asked_selections id (Some uri) (Some positions) = said (request id (about uri (its_selections positions)))
@@ -116,8 +121,9 @@ request_of method id d =
     if bytes_eq method (codes "textDocument/selectionRange") then asked_selections id (uri_at d) (positions_at d) else (
     if bytes_eq method (codes "lr/text") then asked_about its_text id (uri_at d) else (
     if bytes_eq method (codes "lr/tokens") then asked_about its_tokens id (uri_at d) else (
-    if bytes_eq method (codes "lr/tree") then asked_about its_tree id (uri_at d) else
-    refused (unknown id)))))))
+    if bytes_eq method (codes "lr/tree") then asked_about its_tree id (uri_at d) else (
+    if bytes_eq method (codes "lr/stats") then asked_stats id (uri_at d) else
+    refused (unknown id))))))))
 
 -- ---- notifications (the last argument is the parameters)
 

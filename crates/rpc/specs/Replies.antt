@@ -16,9 +16,10 @@ use Rattle.rpc.specs.declared.reply.Refusal.TheVariants.{ParseError, InvalidRequ
 use Rattle.definitions.specs.declared.Diagnostic.{Diagnostic}
 use Rattle.definitions.specs.declared.Position.{Position}
 use Rattle.definitions.specs.declared.Range.{Range}
+use Rattle.definitions.specs.declared.Stats.{Stats}
 use Rattle.rpc.specs.declared.reply.Row.{Row}
 use Rattle.rpc.specs.declared.reply.Reply.{Reply}
-use Rattle.rpc.specs.declared.reply.Reply.TheVariants.{Capabilities, Null, Text, Tokens, Tree, Folds, Selections, Error, Diagnostics, Log}
+use Rattle.rpc.specs.declared.reply.Reply.TheVariants.{Capabilities, Null, Text, Tokens, Tree, Stats as StatsReply, Folds, Selections, Error, Diagnostics, Log}
 use Rattle.rpc.specs.Messages.{Ident, named, numbered, id_view}
 
 -- Replies begin with the id of their request. Folds are pairs of lines; each selection is its ranges from inner to outer. Diagnostics
@@ -29,6 +30,7 @@ pub data Answer : Type 0 where
   told_text : Ident → ℤ → List ℕ → Answer
   told_tokens : Ident → List (List ℕ × Range) → Answer
   told_tree : Ident → List ℕ → Answer
+  told_stats : Ident → Stats → Answer
   told_folds : Ident → List (ℕ × ℕ) → Answer
   told_selections : Ident → List (List Range) → Answer
   told_error : Option Ident → Refusal → Answer
@@ -49,6 +51,7 @@ reply_view (Null id) = told_null (id_view id)
 reply_view (Text id version text) = told_text (id_view id) version (string_bytes text)
 reply_view (Tokens id rows) = told_tokens (id_view id) (map row_view rows.items)
 reply_view (Tree id text) = told_tree (id_view id) (string_bytes text)
+reply_view (StatsReply id s) = told_stats (id_view id) s
 reply_view (Folds id pairs) = told_folds (id_view id) pairs.items
 reply_view (Selections id selections) = told_selections (id_view id) (map (λ s. s.items) selections.items)
 reply_view (Diagnostics uri version d) = told_diagnostics (string_bytes uri) version (option_map diagnostic_view d)
@@ -130,6 +133,16 @@ row_data r = array
 
 abbrev pub rows_data : List (List ℕ × Range) → Data
 rows_data rows = array (items_of (map row_data rows))
+
+-- how much there is of a document, and what its last edit made
+abbrev pub stats_data : Stats → Data
+stats_data s = object
+    (member (codes "branches") (number (unsigned s.branches))
+    (member (codes "built") (number (unsigned s.built))
+    (member (codes "edit") (number (unsigned s.edit))
+    (member (codes "nodes") (number (unsigned s.nodes))
+    (member (codes "scanned") (number (unsigned s.scanned))
+    (member (codes "tokens") (number (unsigned s.tokens)) no_members))))))
 
 -- LSP 3.17, "FoldingRange"
 abbrev pub fold_data : ℕ × ℕ → Data
@@ -225,6 +238,7 @@ reply_data (told_null id) = result_data (id_data id) null
 reply_data (told_text id version text) = result_data (id_data id) (document_data version text)
 reply_data (told_tokens id rows) = result_data (id_data id) (rows_data rows)
 reply_data (told_tree id text) = result_data (id_data id) (string text)
+reply_data (told_stats id s) = result_data (id_data id) (stats_data s)
 reply_data (told_folds id pairs) = result_data (id_data id) (folds_data pairs)
 reply_data (told_selections id selections) = result_data (id_data id) (selections_data selections)
 reply_data (told_diagnostics uri version d) =

@@ -49,6 +49,10 @@ pub enum Call {
     Tree {
         uri: String,
     },
+    /// `lr/stats`: how much there is of a document, and what its last edit made.
+    Stats {
+        uri: String,
+    },
 }
 
 /// A notification whose parameters don't fit.

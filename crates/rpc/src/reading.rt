@@ -5,7 +5,7 @@ ghost use Rattle.serde_json.specs.Find.{get};
 ghost use Rattle.serde_json.specs.View.{view, items_view};
 ghost use Rattle.rpc.specs.Fields.{text_at};
 ghost use Rattle.rpc.specs.Messages.{said, refused, params, its_text, its_tokens, its_tree, its_folds, id_view, change_view, note_view, message_view, fault_view, heard_of};
-ghost use Rattle.rpc.specs.Reading.{maybe_range, change_of, changes_of, changes_at, opening, changing, closing, asked_initialize, asked_about, asked_selections, request_of, notice_of, of_method, message_of, uri_at, positions_at, params_at, Gives, Hears};
+ghost use Rattle.rpc.specs.Reading.{maybe_range, change_of, changes_of, changes_at, opening, changing, closing, asked_initialize, asked_about, asked_stats, asked_selections, request_of, notice_of, of_method, message_of, uri_at, positions_at, params_at, Gives, Hears};
 
 use crate::fields::text_at;
 use crate::message::{Call, Change, Id, Malformed, Message, Note, RpcFault};
@@ -171,6 +171,16 @@ fn asked_tree(alloc: Global, id: Id, params: &Value) -> Result<Message, RpcFault
     }
 }
 
+/// An `lr/stats`, whose parameters name a document.
+fn asked_stats(alloc: Global, id: Id, params: &Value) -> Result<Message, RpcFault>
+    ensures { Gives result (asked_stats (id_view id) (uri_at (view params.now))) }
+{
+    match copied_uri(alloc, params)? {
+        Some(uri) => Ok(Message::Request(id, Call::Stats { uri })),
+        None => Err(misfit(id)),
+    }
+}
+
 /// A `textDocument/foldingRange`, whose parameters name a document.
 fn asked_folds(alloc: Global, id: Id, params: &Value) -> Result<Message, RpcFault>
     ensures { Gives result (asked_about its_folds (id_view id) (uri_at (view params.now))) }
@@ -212,6 +222,8 @@ fn request_of(alloc: Global, method: &str, id: Id, params: &Value) -> Result<Mes
         asked_tokens(alloc, id, params)
     } else if method == "lr/tree" {
         asked_tree(alloc, id, params)
+    } else if method == "lr/stats" {
+        asked_stats(alloc, id, params)
     } else {
         Err(RpcFault::Unknown { id })
     }

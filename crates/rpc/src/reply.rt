@@ -5,10 +5,10 @@ ghost use Rattle.serde_json.specs.Data.{string};
 ghost use Rattle.serde_json.specs.View.{view};
 ghost use Rattle.serde_json.specs.Written.{compact_text};
 ghost use Rattle.rpc.specs.Messages.{id_view};
-ghost use Rattle.rpc.specs.Replies.{id_data, maybe_id_data, code_of, loss_text, log_text, message_text, capabilities, result_data, error_data, document_data, row_data, row_view, rows_data, fold_data, folds_data, position_data, range_data, with_parent, selection_data, selections_data, diagnostic_data, diagnostic_view, diagnostic_list, published, log_data, notice_data, reply_data, reply_view};
+ghost use Rattle.rpc.specs.Replies.{id_data, maybe_id_data, code_of, loss_text, log_text, message_text, capabilities, result_data, error_data, document_data, row_data, row_view, rows_data, stats_data, fold_data, folds_data, position_data, range_data, with_parent, selection_data, selections_data, diagnostic_data, diagnostic_view, diagnostic_list, published, log_data, notice_data, reply_data, reply_view};
 
 use crate::message::Id;
-use definitions::{Diagnostic, Position, Range};
+use definitions::{Diagnostic, Position, Range, Stats};
 use serde_json::{Value, json};
 use std::alloc::{AllocError, Global};
 
@@ -84,6 +84,11 @@ pub enum Reply {
     Tree {
         id: Id,
         text: String,
+    },
+    /// How much there is of a document, for `lr/stats`.
+    Stats {
+        id: Id,
+        stats: Stats,
     },
     /// The first and last lines of what can be folded, for `textDocument/foldingRange`.
     Folds {
@@ -228,6 +233,20 @@ fn rows_value(alloc: Global, rows: &[Row]) -> Result<Value, AllocError>
         values.push(row_value(alloc, row)?)?;
     }
     Ok(Value::Array(values))
+}
+
+/// How much there is of a document, and what its last edit made.
+fn stats_value(alloc: Global, stats: Stats) -> Result<Value, AllocError>
+    ensures { IfOk result (λ v. view v ≡ stats_data stats) }
+{
+    json!(in alloc; {
+        "branches": stats.branches,
+        "built": stats.built,
+        "edit": stats.edit,
+        "nodes": stats.nodes,
+        "scanned": stats.scanned,
+        "tokens": stats.tokens
+    })
 }
 
 /// The first and last line of what can be folded (LSP 3.17, "FoldingRange").
@@ -387,6 +406,10 @@ fn reply_value(alloc: Global, reply: &Reply) -> Result<Value, AllocError>
         Reply::Tree { id, text } => {
             let text = Value::String(String::from_str(alloc, text.as_str())?);
             result_value(alloc, id_value(alloc, id)?, text)
+        }
+        Reply::Stats { id, stats } => {
+            let stats = stats_value(alloc, *stats)?;
+            result_value(alloc, id_value(alloc, id)?, stats)
         }
         Reply::Folds { id, pairs } => {
             let folds = folds_value(alloc, pairs)?;
