@@ -4,3 +4,4 @@ mod Current
 mod Trees
 mod Always
 mod Once
+mod Edits

@@ -2,7 +2,7 @@
 use Rattle.std.proofs.Common.{◌≡◌, ◌↔◌, ◌<◌, ℕ, Bool, true, false, List, length, refl, sym, ap, subst, ◌∙◌, leb-true, leb-false}
 use Rattle.std.specs.Prelude.{Option, Some, None, Result, Ok, Err, nat_le, encode_utf8_all}
 use Rattle.std.specs.Str.{chars, IsUtf8}
-use Rattle.definitions.specs.Text.{IsText, changed, range_start, range_end}
+use Rattle.definitions.specs.Text.{IsText, changed, span}
 use Rattle.definitions.specs.declared.Range.{Range}
 use Rattle.definitions.specs.declared.Unit.TheVariants.{Utf16}
 use Rattle.definitions.proofs.Characters.{IsText-chars, IsText-edit}
@@ -37,8 +37,7 @@ from_text text.NoMemory e = absurd (let f : ⊥ = cc in f)
 -- a changed text is one of characters
 pub IsText-changed : (t : List ℕ) (range : Option Range) (bs : List ℕ) → IsText t → IsUtf8 bs → IsText (changed Utf16 t range (chars bs))
 unfolding changed
-IsText-changed t None bs is utf8 = IsText-edit t 0 (length t) (chars bs) is (IsText-chars bs utf8)
-IsText-changed t (Some r) bs is utf8 = IsText-edit t (range_start Utf16 t r) (range_end Utf16 t r) (chars bs) is (IsText-chars bs utf8)
+IsText-changed t range bs is utf8 = IsText-edit t (span Utf16 t range).0 (span Utf16 t range).1 (chars bs) is (IsText-chars bs utf8)
 
 -- a change is too large where the edit that it comes to is
 pub large_edit : {S : Type 0} (made : Result S TextFault) {changed_text edited : List ℕ} → changed_text ≡ edited

@@ -1,19 +1,30 @@
 -- A document, as its callers see it.
---     open_document d      its version and text
+--     open_document d      its version and text, and its last edit
 --     IsCurrent language d      the tokens and the parse that it keeps are those of its text, by this language
-use Rattle.std.specs.Prelude.{◌≡◌}
+use Rattle.std.specs.Prelude.{◌≡◌, ◌≤◌, ◌==◌, if◌then◌else◌, length, Option, Some, None}
 use Rattle.lexer.specs.Rescans.{significant_kinds}
 use Rattle.lexer.specs.Tokens.{AreTokensOf}
+use Rattle.parser.specs.Compact.{bound}
 use Rattle.parser.specs.Parses.{IsParseOf}
 use Rattle.docs.specs.Languages.{LanguageData}
-use Rattle.docs.specs.Texts.{OpenDocument}
+use Rattle.docs.specs.Texts.{LastEdit, OpenDocument}
 use Rattle.docs.specs.declared.doc.Doc.{Doc}
 
-abbrev pub open_document : Doc → OpenDocument
-open_document d = record { version = d.version; text = d.text }
+-- none where the parse is a whole one
+abbrev pub last_edit : Doc → Option LastEdit
+last_edit d =
+    if d.parse.number == 0
+    then None
+    else Some (record { number = d.parse.number; scanned = d.tokens.scanned; built = d.parse.built })
 
--- the tables are of the file's grammar
+abbrev pub open_document : Doc → OpenDocument
+open_document d = record { version = d.version; text = d.text; last = last_edit d }
+
+-- The tables are of the file's grammar. Opening has made all there is, and the store is bounded.
 pub record IsCurrent (language : LanguageData) (d : Doc) : Type 0 where
   pub tokens : AreTokensOf language.file.patterns language.file.skips d.text d.tokens.items
   pub parse : IsParseOf language.tables (significant_kinds d.tokens.items) d.store d.parse
   pub grammar : language.tables.grammar ≡ language.file.grammar
+  pub scanned : d.parse.number ≡ 0 → d.tokens.scanned ≡ length d.tokens.items
+  pub built : d.parse.number ≡ 0 → d.parse.built ≡ d.parse.branches
+  pub bounded : length d.store ≤ bound d.parse.branches

@@ -3,6 +3,7 @@ pub mod Texts
 pub mod Faults
 pub mod Answers
 pub mod Docs
+pub mod Edits
 pub use Rattle.views.specs.Diagnostics
 pub use Rattle.views.specs.Told
 pub use Rattle.views.specs.Views

@@ -1,12 +1,19 @@
--- The texts of documents.
---     OpenDocument      a document's version and text
+-- Documents, and their texts.
+--     LastEdit      an edit's number, and how many tokens and nodes it made
+--     OpenDocument      a document's version and text, and its last edit, if there was one
 --     fits text      it is a text of Unicode characters, and isn't too long
-use Rattle.std.specs.Prelude.{ℕ, ℤ, ◌&&◌, Bool, nat_le, List, length, encode_utf8_all}
+use Rattle.std.specs.Prelude.{ℕ, ℤ, ◌&&◌, Bool, nat_le, List, length, Option, encode_utf8_all}
 use Rattle.std.specs.Str.{all_scalars}
+
+pub record LastEdit : Type 0 where
+  pub number : ℕ
+  pub scanned : ℕ
+  pub built : ℕ
 
 pub record OpenDocument : Type 0 where
   pub version : ℤ
   pub text : List ℕ
+  pub last : Option LastEdit
 
 -- a list of Unicode scalar values, with at most 1,048,576 bytes in UTF-8
 abbrev pub fits : List ℕ → Bool

@@ -1,6 +1,6 @@
 //! A document that is open: its version and text, with the tokens of the text and their parse.
 
-ghost use Rattle.std.specs.Prelude.{◌≡◌, ◌↔◌, ℕ, Option, Err, None, true, false, string_bytes, encode_utf8_all, map, option_map, IfOk};
+ghost use Rattle.std.specs.Prelude.{◌≡◌, ◌↔◌, ℕ, Option, Err, None, Some, true, false, string_bytes, encode_utf8_all, length, map, option_map, IfOk};
 ghost use Rattle.std.specs.Str.{chars};
 ghost use Rattle.definitions.specs.Answers.{Diagnostic as Fault};
 ghost use Rattle.definitions.specs.Text.{changed, offset};
@@ -11,14 +11,15 @@ ghost use Rattle.trees.specs.declared.store.NodeId.{NodeId};
 ghost use Rattle.views.specs.Told.{AreFoldsOf, IsDiagnosis, IsSelectionOf, trees_of_roots};
 ghost use Rattle.views.specs.Views.{row_bytes};
 ghost use Rattle.docs.specs.Answers.{AreSelections, IsOutcome, IsTold, Reads, rows, tree_told};
-ghost use Rattle.docs.specs.Docs.{open_document, IsCurrent};
+ghost use Rattle.docs.specs.Docs.{last_edit, open_document, IsCurrent};
+ghost use Rattle.docs.specs.Edits.{AreStats, IsNext};
 ghost use Rattle.docs.specs.Languages.{LanguageData};
-ghost use Rattle.docs.specs.Texts.{fits};
+ghost use Rattle.docs.specs.Texts.{LastEdit, fits};
 ghost use Rattle.docs.specs.declared.doc.DocFault.TheVariants.{NoMemory};
 ghost use Rattle.docs.specs.Faults.{doc_fault};
 
 use crate::language::Language;
-use definitions::{Diagnostic, Edit, Position, Range, Unit};
+use definitions::{Diagnostic, Edit, Position, Range, Stats, Unit};
 use lexer::Tokens;
 use parser::laws::stack_has_the_nodes_of_the_document;
 use parser::{Parse, Verdict};
@@ -86,7 +87,7 @@ impl Doc {
         text: &str,
     ) -> Result<Doc, DocFault>
         ensures is { IfOk result (λ d.
-            open_document d ≡ record { version = version; text = chars text.now }) }
+            open_document d ≡ record { version = version; text = chars text.now; last = None }) }
         ensures fits { IfOk result (λ _. fits (chars text.now) ≡ true) }
         ensures current { IfOk result (IsCurrent language.now) }
         ensures too_large { (result ≡ Err DocFault.TooLarge) ↔ (fits (chars text.now) ≡ false) }
@@ -107,7 +108,11 @@ impl Doc {
     ) -> Result<Doc, DocFault>
         requires { IsCurrent language.now self }
         ensures is { let text = changed Utf16 self.text range (chars new.now) in
-            IfOk result (λ d. open_document d ≡ record { version = self.version; text = text }) }
+            IfOk result (λ d.
+            open_document d ≡ record { version = self.version; text = text; last = last_edit d }) }
+        ensures last { let last = last_edit self in
+            IfOk result (λ d. (next : LastEdit) × (last_edit d ≡ Some next)
+            × IsNext language.now.file self.text range (chars new.now) last next) }
         ensures current { IfOk result (IsCurrent language.now) }
         ensures too_large { let text = changed Utf16 self.text range (chars new.now) in
             (result ≡ Err DocFault.TooLarge) ↔ (fits text ≡ false) }
@@ -141,7 +146,8 @@ impl Doc {
 
     /// Scans and parses a text. Refuses for memory alone.
     fn of(alloc: Global, language: &Language, version: i32, text: Text) -> Result<Doc, AllocError>
-        ensures is { IfOk result (λ d. open_document d ≡ record { version = version; text = text }) }
+        ensures is { IfOk result (λ d.
+            open_document d ≡ record { version = version; text = text; last = None }) }
         ensures current { IfOk result (IsCurrent language.now) }
     {
         // The read opens what a language says of its tables.
@@ -167,7 +173,8 @@ impl Doc {
 
     /// Gives the document another version.
     pub fn set_version(&mut self, version: i32)
-        ensures is { open_document self.new ≡ record { version = version; text = self.old.text } }
+        ensures is { let last = last_edit self.old in
+            open_document self.new ≡ record { version = version; text = self.old.text; last = last } }
         ensures current { (language : LanguageData)
             → IsCurrent language self.old → IsCurrent language self.new }
     {
@@ -267,6 +274,23 @@ impl Doc {
             &self.store,
             self.parse.stack(),
         )
+    }
+
+    /// How much there is of the document, and how much its last edit has made.
+    pub fn stats(&self) -> Stats
+        ensures is { (language : LanguageData) → IsCurrent language self.now
+            → AreStats language.file (open_document self.now) result }
+        ensures nodes { result.nodes ≡ length self.now.store }
+    {
+        let (branches, built) = self.parse.counts();
+        Stats {
+            edit: self.parse.number(),
+            scanned: self.tokens.scanned() as u64,
+            tokens: self.tokens.count() as u64,
+            branches: branches as u64,
+            built: built as u64,
+            nodes: self.store.len() as u64,
+        }
     }
 
     /// What can be selected around each of these positions, from inner to outer. Refuses for memory alone.

@@ -1,13 +1,18 @@
 //! The language of a grammar file: its grammar, the automaton of its token rules, and its tables.
 
-ghost use Rattle.std.specs.Prelude.{◌≡◌, List, IfOk, IfErr};
+ghost use Rattle.std.specs.Prelude.{◌≡◌, ◌<◌, ◌≤◌, ◌+◌, List, length, IfOk, IfErr};
 ghost use Rattle.definitions.specs.declared.Kind.{Kind};
-ghost use Rattle.definitions.specs.TokenEdits.{IsSpliced, plain_splice};
-ghost use Rattle.lexer.specs.Rescans.{IsEdited, significant_kinds};
+ghost use Rattle.definitions.specs.TokenEdits.{IsSpliced, made, plain_splice, splice};
+ghost use Rattle.definitions.specs.TreeEdits.{Built};
+ghost use Rattle.lexer.specs.Rescans.{IsEdited, plain_all, significant_kinds};
 ghost use Rattle.lexer.specs.Tokens.{AreTokensOf};
+ghost use Rattle.parser.specs.Compact.{bound};
+ghost use Rattle.parser.specs.Machine.{AreMadeBy, plain_of};
 ghost use Rattle.parser.specs.Parses.{IsParseOf};
+ghost use Rattle.trees.specs.Cells.{forest_in};
 ghost use Rattle.docs.specs.Languages.{IsLanguageOf, IsLoadFault};
 ghost use Rattle.docs.specs.Answers.{AlwaysAnswers, AnswersOnce};
+ghost use Rattle.docs.specs.Edits.{CountsOnce};
 
 use crate::significant::{Listed, Significant};
 use definitions::laws::{expected_unique, folds_unique, selection_unique, tokens_unique};
@@ -119,6 +124,7 @@ impl Language {
         ensures tokens { IfOk result (λ r.
             AreTokensOf self.now.file.patterns self.now.file.skips text.now r.0.items) }
         ensures kinds { IfOk result (λ r. r.1.kinds.items ≡ significant_kinds r.0.items) }
+        ensures scanned { IfOk result (λ r. r.0.scanned ≡ length r.0.items) }
     {
         // The read opens the invariant of the text.
         let _length = text.len();
@@ -139,7 +145,10 @@ impl Language {
         store: &mut Store,
         kinds: &Listed,
     ) -> Result<Parse, AllocError>
-        ensures { IfOk result (IsParseOf self.now.tables kinds.now.kinds.items store.new) }
+        ensures parse { IfOk result (IsParseOf self.now.tables kinds.now.kinds.items store.new) }
+        ensures number { IfOk result (λ p. p.number ≡ 0) }
+        ensures built { IfOk result (λ p. p.built ≡ p.branches) }
+        ensures count { IfOk result (λ p. length store.new ≡ length store.old + p.branches) }
     {
         Parse::whole(alloc, &self.tables, store, kinds)
     }
@@ -157,8 +166,14 @@ impl Language {
             text.now }
         ensures tokens { IfOk result (λ _.
             AreTokensOf self.now.file.patterns self.now.file.skips text.now tokens.new.items) }
-        ensures splice { IfOk result (λ s. IsSpliced (plain_splice s)
+        ensures kinds { IfOk result (λ s. IsSpliced (plain_splice s)
             (significant_kinds tokens.old.items) (significant_kinds tokens.new.items)) }
+        ensures splice { let old = plain_all tokens.old.items in
+            let new = plain_all tokens.new.items in
+            IfOk result (λ s. plain_splice s ≡ splice self.now.file.skips edit old new) }
+        ensures scanned { let old = plain_all tokens.old.items in
+            let new = plain_all tokens.new.items in
+            IfOk result (λ _. tokens.new.scanned ≡ length (made edit old new)) }
     {
         // The read opens the invariant of the text.
         let _length = text.len();
@@ -178,8 +193,16 @@ impl Language {
     ) -> Result<(), AllocError>
         requires { (old : List Kind) × IsParseOf self.now.tables old store.old parse.old
             × IsSpliced (plain_splice splice) old (significant_kinds tokens.now.items) }
-        ensures { let kinds = significant_kinds tokens.now.items in
+        ensures parse { let kinds = significant_kinds tokens.now.items in
             IfOk result (λ _. IsParseOf self.now.tables kinds store.new parse.new) }
+        ensures number { IfOk result (λ _. parse.new.number ≡ number) }
+        ensures built { let change = plain_splice splice in
+            parse.old.number < number → IfOk result
+            (λ _. Built change (plain_of store.old parse.old.stack) 0
+            (plain_of store.new parse.new.stack) parse.new.built) }
+        ensures anew { number ≤ parse.old.number → IfOk result
+            (λ _. AreMadeBy number (forest_in store.new parse.new.stack)) }
+        ensures bound { IfOk result (λ _. length store.new ≤ bound parse.new.branches) }
     {
         parse.change(
             alloc,
@@ -192,9 +215,11 @@ impl Language {
     }
 
     /// Each text that fits has a reading by the language, and each reading all that can be told of it; of each there is one.
+    /// Of each edit one thing is told.
     pub fn always_answers(&self)
         ensures always { AlwaysAnswers self.now.file }
         ensures once { AnswersOnce self.now.file }
+        ensures counts { CountsOnce self.now.file }
     {
         each_text_has_tokens();
         each_list_has_a_verdict();

@@ -6,7 +6,7 @@ mod doc;
 mod language;
 mod significant;
 
-pub use definitions::{Diagnostic, Position, Range};
+pub use definitions::{Diagnostic, Position, Range, Stats};
 pub use doc::{Doc, DocFault, Outcome};
 pub use language::{Language, LoadFault};
 pub use views::Row;

@@ -1,19 +1,22 @@
 -- What is sent about a document depends on that document alone.
-use Rattle.std.proofs.Common.{◌≡◌, ◌≢◌, ℕ, ℤ, Bool, true, false, List, [], ◌∷◌, refl, sym, ap, subst, ◌∙◌}
+use Rattle.std.proofs.Common.{◌≡◌, ◌≢◌, ℕ, ℤ, Bool, true, false, List, [], ◌∷◌, map, refl, sym, ap, subst, ◌∙◌}
 use Rattle.std.specs.Prelude.{Option, Some, None, All}
 use Rattle.std.specs.Str.{chars}
 use Rattle.std.specs.FinMap.{get}
 use Rattle.std.proofs.lemmas.List.Elements.{All-from_recursion}
+use Rattle.definitions.specs.declared.Unit.TheVariants.{Utf16}
+use Rattle.definitions.specs.Text.{changed}
 use Rattle.docs.specs.Answers.{AnswersOnce}
-use Rattle.docs.specs.Texts.{OpenDocument}
+use Rattle.docs.specs.Edits.{CountsOnce}
+use Rattle.docs.specs.Texts.{LastEdit, OpenDocument}
 use Rattle.grammar.specs.Grammars.{FileGrammar}
-use Rattle.rpc.specs.Messages.{Ident, Asked, initialize, shutdown, about, Question, Told, initialized, exit, open_text, change_text, close, malformed, unfit_open, unfit_change, unfit_close, request, notice, ignored, Heard, unread, refused, said, ChangeSaid}
-use Rattle.rpc.specs.Replies.{Answer, told_diagnostics, told_log}
+use Rattle.rpc.specs.Messages.{Ident, Asked, initialize, shutdown, about, stats, Question, Told, initialized, exit, open_text, change_text, close, malformed, unfit_open, unfit_change, unfit_close, request, notice, ignored, Heard, unread, refused, said, ChangeSaid}
+use Rattle.rpc.specs.Replies.{Answer, told_diagnostics, told_log, told_stats}
 use Rattle.rpc.specs.declared.reply.Log.TheVariants.{Lost}
 use Rattle.rpc.specs.declared.reply.Loss.TheVariants.{TooLarge, MalformedChange, NoMemory}
 use Rattle.server.specs.Alone.{named, LookAlike, LosesMemory, SameFor, EachDocumentIsAlone}
-use Rattle.server.specs.Answers.{IsAnswer, IsPublished}
-use Rattle.server.specs.Documents.{DocumentState, is_open, is_lost, Becomes, has_room}
+use Rattle.server.specs.Answers.{IsAnswer, IsCount, IsPublished, but_nodes}
+use Rattle.server.specs.Documents.{DocumentState, is_open, is_lost, Becomes, IsLastAfter, has_room}
 use Rattle.server.specs.Fresh.{Publishes}
 use Rattle.server.specs.Steps.{State, Asks, Changes, Closes, Forgets, Holds, Ignores, Opens, Replies, Spoils, Step, Tells, opened}
 use Rattle.server.specs.declared.state.Phase.{Phase}
@@ -56,21 +59,30 @@ effect_left name old answers stop new (goes other is s) uri apart =
 
 -- ---- a message that names it
 
+-- what the last edit is
+one_last : (file : FileGrammar) → CountsOnce file → (text : List ℕ) (changes : List ChangeSaid) (last one other : Option LastEdit) → IsLastAfter file text changes last one → IsLastAfter file text changes last other → other ≡ one
+one_last file counts text [] last one other a b = b ∙ sym a
+one_last file counts text (c ∷ cs) last one other a b =
+    let same : b.0 ≡ a.0 = counts.edits text c.range (chars c.text) last a.0 b.0 a.1 b.1 in
+    one_last file counts (changed Utf16 text c.range (chars c.text)) cs (Some a.0) one other a.2 (subst (λ (e : LastEdit). IsLastAfter file (changed Utf16 text c.range (chars c.text)) cs (Some e) other) same b.2)
+
 -- what an open document becomes, but for want of memory
-one_becomes : (version : ℤ) (text : List ℕ) (changes : List ChangeSaid) (s t : DocumentState) → (s ≡ is_lost NoMemory → ⊥) → (t ≡ is_lost NoMemory → ⊥) → Becomes version text changes s → Becomes version text changes t → t ≡ s
-one_becomes version text changes (is_open d) (is_open e) ns nt a b =
+one_becomes : (file : FileGrammar) → CountsOnce file → (version : ℤ) (now : OpenDocument) (changes : List ChangeSaid) (s t : DocumentState) → (s ≡ is_lost NoMemory → ⊥) → (t ≡ is_lost NoMemory → ⊥) → Becomes file version now changes s → Becomes file version now changes t → t ≡ s
+one_becomes file counts version now changes (is_open d) (is_open e) ns nt a b =
     let texts : Some e.text ≡ Some d.text = sym b.0 ∙ a.0 in
     let same : e.text ≡ d.text = cc in
-    ap (λ v. is_open (record { version = v; text = e.text })) (b.1 ∙ sym a.1) ∙ ap (λ t. is_open (record { version = d.version; text = t })) same
-one_becomes version text changes (is_open d) (is_lost TooLarge) ns nt a b = absurd (let e : Some d.text ≡ None = sym a.0 ∙ b in let f : ⊥ = cc in f)
-one_becomes version text changes (is_lost TooLarge) (is_open e) ns nt a b = absurd (let g : Some e.text ≡ None = sym b.0 ∙ a in let f : ⊥ = cc in f)
-one_becomes version text changes (is_lost TooLarge) (is_lost TooLarge) ns nt a b = refl
-one_becomes version text changes s (is_lost NoMemory) ns nt a b = absurd (nt refl)
-one_becomes version text changes (is_lost NoMemory) t ns nt a b = absurd (ns refl)
-one_becomes version text changes s (is_lost MalformedChange) ns nt a b = absurd b
-one_becomes version text changes (is_lost MalformedChange) t ns nt a b = absurd a
+    ap (λ v. is_open (record { version = v; text = e.text; last = e.last })) (b.1 ∙ sym a.1)
+    ∙ (ap (λ t. is_open (record { version = d.version; text = t; last = e.last })) same
+    ∙ ap (λ (l : Option LastEdit). is_open (record { version = d.version; text = d.text; last = l })) (one_last file counts now.text changes now.last d.last e.last a.2 b.2))
+one_becomes file counts version now changes (is_open d) (is_lost TooLarge) ns nt a b = absurd (let e : Some d.text ≡ None = sym a.0 ∙ b in let f : ⊥ = cc in f)
+one_becomes file counts version now changes (is_lost TooLarge) (is_open e) ns nt a b = absurd (let g : Some e.text ≡ None = sym b.0 ∙ a in let f : ⊥ = cc in f)
+one_becomes file counts version now changes (is_lost TooLarge) (is_lost TooLarge) ns nt a b = refl
+one_becomes file counts version now changes s (is_lost NoMemory) ns nt a b = absurd (nt refl)
+one_becomes file counts version now changes (is_lost NoMemory) t ns nt a b = absurd (ns refl)
+one_becomes file counts version now changes s (is_lost MalformedChange) ns nt a b = absurd b
+one_becomes file counts version now changes (is_lost MalformedChange) t ns nt a b = absurd a
 
-module _ (file : FileGrammar) (once : AnswersOnce file) (uri : List ℕ) (old two new other : State) (answers other_answers : List Answer) (stop other_stop : Option ℕ) (by_file : old.file ≡ file) (look : LookAlike uri old two) where
+module _ (file : FileGrammar) (once : AnswersOnce file) (counts : CountsOnce file) (uri : List ℕ) (old two new other : State) (answers other_answers : List Answer) (stop other_stop : Option ℕ) (by_file : old.file ≡ file) (look : LookAlike uri old two) where
   abbrev Same : Type 0
   Same = SameFor uri answers other_answers stop other_stop new other
 
@@ -80,7 +92,7 @@ module _ (file : FileGrammar) (once : AnswersOnce file) (uri : List ℕ) (old tw
   -- nothing changes in either
   both_stay : (told : List Answer) (halt : Option ℕ) → answers ≡ told → other_answers ≡ told → stop ≡ halt → other_stop ≡ halt → new.documents ≡ old.documents → other.documents ≡ two.documents → Same
   both_stay told halt a b s t n o = record {
-    sent = b ∙ sym a;
+    sent = ap (map but_nodes) (b ∙ sym a);
     stops = t ∙ sym s;
     held = ap (λ h. get h uri) o ∙ (look.held ∙ sym (ap (λ h. get h uri) n));
   }
@@ -96,19 +108,19 @@ module _ (file : FileGrammar) (once : AnswersOnce file) (uri : List ℕ) (old tw
       let mine : IsPublished file uri d a.0 = subst (λ (f : FileGrammar). IsPublished f uri d a.0) by_file a.1 in
       let yours : IsPublished file uri d b.0 = subst (λ (f : FileGrammar). IsPublished f uri d b.0) two_file b.1 in
       record {
-        sent = b.2 ∙ (ap (λ (x : Answer). x ∷ []) (one_published file once uri d a.0 b.0 mine yours) ∙ sym a.2);
+        sent = ap (map but_nodes) (b.2 ∙ (ap (λ (x : Answer). x ∷ []) (one_published file once uri d a.0 b.0 mine yours) ∙ sym a.2));
         stops = b.3.0 ∙ sym a.3.0;
         held = ap (λ (x : State). get x.documents uri) b.3.1 ∙ (get_inserted two.documents uri (is_open d) ∙ sym (ap (λ (x : State). get x.documents uri) a.3.1 ∙ get_inserted old.documents uri (is_open d)));
       }
   both_hold (is_lost loss) a b = record {
-    sent = b.0 ∙ sym a.0;
+    sent = ap (map but_nodes) (b.0 ∙ sym a.0);
     stops = b.1.0 ∙ sym a.1.0;
     held = ap (λ (x : State). get x.documents uri) b.1.1 ∙ (get_inserted two.documents uri (is_lost loss) ∙ sym (ap (λ (x : State). get x.documents uri) a.1.1 ∙ get_inserted old.documents uri (is_lost loss)));
   }
 
   both_forget : Forgets old uri answers stop new → Forgets two uri other_answers other_stop other → Same
   both_forget a b = record {
-    sent = b.0 ∙ sym a.0;
+    sent = ap (map but_nodes) (b.0 ∙ sym a.0);
     stops = b.1.0 ∙ sym a.1.0;
     held = ap (λ (x : State). get x.documents uri) b.1.1 ∙ (get_removed two.documents uri ∙ sym (ap (λ (x : State). get x.documents uri) a.1.1 ∙ get_removed old.documents uri));
   }
@@ -127,6 +139,23 @@ module _ (file : FileGrammar) (once : AnswersOnce file) (uri : List ℕ) (old tw
       let same : b.0 ≡ a.0 = both_answer (get old.documents uri) id question a.0 b.0 mine yours in
       both_reply a.0 a.2 (b.2.0 ∙ ap (λ (x : Answer). x ∷ []) same, b.2.1, b.2.2)
 
+  -- the same counts of what both hold, but for the nodes in memory
+  both_counts : (o : Option DocumentState) (id : Ident) (one yours : Answer) → IsCount file id o one → IsCount file id o yours → but_nodes yours ≡ but_nodes one
+  both_counts None id one yours a b = ap but_nodes (b ∙ sym a)
+  both_counts (Some (is_lost loss)) id one yours a b = ap but_nodes (b ∙ sym a)
+  both_counts (Some (is_open d)) id one yours a b = ap but_nodes b.2 ∙ (ap (told_stats id) (counts.stats d a.0 b.0 a.1 b.1) ∙ sym (ap but_nodes a.2))
+
+  both_count : (id : Ident) → Asks Ready old id (stats uri) answers stop new → Asks Ready two id (stats uri) other_answers other_stop other → Same
+  both_count id a b =
+      let mine : IsCount file id (get old.documents uri) a.0 = subst (λ (f : FileGrammar). IsCount f id (get old.documents uri) a.0) by_file a.1 in
+      let theirs : IsCount file id (get two.documents uri) b.0 = subst (λ (f : FileGrammar). IsCount f id (get two.documents uri) b.0) two_file b.1 in
+      let yours : IsCount file id (get old.documents uri) b.0 = subst (λ (o : Option DocumentState). IsCount file id o b.0) look.held theirs in
+      record {
+        sent = ap (map but_nodes) b.2.0 ∙ (ap (λ (x : Answer). x ∷ []) (both_counts (get old.documents uri) id a.0 b.0 mine yours) ∙ sym (ap (map but_nodes) a.2.0));
+        stops = b.2.1 ∙ sym a.2.1;
+        held = ap (λ (x : State). get x.documents uri) b.2.2 ∙ (look.held ∙ sym (ap (λ (x : State). get x.documents uri) a.2.2));
+      }
+
   both_open : (room : Bool) (state : DocumentState) → Opens room old uri state answers stop new → Opens room two uri state other_answers other_stop other → Same
   both_open true state a b = both_hold state a b
   both_open false state a b = both_reply _ a b
@@ -141,7 +170,9 @@ module _ (file : FileGrammar) (once : AnswersOnce file) (uri : List ℕ) (old tw
   both_change (Some (is_open d)) version changes e mine yours a b =
       let kept : a.0 ≡ is_lost NoMemory → ⊥ = λ lost. mine (d, e, held_after old new answers stop a.0 a.2 ∙ ap (λ (s : DocumentState). Some s) lost) in
       let kept_too : b.0 ≡ is_lost NoMemory → ⊥ = λ lost. yours (d, look.held ∙ e, held_after two other other_answers other_stop b.0 b.2 ∙ ap (λ (s : DocumentState). Some s) lost) in
-      let same : b.0 ≡ a.0 = one_becomes version d.text changes a.0 b.0 kept kept_too a.1 b.1 in
+      let mine_now : Becomes file version d changes a.0 = subst (λ (f : FileGrammar). Becomes f version d changes a.0) by_file a.1 in
+      let yours_now : Becomes file version d changes b.0 = subst (λ (f : FileGrammar). Becomes f version d changes b.0) two_file b.1 in
+      let same : b.0 ≡ a.0 = one_becomes file counts version d changes a.0 b.0 kept kept_too mine_now yours_now in
       both_hold a.0 a.2 (subst (λ (s : DocumentState). Holds two uri s other_answers other_stop other) same b.2)
 
   both_spoil : (o : Option DocumentState) → Spoils o old uri answers stop new → Spoils o two uri other_answers other_stop other → Same
@@ -157,6 +188,11 @@ module _ (file : FileGrammar) (once : AnswersOnce file) (uri : List ℕ) (old tw
   both_ask New id question a b = both_reply _ a b
   both_ask Ready id question a b = both_tell id question a b
   both_ask Down id question a b = both_reply _ a b
+
+  both_ask_counts : (phase : Phase) (id : Ident) → Asks phase old id (stats uri) answers stop new → Asks phase two id (stats uri) other_answers other_stop other → Same
+  both_ask_counts New id a b = both_reply _ a b
+  both_ask_counts Ready id a b = both_count id a b
+  both_ask_counts Down id a b = both_reply _ a b
 
   both_hear_open : (phase : Phase) (version : ℤ) (text : List ℕ) → Tells phase old (open_text uri version text) answers stop new → Tells phase two (open_text uri version text) other_answers other_stop other → Same
   both_hear_open New version text a b = both_ignore a b
@@ -183,7 +219,7 @@ module _ (file : FileGrammar) (once : AnswersOnce file) (uri : List ℕ) (old tw
 same_name : (one other : List ℕ) → Some one ≡ Some other → one ≡ other
 same_name one other e = let same : one ≡ other = cc in same
 
-module _ (file : FileGrammar) (once : AnswersOnce file) (old two new other : State) (answers other_answers : List Answer) (stop other_stop : Option ℕ) (by_file : old.file ≡ file) where
+module _ (file : FileGrammar) (once : AnswersOnce file) (counts : CountsOnce file) (old two new other : State) (answers other_answers : List Answer) (stop other_stop : Option ℕ) (by_file : old.file ≡ file) where
   abbrev Alike : List ℕ → Type 0
   Alike uri = LookAlike uri old two → ¬ LosesMemory uri old new → ¬ LosesMemory uri two other → SameFor uri answers other_answers stop other_stop new other
 
@@ -192,18 +228,18 @@ module _ (file : FileGrammar) (once : AnswersOnce file) (old two new other : Sta
   tells_alike exit uri name a b = absurd (let f : ⊥ = cc in f)
   tells_alike (open_text u version text) uri name a b =
       let there = λ (p : Phase). Tells p two (open_text u version text) other_answers other_stop other in
-      subst Alike (same_name u uri name) (λ look mine yours. both_hear_open file once u old two new other answers other_answers stop other_stop by_file look old.phase version text a (subst there look.phase b))
+      subst Alike (same_name u uri name) (λ look mine yours. both_hear_open file once counts u old two new other answers other_answers stop other_stop by_file look old.phase version text a (subst there look.phase b))
   tells_alike (change_text u version changes) uri name a b =
       let there = λ (p : Phase). Tells p two (change_text u version changes) other_answers other_stop other in
-      subst Alike (same_name u uri name) (λ look mine yours. both_hear_change file once u old two new other answers other_answers stop other_stop by_file look old.phase version changes mine yours a (subst there look.phase b))
+      subst Alike (same_name u uri name) (λ look mine yours. both_hear_change file once counts u old two new other answers other_answers stop other_stop by_file look old.phase version changes mine yours a (subst there look.phase b))
   tells_alike (close u) uri name a b =
       let there = λ (p : Phase). Tells p two (close u) other_answers other_stop other in
-      subst Alike (same_name u uri name) (λ look mine yours. both_hear_close file once u old two new other answers other_answers stop other_stop by_file look old.phase a (subst there look.phase b))
+      subst Alike (same_name u uri name) (λ look mine yours. both_hear_close file once counts u old two new other answers other_answers stop other_stop by_file look old.phase a (subst there look.phase b))
   tells_alike (malformed unfit_open) uri name a b = absurd (let f : ⊥ = cc in f)
   tells_alike (malformed (unfit_change None)) uri name a b = absurd (let f : ⊥ = cc in f)
   tells_alike (malformed (unfit_change (Some u))) uri name a b =
       let there = λ (p : Phase). Tells p two (malformed (unfit_change (Some u))) other_answers other_stop other in
-      subst Alike (same_name u uri name) (λ look mine yours. both_hear_misfit file once u old two new other answers other_answers stop other_stop by_file look old.phase a (subst there look.phase b))
+      subst Alike (same_name u uri name) (λ look mine yours. both_hear_misfit file once counts u old two new other answers other_answers stop other_stop by_file look old.phase a (subst there look.phase b))
   tells_alike (malformed unfit_close) uri name a b = absurd (let f : ⊥ = cc in f)
 
   asks_alike : (id : Ident) (asked : Asked) (uri : List ℕ) → named (said (request id asked)) ≡ Some uri → Asks old.phase old id asked answers stop new → Asks two.phase two id asked other_answers other_stop other → Alike uri
@@ -211,7 +247,10 @@ module _ (file : FileGrammar) (once : AnswersOnce file) (old two new other : Sta
   asks_alike id shutdown uri name a b = absurd (let f : ⊥ = cc in f)
   asks_alike id (about u question) uri name a b =
       let there = λ (p : Phase). Asks p two id (about u question) other_answers other_stop other in
-      subst Alike (same_name u uri name) (λ look mine yours. both_ask file once u old two new other answers other_answers stop other_stop by_file look old.phase id question a (subst there look.phase b))
+      subst Alike (same_name u uri name) (λ look mine yours. both_ask file once counts u old two new other answers other_answers stop other_stop by_file look old.phase id question a (subst there look.phase b))
+  asks_alike id (stats u) uri name a b =
+      let there = λ (p : Phase). Asks p two id (stats u) other_answers other_stop other in
+      subst Alike (same_name u uri name) (λ look mine yours. both_ask_counts file once counts u old two new other answers other_answers stop other_stop by_file look old.phase id a (subst there look.phase b))
 
   step_alike : (heard : Heard) (uri : List ℕ) → named heard ≡ Some uri → Step old heard answers stop new → Step two heard other_answers other_stop other → Alike uri
   step_alike unread uri name a b = absurd (let f : ⊥ = cc in f)
@@ -220,8 +259,8 @@ module _ (file : FileGrammar) (once : AnswersOnce file) (old two new other : Sta
   step_alike (said (notice told)) uri name a b = tells_alike told uri name a b
   step_alike (said ignored) uri name a b = absurd (let f : ⊥ = cc in f)
 
-pub each_document_is_alone : (file : FileGrammar) → AnswersOnce file → EachDocumentIsAlone file
-each_document_is_alone file once uri heard old answers stop new by_file step = (
+pub each_document_is_alone : (file : FileGrammar) → AnswersOnce file → CountsOnce file → EachDocumentIsAlone file
+each_document_is_alone file once counts uri heard old answers stop new by_file step = (
   effect_left (named heard) old answers stop new (step_effect old answers stop new heard step) uri,
-  λ name two other_answers other_stop other look theirs mine yours. step_alike file once old two new other answers other_answers stop other_stop by_file heard uri name step theirs look mine yours,
+  λ name two other_answers other_stop other look theirs mine yours. step_alike file once counts old two new other answers other_answers stop other_stop by_file heard uri name step theirs look mine yours,
 )

@@ -5,11 +5,13 @@ use Rattle.std.specs.Prelude.{Option, Some, None}
 use Rattle.std.specs.Str.{chars}
 use Rattle.definitions.specs.Text.{changed}
 use Rattle.definitions.specs.declared.Unit.TheVariants.{Utf16}
-use Rattle.docs.specs.Texts.{fits}
+use Rattle.docs.specs.Edits.{IsNext}
+use Rattle.docs.specs.Texts.{LastEdit, OpenDocument, fits}
+use Rattle.grammar.specs.Grammars.{FileGrammar}
 use Rattle.rpc.specs.Messages.{ChangeSaid, change_view}
 use Rattle.rpc.specs.declared.message.Change.{Change}
 use Rattle.rpc.specs.declared.reply.Loss.TheVariants.{TooLarge, NoMemory}
-use Rattle.server.specs.Documents.{DocumentState, is_open, is_lost, edited, Becomes}
+use Rattle.server.specs.Documents.{DocumentState, is_open, is_lost, edited, Becomes, IsLastAfter}
 
 -- the text after one change
 abbrev pub after : List ℕ → ChangeSaid → List ℕ
@@ -47,17 +49,32 @@ abbrev pub IsFit : DocumentState → Type 0
 IsFit (is_open d) = fits d.text ≡ true
 IsFit (is_lost loss) = Unit {0}
 
-pub becomes_fit : (version : ℤ) (text : List ℕ) (changes : List ChangeSaid) (state : DocumentState) → fits text ≡ true → Becomes version text changes state → IsFit state
-becomes_fit version text changes (is_open d) fit b = edited_fits text changes d.text fit b.0
-becomes_fit version text changes (is_lost loss) fit b = tt
+pub becomes_fit : (file : FileGrammar) (version : ℤ) (d : OpenDocument) (changes : List ChangeSaid) (state : DocumentState) → fits d.text ≡ true → Becomes file version d changes state → IsFit state
+becomes_fit file version d changes (is_open e) fit b = edited_fits d.text changes e.text fit b.0
+becomes_fit file version d changes (is_lost loss) fit b = tt
 
--- where all texts on the way fit, and where one doesn't
-pub some_becomes : (version : ℤ) (text : List ℕ) (changes : List ChangeSaid) → (state : DocumentState) × Becomes version text changes state
-some_becomes version text changes = by (edited text changes) refl
+-- without a change it stays; and it may be lost by the first one, for want of memory or for the length of its text
+pub some_becomes : (file : FileGrammar) (version : ℤ) (d : OpenDocument) (changes : List ChangeSaid) → (state : DocumentState) × Becomes file version d changes state
+some_becomes file version d [] = (is_open (record { version = version; text = d.text; last = d.last }), (refl, refl, refl))
+some_becomes file version d (c ∷ cs) = by (fits (after d.text c)) refl
   where
-    by : (o : Option (List ℕ)) → edited text changes ≡ o → (state : DocumentState) × Becomes version text changes state
-    by None e = (is_lost TooLarge, e)
-    by (Some new) e = (is_open (record { version = version; text = new }), (e, refl))
+    by : (b : Bool) → fits (after d.text c) ≡ b → (state : DocumentState) × Becomes file version d (c ∷ cs) state
+    by true e = (is_lost NoMemory, ([], cs, c, refl, (after d.text c, edited_fitting d.text c [] e)))
+    by false e = (is_lost TooLarge, edited_never d.text c cs e)
+
+-- one edit more
+pub last_more : (file : FileGrammar) (t : List ℕ) (before : List ChangeSaid) (c : ChangeSaid) (mid : List ℕ) (last now : Option LastEdit) (next : LastEdit)
+    → edited t before ≡ Some mid → IsLastAfter file t before last now → IsNext file mid c.range (chars c.text) now next → IsLastAfter file t (before ++ c ∷ []) last (Some next)
+last_more file t [] c mid last now next e is one =
+    let same : t ≡ mid = cc in
+    let there : IsNext file mid c.range (chars c.text) last next = subst (λ (l : Option LastEdit). IsNext file mid c.range (chars c.text) l next) is one in
+    (next, subst (λ x. IsNext file x c.range (chars c.text) last next) (sym same) there, refl)
+last_more file t (b ∷ before) c mid last now next e is one =
+    (is.0, is.1, by (fits (after t b)) e (λ more. last_more file (after t b) before c mid (Some is.0) now next more is.2 one))
+  where
+    by : {P : Type 0} (fit : Bool) → cond fit (edited (after t b) before) None ≡ Some mid → (edited (after t b) before ≡ Some mid → P) → P
+    by true h more = more h
+    by false h more = absurd (let g : ⊥ = cc in g)
 
 -- ---- the changes of a message
 
@@ -80,13 +97,16 @@ module _ (changes : List Change) (i : ℕ) (c : Change) (within : i < length cha
       ap (map change_view) (take_more changes i c within ∙ ap (λ (d : Change). take i changes ++ d ∷ []) (sym here))
       ∙ map-append change_view (take i changes) (c ∷ [])
 
-  module _ (t mid : List ℕ) (edits : edited t before ≡ Some mid) where
-    pub ends_there : fits (after mid (change_view c)) ≡ false → edited t (map change_view changes) ≡ None
+  module _ (file : FileGrammar) (d : OpenDocument) (mid : List ℕ) (edits : edited d.text before ≡ Some mid) where
+    pub ends_there : fits (after mid (change_view c)) ≡ false → edited d.text (map change_view changes) ≡ None
     ends_there over =
-        ap (edited t) all_changes ∙ (edited_behind t before (change_view c ∷ behind) mid edits ∙ edited_never mid (change_view c) behind over)
+        ap (edited d.text) all_changes ∙ (edited_behind d.text before (change_view c ∷ behind) mid edits ∙ edited_never mid (change_view c) behind over)
 
-    pub goes_on : fits (after mid (change_view c)) ≡ true → edited t (map change_view (take (i + 1) changes)) ≡ Some (after mid (change_view c))
-    goes_on fit = ap (edited t) one_more ∙ edited_more t before (change_view c) mid edits fit
+    pub goes_on : fits (after mid (change_view c)) ≡ true → edited d.text (map change_view (take (i + 1) changes)) ≡ Some (after mid (change_view c))
+    goes_on fit = ap (edited d.text) one_more ∙ edited_more d.text before (change_view c) mid edits fit
 
-    pub may_lose : (version : ℤ) → fits (after mid (change_view c)) ≡ true → Becomes version t (map change_view changes) (is_lost NoMemory)
-    may_lose version fit = (before, behind, change_view c, all_changes, (after mid (change_view c), edited_more t before (change_view c) mid edits fit))
+    pub last_goes_on : (now : Option LastEdit) (next : LastEdit) → IsLastAfter file d.text before d.last now → IsNext file mid c.range (chars (change_view c).text) now next → IsLastAfter file d.text (map change_view (take (i + 1) changes)) d.last (Some next)
+    last_goes_on now next is one = subst (λ cs. IsLastAfter file d.text cs d.last (Some next)) (sym one_more) (last_more file d.text before (change_view c) mid d.last now next edits is one)
+
+    pub may_lose : (version : ℤ) → fits (after mid (change_view c)) ≡ true → Becomes file version d (map change_view changes) (is_lost NoMemory)
+    may_lose version fit = (before, behind, change_view c, all_changes, (after mid (change_view c), edited_more d.text before (change_view c) mid edits fit))

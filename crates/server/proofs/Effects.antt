@@ -6,13 +6,13 @@ use Rattle.std.specs.FinMap.{get}
 use Rattle.std.proofs.lemmas.List.Elements.{All-from_recursion}
 use Rattle.docs.specs.Texts.{fits}
 use Rattle.grammar.specs.Grammars.{FileGrammar}
-use Rattle.rpc.specs.Messages.{Ident, Asked, initialize, shutdown, about, Question, its_text, its_tokens, its_tree, its_folds, its_selections, Told, initialized, exit, open_text, change_text, close, malformed, Unfit, unfit_open, unfit_change, unfit_close, request, notice, ignored, invalid, unknown, params, Heard, unread, refused, said, ChangeSaid}
+use Rattle.rpc.specs.Messages.{Ident, Asked, initialize, shutdown, about, stats, Question, its_text, its_tokens, its_tree, its_folds, its_selections, Told, initialized, exit, open_text, change_text, close, malformed, Unfit, unfit_open, unfit_change, unfit_close, request, notice, ignored, invalid, unknown, params, Heard, unread, refused, said, ChangeSaid}
 use Rattle.rpc.specs.Replies.{Answer}
 use Rattle.rpc.specs.declared.reply.Loss.TheVariants.{TooLarge, MalformedChange}
 use Rattle.server.specs.declared.state.Phase.{Phase}
 use Rattle.server.specs.declared.state.Phase.TheVariants.{New, Ready, Down}
 use Rattle.server.specs.Alone.{named}
-use Rattle.server.specs.Answers.{IsAnswer, tree_answer}
+use Rattle.server.specs.Answers.{IsAnswer, IsCount, tree_answer}
 use Rattle.server.specs.Documents.{DocumentState, is_open, is_lost, has_room}
 use Rattle.server.specs.Fresh.{Publishes}
 use Rattle.server.specs.Sessions.{AllFit}
@@ -46,6 +46,11 @@ answer_quiet file id (Some (is_open d)) its_tree answer is = said_quiet answer _
 answer_quiet file id (Some (is_open d)) its_folds answer is = said_quiet answer _ is.2.2 (λ uri p. p)
 answer_quiet file id (Some (is_open d)) (its_selections positions) answer is = said_quiet answer _ is.2.2 (λ uri p. p)
 
+count_quiet : (file : FileGrammar) (id : Ident) (o : Option DocumentState) (answer : Answer) → IsCount file id o answer → (uri : List ℕ) → ¬ Publishes uri answer
+count_quiet file id None answer is = said_quiet answer _ is (λ uri p. p)
+count_quiet file id (Some (is_lost loss)) answer is = said_quiet answer _ is (λ uri p. p)
+count_quiet file id (Some (is_open d)) answer is = said_quiet answer _ is.2 (λ uri p. p)
+
 -- by a message that names the document of this URI, or none
 pub data Effect (name : Option (List ℕ)) (old : State) (answers : List Answer) (stop : Option ℕ) (new : State) : Type 0 where
   stays : AreQuiet answers → new.file ≡ old.file → new.documents ≡ old.documents → Effect name old answers stop new
@@ -56,7 +61,7 @@ pub data Effect (name : Option (List ℕ)) (old : State) (answers : List Answer)
 pub opened_fit : (version : ℤ) (text : List ℕ) → IsFit (opened version text)
 opened_fit version text = by (fits text) refl
   where
-    by : (b : Bool) → fits text ≡ b → IsFit (cond b (is_open (record { version = version; text = text })) (is_lost TooLarge))
+    by : (b : Bool) → fits text ≡ b → IsFit (cond b (is_open (record { version = version; text = text; last = None })) (is_lost TooLarge))
     by true e = e
     by false e = tt
 
@@ -74,9 +79,11 @@ module _ (name : Option (List ℕ)) (old : State) (answers : List Answer) (stop 
   asks_effect New id initialize s = entered Ready _ (λ uri p. p) s.0 s.2
   asks_effect New id shutdown s = replied _ (λ uri p. p) s
   asks_effect New id (about uri question) s = replied _ (λ uri p. p) s
+  asks_effect New id (stats uri) s = replied _ (λ uri p. p) s
   asks_effect Ready id initialize s = replied _ (λ uri p. p) s
   asks_effect Ready id shutdown s = entered Down _ (λ uri p. p) s.0 s.2
   asks_effect Ready id (about uri question) s = replied s.0 (answer_quiet old.file id (get old.documents uri) question s.0 s.1) s.2
+  asks_effect Ready id (stats uri) s = replied s.0 (count_quiet old.file id (get old.documents uri) s.0 s.1) s.2
   asks_effect Down id asked s = replied _ (λ uri p. p) s
 
   opens_effect : (room : Bool) (uri : List ℕ) (state : DocumentState) → name ≡ Some uri → IsFit state → Opens room old uri state answers stop new → Effect name old answers stop new
@@ -86,7 +93,7 @@ module _ (name : Option (List ℕ)) (old : State) (answers : List Answer) (stop 
   changes_effect : (o : Option DocumentState) (uri : List ℕ) (version : ℤ) (changes : List ChangeSaid) → name ≡ Some uri → get old.documents uri ≡ o → Changes o old uri version changes answers stop new → Effect name old answers stop new
   changes_effect None uri version changes is e s = replied _ (λ uri p. p) s
   changes_effect (Some (is_lost loss)) uri version changes is e s = silent s.0 s.2
-  changes_effect (Some (is_open d)) uri version changes is e s = stands uri s.0 is (λ all. becomes_fit version d.text changes s.0 (all uri d e) s.1) s.2
+  changes_effect (Some (is_open d)) uri version changes is e s = stands uri s.0 is (λ all. becomes_fit old.file version d changes s.0 (all uri d e) s.1) s.2
 
   spoils_effect : (o : Option DocumentState) (uri : List ℕ) → name ≡ Some uri → Spoils o old uri answers stop new → Effect name old answers stop new
   spoils_effect None uri is s = replied _ (λ uri p. p) s

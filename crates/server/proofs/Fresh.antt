@@ -7,7 +7,7 @@ use Rattle.std.specs.Cmp.Lexicographic.{slice_cmp}
 use Rattle.std.specs.FinMap.{empty, get, insert, remove, len, get-empty, len-empty}
 use Rattle.std.proofs.lemmas.List.Elements.{All-append, All-from_recursion}
 use Rattle.docs.specs.Answers.{Reading, AlwaysAnswers, AnswersOnce, AreSelections, rows, tree_told}
-use Rattle.docs.specs.Texts.{OpenDocument, fits}
+use Rattle.docs.specs.Texts.{LastEdit, OpenDocument, fits}
 use Rattle.docs.proofs.Texts.{spelled_again}
 use Rattle.grammar.specs.Grammars.{FileGrammar}
 use Rattle.rpc.specs.Messages.{Ident, numbered, Question, its_text, its_tokens, its_tree, its_folds, its_selections, about, open_text, change_text, request, notice, Heard, said, ChangeSaid}
@@ -154,7 +154,7 @@ none_published file uri d found = absurd (let e : Some (is_open d) ≡ None = sy
 -- ---- a fresh server
 
 abbrev document_of : ℤ → List ℕ → OpenDocument
-document_of version text = record { version = version; text = text }
+document_of version text = record { version = version; text = text; last = None }
 
 -- what was just initialized has room
 room_first : (uri : List ℕ) → has_room uri empty ≡ true
@@ -227,11 +227,22 @@ replies_only file uri d state has id question answer is only =
           (s.2.0 ∙ ap (λ a. a ∷ []) same, s.2.1, s.2.2);
     }
 
-alike : (file : FileGrammar) → AlwaysAnswers file → AnswersOnce file → (uri : List ℕ) (d : OpenDocument) → fits d.text ≡ true → (state fresh : State) → HasOpen file uri d state → HasOpen file uri d fresh → AnswerAlike uri state fresh
+-- what is answered doesn't depend on the last edit
+answers_opened : (file : FileGrammar) (id : Ident) (d : OpenDocument) (question : Question) (answer : Answer) → IsAnswerOf file id d question answer → IsAnswerOf file id (document_of d.version d.text) question answer
+answers_opened file id d its_text answer is = is
+answers_opened file id d its_tokens answer is = is
+answers_opened file id d its_tree answer is = is
+answers_opened file id d its_folds answer is = is
+answers_opened file id d (its_selections positions) answer is = is
+
+alike : (file : FileGrammar) → AlwaysAnswers file → AnswersOnce file → (uri : List ℕ) (d : OpenDocument) → fits d.text ≡ true → (state fresh : State) → HasOpen file uri d state → HasOpen file uri (document_of d.version d.text) fresh → AnswerAlike uri state fresh
 alike file always once uri d fit state fresh has fresh_has id question =
+    let e = document_of d.version d.text in
     let some = some_answer_of file always id d fit question in
+    let here = answers_opened file id d question some.0 some.1 in
     let only = λ (other : Answer) (is : IsAnswerOf file id d question other). one_answer file once d id question some.0 other some.1 is in
-    (some.0, replies_only file uri d state has id question some.0 some.1 only, replies_only file uri d fresh fresh_has id question some.0 some.1 only)
+    let only_fresh = λ (other : Answer) (is : IsAnswerOf file id e question other). one_answer file once e id question some.0 other here is in
+    (some.0, replies_only file uri d state has id question some.0 some.1 only, replies_only file uri e fresh fresh_has id question some.0 here only_fresh)
 
 pub every_answer_is_fresh : (file : FileGrammar) → AlwaysAnswers file → AnswersOnce file → EveryAnswerIsFresh file
 every_answer_is_fresh file always once contents answers state uri document run ready held =
@@ -248,14 +259,15 @@ every_answer_is_fresh file always once contents answers state uri document run r
 -- ---- edits
 
 -- the document has the text, or is lost for want of memory
-edits_or_lost : (version : ℤ) (old text : List ℕ) (changes : List ChangeSaid) (state : DocumentState) → edited old changes ≡ Some text → Becomes version old changes state → (state ≡ is_open (document_of version text)) ⊎ (state ≡ is_lost NoMemory)
-edits_or_lost version old text changes (is_open d) edits b =
+edits_or_lost : (file : FileGrammar) (version : ℤ) (old : OpenDocument) (text : List ℕ) (changes : List ChangeSaid) (state : DocumentState) → edited old.text changes ≡ Some text → Becomes file version old changes state
+    → ((last : Option LastEdit) × (state ≡ is_open (record { version = version; text = text; last = last }))) ⊎ (state ≡ is_lost NoMemory)
+edits_or_lost file version old text changes (is_open d) edits b =
     let here : Some d.text ≡ Some text = sym b.0 ∙ edits in
     let same : d.text ≡ text = cc in
-    inl (ap (λ v. is_open (record { version = v; text = d.text })) b.1 ∙ ap (λ t. is_open (document_of version t)) same)
-edits_or_lost version old text changes (is_lost TooLarge) edits b = absurd (let here : Some text ≡ None = sym edits ∙ b in let f : ⊥ = cc in f)
-edits_or_lost version old text changes (is_lost MalformedChange) edits b = absurd b
-edits_or_lost version old text changes (is_lost NoMemory) edits b = inr refl
+    inl (d.last, ap (λ v. is_open (record { version = v; text = d.text; last = d.last })) b.1 ∙ ap (λ t. is_open (record { version = version; text = t; last = d.last })) same)
+edits_or_lost file version old text changes (is_lost TooLarge) edits b = absurd (let here : Some text ≡ None = sym edits ∙ b in let f : ⊥ = cc in f)
+edits_or_lost file version old text changes (is_lost MalformedChange) edits b = absurd b
+edits_or_lost file version old text changes (is_lost NoMemory) edits b = inr refl
 
 -- what is held after a document came to stand so
 holds_documents : (old : State) (uri : List ℕ) (state : DocumentState) (answers : List Answer) (stop : Option ℕ) (new : State) → Holds old uri state answers stop new → new.documents ≡ insert old.documents uri state
@@ -268,6 +280,6 @@ each_text_is_its_edits old new uri version changes document text answers stop re
     let s : Changes (Some (is_open document)) old uri version changes answers stop new = subst (λ (o : Option DocumentState). Changes o old uri version changes answers stop new) held change in
     let documents : new.documents ≡ insert old.documents uri s.0 = holds_documents old uri s.0 answers stop new s.2 in
     let here : get new.documents uri ≡ Some s.0 = ap (λ d. get d uri) documents ∙ get_inserted old.documents uri s.0 in (
-      ⊎_elim (λ same. inl (here ∙ ap (λ x. Some x) same)) (λ same. inr (here ∙ ap (λ x. Some x) same)) (edits_or_lost version document.text text changes s.0 edits s.1),
+      ⊎_elim (λ same. inl (same.0, here ∙ ap (λ x. Some x) same.1)) (λ same. inr (here ∙ ap (λ x. Some x) same)) (edits_or_lost old.file version document text changes s.0 edits s.1),
       λ other apart. ap (λ d. get d other) documents ∙ get_other old.documents uri other s.0 apart,
     )

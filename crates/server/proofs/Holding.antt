@@ -44,7 +44,7 @@ holds_again old mid uri state answers stop new same h = by state (subst (λ (m :
     by (is_lost loss) g = (g.0, (g.1.0, g.1.1 ∙ ap (λ (x : Held). state_of old.file old.phase x) (inserted_again old.documents uri (is_lost loss))))
 
 -- a change of an open document
-pub changes_open : (old mid : State) (uri : List ℕ) (d : Doc) (version : ℤ) (changes : List ChangeSaid) (state : DocumentState) (answers : List Answer) (stop : Option ℕ) (new : State) → get old.documents uri ≡ Some (is_open (open_document d)) → mid ≡ state_of old.file old.phase (remove old.documents uri) → Becomes version d.text changes state → Holds mid uri state answers stop new → Changes (get old.documents uri) old uri version changes answers stop new
+pub changes_open : (old mid : State) (uri : List ℕ) (d : Doc) (version : ℤ) (changes : List ChangeSaid) (state : DocumentState) (answers : List Answer) (stop : Option ℕ) (new : State) → get old.documents uri ≡ Some (is_open (open_document d)) → mid ≡ state_of old.file old.phase (remove old.documents uri) → Becomes old.file version (open_document d) changes state → Holds mid uri state answers stop new → Changes (get old.documents uri) old uri version changes answers stop new
 changes_open old mid uri d version changes state answers stop new held same becomes holds =
     subst (λ (o : Option DocumentState). Changes o old uri version changes answers stop new) (sym held) (state, becomes, holds_again old mid uri state answers stop new same holds)
 

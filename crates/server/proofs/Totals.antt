@@ -1,16 +1,19 @@
 -- Each message makes some step, and each list of contents some run.
-use Rattle.std.proofs.Common.{◌≡◌, ℕ, ℤ, true, false, Bool, List, [], ◌∷◌, ◌++◌, refl}
+use Rattle.std.proofs.Common.{◌≡◌, ℕ, ℤ, true, false, Bool, List, [], ◌∷◌, ◌++◌, length, refl, sym, subst, arith}
 use Rattle.std.specs.Prelude.{Option, Some, None, option_map}
 use Rattle.std.specs.Str.{chars}
 use Rattle.std.specs.FinMap.{get}
-use Rattle.docs.specs.Answers.{AlwaysAnswers}
-use Rattle.docs.specs.Texts.{OpenDocument, fits}
+use Rattle.definitions.specs.declared.Stats.{Stats}
+use Rattle.definitions.specs.Nodes.{all_branches}
+use Rattle.docs.specs.Answers.{AlwaysAnswers, Reading, IsReading}
+use Rattle.docs.specs.Edits.{AreStats, TellsLast}
+use Rattle.docs.specs.Texts.{LastEdit, OpenDocument, fits}
 use Rattle.grammar.specs.Grammars.{FileGrammar}
-use Rattle.rpc.specs.Messages.{Ident, Asked, Question, its_text, its_tokens, its_tree, its_folds, its_selections, initialize, shutdown, about, Told, initialized, exit, open_text, change_text, close, malformed, Unfit, unfit_open, unfit_change, unfit_close, request, notice, ignored, invalid, unknown, params, Heard, unread, refused, said, ChangeSaid}
+use Rattle.rpc.specs.Messages.{Ident, Asked, Question, its_text, its_tokens, its_tree, its_folds, its_selections, initialize, shutdown, about, stats, Told, initialized, exit, open_text, change_text, close, malformed, Unfit, unfit_open, unfit_change, unfit_close, request, notice, ignored, invalid, unknown, params, Heard, unread, refused, said, ChangeSaid}
 use Rattle.rpc.specs.Reading.{hearing}
 use Rattle.rpc.specs.Replies.{Answer, told_folds, told_selections, told_diagnostics}
 use Rattle.rpc.specs.declared.reply.Loss.TheVariants.{MalformedChange}
-use Rattle.server.specs.Answers.{IsAnswer, IsAnswerOf, IsPublished, told_of}
+use Rattle.server.specs.Answers.{IsAnswer, IsAnswerOf, IsCount, IsPublished, told_of}
 use Rattle.server.specs.declared.state.Phase.{Phase}
 use Rattle.server.specs.declared.state.Phase.TheVariants.{New, Ready, Down}
 use Rattle.server.specs.Documents.{DocumentState, is_open, is_lost, has_room}
@@ -41,6 +44,43 @@ some_answer file always id None fit question = (_, refl)
 some_answer file always id (Some (is_lost loss)) fit question = (_, refl)
 some_answer file always id (Some (is_open d)) fit question = some_answer_of file always id d (fit d refl) question
 
+-- the counts that a reading has, beside the last edit
+abbrev counted : Option LastEdit → Reading → Stats
+counted None r = record { edit = 0; scanned = length r.tokens; tokens = length r.tokens; branches = all_branches r.trees; built = all_branches r.trees; nodes = 0 }
+counted (Some last) r = record { edit = last.number; scanned = last.scanned; tokens = length r.tokens; branches = all_branches r.trees; built = last.built; nodes = 0 }
+
+are_counted : (file : FileGrammar) (d : OpenDocument) (last : Option LastEdit) → d.last ≡ last → (r : Reading) → IsReading file d.text r → (stats : Stats) × AreStats file d stats
+are_counted file d None no_edit r is = (
+  counted None r,
+  record {
+    reading = r;
+    is = is;
+    tokens = refl;
+    branches = refl;
+    last = subst (λ (l : Option LastEdit). TellsLast l (counted None r)) (sym no_edit) (refl, refl, refl);
+    nodes = omega arith;
+  },
+)
+are_counted file d (Some last) edited r is = (
+  counted (Some last) r,
+  record {
+    reading = r;
+    is = is;
+    tokens = refl;
+    branches = refl;
+    last = subst (λ (l : Option LastEdit). TellsLast l (counted (Some last) r)) (sym edited) (refl, refl, refl);
+    nodes = omega arith;
+  },
+)
+
+some_count : (file : FileGrammar) → AlwaysAnswers file → (id : Ident) (o : Option DocumentState) → ((d : OpenDocument) → o ≡ Some (is_open d) → fits d.text ≡ true) → (answer : Answer) × IsCount file id o answer
+some_count file always id None fit = (_, refl)
+some_count file always id (Some (is_lost loss)) fit = (_, refl)
+some_count file always id (Some (is_open d)) fit =
+    let r = always.readings d.text (fit d refl) in
+    let stats = are_counted file d d.last refl r.0 r.1 in
+    (_, (stats.0, stats.1, refl))
+
 some_published : (file : FileGrammar) → AlwaysAnswers file → (uri : List ℕ) (d : OpenDocument) → fits d.text ≡ true → (answer : Answer) × IsPublished file uri d answer
 some_published file always uri d fit =
     let r = always.readings d.text fit in
@@ -67,8 +107,8 @@ module _ (old : State) (can : CanServe old) where
   some_changes None uri version changes e = (_, _, _, (refl, refl, refl))
   some_changes (Some (is_lost loss)) uri version changes e = (_, _, _, (refl, refl, refl))
   some_changes (Some (is_open d)) uri version changes e =
-      let next = some_becomes version d.text changes in
-      let held = some_holds uri next.0 (becomes_fit version d.text changes next.0 (can.fit uri d e) next.1) in
+      let next = some_becomes old.file version d changes in
+      let held = some_holds uri next.0 (becomes_fit old.file version d changes next.0 (can.fit uri d e) next.1) in
       (held.0, held.1, held.2, (next.0, next.1, held.3))
 
   some_spoils : (o : Option DocumentState) (uri : List ℕ) → SomeStep (Spoils o old uri)
@@ -90,10 +130,14 @@ module _ (old : State) (can : CanServe old) where
   some_asks New id initialize = (_, _, _, (refl, refl, refl))
   some_asks New id shutdown = (_, _, _, (refl, refl, refl))
   some_asks New id (about uri question) = (_, _, _, (refl, refl, refl))
+  some_asks New id (stats uri) = (_, _, _, (refl, refl, refl))
   some_asks Ready id initialize = (_, _, _, (refl, refl, refl))
   some_asks Ready id shutdown = (_, _, _, (refl, refl, refl))
   some_asks Ready id (about uri question) =
       let some = some_answer old.file can.always id (get old.documents uri) (λ d e. can.fit uri d e) question in
+      (some.0 ∷ [], None, old, (some.0, some.1, (refl, refl, refl)))
+  some_asks Ready id (stats uri) =
+      let some = some_count old.file can.always id (get old.documents uri) (λ d e. can.fit uri d e) in
       (some.0 ∷ [], None, old, (some.0, some.1, (refl, refl, refl)))
   some_asks Down id asked = (_, _, _, (refl, refl, refl))
 

@@ -3,18 +3,20 @@
 --     LookAlike uri one two      what two states have for a document: their file and phase, what they hold under its URI, and whether it
 --         may be held
 --     LosesMemory uri old new      the document is lost for want of memory
+--     SayTheSame answers others      the answers are the same, but for the numbers of nodes in memory
 --     Tale uri old contents events sent      what a run over the contents hears of a document, and what it sends then
 --     EachTaleIsTold file      two sessions that hear the same of a document send the same of it
 --     EachDocumentIsAlone file      a message that does not name a document leaves it as it was, and sends no diagnostics of it; what is
 --         sent on one that names it, and what the document becomes, is the same in states that look alike for it
-use Rattle.std.specs.Prelude.{◌≡◌, ◌≢◌, ◌⊎◌, ℕ, Bool, List, [], ◌∷◌, ◌++◌, All, Option, Some, None, MatchOption}
+use Rattle.std.specs.Prelude.{◌≡◌, ◌≢◌, ◌⊎◌, ℕ, Bool, List, [], ◌∷◌, ◌++◌, map, All, Option, Some, None, MatchOption}
 use Rattle.std.specs.FinMap.{get}
 use Rattle.docs.specs.Texts.{OpenDocument}
 use Rattle.grammar.specs.Grammars.{FileGrammar}
 use Rattle.rpc.specs.declared.reply.Loss.TheVariants.{NoMemory}
-use Rattle.rpc.specs.Messages.{request, about, notice, open_text, change_text, close, malformed, unfit_change, Heard, said}
+use Rattle.rpc.specs.Messages.{request, about, stats, notice, open_text, change_text, close, malformed, unfit_change, Heard, said}
 use Rattle.rpc.specs.Reading.{hearing}
 use Rattle.rpc.specs.Replies.{Answer}
+use Rattle.server.specs.Answers.{but_nodes}
 use Rattle.server.specs.Documents.{is_open, is_lost, has_room}
 use Rattle.server.specs.Fresh.{Publishes}
 use Rattle.server.specs.Steps.{State, first_state, Step}
@@ -22,6 +24,7 @@ use Rattle.server.specs.declared.state.Phase.{Phase}
 
 abbrev pub named : Heard → Option (List ℕ)
 named (said (request id (about uri question))) = Some uri
+named (said (request id (stats uri))) = Some uri
 named (said (notice (open_text uri version text))) = Some uri
 named (said (notice (change_text uri version changes))) = Some uri
 named (said (notice (close uri))) = Some uri
@@ -38,9 +41,13 @@ abbrev pub LosesMemory : List ℕ → State → State → Type 0
 LosesMemory uri old new =
     (d : OpenDocument) × (get old.documents uri ≡ Some (is_open d)) × (get new.documents uri ≡ Some (is_lost NoMemory))
 
+-- these are the same answers, but for what is left free
+abbrev pub SayTheSame : List Answer → List Answer → Type 0
+SayTheSame answers others = map but_nodes others ≡ map but_nodes answers
+
 -- the same is sent, and the document becomes the same
 pub record SameFor (uri : List ℕ) (answers other_answers : List Answer) (stop other_stop : Option ℕ) (new other : State) : Type 0 where
-  pub sent : other_answers ≡ answers
+  pub sent : SayTheSame answers other_answers
   pub stops : other_stop ≡ stop
   pub held : get other.documents uri ≡ get new.documents uri
 
@@ -81,4 +88,5 @@ Tale uri old (content ∷ contents) events sent =
 abbrev pub EachTaleIsTold : FileGrammar → Type 0
 EachTaleIsTold file =
     (uri : List ℕ) (contents others : List (List ℕ)) (events : List Event) (sent other_sent : List Answer)
-    → Tale uri (first_state file) contents events sent → Tale uri (first_state file) others events other_sent → other_sent ≡ sent
+    → Tale uri (first_state file) contents events sent → Tale uri (first_state file) others events other_sent
+    → SayTheSame sent other_sent

@@ -2,16 +2,20 @@
 --     question_view question      a question of the server's code
 --     IsAnswer file id document question answer      this is the answer, by the language of a grammar file, and by the document's
 --         version and text alone
+--     IsCount file id document answer      this is an answer to `lr/stats`
+--     but_nodes answer      the answer without the number of nodes in memory, which is left free
 --     IsPublished file uri document answer      these are the diagnostics of the document, with its version
 use Rattle.std.specs.Prelude.{◌≡◌, ℕ, List, Option, Some, None, option_map, encode_utf8_all}
 use Rattle.definitions.specs.declared.Range.{Range}
+use Rattle.definitions.specs.declared.Stats.{Stats}
 use Rattle.definitions.specs.Answers.{Diagnostic}
 use Rattle.docs.specs.Answers.{Reads, rows, tree_told, AreSelections}
+use Rattle.docs.specs.Edits.{AreStats, without_nodes}
 use Rattle.docs.specs.Texts.{OpenDocument}
 use Rattle.grammar.specs.Grammars.{FileGrammar}
 use Rattle.rpc.specs.declared.reply.Refusal.TheVariants.{DocumentNotOpen, DocumentLost}
 use Rattle.rpc.specs.Messages.{Ident, Question, its_text, its_tokens, its_tree, its_folds, its_selections}
-use Rattle.rpc.specs.Replies.{Answer, told_null, told_text, told_tokens, told_tree, told_folds, told_selections, told_error, told_diagnostics}
+use Rattle.rpc.specs.Replies.{Answer, told_null, told_text, told_tokens, told_tree, told_stats, told_folds, told_selections, told_error, told_diagnostics}
 use Rattle.docs.specs.Told.{AreFoldsOf, IsDiagnosis}
 use Rattle.server.specs.declared.answers.Question.{Question as Put}
 use Rattle.server.specs.declared.answers.Question.TheVariants as put
@@ -43,6 +47,15 @@ abbrev pub IsAnswer : FileGrammar → Ident → Option DocumentState → Questio
 IsAnswer file id None question answer = answer ≡ told_error (Some id) DocumentNotOpen
 IsAnswer file id (Some (is_lost loss)) question answer = answer ≡ told_error (Some id) (DocumentLost loss)
 IsAnswer file id (Some (is_open d)) question answer = IsAnswerOf file id d question answer
+
+abbrev pub IsCount : FileGrammar → Ident → Option DocumentState → Answer → Type 0
+IsCount file id None answer = answer ≡ told_error (Some id) DocumentNotOpen
+IsCount file id (Some (is_lost loss)) answer = answer ≡ told_error (Some id) (DocumentLost loss)
+IsCount file id (Some (is_open d)) answer = (stats : Stats) × AreStats file d stats × (answer ≡ told_stats id stats)
+
+abbrev pub but_nodes : Answer → Answer
+but_nodes (told_stats id stats) = told_stats id (without_nodes stats)
+but_nodes answer = answer
 
 -- a range, and the message in UTF-8
 abbrev pub told_of : Diagnostic → Range × List ℕ

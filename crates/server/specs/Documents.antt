@@ -1,8 +1,9 @@
 -- The documents that a server holds: a finite map from the bytes of their URIs.
---     DocumentState      a document is open, with its version and text, or lost, for a cause
+--     DocumentState      a document is open, with its version, its text and its last edit, or lost, for a cause
 --     Held      documents by their URIs
 --     edited text changes      the text after the changes, each applied to the text that the one before it made
---     Becomes version text changes state      what an open document of this text may become by the changes
+--     IsLastAfter file text changes last after      what the last edit is after the changes
+--     Becomes file version d changes state      what an open document may become by the changes
 --     has_room uri documents      this document is held already, or one more may be
 --     Holding      the language, and the documents that are held
 --     entry_view entry, documents_of entries      an entry of the code's map, and what the entries make
@@ -11,15 +12,17 @@ use Rattle.std.specs.Prelude.{◌≡◌, ℕ, zero, suc, ℤ, pos, ◌||◌, Boo
 use Rattle.std.specs.Ordering.{nat_cmp}
 use Rattle.std.specs.Str.{chars}
 use Rattle.std.specs.Cmp.Lexicographic.{slice_cmp}
-use Rattle.std.specs.Coded.{Coded, code_by, coded×, coded_ℕ, coded_ℤ, coded_list}
+use Rattle.std.specs.Coded.{Coded, code_by, coded×, coded_ℕ, coded_ℤ, coded_list, coded_option}
 use Rattle.std.specs.FinMap.{FinMap, code, from_entries, contains_key, len}
 use Rattle.std.specs.Map.{lookup}
 use Rattle.std.specs.BTreeMap.{is_at}
 use Rattle.definitions.specs.Text.{changed}
 use Rattle.definitions.specs.declared.Unit.TheVariants.{Utf16}
 use Rattle.docs.specs.Docs.{open_document, IsCurrent}
+use Rattle.docs.specs.Edits.{IsNext}
 use Rattle.docs.specs.Languages.{LanguageData}
-use Rattle.docs.specs.Texts.{OpenDocument, fits}
+use Rattle.docs.specs.Texts.{LastEdit, OpenDocument, fits}
+use Rattle.grammar.specs.Grammars.{FileGrammar}
 use Rattle.rpc.specs.Messages.{ChangeSaid}
 use Rattle.rpc.specs.declared.reply.Loss.{Loss}
 use Rattle.rpc.specs.declared.reply.Loss.TheVariants.{TooLarge, MalformedChange, NoMemory}
@@ -42,15 +45,23 @@ edited text (c ∷ cs) =
     then edited (changed Utf16 text c.range (chars c.text)) cs
     else None
 
+-- each change is an edit of the text that the one before it made
+abbrev pub IsLastAfter : FileGrammar → List ℕ → List ChangeSaid → Option LastEdit → Option LastEdit → Type 0
+IsLastAfter file text [] last after = after ≡ last
+IsLastAfter file text (c ∷ cs) last after =
+    (next : LastEdit) × IsNext file text c.range (chars c.text) last next
+    × IsLastAfter file (changed Utf16 text c.range (chars c.text)) cs (Some next) after
+
 -- Where all texts on the way fit, the document has the last one; where one doesn't, it is lost. It may also be lost for want of memory
 -- at any change whose text fits, as do those before it.
-abbrev pub Becomes : ℤ → List ℕ → List ChangeSaid → DocumentState → Type 0
-Becomes version text changes (is_open d) = (edited text changes ≡ Some d.text) × (d.version ≡ version)
-Becomes version text changes (is_lost TooLarge) = edited text changes ≡ None
-Becomes version text changes (is_lost MalformedChange) = ⊥
-Becomes version text changes (is_lost NoMemory) =
+abbrev pub Becomes : FileGrammar → ℤ → OpenDocument → List ChangeSaid → DocumentState → Type 0
+Becomes file version d changes (is_open e) =
+    (edited d.text changes ≡ Some e.text) × (e.version ≡ version) × IsLastAfter file d.text changes d.last e.last
+Becomes file version d changes (is_lost TooLarge) = edited d.text changes ≡ None
+Becomes file version d changes (is_lost MalformedChange) = ⊥
+Becomes file version d changes (is_lost NoMemory) =
     (front rest : List ChangeSaid) × (c : ChangeSaid) × (changes ≡ front ++ c ∷ rest)
-    × ((mid : List ℕ) × (edited text (front ++ c ∷ []) ≡ Some mid))
+    × ((mid : List ℕ) × (edited d.text (front ++ c ∷ []) ≡ Some mid))
 
 -- at most 64 documents are held, lost ones among them
 abbrev pub has_room : List ℕ → Held → Bool
@@ -60,15 +71,27 @@ pub record Holding : Type 0 where
   pub language : LanguageData
   pub documents : Held
 
--- a document is stored as a number for its state, and its version and text where it is open
-abbrev pub stored : DocumentState → ℕ × (ℤ × List ℕ)
-stored (is_open d) = (0, (d.version, d.text))
-stored (is_lost TooLarge) = (1, (pos 0, []))
-stored (is_lost MalformedChange) = (2, (pos 0, []))
-stored (is_lost NoMemory) = (3, (pos 0, []))
+abbrev pub stored_edit : LastEdit → ℕ × (ℕ × ℕ)
+stored_edit e = (e.number, (e.scanned, e.built))
 
-abbrev pub of_stored : ℕ × (ℤ × List ℕ) → DocumentState
-of_stored (zero, p) = is_open (record { version = p.0; text = p.1 })
+abbrev pub of_stored_edit : ℕ × (ℕ × ℕ) → LastEdit
+of_stored_edit (n, p) = record { number = n; scanned = p.0; built = p.1 }
+
+abbrev pub edit_code : Coded LastEdit
+edit_code = code_by (ℕ × (ℕ × ℕ)) (coded× coded_ℕ (coded× coded_ℕ coded_ℕ)) stored_edit of_stored_edit (λ e. refl)
+
+-- what a document is stored as: a number for its state, and its version, text and last edit where it is open
+abbrev pub Stored : Type 0
+Stored = ℕ × (ℤ × (List ℕ × Option LastEdit))
+
+abbrev pub stored : DocumentState → Stored
+stored (is_open d) = (0, (d.version, (d.text, d.last)))
+stored (is_lost TooLarge) = (1, (pos 0, ([], None)))
+stored (is_lost MalformedChange) = (2, (pos 0, ([], None)))
+stored (is_lost NoMemory) = (3, (pos 0, ([], None)))
+
+abbrev pub of_stored : Stored → DocumentState
+of_stored (zero, p) = is_open (record { version = p.0; text = p.1.0; last = p.1.1 })
 of_stored (suc zero, p) = is_lost TooLarge
 of_stored (suc (suc zero), p) = is_lost MalformedChange
 of_stored (suc (suc (suc n)), p) = is_lost NoMemory
@@ -80,7 +103,9 @@ of_stored_back (is_lost MalformedChange) = refl
 of_stored_back (is_lost NoMemory) = refl
 
 abbrev pub document_code : Coded DocumentState
-document_code = code_by (ℕ × (ℤ × List ℕ)) (coded× coded_ℕ (coded× coded_ℤ (coded_list coded_ℕ))) stored of_stored of_stored_back
+document_code =
+    let code = coded× coded_ℕ (coded× coded_ℤ (coded× (coded_list coded_ℕ) (coded_option edit_code))) in
+    code_by Stored code stored of_stored of_stored_back
 
 abbrev pub held_code : Coded Held
 held_code = code (coded_list coded_ℕ) document_code

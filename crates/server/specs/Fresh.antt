@@ -13,7 +13,7 @@ use Rattle.std.specs.FinMap.{get}
 use Rattle.grammar.specs.Grammars.{FileGrammar}
 use Rattle.rpc.specs.Messages.{Ident, initialize, Question, about, open_text, change_text, request, notice, said, ChangeSaid, Heard}
 use Rattle.rpc.specs.Replies.{Answer, told_capabilities, told_diagnostics}
-use Rattle.docs.specs.Texts.{OpenDocument}
+use Rattle.docs.specs.Texts.{LastEdit, OpenDocument}
 use Rattle.rpc.specs.declared.reply.Loss.TheVariants.{NoMemory}
 use Rattle.server.specs.Documents.{is_open, is_lost, edited}
 use Rattle.server.specs.declared.state.Phase.TheVariants.{Ready}
@@ -64,6 +64,6 @@ EachTextIsItsEdits =
     (answers : List Answer) (stop : Option ℕ)
     → old.phase ≡ Ready → get old.documents uri ≡ Some (is_open document) → edited document.text changes ≡ Some text
     → Step old (said (notice (change_text uri version changes))) answers stop new
-    → ((get new.documents uri ≡ Some (is_open (record { version = version; text = text })))
+    → (((last : Option LastEdit) × (get new.documents uri ≡ Some (is_open (record { version = version; text = text; last = last }))))
     ⊎ (get new.documents uri ≡ Some (is_lost NoMemory)))
     × ((other : List ℕ) → other ≢ uri → get new.documents other ≡ get old.documents other)

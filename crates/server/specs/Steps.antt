@@ -14,10 +14,10 @@ use Rattle.rpc.specs.declared.reply.Refusal.TheVariants.{ParseError, InvalidRequ
 use Rattle.rpc.specs.declared.reply.Log.{Log}
 use Rattle.rpc.specs.declared.reply.Log.TheVariants.{OpenMalformed, ChangeMalformed, CloseMalformed, ChangeNotOpen, CloseNotOpen, TooManyDocuments, Lost}
 use Rattle.rpc.specs.declared.reply.Loss.TheVariants.{TooLarge, MalformedChange}
-use Rattle.rpc.specs.Messages.{Ident, Asked, initialize, shutdown, about, Told, exit, open_text, change_text, close, malformed, Unfit, unfit_open, unfit_change, unfit_close, request, notice, ignored, invalid, unknown, params, ChangeSaid, Heard, unread, refused, said}
+use Rattle.rpc.specs.Messages.{Ident, Asked, initialize, shutdown, about, stats, Told, exit, open_text, change_text, close, malformed, Unfit, unfit_open, unfit_change, unfit_close, request, notice, ignored, invalid, unknown, params, ChangeSaid, Heard, unread, refused, said}
 use Rattle.rpc.specs.Replies.{Answer, told_capabilities, told_null, told_error, told_diagnostics, told_log}
 use Rattle.server.specs.Documents.{DocumentState, is_open, is_lost, Held, Becomes, has_room}
-use Rattle.server.specs.Answers.{IsAnswer, IsPublished}
+use Rattle.server.specs.Answers.{IsAnswer, IsCount, IsPublished}
 use Rattle.server.specs.declared.state.Phase.{Phase}
 use Rattle.server.specs.declared.state.Phase.TheVariants.{New, Ready, Down}
 use Rattle.server.specs.declared.state.Server.{Server}
@@ -87,13 +87,16 @@ Asks Ready old id initialize answers stop new = Replies old (told_error (Some id
 Asks Ready old id shutdown answers stop new = Enters old Down (told_null id) answers stop new
 Asks Ready old id (about uri question) answers stop new =
     RepliesSome old (IsAnswer old.file id (get old.documents uri) question) answers stop new
+Asks Ready old id (stats uri) answers stop new =
+    RepliesSome old (IsCount old.file id (get old.documents uri)) answers stop new
 Asks Down old id _ answers stop new = Replies old (told_error (Some id) InvalidRequest) answers stop new
 
 -- ---- notifications
 
 -- a document with this text is open where the text fits, and else lost
 abbrev pub opened : ℤ → List ℕ → DocumentState
-opened version text = if fits text then is_open (record { version = version; text = text }) else is_lost TooLarge
+opened version text =
+    if fits text then is_open (record { version = version; text = text; last = None }) else is_lost TooLarge
 
 -- where there is no room, nothing is opened
 abbrev pub Opens : Bool → State → List ℕ → DocumentState → List Answer → Option ℕ → State → Type 0
@@ -106,7 +109,7 @@ abbrev pub Changes : Option DocumentState → State → List ℕ → ℤ → Lis
 Changes None old uri version changes answers stop new = Logs old ChangeNotOpen answers stop new
 Changes (Some (is_lost loss)) old uri version changes answers stop new = Ignores old answers stop new
 Changes (Some (is_open d)) old uri version changes answers stop new =
-    (state : DocumentState) × Becomes version d.text changes state × Holds old uri state answers stop new
+    (state : DocumentState) × Becomes old.file version d changes state × Holds old uri state answers stop new
 
 abbrev pub Spoils : Option DocumentState → State → List ℕ → List Answer → Option ℕ → State → Type 0
 Spoils None old uri answers stop new = Logs old ChangeNotOpen answers stop new

@@ -9,7 +9,7 @@ ghost use Rattle.rpc.specs.Messages.{id_view, call_view, note_view, malformed_vi
 ghost use Rattle.rpc.specs.declared.reply.Refusal.TheVariants.{DocumentNotOpen, DocumentLost};
 ghost use Rattle.rpc.specs.declared.reply.Loss.TheVariants.{TooLarge, NoMemory};
 ghost use Rattle.rpc.specs.Replies.{reply_view, told_error, told_log};
-ghost use Rattle.server.specs.Answers.{question_view, IsAnswer};
+ghost use Rattle.server.specs.Answers.{question_view, IsAnswer, IsCount};
 ghost use Rattle.server.specs.Documents.{entry_view, has_room, IsEntryOf, Becomes};
 ghost use Rattle.server.specs.Steps.{state_view, first_state, opened, exit_status, unknown_in, params_in, Asks, Changes, Closes, Holds, Misses, Opens, Spoils, Tells, StepOn};
 
@@ -132,7 +132,8 @@ fn changed(
     changes: &[Change],
 ) -> Entry
     requires { IsCurrent language.now doc }
-    ensures becomes { Becomes version doc.text (map change_view changes.now) (entry_view result) }
+    ensures becomes { let changes = map change_view changes.now in
+        Becomes language.now.file version (open_document doc) changes (entry_view result) }
     ensures current { IsEntryOf language.now result }
 {
     for change in changes {
@@ -186,6 +187,28 @@ impl Server {
         })
     }
 
+    /// The reply that tells how much there is of the document of this URI, and how much its last edit has made.
+    fn stats(&self, id: Id, uri: &str) -> Reply
+        ensures { let held = self.now.documents in
+            let document = get held.documents uri.now in
+            IsCount held.language.file (id_view id) document (reply_view result) }
+    {
+        let refusal = match self.documents.get(uri) {
+            Some(Entry::Open(doc)) => {
+                return Reply::Stats {
+                    id,
+                    stats: doc.stats(),
+                };
+            }
+            Some(Entry::Lost(loss)) => Refusal::DocumentLost(*loss),
+            None => Refusal::DocumentNotOpen,
+        };
+        Reply::Error {
+            id: Some(id),
+            refusal,
+        }
+    }
+
     /// A request that fits its method.
     fn ask(&mut self, alloc: Global, id: Id, call: Call) -> Result<Out, AllocError>
         ensures { IfOk result (λ out.
@@ -209,6 +232,9 @@ impl Server {
             (Phase::Ready, Call::Text { uri }) => (uri, Question::Text),
             (Phase::Ready, Call::Tokens { uri }) => (uri, Question::Tokens),
             (Phase::Ready, Call::Tree { uri }) => (uri, Question::Tree),
+            (Phase::Ready, Call::Stats { uri }) => {
+                return one_reply(alloc, self.stats(id, uri.as_str()));
+            }
             (Phase::Ready, Call::FoldingRange { uri }) => (uri, Question::Folds),
             (Phase::Ready, Call::SelectionRange { uri, positions }) => {
                 (uri, Question::Selections(positions))

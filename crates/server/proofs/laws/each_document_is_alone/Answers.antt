@@ -3,9 +3,9 @@ use Rattle.server.proofs.Tales.{each_tale_is_told}
 use Rattle.server.proofs.laws.each_document_is_alone.Goals as goal
 
 pub returns-clause-alone : goal.returns-clause-alone
-returns-clause-alone c = each_document_is_alone c.args.language.now.file c.always_answers.ensures.once
+returns-clause-alone c = each_document_is_alone c.args.language.now.file c.always_answers.ensures.once c.always_answers.ensures.counts
 
 pub returns-clause-told : goal.returns-clause-told
 returns-clause-told c =
     let file = c.args.language.now.file in
-    each_tale_is_told file (each_document_is_alone file c.always_answers.ensures.once)
+    each_tale_is_told file (each_document_is_alone file c.always_answers.ensures.once c.always_answers.ensures.counts)

@@ -25,5 +25,9 @@ returns c =
     let found : get documents uri ≡ Some (entry_view c.in-Some-Open-remove.field-0) = ap (get documents) (sym spelled) ∙ (sym c.remove.ensures.is ∙ ap (option_map entry_view) taken) in
     let held : get documents uri ≡ Some (is_open (open_document doc)) = found ∙ ap (λ (e : Entry). Some (entry_view e)) c.in-Some-Open-remove.field-0-is in
     let mid = state_same _ _ old.phase _ _ (ap (λ (l : LanguageData). l.file) c.remove.ensures.language) (c.remove.ensures.documents ∙ ap (remove documents) spelled) in
-    let becomes : Becomes c.args.version doc.text (map change_view c.args.changes.items) (entry_view entry) = subst (λ (cs : List Change). Becomes c.args.version doc.text (map change_view cs) (entry_view entry)) c.deref.ensures.value (subst (λ (v : ℤ). Becomes v doc.text (map change_view c.deref.result.now) (entry_view entry)) (to_z-of_z w32 c.args.version c.ranges.version) c.changed-entry.ensures.becomes) in
+    let file = old.documents.language.file in
+    let d = open_document doc in
+    let changes = map change_view c.args.changes.items in
+    let by_language = subst (λ (cs : List Change). Becomes c.language.result.now.file c.args.version d (map change_view cs) (entry_view entry)) c.deref.ensures.value (subst (λ (v : ℤ). Becomes c.language.result.now.file v d (map change_view c.deref.result.now) (entry_view entry)) (to_z-of_z w32 c.args.version c.ranges.version) c.changed-entry.ensures.becomes) in
+    let becomes : Becomes file c.args.version d changes (entry_view entry) = subst (λ (l : LanguageData). Becomes l.file c.args.version d changes (entry_view entry)) (c.language.ensures ∙ c.remove.ensures.language) by_language in
     if_ok c.hold.result (λ out holds. changes_open (state_view old) _ uri doc c.args.version (map change_view c.args.changes.items) (entry_view entry) _ _ _ held mid becomes holds) c.hold.ensures

@@ -1,0 +1,280 @@
+-- What the edits of a document make, and that one thing is told of it.
+use Rattle.std.proofs.Common.{◌≡◌, ◌<◌, ◌≤◌, ℕ, zero, suc, ◌+◌, ◌-◌, List, [], ◌∷◌, ◌++◌, length, map, min, refl, sym, ap, subst, ◌∙◌, ◌⊎◌, inl, inr, ⊎_elim, Bool, true, false, arith}
+use Rattle.std.proofs.lemmas.Bool.{cases_lt, eq-eqb, eqb-true}
+use Rattle.std.proofs.lemmas.List.{length-map}
+use Rattle.std.proofs.Math.Nat.{min-eq_left, min-eq_right}
+use Rattle.std.specs.Prelude.{◌==◌, Option, Some, None, if◌then◌else◌}
+use Rattle.definitions.specs.declared.Edit.{Edit}
+use Rattle.definitions.specs.declared.Kind.{Kind}
+use Rattle.definitions.specs.declared.Range.{Range}
+use Rattle.definitions.specs.declared.Stats.{Stats}
+use Rattle.definitions.specs.declared.Unit.TheVariants.{Utf16}
+use Rattle.definitions.specs.Nodes.{StandsIn, branches, branches_of, all_branches}
+use Rattle.definitions.specs.Text.{changed, span}
+use Rattle.definitions.specs.TokenEdits.{Splice, made, splice}
+use Rattle.definitions.specs.TreeEdits.{IsKept, Built, Nothing, Token, Kept, New, Stamped, StampedLeaf, StampedBranch, StampedForest, StampedNil, StampedCons, plain, plain_all, plain_trees}
+use Rattle.definitions.specs.Trees.{Tree, Forest, Leaf, Branch, trees, yields}
+use Rattle.grammar.specs.Grammars.{FileGrammar}
+use Rattle.lexer.specs.Rescans.{significant_kinds}
+use Rattle.lexer.specs.Tokens.{plain as plain_token}
+use Rattle.parser.specs.Machine.{AreMadeBy, IsMadeBy, plain_of}
+use Rattle.parser.specs.Parses.{before_fault, last_leaf, branches_by, branches_of_by, all_branches_by, verdict_in}
+use Rattle.theory.proofs.Exact.{stands_split}
+use Rattle.theory.proofs.Made.{not_in_leaf}
+use Rattle.theory.proofs.Stack.{nowhere, stands_in_front}
+use Rattle.trees.specs.declared.store.Child.{Child}
+use Rattle.trees.specs.Cells.{forest_in, forest_of, trees_of, tree_of}
+use Rattle.docs.specs.declared.doc.Doc.{Doc}
+use Rattle.docs.specs.Answers.{Reading, IsReading, AnswersOnce}
+use Rattle.docs.specs.Edits.{IsNext, Makes, AreStats, TellsLast, CountsOnce, number_of, number_behind, edit_of, without_nodes}
+use Rattle.docs.specs.Docs.{last_edit, open_document, IsCurrent}
+use Rattle.docs.specs.Languages.{LanguageData}
+use Rattle.docs.specs.Texts.{LastEdit, OpenDocument}
+use Rattle.docs.proofs.Current.{reading_of, stacked_reading, stacked_trees}
+
+-- ---- a last leaf is no node
+
+leaf_has_none : (x : List Kind) → all_branches (last_leaf x) ≡ 0
+leaf_has_none [] = refl
+leaf_has_none (k ∷ []) = refl
+leaf_has_none (j ∷ k ∷ x) = leaf_has_none (k ∷ x)
+
+branches_before : (ts : List Tree) (x : List Kind) → all_branches (ts ++ last_leaf x) ≡ all_branches ts
+branches_before [] x = leaf_has_none x
+branches_before (t ∷ ts) x = ap (λ n. branches t + n) (branches_before ts x)
+
+leaf_or_none : (x : List Kind) → (last_leaf x ≡ []) ⊎ ((k : Kind) × (last_leaf x ≡ Leaf k ∷ []))
+leaf_or_none [] = inl refl
+leaf_or_none (k ∷ []) = inr (k, refl)
+leaf_or_none (j ∷ k ∷ x) = leaf_or_none (k ∷ x)
+
+stands_before : (ts : List Tree) (x : List Kind) {lefts : List Tree} {p : ℕ} {us : Forest} → StandsIn (ts ++ last_leaf x) lefts (Branch p us) → StandsIn ts lefts (Branch p us)
+stands_before ts x {p = p} {us = us} stands =
+    ⊎_elim
+    (λ a. a)
+    (λ b. absurd (⊎_elim (λ none. nowhere b.1 none) (λ leaf. not_in_leaf b.1 leaf.0 p us leaf.1 refl) (leaf_or_none x)))
+    (stands_split ts (last_leaf x) stands)
+
+module _ (s : Splice) (old : List Tree) (x : List Kind) where
+  kept_longer : {place p : ℕ} {us : Forest} → IsKept s old place p us → IsKept s (old ++ last_leaf x) place p us
+  kept_longer kept = record {
+    lefts = kept.lefts;
+    stood = stands_in_front (last_leaf x) kept.stood;
+    not_empty = kept.not_empty;
+    untouched = kept.untouched;
+    moved = kept.moved;
+  }
+
+  kept_before : {place p : ℕ} {us : Forest} → IsKept s (old ++ last_leaf x) place p us → IsKept s old place p us
+  kept_before kept = record {
+    lefts = kept.lefts;
+    stood = stands_before old x kept.stood;
+    not_empty = kept.not_empty;
+    untouched = kept.untouched;
+    moved = kept.moved;
+  }
+
+  built_of : {place n : ℕ} {new : List Tree} → Built s (old ++ last_leaf x) place new n → Built s old place new n
+  built_of Nothing = Nothing
+  built_of (Token rest) = Token (built_of rest)
+  built_of (Kept kept rest) = Kept (kept_before kept) (built_of rest)
+  built_of (New never below rest) = New (λ kept. never (kept_longer kept)) (built_of below) (built_of rest)
+
+  built_leaf : (y : List Kind) {place n : ℕ} → Built s old place (last_leaf y) n → n ≡ 0
+  built_leaf [] Nothing = refl
+  built_leaf (k ∷ []) (Token Nothing) = refl
+  built_leaf (j ∷ k ∷ y) built = built_leaf (k ∷ y) built
+
+  built_front : (new : List Tree) (y : List Kind) {place n : ℕ} → Built s old place (new ++ last_leaf y) n → Built s old place new n
+  built_front [] y {place = place} built = subst (λ n. Built s old place [] n) (sym (built_leaf y built)) Nothing
+  built_front (Leaf k ∷ new) y (Token rest) = Token (built_front new y rest)
+  built_front (Branch p us ∷ new) y (Kept kept rest) = Kept kept (built_front new y rest)
+  built_front (Branch p us ∷ new) y (New never below rest) = New never below (built_front new y rest)
+
+  built_before : (new : List Tree) (y : List Kind) {n : ℕ} → Built s (old ++ last_leaf x) 0 (new ++ last_leaf y) n → Built s old 0 new n
+  built_before new y built = built_front new y (built_of built)
+
+-- ---- where all are made by one edit, its nodes are all there are
+
+same_number : (n : ℕ) → ◌≡◌ {A = ℕ} (if n == n then 1 else 0) 1
+same_number n = ap (λ b. if b then 1 else 0) (eq-eqb n n refl)
+
+mutual
+  made_branches : (n : ℕ) (t : Stamped) → IsMadeBy n t → branches_by n t ≡ branches (plain t)
+  made_branches n (StampedLeaf k) is = refl
+  made_branches n (StampedBranch p born ts) is =
+      ap (λ b. (if b == n then 1 else 0) + branches_of_by n ts) is.0 ∙ (ap (λ one. one + branches_of_by n ts) (same_number n) ∙ ap (λ m. 1 + m) (made_below n ts is.1))
+
+  made_below : (n : ℕ) (ts : StampedForest) → AreMadeBy n ts → branches_of_by n ts ≡ branches_of (plain_all ts)
+  made_below n StampedNil are = refl
+  made_below n (StampedCons t ts) are =
+      ap (λ a. a + branches_of_by n ts) (made_branches n t are.0) ∙ ap (λ b. branches (plain t) + b) (made_below n ts are.1)
+
+pub all_made : (n : ℕ) (ts : List Stamped) (cs : List Child) → AreMadeBy n (forest_of ts cs) → all_branches_by n (trees_of ts cs) ≡ all_branches (plain_trees (trees_of ts cs))
+all_made n ts [] are = refl
+all_made n ts (c ∷ cs) are =
+    ap (λ a. a + all_branches_by n (trees_of ts cs)) (made_branches n (tree_of ts c) are.0) ∙ ap (λ b. branches (plain (tree_of ts c)) + b) (all_made n ts cs are.1)
+
+-- ---- the edit behind the last one
+
+abbrev pub edit_told : ℕ → ℕ → ℕ → Option LastEdit
+edit_told n scanned built = if n == 0 then None else Some (record { number = n; scanned = scanned; built = built })
+
+module _ (n scanned built : ℕ) where
+  abbrev told : LastEdit
+  told = record { number = n; scanned = scanned; built = built }
+
+  told_number : number_of (edit_told n scanned built) ≡ n
+  told_number = by (n == 0) refl
+    where
+      by : (b : Bool) → (n == 0) ≡ b → number_of (if b then None else Some told) ≡ n
+      by true e = sym (eqb-true n 0 e)
+      by false e = refl
+
+  told_last : 0 < n → edit_told n scanned built ≡ Some told
+  told_last more = by (n == 0) refl
+    where
+      by : (b : Bool) → (n == 0) ≡ b → ◌≡◌ {A = Option LastEdit} (if b then None else Some told) (Some told)
+      by true e = absurd (omega (arith, more, eqb-true n 0 e))
+      by false e = refl
+
+pub next_positive : (n m : ℕ) → m ≡ min (n + 1) 18_446_744_073_709_551_615 → 0 < m
+next_positive n m is = by (cases_lt 18_446_744_073_709_551_615 (n + 1))
+  where
+    by : (18_446_744_073_709_551_615 < n + 1) ⊎ (n + 1 ≤ 18_446_744_073_709_551_615) → 0 < m
+    by (inl less) =
+        let under : 18_446_744_073_709_551_615 ≤ n + 1 = omega (arith, less) in
+        let e = min-eq_right under in
+        omega (arith, is, e)
+    by (inr more) = let e = min-eq_left more in omega (arith, is, e)
+
+pub same_edit : (text : List ℕ) (range : Option Range) (s : List ℕ) (away : ℕ × ℕ) (inserted told number : ℕ) → away ≡ span Utf16 text range → inserted ≡ length s → told ≡ number
+    → record { at = away.0; removed = away.1 - away.0; inserted = inserted; number = told } ≡ edit_of text range s number
+same_edit text range s away inserted told number places long same =
+    let first : Edit = record { at = away.0; removed = away.1 - away.0; inserted = inserted; number = told } in
+    let place : first ≡ record { at = (span Utf16 text range).0; removed = (span Utf16 text range).1 - (span Utf16 text range).0; inserted = inserted; number = told } = ap (λ (p : ℕ × ℕ). record { at = p.0; removed = p.1 - p.0; inserted = inserted; number = told }) places in
+    place ∙ (ap (λ n. record { at = (span Utf16 text range).0; removed = (span Utf16 text range).1 - (span Utf16 text range).0; inserted = n; number = told }) long ∙ ap (edit_of text range s) same)
+
+-- the kinds before the fault, where there is one
+abbrev before : Doc → List Kind
+before d = before_fault (significant_kinds d.tokens.items) (verdict_in d.store d.parse.verdict)
+
+-- what is kept of a document, and of that which a change made of it
+module _ (l : LanguageData) (d e : Doc) (current : IsCurrent l d) (current_next : IsCurrent l e) where
+  abbrev Spliced : Splice → Type 0
+  Spliced s = d.parse.number < e.parse.number → Built s (plain_of d.store d.parse.stack) 0 (plain_of e.store e.parse.stack) e.parse.built
+
+  abbrev MadeAnew : Type 0
+  MadeAnew = e.parse.number ≤ d.parse.number → AreMadeBy e.parse.number (forest_in e.store e.parse.stack)
+
+  nodes_built : (s : Splice) → Spliced s → d.parse.number < e.parse.number → Built s (stacked_trees l d current) 0 (stacked_trees l e current_next) e.parse.built
+  nodes_built s built less =
+      let was = current.parse.stop.stack in
+      let is = current_next.parse.stop.stack in
+      let old = subst (λ (ts : List Tree). Built s ts 0 (plain_of e.store e.parse.stack) e.parse.built) was.stack_is (built less) in
+      let new = subst (λ (ts : List Tree). Built s (was.trees ++ last_leaf (before d)) 0 ts e.parse.built) is.stack_is old in
+      built_before s was.trees (before d) is.trees (before e) new
+
+  pub next_is : (range : Option Range) (s : List ℕ) (change : Edit) (spliced : Splice) → e.text ≡ changed Utf16 d.text range s
+      → e.parse.number ≡ min (d.parse.number + 1) 18_446_744_073_709_551_615 → change ≡ edit_of d.text range s e.parse.number
+      → spliced ≡ splice l.file.skips change (map plain_token d.tokens.items) (map plain_token e.tokens.items)
+      → e.tokens.scanned ≡ length (made change (map plain_token d.tokens.items) (map plain_token e.tokens.items)) → Spliced spliced → MadeAnew
+      → (next : LastEdit) × (last_edit e ≡ Some next) × IsNext l.file d.text range s (last_edit d) next
+  next_is range s change spliced text number edit same scanned built anew =
+      let old : number_of (last_edit d) ≡ d.parse.number = told_number d.parse.number d.tokens.scanned d.parse.built in
+      let behind : number_behind (last_edit d) ≡ e.parse.number = ap (λ n. min (n + 1) 18_446_744_073_709_551_615) old ∙ sym number in
+      let so : change ≡ edit_of d.text range s (number_behind (last_edit d)) = edit ∙ ap (edit_of d.text range s) (sym behind) in
+      let reading : IsReading l.file (changed Utf16 d.text range s) (reading_of e (stacked_trees l e current_next)) = subst (λ (t : List ℕ). IsReading l.file t (reading_of e (stacked_trees l e current_next))) text (stacked_reading l e current_next) in (
+        record { number = e.parse.number; scanned = e.tokens.scanned; built = e.parse.built },
+        told_last e.parse.number e.tokens.scanned e.parse.built (next_positive d.parse.number e.parse.number number),
+        record {
+          old = reading_of d (stacked_trees l d current);
+          new = reading_of e (stacked_trees l e current_next);
+          was = stacked_reading l d current;
+          is = reading;
+          makes = record {
+            number = sym behind;
+            scanned = subst (λ (x : Edit). e.tokens.scanned ≡ length (made x (map plain_token d.tokens.items) (map plain_token e.tokens.items))) so scanned;
+            built = λ less. subst (λ (x : Splice). Built x (stacked_trees l d current) 0 (stacked_trees l e current_next) e.parse.built) (same ∙ ap (λ (x : Edit). splice l.file.skips x (map plain_token d.tokens.items) (map plain_token e.tokens.items)) so) (nodes_built spliced built (omega (arith, less, old, behind)));
+            all_built = λ more. current_next.parse.built ∙ (all_made e.parse.number _ e.parse.stack (anew (omega (arith, more, old, behind))) ∙ (ap all_branches current_next.parse.stop.stack.stack_is ∙ branches_before (stacked_trees l e current_next) (before e)));
+          };
+        },
+      )
+
+-- what is told of a document
+pub stats_are : (l : LanguageData) (d : Doc) → IsCurrent l d → (stats : Stats) → stats.edit ≡ d.parse.number → stats.scanned ≡ d.tokens.scanned → stats.tokens ≡ length d.tokens.items → stats.branches ≡ d.parse.branches → stats.built ≡ d.parse.built → stats.nodes ≡ length d.store
+    → AreStats l.file (open_document d) stats
+stats_are l d current stats edit scanned tokens branches built nodes = record {
+  reading = reading_of d (stacked_trees l d current);
+  is = stacked_reading l d current;
+  tokens = tokens ∙ sym (length-map d.tokens.items plain_token);
+  branches = branches ∙ (current.parse.branches ∙ (ap all_branches current.parse.stop.stack.stack_is ∙ branches_before (stacked_trees l d current) (before d)));
+  last = by d.parse.number refl;
+  nodes = let few = current.bounded in omega (arith, few, nodes, branches);
+}
+  where
+    by : (n : ℕ) → d.parse.number ≡ n → TellsLast (edit_told n d.tokens.scanned d.parse.built) stats
+    by zero none = (edit ∙ none, scanned ∙ (current.scanned none ∙ sym tokens), built ∙ (current.built none ∙ sym branches))
+    by (suc n) some = subst (λ (last : Option LastEdit). TellsLast last stats) (sym (told_last (suc n) d.tokens.scanned d.parse.built (omega arith))) (edit ∙ some, scanned, built)
+
+-- ---- one thing is told
+
+pub one_built : {s : Splice} {old new : List Tree} {place m n : ℕ} → Built s old place new m → Built s old place new n → n ≡ m
+one_built Nothing Nothing = refl
+one_built (Token a) (Token b) = one_built a b
+one_built (Kept kept a) (Kept other b) = one_built a b
+one_built (Kept kept a) (New never below b) = absurd (never kept)
+one_built (New never below a) (Kept kept b) = absurd (never kept)
+one_built (New {m = m} {n = n} never below a) (New {m = i} {n = j} other beside b) =
+    ap (λ k. 1 + k + j) (one_built below beside) ∙ ap (λ k. 1 + m + k) (one_built a b)
+
+made_once : (file : FileGrammar) (t : List ℕ) (range : Option Range) (s : List ℕ) (last : Option LastEdit) (r q : Reading) (one other : LastEdit)
+    → Makes file (edit_of t range s (number_behind last)) last r q one → Makes file (edit_of t range s (number_behind last)) last r q other → other ≡ one
+made_once file t range s last r q one other a b =
+    same (b.number ∙ sym a.number) (b.scanned ∙ sym a.scanned) (built (cases_lt (number_of last) (number_behind last)))
+  where
+    same : other.number ≡ one.number → other.scanned ≡ one.scanned → other.built ≡ one.built → other ≡ one
+    same number scanned built =
+        ap (λ n. record { number = n; scanned = other.scanned; built = other.built }) number
+        ∙ (ap (λ n. record { number = one.number; scanned = n; built = other.built }) scanned
+        ∙ ap (λ n. record { number = one.number; scanned = one.scanned; built = n }) built)
+
+    built : (number_of last < number_behind last) ⊎ (number_behind last ≤ number_of last) → other.built ≡ one.built
+    built (inl less) = one_built (a.built less) (b.built less)
+    built (inr more) = b.all_built more ∙ sym (a.all_built more)
+
+edits_once : (file : FileGrammar) → AnswersOnce file → (t : List ℕ) (range : Option Range) (s : List ℕ) (last : Option LastEdit) (one other : LastEdit)
+    → IsNext file t range s last one → IsNext file t range s last other → other ≡ one
+edits_once file once t range s last one other a b =
+    let e = edit_of t range s (number_behind last) in
+    let old : b.old ≡ a.old = once.readings t a.old b.old a.was b.was in
+    let new : b.new ≡ a.new = once.readings _ a.new b.new a.is b.is in
+    let here : Makes file e last a.old a.new other = subst (λ (q : Reading). Makes file e last a.old q other) new (subst (λ (r : Reading). Makes file e last r b.new other) old b.makes) in
+    made_once file t range s last a.old a.new one other a.makes here
+
+same_stats : (one other : Stats) → other.edit ≡ one.edit → other.scanned ≡ one.scanned → other.tokens ≡ one.tokens → other.branches ≡ one.branches → other.built ≡ one.built → without_nodes other ≡ without_nodes one
+same_stats one other edit scanned tokens branches built =
+    ap (λ n. record { edit = n; scanned = other.scanned; tokens = other.tokens; branches = other.branches; built = other.built; nodes = 0 }) edit
+    ∙ (ap (λ n. record { edit = one.edit; scanned = n; tokens = other.tokens; branches = other.branches; built = other.built; nodes = 0 }) scanned
+    ∙ (ap (λ n. record { edit = one.edit; scanned = one.scanned; tokens = n; branches = other.branches; built = other.built; nodes = 0 }) tokens
+    ∙ (ap (λ n. record { edit = one.edit; scanned = one.scanned; tokens = one.tokens; branches = n; built = other.built; nodes = 0 }) branches
+    ∙ ap (λ n. record { edit = one.edit; scanned = one.scanned; tokens = one.tokens; branches = one.branches; built = n; nodes = 0 }) built)))
+
+stats_alike : (file : FileGrammar) → AnswersOnce file → (d : OpenDocument) (one other : Stats) → AreStats file d one → AreStats file d other → without_nodes other ≡ without_nodes one
+stats_alike file once d one other a b = by d.last a.last b.last
+  where
+    reading : b.reading ≡ a.reading
+    reading = once.readings d.text a.reading b.reading a.is b.is
+
+    tokens : other.tokens ≡ one.tokens
+    tokens = b.tokens ∙ (ap (λ (r : Reading). length r.tokens) reading ∙ sym a.tokens)
+
+    nodes : other.branches ≡ one.branches
+    nodes = b.branches ∙ (ap (λ (r : Reading). all_branches r.trees) reading ∙ sym a.branches)
+
+    by : (last : Option LastEdit) → TellsLast last one → TellsLast last other → without_nodes other ≡ without_nodes one
+    by None p q = same_stats one other (q.0 ∙ sym p.0) (q.1 ∙ (tokens ∙ sym p.1)) tokens nodes (q.2 ∙ (nodes ∙ sym p.2))
+    by (Some last) p q = same_stats one other (q.0 ∙ sym p.0) (q.1 ∙ sym p.1) tokens nodes (q.2 ∙ sym p.2)
+
+pub counts_once : (file : FileGrammar) → AnswersOnce file → CountsOnce file
+counts_once file once = record { edits = edits_once file once; stats = stats_alike file once }

@@ -1,0 +1,72 @@
+-- The edits of a document, and how much they make.
+--     LastEdit      the last edit of a document: its number, and how many tokens and nodes it made
+--     number_behind last      the number of the edit behind the last one
+--     edit_of text range s number      a change of a text, as the edit of this number
+--     IsNext file text range s last next      behind the last edit, that change of the text makes this one
+--     AreStats file document stats      how much there is of a document, and how much its last edit made
+--     without_nodes stats      what is told but the count of the nodes in memory
+--     CountsOnce file      of each edit one thing is told, and of each document, but for that count
+use Rattle.std.specs.Prelude.{◌≡◌, ℕ, ◌+◌, ◌-◌, ◌*◌, ◌<◌, ◌≤◌, min, List, length, Option, Some, None}
+use Rattle.definitions.specs.declared.Edit.{Edit}
+use Rattle.definitions.specs.declared.Range.{Range}
+use Rattle.definitions.specs.declared.Stats.{Stats}
+use Rattle.definitions.specs.declared.Unit.TheVariants.{Utf16}
+use Rattle.definitions.specs.Nodes.{all_branches}
+use Rattle.definitions.specs.Text.{changed, span}
+use Rattle.definitions.specs.TokenEdits.{made, splice}
+use Rattle.definitions.specs.TreeEdits.{Built}
+use Rattle.docs.specs.Answers.{Reading, IsReading}
+use Rattle.docs.specs.Texts.{LastEdit, OpenDocument}
+use Rattle.grammar.specs.Grammars.{FileGrammar}
+
+-- 0 is opening
+abbrev pub number_of : Option LastEdit → ℕ
+number_of None = 0
+number_of (Some last) = last.number
+
+-- the numbers end at the greatest of 64 bits, which all later edits have
+abbrev pub number_behind : Option LastEdit → ℕ
+number_behind last = min (number_of last + 1) 18_446_744_073_709_551_615
+
+abbrev pub edit_of : List ℕ → Option Range → List ℕ → ℕ → Edit
+edit_of text range s number =
+    let away = span Utf16 text range in
+    record { at = away.0; removed = away.1 - away.0; inserted = length s; number = number }
+
+-- The tokens that the edit doesn't keep, and the nodes that lie in no kept one. Where the numbers have ended, no node is kept.
+pub record Makes (file : FileGrammar) (e : Edit) (last : Option LastEdit) (old new : Reading) (next : LastEdit) : Type 0 where
+  pub number : next.number ≡ e.number
+  pub scanned : next.scanned ≡ length (made e old.tokens new.tokens)
+  pub built : number_of last < e.number → Built (splice file.skips e old.tokens new.tokens) old.trees 0 new.trees next.built
+  pub all_built : e.number ≤ number_of last → next.built ≡ all_branches new.trees
+
+pub record IsNext (file : FileGrammar) (text : List ℕ) (range : Option Range) (s : List ℕ) (last : Option LastEdit) (next : LastEdit) : Type 0 where
+  pub old : Reading
+  pub new : Reading
+  pub was : IsReading file text old
+  pub is : IsReading file (changed Utf16 text range s) new
+  pub makes : Makes file (edit_of text range s (number_behind last)) last old new next
+
+-- opening makes all there is
+abbrev pub TellsLast : Option LastEdit → Stats → Type 0
+TellsLast None stats = (stats.edit ≡ 0) × (stats.scanned ≡ stats.tokens) × (stats.built ≡ stats.branches)
+TellsLast (Some last) stats = (stats.edit ≡ last.number) × (stats.scanned ≡ last.scanned) × (stats.built ≡ last.built)
+
+-- what is kept in memory may be more than the document's nodes, and is bounded
+pub record AreStats (file : FileGrammar) (d : OpenDocument) (stats : Stats) : Type 0 where
+  pub reading : Reading
+  pub is : IsReading file d.text reading
+  pub tokens : stats.tokens ≡ length reading.tokens
+  pub branches : stats.branches ≡ all_branches reading.trees
+  pub last : TellsLast d.last stats
+  pub nodes : stats.nodes ≤ 2 * stats.branches + 1024
+
+abbrev pub without_nodes : Stats → Stats
+without_nodes s =
+    record { edit = s.edit; scanned = s.scanned; tokens = s.tokens; branches = s.branches; built = s.built; nodes = 0 }
+
+pub record CountsOnce (file : FileGrammar) : Type 0 where
+  pub edits : (t : List ℕ) (range : Option Range) (s : List ℕ) (last : Option LastEdit) (one other : LastEdit)
+      → IsNext file t range s last one → IsNext file t range s last other → other ≡ one
+  pub stats : (d : OpenDocument) (one other : Stats) → AreStats file d one → AreStats file d other
+      → without_nodes other ≡ without_nodes one
