@@ -2,7 +2,7 @@
 
 use rpc::{
     Call, Diagnostic, Id, Log, Loss, Malformed, Message, Note, Position, Range, Refusal, Reply,
-    Row, RpcFault, one_hearing, read, some_hearing, to_bytes,
+    Row, RpcFault, Stats, one_hearing, read, some_hearing, to_bytes,
 };
 use std::alloc::Global;
 use std::process::Abort;
@@ -58,6 +58,25 @@ fn texts_have_their_bytes(rt: HostRuntime) -> Result<(), Fail> {
     };
     let content = r#"{"id":2,"jsonrpc":"2.0","result":"(L)"}"#;
     has_bytes(&rt, alloc, &tree, content, 39)
+}
+
+#[test]
+fn counts_have_their_bytes(rt: HostRuntime) -> Result<(), Fail> {
+    let stats = Stats {
+        edit: u64::MAX,
+        scanned: 3,
+        tokens: 7,
+        branches: 8,
+        built: 4,
+        nodes: 10,
+    };
+    let reply = Reply::Stats {
+        id: Id::Number(2),
+        stats,
+    };
+    let content =
+        r#"{"id":2,"jsonrpc":"2.0","result":{"branches":8,"built":4,"edit":18446744073709551615,"nodes":10,"scanned":3,"tokens":7}}"#;
+    has_bytes(&rt, rt.alloc(), &reply, content, 120)
 }
 
 #[test]
@@ -307,6 +326,7 @@ fn kind(outcome: &Result<Message, RpcFault>) -> &'static str {
         Ok(Message::Request(_, Call::Text { .. })) => "text",
         Ok(Message::Request(_, Call::Tokens { .. })) => "tokens",
         Ok(Message::Request(_, Call::Tree { .. })) => "tree",
+        Ok(Message::Request(_, Call::Stats { .. })) => "stats",
         Ok(Message::Notice(note)) => note_kind(note),
         Ok(Message::Ignored) => "ignored",
         Err(RpcFault::Parse) => "parse",
@@ -459,6 +479,14 @@ fn methods_have_their_kinds(rt: HostRuntime) -> Result<(), Fail> {
             "tree",
         ),
         (r#""id":4,"method":"lr/tree","params":{}"#, "params"),
+        (
+            r#""id":4,"method":"lr/stats","params":{"textDocument":{"uri":"a:x"}}"#,
+            "stats",
+        ),
+        (
+            r#""id":4,"method":"lr/stats","params":{"textDocument":{"uri":5}}"#,
+            "params",
+        ),
         (
             r#""id":4,"method":"textDocument/foldingRange","params":{"textDocument":{"uri":"a:x"}}"#,
             "foldingRange",

@@ -18,4 +18,6 @@ mod sessions;
 #[cfg(test)]
 mod talks;
 #[cfg(test)]
+mod told_stats;
+#[cfg(test)]
 mod told_views;
