@@ -3,6 +3,7 @@ pub mod CutAt
 pub mod Fronts
 pub mod Joins
 pub mod Known
+pub mod Lines
 pub mod Located
 pub mod Offsets
 pub mod Past

@@ -1,7 +1,7 @@
 -- What a part of a text adds up to, by the definitions of lines and positions, and what the sums of two parts join to.
 --     sums_of t      the sum of the text t
 --     joined a b      the sum of what has the sum a and, behind it, of what has the sum b
-use Rattle.std.specs.Prelude.{ℕ, zero, suc, ◌-◌, ◌^◌, Bool, false, not, ◌||◌, ◌&&◌, ◌==◌, nat_lt, if◌then◌else◌, List, [], ◌∷◌, ◌++◌, length}
+use Rattle.std.specs.Prelude.{ℕ, zero, suc, ◌+◌, ◌-◌, ◌≤◌, ◌^◌, Bool, false, not, ◌||◌, ◌&&◌, ◌==◌, nat_lt, if◌then◌else◌, List, [], ◌∷◌, ◌++◌, length}
 use Rattle.seqtree.specs.Saturated.{saturated}
 use Rattle.definitions.specs.declared.Position.{Position}
 use Rattle.definitions.specs.declared.Unit.{Unit as Encoding}
@@ -40,12 +40,22 @@ abbrev pub sums_of : List ℕ → Sums
 sums_of [] = Empty
 sums_of (c ∷ t) = Filled (counts_of (c ∷ t))
 
+abbrev pub no_units : Units
+no_units = record { utf8 = 0; utf16 = 0; utf32 = 0 }
+
+abbrev pub units_of : ℕ → Units
+units_of c = record { utf8 = unit Utf8 c; utf16 = unit Utf16 c; utf32 = unit Utf32 c }
+
+-- the units of so many characters below 128
+abbrev pub ascii_units : ℕ → Units
+ascii_units n = record { utf8 = n; utf16 = n; utf32 = n }
+
 -- the units that a character alone counts for in its line: a `\r` and a `\n` count for none
 abbrev pub shown_units : ℕ → Units
 shown_units c =
     if c == line_feed || c == carriage_return
-    then record { utf8 = 0; utf16 = 0; utf32 = 0 }
-    else record { utf8 = unit Utf8 c; utf16 = unit Utf16 c; utf32 = unit Utf32 c }
+    then no_units
+    else units_of c
 
 -- the greatest number that is stored
 abbrev pub most : ℕ
@@ -86,6 +96,22 @@ abbrev pub joined : Sums → Sums → Sums
 joined Empty b = b
 joined (Filled a) Empty = Filled a
 joined (Filled a) (Filled b) = Filled (counts_joined a b)
+
+-- these units and those of the character c can be stored
+pub record HaveRoom (a : Units) (c : ℕ) : Type 0 where
+  pub utf8 : a.utf8 + unit Utf8 c ≤ most
+  pub utf16 : a.utf16 + unit Utf16 c ≤ most
+  pub utf32 : a.utf32 + unit Utf32 c ≤ most
+
+abbrev pub is_none : Units → Bool
+is_none a = a.utf8 == 0 && (a.utf16 == 0 && a.utf32 == 0)
+
+-- the sum of characters with these units, of which none is a `\r` or a `\n`
+abbrev pub line_sums : Units → Sums
+line_sums a =
+    if is_none a
+    then Empty
+    else Filled (record { characters = a.utf32; bytes = a.utf8; breaks = 0; behind = a; begins_with_feed = false; ends_with_return = false })
 
 abbrev pub is_after_character : AfterCharacter → Sums → Bool
 is_after_character g Empty = false

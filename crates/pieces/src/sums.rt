@@ -1,8 +1,8 @@
 //! What a part of a text adds up to, so that positions and offsets are looked up.
 
 ghost use Rattle.std.specs.Prelude.{◌≡◌, ◌≤◌, [], ◌∷◌, length};
-ghost use Rattle.std.specs.Str.{chars};
-ghost use Rattle.pieces.specs.Sums.{sums_of, most, units_joined, count_of, counts_joined, later_breaks, behind_joined, shown_units};
+ghost use Rattle.std.specs.Str.{IsAscii, chars};
+ghost use Rattle.pieces.specs.Sums.{sums_of, most, units_joined, count_of, counts_joined, later_breaks, behind_joined, no_units, units_of, ascii_units, shown_units, HaveRoom, is_none, line_sums};
 
 use definitions::{Position, Unit};
 use seqtree::{Goal, Monoid};
@@ -25,6 +25,32 @@ impl Units {
             utf16: self.utf16.saturating_add(others.utf16),
             utf32: self.utf32.saturating_add(others.utf32),
         }
+    }
+
+    /// The units of these characters and of one behind them.
+    fn with_character(self, c: char) -> Units
+        requires { HaveRoom self c }
+        ensures { result ≡ units_joined self (units_of c) }
+    {
+        if c < '\u{80}' {
+            return Units {
+                utf8: self.utf8 + 1,
+                utf16: self.utf16 + 1,
+                utf32: self.utf32 + 1,
+            };
+        }
+        Units {
+            utf8: self.utf8 + c.len_utf8() as u32,
+            utf16: self.utf16 + c.len_utf16() as u32,
+            utf32: self.utf32 + 1,
+        }
+    }
+
+    /// Whether there are none.
+    fn is_none(self) -> bool
+        ensures { result ≡ is_none self }
+    {
+        self.utf8 == 0 && self.utf16 == 0 && self.utf32 == 0
     }
 
     /// How many there are in one unit.
@@ -148,11 +174,81 @@ pub fn of_text(text: &str) -> Sums
     requires { length text.now ≤ most }
     ensures { result ≡ sums_of (chars text.now) }
 {
-    let mut sums = Sums::Empty;
-    for c in text.chars() {
-        sums = sums.join(&of_character(c));
+    if text.is_ascii() {
+        return of_ascii(text.as_bytes());
     }
-    sums
+    let mut sums = Sums::Empty;
+    let mut line = no_units();
+    for c in text.chars() {
+        if c == '\n' || c == '\r' {
+            sums = sums.join(&of_line(line)).join(&of_character(c));
+            line = no_units();
+        } else {
+            line = line.with_character(c);
+        }
+    }
+    sums.join(&of_line(line))
+}
+
+/// The sum of a text of ASCII, of which each byte is a character.
+fn of_ascii(text: &[u8]) -> Sums
+    requires ascii { IsAscii text.now }
+    requires few { length text.now ≤ most }
+    ensures { result ≡ sums_of text.now }
+{
+    let mut sums = Sums::Empty;
+    let mut line = 0;
+    for &byte in text {
+        // Nearly each byte is above both, so that one comparison is enough.
+        if byte <= b'\r' && (byte == b'\n' || byte == b'\r') {
+            sums = sums
+                .join(&of_line(ascii_units(line)))
+                .join(&of_character(byte as char));
+            line = 0;
+        } else {
+            line += 1;
+        }
+    }
+    sums.join(&of_line(ascii_units(line)))
+}
+
+/// The sum of characters with these units, of which none is a `\r` or a `\n`.
+fn of_line(units: Units) -> Sums
+    ensures { result ≡ line_sums units }
+{
+    if units.is_none() {
+        return Sums::Empty;
+    }
+    Sums::Filled(Counts {
+        characters: units.utf32,
+        bytes: units.utf8,
+        breaks: 0,
+        behind: units,
+        begins_with_feed: false,
+        ends_with_return: false,
+    })
+}
+
+/// The units of so many characters of ASCII.
+fn ascii_units(count: u32) -> Units
+    ensures { result ≡ ascii_units count }
+{
+    Units {
+        utf8: count,
+        utf16: count,
+        utf32: count,
+    }
+}
+
+/// The units of no character.
+fn no_units() -> Units
+    ensures { result ≡ no_units }
+{
+    Units {
+        utf8: 0,
+        utf16: 0,
+        utf32: 0,
+    }
 }
 
 /// The units that a character alone counts for in its line: a `\r` and a `\n` count for none.
@@ -160,11 +256,7 @@ fn shown_units(c: char) -> Units
     ensures { result ≡ shown_units c }
 {
     if c == '\n' || c == '\r' {
-        return Units {
-            utf8: 0,
-            utf16: 0,
-            utf32: 0,
-        };
+        return no_units();
     }
     Units {
         utf8: c.len_utf8() as u32,

@@ -1,8 +1,8 @@
 use Rattle.std.proofs.Common.{◌≡◌, ◌≤◌}
 use Rattle.definitions.specs.Text.{units}
 use Rattle.definitions.specs.declared.Unit.TheVariants.{Utf8}
-use Rattle.pieces.specs.Sums.{sums_of, most}
+use Rattle.pieces.specs.Sums.{sums_of, joined, line_sums, most}
 use Rattle.pieces.proofs.sums.of_text.Given as goal
 
 abbrev pub invariant-loop-c : goal.invariant-loop-c
-invariant-loop-c l = units Utf8 l.yielded ≤ most → l.sums ≡ sums_of l.yielded
+invariant-loop-c l = units Utf8 l.yielded ≤ most → joined l.sums (line_sums l.line) ≡ sums_of l.yielded
