@@ -1,7 +1,8 @@
 -- What is known of a front of a text: by its sum, with one character more, and by what comes next.
-use Rattle.std.specs.Prelude.{◌≡◌, ℕ, zero, suc, ◌+◌, ◌^◌, ◌≤◌, ◌⊎◌, min, Bool, true, false, not, ◌==◌, List, [], ◌∷◌, ◌++◌, length}
-use Rattle.std.proofs.Common.{arith, refl, sym, ap, subst, inl, inr, ◌∙◌, length-append}
-use Rattle.std.proofs.lemmas.Bool.{ne_eqb, and_from, and_left, and_right, false≢true}
+use Rattle.std.specs.Prelude.{◌≡◌, ℕ, zero, suc, ◌+◌, ◌-◌, ◌^◌, ◌≤◌, ◌⊎◌, ◌<◌, ◌≢◌, min, Bool, true, false, not, nat_lt, ◌==◌, List, [], ◌∷◌, ◌++◌, length}
+use Rattle.std.proofs.Common.{arith, refl, sym, ap, subst, inl, inr, ◌∙◌, cond, length-append}
+use Rattle.std.proofs.lemmas.Str.{len_utf8_ascii}
+use Rattle.std.proofs.lemmas.Bool.{lt-ltb, ltb-true, ltb-false, not-true, and_parts, eq-eqb, ne_eqb, and_from, and_left, and_right, false≢true}
 use Rattle.definitions.specs.declared.Position.{Position}
 use Rattle.definitions.specs.declared.Unit.{Unit as Encoding}
 use Rattle.definitions.specs.declared.Unit.TheVariants.{Utf8, Utf16, Utf32}
@@ -11,7 +12,7 @@ use Rattle.pieces.specs.declared.sums.Counts.{Counts}
 use Rattle.pieces.specs.declared.sums.Sums.{Sums}
 use Rattle.pieces.specs.declared.sums.Sums.TheVariants.{Empty, Filled}
 use Rattle.pieces.specs.Sums.{ends_with, end_before_feed, counts_of, sums_of, count_of}
-use Rattle.pieces.specs.Fronts.{front_of, IsPast}
+use Rattle.pieces.specs.Fronts.{front_of, goes_on, with_ones, room, IsPast}
 use Rattle.pieces.proofs.Fronts.{ended_in, behind_in, whole_if_none, position-front}
 use Rattle.pieces.proofs.Joins.{feed, turned, ended-le, length-le, units-append, units-nil, units-cons, units-le, line-le as line_units-le}
 use Rattle.pieces.proofs.Steps.{breaks_at_end, end_at, end-is, end-as_before_feed, end-in_next_line, end-feed, end-return, end-other}
@@ -94,6 +95,11 @@ position-same_line encoding s r front before_feed either is begins =
     none (inr h) = and_left _ _ (ap (λ f. f.ends_with_return) (sym is) ∙ h)
 
 -- with one character more
+unit-ascii : (encoding : Encoding) (c : ℕ) → c < 0x80 → unit encoding c ≡ 1
+unit-ascii Utf8 c low = len_utf8_ascii c low
+unit-ascii Utf16 c low = ap (λ x. cond x 1 2) (lt-ltb c 0x1_0000 (omega (arith, low)))
+unit-ascii Utf32 c low = refl
+
 pub few_front : (s : List ℕ) (c m : ℕ) → units Utf8 (s ++ c ∷ []) ≤ m → units Utf8 s ≤ m
 few_front s c m few = omega (arith, few, units-append Utf8 s (c ∷ []))
 
@@ -131,3 +137,53 @@ front-with encoding s c front characters end next ends few is =
     let exact : characters ≡ length (s ++ c ∷ []) = omega (arith, next, ap (λ f. f.characters) is, length-append s (c ∷ []), length-le (s ++ c ∷ []), few) in
     let return : (c == 13) ≡ ends_with 13 (s ++ c ∷ []) = turned c 13 ∙ sym (ends_with-more s c) in
     λ i. record { characters = exact i; end = ends i; ends_with_return = return i }
+
+-- with a character more that stands in its last line
+front-with_one : (encoding : Encoding) (s : List ℕ) (c : ℕ) (front : Front) (characters character : ℕ) → characters ≡ min (front.characters + 1) 4294967295 → character ≡ min (front.end.character + 1) 4294967295
+    → units Utf8 (s ++ c ∷ []) ≤ 2 ^ 30 → goes_on front c ≡ true → front ≡ front_of encoding s
+    → ◌≡◌ {A = Front} (record { characters = characters; end = record { line = front.end.line; character = character }; ends_with_return = front.ends_with_return }) (front_of encoding (s ++ c ∷ []))
+front-with_one encoding s c front characters character counted next few goes is =
+    let parts = and_parts _ _ goes in
+    let ascii = and_parts _ _ parts.0 in
+    let high : 13 < c = ltb-true _ _ ascii.0 in
+    let low : c < 0x80 = ltb-true _ _ ascii.1 in
+    let none : front.ends_with_return ≡ false = not-true _ parts.1 in
+    let other : c ≢ 13 = λ e. omega (arith, high, e) in
+    let at : front.end ≡ position encoding (s ++ c ∷ []) (length s) = position-same_line encoding s (c ∷ []) front (10 == c) (inr none) is refl in
+    let end = end-with_other encoding s c front.end 1 character (λ e. omega (arith, high, e)) other at (sym (unit-ascii encoding c low)) next few in
+    (λ i. record { characters = characters; end = record { line = front.end.line; character = character }; ends_with_return = (none ∙ sym (ne_eqb c 13 other)) i })
+    ∙ front-with encoding s c front characters (record { line = front.end.line; character = character }) counted end few is
+
+-- with n such characters behind it
+pub no_ones : (front : Front) → with_ones front 0 ≡ front
+no_ones front =
+    let characters : front.characters + 0 ≡ front.characters = omega arith in
+    let character : front.end.character + 0 ≡ front.end.character = omega arith in
+    λ i. record { characters = characters i; end = record { line = front.end.line; character = character i }; ends_with_return = front.ends_with_return }
+
+pub ones-more : (encoding : Encoding) (s : List ℕ) (c : ℕ) (front : Front) (n : ℕ) → units Utf8 (s ++ c ∷ []) ≤ 2 ^ 30 → goes_on front c ≡ true → with_ones front n ≡ front_of encoding s → with_ones front (n + 1) ≡ front_of encoding (s ++ c ∷ [])
+ones-more encoding s c front n few goes is =
+    let short = few_front s c (2 ^ 30) few in
+    let characters : front.characters + (n + 1) ≡ min (front.characters + n + 1) 4294967295 = omega (arith, ap (λ f. f.characters) is, length-le s, short) in
+    let character : front.end.character + (n + 1) ≡ min (front.end.character + n + 1) 4294967295 = omega (arith, ap (λ f. f.end.character) is, character-le encoding s, short) in
+    front-with_one encoding s c (with_ones front n) (front.characters + (n + 1)) (front.end.character + (n + 1)) characters character few goes is
+
+-- the sum of a front is stored in full
+pub ones-fit : (encoding : Encoding) (s : List ℕ) (front : Front) (n characters character : ℕ) → characters ≡ min (front.characters + n) 4294967295 → character ≡ min (front.end.character + n) 4294967295
+    → units Utf8 s ≤ 2 ^ 30 → with_ones front n ≡ front_of encoding s
+    → ◌≡◌ {A = Front} (record { characters = characters; end = record { line = front.end.line; character = character }; ends_with_return = front.ends_with_return }) (front_of encoding s)
+ones-fit encoding s front n characters character counted next few is =
+    let all : characters ≡ front.characters + n = omega (arith, counted, ap (λ f. f.characters) is, length-le s, few) in
+    let line : character ≡ front.end.character + n = omega (arith, next, ap (λ f. f.end.character) is, character-le encoding s, few) in
+    (λ i. record { characters = all i; end = record { line = front.end.line; character = line i }; ends_with_return = front.ends_with_return }) ∙ is
+
+-- so many go past no position
+pub room-not_past : (p : Position) (front : Front) (n : ℕ) → ¬ IsPast p front.end → n ≤ room front p → ¬ IsPast p (with_ones front n).end
+room-not_past p front n before few (inl l) = before (inl l)
+room-not_past p front n before few (inr h) =
+    let room_is : room front p ≡ p.character - front.end.character = ap (λ b. cond b (p.character - front.end.character) (2 ^ 32 - 1)) (eq-eqb _ _ (sym h.0)) in
+    go (nat_lt p.character front.end.character) refl (omega (arith, few, room_is))
+  where
+    go : (b : Bool) → nat_lt p.character front.end.character ≡ b → n ≤ p.character - front.end.character → ⊥
+    go true e few = before (inr (h.0, ltb-true _ _ e))
+    go false e few = omega (arith, ltb-false _ _ e, few, h.1)

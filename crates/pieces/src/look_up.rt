@@ -8,7 +8,7 @@ ghost use Rattle.definitions.specs.Text as of;
 ghost use Rattle.definitions.specs.declared.Unit.{Unit as Encoding};
 ghost use Rattle.definitions.specs.declared.Unit.TheVariants.{Utf8};
 ghost use Rattle.pieces.specs.Sums.{sums_of, end_before_feed};
-ghost use Rattle.pieces.specs.Fronts.{front_of, IsPast};
+ghost use Rattle.pieces.specs.Fronts.{front_of, goes_on, with_ones, room, IsPast};
 
 use crate::piece::Piece;
 use crate::sums::{AfterCharacter, AfterPosition, Sums};
@@ -90,11 +90,46 @@ impl Front {
         ensures { (s : List ℕ) → units Utf8 (s ++ c ∷ []) ≤ 2 ^ 30 → self ≡ front_of unit s →
             result ≡ front_of unit (s ++ c ∷ []) }
     {
+        if self.goes_on(c) {
+            return self.with_ones(1);
+        }
         Front {
             characters: self.characters.saturating_add(1),
             end: self.end_with(unit, c),
             ends_with_return: c == '\r',
         }
+    }
+
+    /// Whether a character behind this front stands in its last line, with one unit in each encoding.
+    fn goes_on(self, c: char) -> bool
+        ensures { result ≡ goes_on self c }
+    {
+        c > '\r' && c < '\u{80}' && !self.ends_with_return
+    }
+
+    /// This front and so many characters behind it that stand in its last line and have one unit each.
+    fn with_ones(self, count: u32) -> Front
+        ensures { (unit : Encoding) (s : List ℕ) → units Utf8 s ≤ 2 ^ 30 →
+            with_ones self count ≡ front_of unit s → result ≡ front_of unit s }
+    {
+        Front {
+            characters: self.characters.saturating_add(count),
+            end: Position {
+                line: self.end.line,
+                character: self.end.character.saturating_add(count),
+            },
+            ends_with_return: self.ends_with_return,
+        }
+    }
+
+    /// How many such characters may follow before it is past a position. It is not past it itself.
+    fn room(self, position: Position) -> u32
+        ensures { result ≡ room self position }
+    {
+        if self.end.line == position.line {
+            return position.character.saturating_sub(self.end.character);
+        }
+        u32::MAX
     }
 
     /// The position of the end of this front and the character behind it, where a `\n` comes next.
@@ -141,14 +176,20 @@ impl Front {
     {
         let mut front = self;
         let mut left = count;
+        let mut ones = 0;
         for c in text.chars() {
             if left == 0 {
-                return (front, c == '\n');
+                return (front.with_ones(ones), c == '\n');
             }
-            front = front.with(unit, c);
             left -= 1;
+            if ones < u32::MAX && front.goes_on(c) {
+                ones += 1;
+                continue;
+            }
+            front = front.with_ones(ones).with(unit, c);
+            ones = 0;
         }
-        (front, false)
+        (front.with_ones(ones), false)
     }
 
     /// The offset of a position that this front is not past, and this front with `text` behind it is.
@@ -159,14 +200,24 @@ impl Front {
             result ≡ of.offset unit (s ++ chars text.now ++ r) position }
     {
         let mut front = self;
+        let mut room = self.room(position);
+        // Such characters are counted alone, since nearly each one is of them.
+        let mut ones = 0;
         for c in text.chars() {
-            let longer = front.with(unit, c);
+            if ones < room && front.goes_on(c) {
+                ones += 1;
+                continue;
+            }
+            let here = front.with_ones(ones);
+            let longer = here.with(unit, c);
             if longer.is_past(position) {
-                return front.end_in_line(position.line);
+                return here.end_in_line(position.line);
             }
             front = longer;
+            room = longer.room(position);
+            ones = 0;
         }
-        front.end_in_line(position.line)
+        front.with_ones(ones).end_in_line(position.line)
     }
 
     /// Whether its end is past a position.

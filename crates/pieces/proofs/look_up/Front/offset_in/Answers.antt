@@ -1,33 +1,69 @@
-use Rattle.std.specs.Prelude.{◌≡◌, ◌-◌, ◌+◌, ◌^◌, ◌&&◌, ◌==◌, ℕ, List, ◌∷◌, ◌++◌, [], length, drop}
+use Rattle.std.specs.Prelude.{◌≡◌, ◌-◌, ◌+◌, ◌^◌, ◌≤◌, ◌&&◌, ◌==◌, ℕ, List, ◌∷◌, ◌++◌, [], length, drop}
 use Rattle.std.specs.Str.{chars}
-use Rattle.std.proofs.Common.{refl, sym, ap, subst, ◌∙◌, cond}
+use Rattle.std.proofs.Common.{arith, refl, sym, ap, subst, ◌∙◌, cond}
 use Rattle.std.proofs.lemmas.Bool.{false≢true}
 use Rattle.std.proofs.lemmas.Iterator.{YieldsList-from_chars}
 use Rattle.std.proofs.lemmas.Iterator.Consumers.{YieldsList-so_far, YieldsList-turn, YieldsList-end}
-use Rattle.std.proofs.lemmas.List.{append-nil, append_assoc, map-id}
-use Rattle.definitions.specs.Text.{offset}
-use Rattle.pieces.specs.Fronts.{front_of, IsPast}
+use Rattle.std.proofs.lemmas.List.{append_assoc, map-id}
+use Rattle.definitions.specs.Text.{offset, units}
+use Rattle.definitions.specs.declared.Position.{Position}
+use Rattle.definitions.specs.declared.Unit.{Unit as Encoding}
+use Rattle.definitions.specs.declared.Unit.TheVariants.{Utf8}
+use Rattle.pieces.specs.declared.look_up.Front.{Front}
+use Rattle.pieces.specs.Fronts.{front_of, with_ones, room, IsPast}
 use Rattle.pieces.specs.Sums.{end_before_feed}
+use Rattle.pieces.proofs.Known.{few_front, no_ones, ones-more, room-not_past}
 use Rattle.pieces.proofs.Offsets.{offset-step}
 use Rattle.pieces.proofs.Turns.{IsTurn, turn-from, turn-whole, few-turn}
 use Rattle.pieces.proofs.look_up.Front.offset_in.Goals as goal
 
-pub loop-c-init : goal.loop-c-init
-loop-c-init c = λ s few is before.
-    (is ∙ ap (front_of c.args.unit) (sym (append-nil s)), subst (λ l. ¬ IsPast c.args.position (end_before_feed c.args.unit l)) (sym (append-nil s)) before)
+-- what was gone over so far is not past the position
+not_past : (encoding : Encoding) (p : Position) (t : List ℕ) (front : Front) (left ones : ℕ) → ones ≤ left → left ≡ room front p → with_ones front ones ≡ front_of encoding t → ¬ IsPast p front.end → ¬ IsPast p (end_before_feed encoding t)
+not_past encoding p t front left ones few left_is is before = subst (λ f. ¬ IsPast p f.end) is (room-not_past p front ones before (omega (arith, few, left_is)))
 
-pub loop-c-preserved : goal.loop-c-preserved
-loop-c-preserved c =
+pub loop-c-preserved-then-goes_on : goal.loop-c-preserved-then-goes_on
+loop-c-preserved-then-goes_on c =
+    let more : c.loop-c.ones + 1 ≤ c.loop-c.room = omega (arith, c.if-ones-room.true) in
     let t : List ℕ = chars c.args.text.now in
     let road = YieldsList-from_chars c.args.text.now c.utf8.text cc in
     let yielded : List ℕ = c.loop-c.yielded in
     let turn : IsTurn t yielded c.in-Some.c =
     turn-from t yielded c.in-Some.c (YieldsList-so_far road yielded _ c.loop-c.yielded_by) (YieldsList-turn road yielded _ c.loop-c.yielded_by _ _ c.in-Some.c c.in-Some.is c.next.ensures.steps) in
-    λ s few is before.
-    let longer : c.with-longer.result ≡ front_of c.args.unit (s ++ (yielded ++ c.in-Some.c ∷ [])) =
-    c.with-longer.ensures (s ++ yielded) (few-turn s t yielded c.in-Some.c (2 ^ 30) turn few) (c.loop-c.invariant s few is before).0
-    ∙ ap (front_of c.args.unit) (append_assoc s yielded (c.in-Some.c ∷ [])) in
-    (longer, λ past. false≢true (c.if-is_past.ensures.1 (subst (IsPast c.args.position) (ap (λ f. f.end) (sym longer)) past)))
+    record {
+      few = more;
+      room = c.loop-c.invariant.room;
+      front =
+          λ s few is before.
+          let front = c.loop-c.invariant.front s few is before in (
+            ones-more c.args.unit (s ++ yielded) c.in-Some.c c.loop-c.front c.loop-c.ones (few-turn s t yielded c.in-Some.c (2 ^ 30) turn few) (sym c.if-goes_on.ensures) front.0
+                ∙ ap (front_of c.args.unit) (append_assoc s yielded (c.in-Some.c ∷ [])),
+            front.1,
+          );
+    }
+
+pub loop-c-preserved : goal.loop-c-preserved
+loop-c-preserved c =
+    let none : 0 ≤ c.room-room-in-loop-c.result = omega arith in
+    let t : List ℕ = chars c.args.text.now in
+    let road = YieldsList-from_chars c.args.text.now c.utf8.text cc in
+    let yielded : List ℕ = c.loop-c.yielded in
+    let turn : IsTurn t yielded c.in-Some.c =
+    turn-from t yielded c.in-Some.c (YieldsList-so_far road yielded _ c.loop-c.yielded_by) (YieldsList-turn road yielded _ c.loop-c.yielded_by _ _ c.in-Some.c c.in-Some.is c.next.ensures.steps) in
+    record {
+      few = none;
+      room = c.room-room-in-loop-c.ensures;
+      front =
+          λ s few is before.
+          let front = c.loop-c.invariant.front s few is before in
+          let short : units Utf8 ((s ++ yielded) ++ c.in-Some.c ∷ []) ≤ 2 ^ 30 = few-turn s t yielded c.in-Some.c (2 ^ 30) turn few in
+          let here : c.with_ones-here.result ≡ front_of c.args.unit (s ++ yielded) =
+          c.with_ones-here.ensures c.args.unit (s ++ yielded) (few_front (s ++ yielded) c.in-Some.c (2 ^ 30) short) front.0 in (
+            no_ones c.with-longer.result
+                ∙ c.with-longer.ensures (s ++ yielded) short here
+                ∙ ap (front_of c.args.unit) (append_assoc s yielded (c.in-Some.c ∷ [])),
+            λ past. false≢true (c.if-is_past.ensures.1 past),
+          );
+    }
 
 pub returns-then-is_past : goal.returns-then-is_past
 returns-then-is_past c =
@@ -37,21 +73,26 @@ returns-then-is_past c =
     let turn : IsTurn t yielded c.in-Some.c =
     turn-from t yielded c.in-Some.c (YieldsList-so_far road yielded _ c.loop-c.yielded_by) (YieldsList-turn road yielded _ c.loop-c.yielded_by _ _ c.in-Some.c c.in-Some.is c.next.ensures.steps) in
     λ s r few is before after.
-    let front = c.loop-c.invariant s few is before in
-    let longer : c.with-longer.result ≡ front_of c.args.unit ((s ++ yielded) ++ c.in-Some.c ∷ []) =
-    c.with-longer.ensures (s ++ yielded) (few-turn s t yielded c.in-Some.c (2 ^ 30) turn few) front.0 in
+    let front = c.loop-c.invariant.front s few is before in
+    let none_past = not_past c.args.unit c.args.position (s ++ yielded) c.loop-c.front c.loop-c.room c.loop-c.ones c.loop-c.invariant.few c.loop-c.invariant.room front.0 front.1 in
+    let short : units Utf8 ((s ++ yielded) ++ c.in-Some.c ∷ []) ≤ 2 ^ 30 = few-turn s t yielded c.in-Some.c (2 ^ 30) turn few in
+    let here : c.with_ones-here.result ≡ front_of c.args.unit (s ++ yielded) =
+    c.with_ones-here.ensures c.args.unit (s ++ yielded) (few_front (s ++ yielded) c.in-Some.c (2 ^ 30) short) front.0 in
     let past : IsPast c.args.position (end_before_feed c.args.unit ((s ++ yielded) ++ c.in-Some.c ∷ [])) =
-    subst (IsPast c.args.position) (ap (λ f. f.end) longer) (c.if-is_past.ensures.0 refl) in
+    subst (IsPast c.args.position) (ap (λ f. f.end) (c.with-longer.ensures (s ++ yielded) short here)) (c.if-is_past.ensures.0 refl) in
     let whole : (s ++ yielded) ++ c.in-Some.c ∷ (drop (length yielded + 1) t ++ r) ≡ (s ++ t) ++ r =
     sym (append_assoc (s ++ yielded) (c.in-Some.c ∷ drop (length yielded + 1) t) r)
     ∙ ap (λ l. l ++ r) (append_assoc s yielded (c.in-Some.c ∷ drop (length yielded + 1) t) ∙ ap (λ l. s ++ l) (turn-whole t yielded c.in-Some.c turn)) in
     c.end_in_line.ensures
-    ∙ ap (λ f. f.characters - cond (f.ends_with_return && (f.end.line == c.args.position.line)) 1 0) front.0
-    ∙ sym (offset-step c.args.unit c.args.position (s ++ yielded) (drop (length yielded + 1) t ++ r) c.in-Some.c front.1 past)
+    ∙ ap (λ f. f.characters - cond (f.ends_with_return && (f.end.line == c.args.position.line)) 1 0) here
+    ∙ sym (offset-step c.args.unit c.args.position (s ++ yielded) (drop (length yielded + 1) t ++ r) c.in-Some.c none_past past)
     ∙ ap (λ l. offset c.args.unit l c.args.position) whole
 
 pub returns : goal.returns
 returns c =
     let all = YieldsList-end (YieldsList-from_chars c.args.text.now c.utf8.text cc) c.loop-c.yielded _ c.loop-c.yielded_by _ _ c.in-None.is c.next.ensures.steps in
     let whole : c.loop-c.yielded ≡ chars c.args.text.now = sym (map-id c.loop-c.yielded) ∙ all.0 in
-    λ s r few is before after. absurd ((c.loop-c.invariant s few is before).1 (subst (λ l. IsPast c.args.position (end_before_feed c.args.unit (s ++ l))) (sym whole) after))
+    λ s r few is before after.
+    let front = c.loop-c.invariant.front s few is before in
+    let none_past = not_past c.args.unit c.args.position (s ++ c.loop-c.yielded) c.loop-c.front c.loop-c.room c.loop-c.ones c.loop-c.invariant.few c.loop-c.invariant.room front.0 front.1 in
+    absurd (none_past (subst (λ l. IsPast c.args.position (end_before_feed c.args.unit (s ++ l))) (sym whole) after))

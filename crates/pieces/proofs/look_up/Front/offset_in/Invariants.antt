@@ -2,10 +2,15 @@ use Rattle.std.specs.Prelude.{◌≡◌, ℕ, ◌^◌, ◌≤◌, List, ◌++◌
 use Rattle.std.specs.Str.{chars}
 use Rattle.definitions.specs.declared.Unit.TheVariants.{Utf8}
 use Rattle.definitions.specs.Text.{units}
-use Rattle.pieces.specs.Fronts.{front_of, IsPast}
+use Rattle.pieces.specs.Fronts.{front_of, with_ones, room, IsPast}
 use Rattle.pieces.specs.Sums.{end_before_feed}
 use Rattle.pieces.proofs.look_up.Front.offset_in.Given as goal
 
 abbrev pub invariant-loop-c : goal.invariant-loop-c
-invariant-loop-c l = (s : List ℕ) → units Utf8 (s ++ chars l.text) ≤ 2 ^ 30 → l.fn.self ≡ front_of l.unit s → ¬ IsPast l.position (end_before_feed l.unit s)
-    → (l.front ≡ front_of l.unit (s ++ l.yielded)) × ¬ IsPast l.position (end_before_feed l.unit (s ++ l.yielded))
+invariant-loop-c l = record {
+  few : l.ones ≤ l.room;
+  room : l.room ≡ room l.front l.position;
+  front :
+      (s : List ℕ) → units Utf8 (s ++ chars l.text) ≤ 2 ^ 30 → l.fn.self ≡ front_of l.unit s → ¬ IsPast l.position (end_before_feed l.unit s)
+      → (with_ones l.front l.ones ≡ front_of l.unit (s ++ l.yielded)) × ¬ IsPast l.position l.front.end;
+}

@@ -4,14 +4,32 @@ use Rattle.std.proofs.Common.{arith, sym, ap, ◌∙◌}
 use Rattle.std.proofs.lemmas.Iterator.{YieldsList-from_chars}
 use Rattle.std.proofs.lemmas.Iterator.Consumers.{YieldsList-so_far, YieldsList-turn, YieldsList-end}
 use Rattle.std.proofs.lemmas.List.{append-nil, append_assoc, length_push, map-id, take_all, drop_all}
-use Rattle.definitions.specs.Text.{begins_with}
+use Rattle.definitions.specs.Text.{begins_with, units}
+use Rattle.definitions.specs.declared.Unit.TheVariants.{Utf8}
 use Rattle.pieces.specs.Fronts.{front_of}
 use Rattle.pieces.proofs.Joins.{turned}
-use Rattle.pieces.proofs.Turns.{IsTurn, turn-from, turn-rest, few-turn}
+use Rattle.pieces.proofs.Known.{few_front, no_ones, ones-more}
+use Rattle.pieces.proofs.Turns.{IsTurn, turn-from, turn-rest, few-take, few-turn}
 use Rattle.pieces.proofs.look_up.Front.with_first.Goals as goal
 
 pub loop-c-init : goal.loop-c-init
-loop-c-init c = record { counted = omega arith; front = λ s few is. is ∙ ap (front_of c.args.unit) (sym (append-nil s)) }
+loop-c-init c = record { counted = omega arith; front = λ s few is. no_ones c.args.self ∙ is ∙ ap (front_of c.args.unit) (sym (append-nil s)) }
+
+pub loop-c-preserved-then-goes_on : goal.loop-c-preserved-then-goes_on
+loop-c-preserved-then-goes_on c =
+    let counted : c.loop-c.left - 1 + length (c.loop-c.yielded ++ c.in-Some.c ∷ []) ≡ c.args.count = omega (arith, c.loop-c.invariant.counted, c.if-left-eq0.false, length_push c.loop-c.yielded c.in-Some.c) in
+    let t : List ℕ = chars c.args.text.now in
+    let road = YieldsList-from_chars c.args.text.now c.utf8.text cc in
+    let yielded : List ℕ = c.loop-c.yielded in
+    let turn : IsTurn t yielded c.in-Some.c =
+    turn-from t yielded c.in-Some.c (YieldsList-so_far road yielded _ c.loop-c.yielded_by) (YieldsList-turn road yielded _ c.loop-c.yielded_by _ _ c.in-Some.c c.in-Some.is c.next.ensures.steps) in
+    record {
+      counted = counted;
+      front =
+          λ s few is.
+          ones-more c.args.unit (s ++ yielded) c.in-Some.c c.loop-c.front c.loop-c.ones (few-turn s t yielded c.in-Some.c (2 ^ 30) turn few) (sym c.if-goes_on.ensures) (c.loop-c.invariant.front s few is)
+          ∙ ap (front_of c.args.unit) (append_assoc s yielded (c.in-Some.c ∷ []));
+    }
 
 pub loop-c-preserved : goal.loop-c-preserved
 loop-c-preserved c =
@@ -25,7 +43,9 @@ loop-c-preserved c =
       counted = counted;
       front =
           λ s few is.
-          c.with-front.ensures (s ++ yielded) (few-turn s t yielded c.in-Some.c (2 ^ 30) turn few) (c.loop-c.invariant.front s few is)
+          let short : units Utf8 ((s ++ yielded) ++ c.in-Some.c ∷ []) ≤ 2 ^ 30 = few-turn s t yielded c.in-Some.c (2 ^ 30) turn few in
+          no_ones c.with-front.result
+          ∙ c.with-front.ensures (s ++ yielded) short (c.with_ones-in-loop-c.ensures c.args.unit (s ++ yielded) (few_front (s ++ yielded) c.in-Some.c (2 ^ 30) short) (c.loop-c.invariant.front s few is))
           ∙ ap (front_of c.args.unit) (append_assoc s yielded (c.in-Some.c ∷ []));
     }
 
@@ -36,7 +56,8 @@ returns-then-left-eq0-clause-front c =
     let road = YieldsList-from_chars c.args.text.now c.utf8.text cc in
     let yielded : List ℕ = c.loop-c.yielded in
     let so_far : yielded ≡ take (length yielded) t = sym (map-id yielded) ∙ YieldsList-so_far road yielded _ c.loop-c.yielded_by in
-    λ s few is. c.loop-c.invariant.front s few is ∙ ap (λ l. front_of c.args.unit (s ++ l)) (so_far ∙ ap (λ n. take n t) same)
+    λ s few is.
+    c.with_ones.ensures c.args.unit (s ++ take c.args.count t) (few-take s t c.args.count (2 ^ 30) few) (c.loop-c.invariant.front s few is ∙ ap (λ l. front_of c.args.unit (s ++ l)) (so_far ∙ ap (λ n. take n t) same))
 
 pub returns-then-left-eq0-clause-feed : goal.returns-then-left-eq0-clause-feed
 returns-then-left-eq0-clause-feed c =
@@ -54,7 +75,8 @@ returns-clause-front c =
     let all = YieldsList-end (YieldsList-from_chars c.args.text.now c.utf8.text cc) c.loop-c.yielded _ c.loop-c.yielded_by _ _ c.in-None.is c.next.ensures.steps in
     let whole : c.loop-c.yielded ≡ t = sym (map-id c.loop-c.yielded) ∙ all.0 in
     let few : length t ≤ c.args.count = omega (arith, c.loop-c.invariant.counted, all.1) in
-    λ s fits is. c.loop-c.invariant.front s fits is ∙ ap (λ l. front_of c.args.unit (s ++ l)) (whole ∙ sym (take_all c.args.count t few))
+    λ s fits is.
+    c.with_ones-2.ensures c.args.unit (s ++ take c.args.count t) (few-take s t c.args.count (2 ^ 30) fits) (c.loop-c.invariant.front s fits is ∙ ap (λ l. front_of c.args.unit (s ++ l)) (whole ∙ sym (take_all c.args.count t few)))
 
 pub returns-clause-feed : goal.returns-clause-feed
 returns-clause-feed c =

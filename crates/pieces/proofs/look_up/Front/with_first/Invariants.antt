@@ -2,11 +2,11 @@ use Rattle.std.specs.Prelude.{◌≡◌, ℕ, ◌+◌, ◌^◌, ◌≤◌, List,
 use Rattle.std.specs.Str.{chars}
 use Rattle.definitions.specs.declared.Unit.TheVariants.{Utf8}
 use Rattle.definitions.specs.Text.{units}
-use Rattle.pieces.specs.Fronts.{front_of}
+use Rattle.pieces.specs.Fronts.{front_of, with_ones}
 use Rattle.pieces.proofs.look_up.Front.with_first.Given as goal
 
 abbrev pub invariant-loop-c : goal.invariant-loop-c
 invariant-loop-c l = record {
   counted : l.left + length l.yielded ≡ l.count;
-  front : (s : List ℕ) → units Utf8 (s ++ chars l.text) ≤ 2 ^ 30 → l.fn.self ≡ front_of l.unit s → l.front ≡ front_of l.unit (s ++ l.yielded);
+  front : (s : List ℕ) → units Utf8 (s ++ chars l.text) ≤ 2 ^ 30 → l.fn.self ≡ front_of l.unit s → with_ones l.front l.ones ≡ front_of l.unit (s ++ l.yielded);
 }
