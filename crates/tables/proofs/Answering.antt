@@ -7,18 +7,17 @@ use Rattle.definitions.specs.declared.Symbol.TheVariants.{Rule as Terminal, Nont
 use Rattle.definitions.specs.Items.{Move as LrMove, HasMove, HasItem, kind_of}
 use Rattle.tables.specs.declared.decisions.Move.{Move}
 use Rattle.tables.specs.declared.decisions.Move.TheVariants.{Shift}
-use Rattle.tables.specs.declared.input.Item.{Item}
+use Rattle.item_sets.specs.declared.item.Item.{Item}
 use Rattle.tables.specs.Actions.{IsMoveAt}
-use Rattle.tables.specs.Collection.{kernel_at, IsStep}
-use Rattle.tables.specs.Input.{Shape}
-use Rattle.tables.specs.Rows.{look_in}
-use Rattle.tables.specs.Sets.{item_of}
-use Rattle.tables.specs.States.{HasKernel}
+use Rattle.item_sets.specs.Collection.{kernel_at, IsStep}
+use Rattle.item_sets.specs.Productions.{Shape}
+use Rattle.item_sets.specs.Lookaheads.{lookahead_at}
+use Rattle.item_sets.specs.Sets.{item_of}
+use Rattle.item_sets.specs.States.{HasKernel}
 use Rattle.tables.specs.Tables.{Sets, IsStateOf, IsAction, AreTables}
-use Rattle.tables.proofs.Called.{look_in-rule, look_in-end}
-use Rattle.tables.proofs.Collected.{start_item}
+use Rattle.item_sets.proofs.Columns.{lookahead_at-rule}
+use Rattle.item_sets.proofs.Collected.{start_item}
 use Rattle.tables.proofs.Complete.{Stands, no_far_move, next_known}
-use Rattle.tables.proofs.Numbered.{symbol_of-number}
 
 module _ (g : Shape) (kernels : List (List Item)) (gotos : List (List (Option ℕ))) (actions : List (List (Option Move))) (t : AreTables g kernels gotos actions) where
   abbrev pub seen : Sets
@@ -32,8 +31,8 @@ module _ (g : Shape) (kernels : List (List Item)) (gotos : List (List (Option �
   has_item prefix s h = let i = slice_index_or (kernel_at kernels s) 0 start_item in (item_of g.grammar i, h.kernel.sound i (Contains-get_or (kernel_at kernels s) 0 start_item (t.some_item s h.below)))
 
   module _ (prefix : List Symbol) (s : ℕ) (h : IsStateOf seen prefix s) where
-    -- what a place of the state's moves says
-    pub move_in_row : (k : ℕ) → k < g.grammar.rules + 1 → IsMoveAt g.grammar kernels prefix (look_in g.grammar k) (slice_index_or (slice_index_or actions s []) k None)
+    -- what a column of the state's moves says
+    pub move_in_row : (k : ℕ) → k < g.grammar.rules + 1 → IsMoveAt g.grammar kernels prefix (lookahead_at k) (slice_index_or (slice_index_or actions s []) k None)
     move_in_row k l = let m = t.moves s h.below in let n = m.filled in m.each k (omega (arith, l, n)) prefix h.kernel
 
     pub is_action : (look : Option ℕ) (o : Option Move) → IsMoveAt g.grammar kernels prefix look o → IsAction g.grammar prefix (kind_of look) o
@@ -41,15 +40,14 @@ module _ (g : Shape) (kernels : List (List Item)) (gotos : List (List (Option �
     is_action look (Some m) x = x.0.has
 
     -- the move on a token rule, and on the end
-    pub rule_action : (a : ℕ) → a < g.grammar.rules → IsAction g.grammar prefix (Some (Token a)) (slice_index_or (slice_index_or actions s []) a None)
-    rule_action a l =
-        let o = slice_index_or (slice_index_or actions s []) a None in
-        is_action (Some a) o (subst (λ y. IsMoveAt g.grammar kernels prefix y o) (look_in-rule g.grammar a l) (move_in_row a (omega (arith, l))))
+    pub rule_move : (a : ℕ) → a < g.grammar.rules → IsMoveAt g.grammar kernels prefix (Some a) (slice_index_or (slice_index_or actions s []) (a + 1) None)
+    rule_move a l = subst (λ y. IsMoveAt g.grammar kernels prefix y (slice_index_or (slice_index_or actions s []) (a + 1) None)) (lookahead_at-rule a) (move_in_row (a + 1) (omega (arith, l)))
 
-    pub end_action : IsAction g.grammar prefix None (slice_index_or (slice_index_or actions s []) g.grammar.rules None)
-    end_action =
-        let o = slice_index_or (slice_index_or actions s []) g.grammar.rules None in
-        is_action None o (subst (λ y. IsMoveAt g.grammar kernels prefix y o) (look_in-end g.grammar) (move_in_row g.grammar.rules (omega arith)))
+    pub rule_action : (a : ℕ) → a < g.grammar.rules → IsAction g.grammar prefix (Some (Token a)) (slice_index_or (slice_index_or actions s []) (a + 1) None)
+    rule_action a l = is_action (Some a) (slice_index_or (slice_index_or actions s []) (a + 1) None) (rule_move a l)
+
+    pub end_action : IsAction g.grammar prefix None (slice_index_or (slice_index_or actions s []) 0 None)
+    end_action = is_action None (slice_index_or (slice_index_or actions s []) 0 None) (move_in_row 0 (omega arith))
 
     pub shift_state : (a to : ℕ) (o : Option Move) → IsMoveAt g.grammar kernels prefix (Some a) o → o ≡ Some (Shift to) → IsStateOf seen (prefix ++ (Terminal a ∷ [])) to
     shift_state a to o x e =
@@ -69,12 +67,11 @@ module _ (g : Shape) (kernels : List (List Item)) (gotos : List (List (Option �
     goto_of n None x = x prefix h.kernel
     goto_of n (Some to) x = let there : IsStateOf seen (prefix ++ (Nonterminal n ∷ [])) to = record { below = x.0; kernel = x.1 prefix h.kernel } in (has_item (prefix ++ (Nonterminal n ∷ [])) to there, there)
 
-    pub goto_in_row : (n : ℕ) → n < g.nonterminals → Goes n (slice_index_or (slice_index_or gotos s []) (g.grammar.rules + n) None)
+    pub goto_in_row : (n : ℕ) → n < g.nonterminals → Goes n (slice_index_or (slice_index_or gotos s []) n None)
     goto_in_row n l =
-        let r = t.rows s h.below in
+        let r = t.gotos s h.below in
         let f = r.filled in
-        let o = slice_index_or (slice_index_or gotos s []) (g.grammar.rules + n) None in
-        goto_of n o (subst (λ y. IsStep g.grammar kernels s y o) (symbol_of-number g (Nonterminal n) l) (r.steps (g.grammar.rules + n) (omega (arith, f, l))))
+        goto_of n (slice_index_or (slice_index_or gotos s []) n None) (r.steps n (omega (arith, f, l)))
 
     -- and one that is none leads nowhere
     pub no_nonterminal : (n : ℕ) → g.nonterminals ≤ n → HasItem g.grammar (prefix ++ (Nonterminal n ∷ [])) → ⊥

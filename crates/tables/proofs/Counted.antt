@@ -1,5 +1,5 @@
 -- The number of sets: as many as there are states.
-use Rattle.std.proofs.Common.{◌≡◌, ◌≢◌, ◌<◌, ◌≤◌, ℕ, zero, suc, true, List, [], ◌∷◌, Option, All, Contains, length, slice_index_or, refl, sym, ap, ◌∙◌, subst, inl, inr, arith}
+use Rattle.std.proofs.Common.{◌≡◌, ◌≢◌, ◌<◌, ◌≤◌, ℕ, zero, suc, true, List, [], ◌∷◌, All, Contains, length, slice_index_or, refl, sym, ap, ◌∙◌, subst, inl, inr, arith}
 use Rattle.std.specs.Prelude.{AllPairs}
 use Rattle.std.specs.List.{list_any}
 use Rattle.std.proofs.Math.Dec.{eqb}
@@ -14,15 +14,17 @@ use Rattle.definitions.specs.declared.Symbol.{Symbol}
 use Rattle.definitions.specs.Items.{HasItem, HaveSameItems, HasMoreSetsThan}
 use Rattle.definitions.specs.Sentences.{AllProductive}
 use Rattle.theory.specs.Closure.{IsKernel}
-use Rattle.tables.specs.declared.input.Item.{Item}
-use Rattle.tables.specs.Collection.{kernel_at, IsOrdered, IsReached, IsRow, Found, AreStates}
-use Rattle.tables.specs.Input.{Shape, IsSound}
-use Rattle.tables.specs.Order.{IsInside}
-use Rattle.tables.specs.Sets.{side, item_of, IsItem}
-use Rattle.tables.specs.States.{HasKernel}
-use Rattle.tables.proofs.Collected.{start_item, same_sets}
+use Rattle.item_sets.specs.declared.item.Item.{Item}
+use Rattle.item_sets.specs.Collection.{kernel_at, IsReached, Found, AreStates}
+use Rattle.item_sets.specs.Order.{IsOrdered}
+use Rattle.tables.specs.Gotos.{HasSteps}
+use Rattle.item_sets.specs.Productions.{Shape, IsSound}
+use Rattle.item_sets.specs.Order.{IsInside}
+use Rattle.item_sets.specs.Sets.{side, item_of, IsItem}
+use Rattle.item_sets.specs.States.{HasKernel}
+use Rattle.item_sets.proofs.Collected.{start_item, same_sets}
 use Rattle.tables.proofs.Complete.{all_stand}
-use Rattle.tables.proofs.Ordered.{rising_same}
+use Rattle.item_sets.proofs.Ordered.{rising_same}
 
 module _ (g : Shape) where
   before_long : (i : Item) → IsItem g i → length (item_of g.grammar i).before ≡ i.at
@@ -69,13 +71,13 @@ module _ (g : Shape) where
       let n = r.1 in
       (r.0, omega (arith, l, n), (λ s d b. (r.2 s d (omega (arith, b, n))).1), (λ s u d b c same. h.distinct u (omega (arith, c, n)) s b (same_kernel (kernel_at t.kernels s) (kernel_at t.kernels u) (slice_index_or r.0 s d) (slice_index_or r.0 u d) (r.2 s d (omega (arith, b, c, n))).0 (r.2 u d (omega (arith, c, n))).0 same (h.ordered s (omega (arith, b, c, n))) (h.ordered u (omega (arith, c, n))))))
 
-  module _ (sound : IsSound g) (productive : AllProductive g.grammar) (kernels : List (List Item)) (known : (s : ℕ) → s < length kernels → All (IsItem g) (kernel_at kernels s)) (begins : 0 < length kernels) (start : kernel_at kernels 0 ≡ start_item ∷ []) (row : ℕ → List (Option ℕ)) (rows : (s : ℕ) → s < length kernels → IsRow g kernels s (row s)) where
+  module _ (sound : IsSound g) (productive : AllProductive g.grammar) (kernels : List (List Item)) (known : (s : ℕ) → s < length kernels → All (IsItem g) (kernel_at kernels s)) (begins : 0 < length kernels) (start : kernel_at kernels 0 ≡ start_item ∷ []) (steps : (s : ℕ) → s < length kernels → HasSteps g kernels s) where
     -- the state of a prefix
     abbrev IsAt : List Symbol → ℕ → Type 0
     IsAt p s = (s < length kernels) × ((two : List Symbol) × HasKernel g.grammar (kernel_at kernels s) two × HaveSameItems g.grammar p two)
 
     state_of : (p : List Symbol) → HasItem g.grammar p → (s : ℕ) × IsAt p s
-    state_of p has = let x = all_stand g sound productive kernels known begins start row rows p has in (x.1.state, (x.1.below, (x.0, x.1.kernel, x.2)))
+    state_of p has = let x = all_stand g sound productive kernels known begins start steps p has in (x.1.state, (x.1.below, (x.0, x.1.kernel, x.2)))
 
     states_of : (ps : List (List Symbol)) → All (HasItem g.grammar) ps → (xs : List ℕ) × (length xs ≡ length ps) × ((k : ℕ) (d : List Symbol) (z : ℕ) → k < length ps → IsAt (slice_index_or ps k d) (slice_index_or xs k z))
     states_of [] h = ([], refl, λ k d z l. absurd (omega (arith, l)))

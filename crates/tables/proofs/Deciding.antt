@@ -1,29 +1,26 @@
 -- Every prefix with an item has a state, whose moves decide what its items call for.
-use Rattle.std.proofs.Common.{◌≡◌, ◌⊎◌, ◌+◌, ◌<◌, ℕ, List, [], ◌∷◌, ◌++◌, Option, Some, None, slice_index_or, subst, inl, inr, ⊎_elim, arith}
+use Rattle.std.proofs.Common.{◌≡◌, ◌⊎◌, ◌+◌, ◌<◌, ℕ, List, [], ◌∷◌, ◌++◌, Option, Some, None, slice_index_or, refl, subst, inl, inr, ⊎_elim, arith}
 use Rattle.std.proofs.lemmas.Bool.{cases_lt}
 use Rattle.definitions.specs.declared.Kind.{Kind}
 use Rattle.definitions.specs.declared.Kind.TheVariants.{Rule as Token, Invalid}
 use Rattle.definitions.specs.declared.Symbol.{Symbol}
-use Rattle.definitions.specs.declared.Symbol.TheVariants.{Rule as Terminal, Nonterminal}
 use Rattle.definitions.specs.Trees.{Grammar}
 use Rattle.definitions.specs.Items.{Move as LrMove, Shift, Reduce, Accept, HasMove, HasItem, kind_of}
 use Rattle.definitions.specs.Items.{Item as LrItem}
 use Rattle.theory.specs.Closure.{ByRules, Start, Goto, Close}
 use Rattle.theory.proofs.Rules.{rules_valid, valid_rules}
 use Rattle.tables.specs.declared.decisions.Move.{Move}
-use Rattle.tables.specs.declared.input.Item.{Item}
+use Rattle.item_sets.specs.declared.item.Item.{Item}
 use Rattle.tables.specs.Actions.{IsMoveAt, plain}
-use Rattle.tables.specs.Collection.{kernel_at, IsStep}
+use Rattle.item_sets.specs.Collection.{kernel_at, IsStep}
 use Rattle.tables.specs.Decidable.{AreMovesDecided}
-use Rattle.tables.specs.Input.{Shape, IsKnown}
-use Rattle.tables.specs.Rows.{look_in}
-use Rattle.tables.specs.States.{HasKernel}
-use Rattle.tables.specs.Symbols.{number}
+use Rattle.item_sets.specs.Productions.{Shape}
+use Rattle.item_sets.specs.Lookaheads.{lookahead_at}
+use Rattle.item_sets.specs.States.{HasKernel}
 use Rattle.tables.specs.Tables.{IsStateOf, AreTables}
 use Rattle.tables.proofs.Answering.{seen, move_in_row, no_rule}
-use Rattle.tables.proofs.Called.{look_in-rule, look_in-end}
+use Rattle.item_sets.proofs.Columns.{lookahead_at-rule}
 use Rattle.tables.proofs.Complete.{Stands, next_known}
-use Rattle.tables.proofs.Numbered.{symbol_of-number}
 
 no_lookahead : (look : Option ℕ) → Some Invalid ≡ kind_of look → ⊥
 no_lookahead None e = cc e
@@ -40,10 +37,6 @@ module _ (g : Shape) (kernels : List (List Item)) (gotos : List (List (Option �
   step_state prefix s kernel x None step has = absurd (step prefix kernel has)
   step_state prefix s kernel x (Some to) step has = (to, record { below = step.0; kernel = step.1 prefix kernel })
 
-  number_below : (x : Symbol) → IsKnown g x → number g.grammar x < g.grammar.rules + g.nonterminals
-  number_below (Terminal a) h = omega (arith, h)
-  number_below (Nonterminal n) h = omega (arith, h)
-
   -- the state of a prefix that some item is valid for
   has_state : {prefix : List Symbol} {i : LrItem} → ByRules g.grammar prefix i → (s : ℕ) × IsStateOf (seen g kernels gotos actions t) prefix s
   has_state Start = (0, record { below = t.begins; kernel = t.start })
@@ -53,12 +46,8 @@ module _ (g : Shape) (kernels : List (List Item)) (gotos : List (List (Option �
       let has : HasItem g.grammar (prefix ++ (x ∷ [])) = (_, rules_valid g.grammar (Goto r)) in
       let stands : Stands g t.sound t.accepted.productive kernels t.known prefix = record { state = before.0; below = before.1.below; kernel = before.1.kernel } in
       let known = next_known g t.sound t.accepted.productive kernels t.known prefix stands x has in
-      let row = t.rows before.0 before.1.below in
-      let filled = row.filled in
-      let below = number_below x known in
-      let o = slice_index_or (slice_index_or gotos before.0 []) (number g.grammar x) None in
-      let step = subst (λ y. IsStep g.grammar kernels before.0 y o) (symbol_of-number g x known) (row.steps (number g.grammar x) (omega (arith, filled, below))) in
-      step_state prefix before.0 before.1.kernel x o step has
+      let to = t.steps before.0 before.1.below x known in
+      step_state prefix before.0 before.1.kernel x to.0 to.1 has
 
   module _ (prefix : List Symbol) (s : ℕ) (h : IsStateOf (seen g kernels gotos actions t) prefix s) where
     abbrev pub IsDecidedAt : Option Kind → Type 0
@@ -68,17 +57,17 @@ module _ (g : Shape) (kernels : List (List Item)) (gotos : List (List (Option �
     from_move look None m = inr m
     from_move look (Some move) m = inl (plain move, m.0.has)
 
-    at_place : (look : Option ℕ) (k : ℕ) → k < g.grammar.rules + 1 → look_in g.grammar k ≡ look → IsDecidedAt (kind_of look)
-    at_place look k l e =
+    at_column : (look : Option ℕ) (k : ℕ) → k < g.grammar.rules + 1 → lookahead_at k ≡ look → IsDecidedAt (kind_of look)
+    at_column look k l e =
         let o = slice_index_or (slice_index_or actions s []) k None in
         from_move look o (subst (λ n. IsMoveAt g.grammar kernels prefix n o) e (move_in_row g kernels gotos actions t prefix s h k l))
 
     decided_at : (look : Option Kind) → IsDecidedAt look
-    decided_at None = at_place None g.grammar.rules (omega arith) (look_in-end g.grammar)
+    decided_at None = at_column None 0 (omega arith) refl
     decided_at (Some Invalid) = inr (no_invalid g.grammar prefix)
     decided_at (Some (Token a)) =
         ⊎_elim
-        (λ l. at_place (Some a) a (omega (arith, l)) (look_in-rule g.grammar a l))
+        (λ l. at_column (Some a) (a + 1) (omega (arith, l)) (lookahead_at-rule a))
         (λ far. inr (no_rule g kernels gotos actions t prefix s h a far))
         (cases_lt a g.grammar.rules)
 

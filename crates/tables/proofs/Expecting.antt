@@ -1,9 +1,9 @@
 -- The moves of a state are what is expected.
-use Rattle.std.proofs.Common.{◌≡◌, ◌<◌, ◌≤◌, ◌+◌, ◌↔◌, Bool, true, false, ℕ, zero, suc, List, ◌∷◌, ◌++◌, [], Option, Some, None, Contains, length, take, drop, slice_index_or, slice_index, refl, sym, ap, ◌∙◌, subst, inl, inr, ⊎_elim, arith}
+use Rattle.std.proofs.Common.{◌≡◌, ◌<◌, ◌≤◌, ◌+◌, ◌↔◌, Bool, true, false, ℕ, zero, suc, List, ◌∷◌, ◌++◌, [], Option, Some, None, Contains, length, drop, slice_index_or, slice_index, refl, sym, ap, ◌∙◌, subst, inl, inr, ⊎_elim, arith}
 use Rattle.std.specs.Prelude.{is_some, if◌then◌else◌}
 use Rattle.std.specs.List.Sorted.{IsStrictlyIncreasing}
 use Rattle.std.proofs.lemmas.Bool.{cases_lt}
-use Rattle.std.proofs.lemmas.List.{drop_all, get_or-take, length-take-le}
+use Rattle.std.proofs.lemmas.List.{drop_all, get_or-drop, length-drop}
 use Rattle.std.proofs.Math.Seq.{drop-cons}
 use Rattle.definitions.specs.declared.Kind.{Kind}
 use Rattle.definitions.specs.declared.Kind.TheVariants.{Rule as Token}
@@ -92,39 +92,42 @@ module _ (g : Grammar) (accepted : IsAccepted g) (x : List Kind) (stack : List T
       let sentence = move_iff_sentence g accepted.free accepted.productive x stack after in
       (λ e. sentence.0 (told.0 e), λ v. told.1 (sentence.1 v))
 
-  module _ (row : List (Option Move)) (filled : length row ≡ g.rules + 1) (each : (a : ℕ) → a < g.rules → IsAction g prefix (Some (Token a)) (slice_index_or row a None)) (last : IsAction g prefix None (slice_index_or row g.rules None)) (far : (a : ℕ) → g.rules ≤ a → IsAction g prefix (Some (Token a)) None) where
-    abbrev front : List (Option Move)
-    front = take g.rules row
+  module _ (row : List (Option Move)) (filled : length row ≡ g.rules + 1) (each : (a : ℕ) → a < g.rules → IsAction g prefix (Some (Token a)) (slice_index_or row (a + 1) None)) (end : IsAction g prefix None (slice_index_or row 0 None)) (far : (a : ℕ) → g.rules ≤ a → IsAction g prefix (Some (Token a)) None) where
+    abbrev rules_row : List (Option Move)
+    rules_row = drop 1 row
 
-    long : length front ≡ g.rules
-    long = length-take-le g.rules row (omega (arith, filled))
+    long : length rules_row ≡ g.rules
+    long = length-drop 1 row ∙ omega (arith, filled)
 
-    told_viable : (a : ℕ) → Contains (rules_with_move 0 front) a → IsViable g (x ++ (Token a ∷ []))
+    -- the move on a token rule stands in the column behind its number
+    at_rule : (a : ℕ) → slice_index_or rules_row a None ≡ slice_index_or row (a + 1) None
+    at_rule a = let next : 1 + a ≡ a + 1 = omega arith in get_or-drop 1 row a None ∙ ap (λ n. slice_index_or row n None) next
+
+    told_viable : (a : ℕ) → Contains (rules_with_move 0 rules_row) a → IsViable g (x ++ (Token a ∷ []))
     told_viable a c =
-        let m = has_move 0 front a c in
+        let m = has_move 0 rules_row a c in
         let l = m.1 in
         let n = long in
         let e = m.2 in
         let same : m.0 ≡ a = omega (arith, e) in
-        let below : m.0 < g.rules = omega (arith, l, n) in
-        let moves = subst (λ o. is_some o ≡ true) (get_or-take g.rules row m.0 None below) m.3 in
-        (rule_expected a (slice_index_or row a None) (each a (omega (arith, below, same)))).0 (subst (λ j. is_some (slice_index_or row j None) ≡ true) same moves)
+        let moves = subst (λ o. is_some o ≡ true) (at_rule m.0) m.3 in
+        (rule_expected a (slice_index_or row (a + 1) None) (each a (omega (arith, l, n, same)))).0 (subst (λ j. is_some (slice_index_or row (j + 1) None) ≡ true) same moves)
 
-    viable_told : (a : ℕ) → IsViable g (x ++ (Token a ∷ [])) → Contains (rules_with_move 0 front) a
+    viable_told : (a : ℕ) → IsViable g (x ++ (Token a ∷ [])) → Contains (rules_with_move 0 rules_row) a
     viable_told a v = elim (cases_lt a g.rules) [
       | inl l ↦
-          let moves = (rule_expected a (slice_index_or row a None) (each a l)).1 v in
+          let moves = (rule_expected a (slice_index_or row (a + 1) None) (each a l)).1 v in
           let n = long in
           let same : 0 + a ≡ a = omega arith in
-          subst (Contains (rules_with_move 0 front)) same (is_told 0 front a (omega (arith, l, n)) (subst (λ o. is_some o ≡ true) (sym (get_or-take g.rules row a None l)) moves))
+          subst (Contains (rules_with_move 0 rules_row)) same (is_told 0 rules_row a (omega (arith, l, n)) (subst (λ o. is_some o ≡ true) (sym (at_rule a)) moves))
       | inr l ↦ absurd (let e = (rule_expected a None (far a l)).1 v in cc e)
     ]
 
     -- what has a move in the state's row is what may come next
-    pub all_expected : AreExpected g x (in_file_order (rules_with_move 0 front) (is_some (slice_index_or row g.rules None)))
+    pub all_expected : AreExpected g x (in_file_order (rules_with_move 0 rules_row) (is_some (slice_index_or row 0 None)))
     all_expected = (
-      rules_with_move 0 front,
-      is_some (slice_index_or row g.rules None),
-      record { in_order = increasing 0 front; each = λ a. (told_viable a, viable_told a); ends = end_expected (slice_index_or row g.rules None) last },
+      rules_with_move 0 rules_row,
+      is_some (slice_index_or row 0 None),
+      record { in_order = increasing 0 rules_row; each = λ a. (told_viable a, viable_told a); ends = end_expected (slice_index_or row 0 None) end },
       refl,
     )

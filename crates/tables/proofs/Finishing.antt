@@ -3,48 +3,51 @@ use Rattle.std.proofs.Common.{◌≡◌, ◌<◌, ◌≤◌, ℕ, [], None, Matc
 use Rattle.std.proofs.lemmas.Bool.{cases_lt}
 use Rattle.definitions.specs.Sentences.{AllProductive}
 use Rattle.tables.specs.Actions.{AreMoves, AreAllMoves, IsClashAt, Made, AreMade}
-use Rattle.tables.specs.Collection.{kernel_at, IsRow, Found, AreStates}
-use Rattle.tables.specs.Input.{Shape, IsSound}
-use Rattle.tables.specs.States.{HasKernel}
+use Rattle.item_sets.specs.Collection.{kernel_at, Found, AreStates}
+use Rattle.tables.specs.Gotos.{HasSteps}
+use Rattle.item_sets.specs.Productions.{Shape}
+use Rattle.item_sets.specs.States.{HasKernel}
 use Rattle.tables.specs.Tables.{AreTables}
-use Rattle.tables.proofs.Collected.{start_kernel}
-use Rattle.tables.proofs.Collecting.{no_item}
+use Rattle.item_sets.proofs.Collected.{start_kernel}
+use Rattle.item_sets.proofs.Collecting.{no_item}
 use Rattle.theory.proofs.Knuth.{lr1_no_conflict}
 use Rattle.tables.proofs.Complete.{no_conflict}
 use Rattle.tables.proofs.Counted.{no_more_sets}
 use Rattle.definitions.specs.Trees.{Grammar, HasDistinctProductions}
 use Rattle.definitions.specs.Items.{HasMoreSetsThan, kind_of}
-use Rattle.tables.specs.Sets.{item_of}
+use Rattle.item_sets.specs.Sets.{item_of}
 use Rattle.tables.specs.declared.tables.TableFault.{TableFault}
 use Rattle.tables.specs.declared.tables.TableFault.TheVariants.{TooManySets, Conflict, Memory}
 use Rattle.tables.specs.Faults.{IsConflictOf, IsRight, RefutesLr1}
 
-pub tables_all : (g : Shape) → IsSound g → AllProductive g.grammar → (t : Found) → AreStates g t → (m : Made) → AreMade g t.kernels m → length m.rows ≡ length t.kernels → m.clash ≡ None → AreTables g t.kernels m.rows m.moves
-tables_all g sound productive t states m made all none =
+pub tables_all : (g : Shape) (t : Found) → AreStates g t → (m : Made) → AreMade g t.kernels m → length m.gotos ≡ length t.kernels → m.clash ≡ None → AreTables g t.kernels m.gotos m.moves
+tables_all g t states m made all none =
     let moves : AreAllMoves g.grammar t.kernels m = subst (λ o. MatchOption o (AreAllMoves g.grammar t.kernels m) (λ f. IsClashAt g t.kernels f)) none made.moves in
     let filled = moves.filled in
-    let each_row : (s : ℕ) → s < length t.kernels → IsRow g t.kernels s (slice_index_or m.rows s []) = λ s l. made.rows s (omega (arith, l, all)) in
+    let productive = states.sound.productive in
+    let steps : (s : ℕ) → s < length t.kernels → HasSteps g t.kernels s = λ s l. made.steps s (omega (arith, l, all)) in
     let each_moves : (s : ℕ) → s < length t.kernels → AreMoves g.grammar t.kernels s (slice_index_or m.moves s []) = λ s l. moves.each s (omega (arith, l, all, filled)) in
     record {
-      sound = sound;
+      sound = states.sound;
       begins = states.begins;
       start = subst (λ y. HasKernel g.grammar y []) (sym states.start) (start_kernel g.grammar);
       known = λ s l. (states.ordered s l).known;
       some_item = λ s l. let r = states.reached s l in elim (cases_lt 0 (length (kernel_at t.kernels s))) [ inl b ↦ b | inr b ↦ absurd (no_item g.grammar (kernel_at t.kernels s) r.0 b r.1 r.2) ];
-      rows_filled = all;
-      rows = each_row;
+      steps = steps;
+      gotos_filled = all;
+      gotos = λ s l. made.gotos s (omega (arith, l, all));
       moves_filled = filled ∙ all;
       moves = each_moves;
       accepted = record {
-        free = no_conflict g sound productive t.kernels (λ s l. (states.ordered s l).known) states.begins states.start (λ s. slice_index_or m.rows s []) each_row (λ s. slice_index_or m.moves s []) each_moves;
+        free = no_conflict g states.sound productive t.kernels (λ s l. (states.ordered s l).known) states.begins states.start steps (λ s. slice_index_or m.moves s []) each_moves;
         productive = productive;
       };
     }
 
--- where all states have rows, there are no more sets than states
-pub few_sets : (g : Shape) → IsSound g → AllProductive g.grammar → (t : Found) → AreStates g t → (m : Made) → AreMade g t.kernels m → length m.rows ≡ length t.kernels → (limit : ℕ) → length m.rows ≤ limit → HasMoreSetsThan g.grammar limit → ⊥
-few_sets g sound productive t states m made all limit few =
-    no_more_sets g sound productive t.kernels (λ s l. (states.ordered s l).known) states.begins states.start (λ s. slice_index_or m.rows s []) (λ s l. made.rows s (omega (arith, l, all))) limit (omega (arith, few, all))
+-- where all states have gotos, there are no more sets than states
+pub few_sets : (g : Shape) (t : Found) → AreStates g t → (m : Made) → AreMade g t.kernels m → length m.gotos ≡ length t.kernels → (limit : ℕ) → length m.gotos ≤ limit → HasMoreSetsThan g.grammar limit → ⊥
+few_sets g t states m made all limit few =
+    no_more_sets g states.sound states.sound.productive t.kernels (λ s l. (states.ordered s l).known) states.begins states.start (λ s l. made.steps s (omega (arith, l, all))) limit (omega (arith, few, all))
 
 pub conflict_right : (g : Grammar) (limit : ℕ) → (HasMoreSetsThan g limit → ⊥) → (f : TableFault) → IsConflictOf g f → IsRight g limit f
 conflict_right g limit few TooManySets h = absurd h

@@ -1,17 +1,7 @@
-pub mod Marks
-pub mod Numbers
-pub mod Wants
-pub mod Closing
-pub mod Collected
-pub mod Known
-pub mod Valid
-pub mod Moved
 pub mod Decided
-pub mod Ordered
+pub mod Calling
 pub mod Numbered
-pub mod Filed
 pub mod Marked
-pub mod Collecting
 pub mod Stepping
 pub mod Called
 pub mod Making
@@ -19,8 +9,5 @@ pub mod Complete
 pub mod Finishing
 pub mod Counted
 pub mod Answering
-pub mod FromFile
 pub mod Expecting
 pub mod Deciding
-pub mod Follows
-pub mod Lefts

@@ -7,10 +7,10 @@ use Rattle.definitions.specs.declared.Symbol.TheVariants.{Rule as Terminal, Nont
 use Rattle.definitions.specs.Trees.{Grammar}
 use Rattle.definitions.specs.Derivations.{first}
 use Rattle.std.proofs.lemmas.List.Elements.{All-head}
-use Rattle.tables.specs.declared.input.Item.{Item}
-use Rattle.tables.specs.Sets.{IsItem, behind}
-use Rattle.tables.proofs.Known.{behind_known}
-use Rattle.tables.specs.Input.{Shape, IsSound, IsKnown}
+use Rattle.item_sets.specs.declared.item.Item.{Item}
+use Rattle.item_sets.specs.Sets.{IsItem, behind}
+use Rattle.item_sets.proofs.Known.{behind_known}
+use Rattle.item_sets.specs.Productions.{Shape, IsSound, IsKnown}
 use Rattle.tables.specs.Symbols.{number, symbol_of}
 
 pub number-symbol_of : (g : Grammar) (k : ℕ) → number g (symbol_of g k) ≡ k

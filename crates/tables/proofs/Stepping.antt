@@ -6,12 +6,12 @@ use Rattle.definitions.specs.Derivations.{first}
 use Rattle.definitions.specs.Items.{HasItem}
 use Rattle.theory.proofs.Rules.{rules_valid, valid_rules}
 use Rattle.theory.proofs.Sets.{goto_from}
-use Rattle.tables.specs.declared.input.Item.{Item}
-use Rattle.tables.specs.Collection.{GoesOn, IsStep}
-use Rattle.tables.specs.Sets.{behind}
-use Rattle.tables.specs.States.{HasKernel, HasSet}
+use Rattle.item_sets.specs.declared.item.Item.{Item}
+use Rattle.item_sets.specs.Collection.{GoesOn, IsStep}
+use Rattle.item_sets.specs.Sets.{behind}
+use Rattle.item_sets.specs.States.{HasKernel, HasSet}
 use Rattle.tables.specs.Symbols.{symbol_of}
-use Rattle.tables.proofs.Numbers.{each_more}
+use Rattle.item_sets.proofs.Numbers.{each_more}
 
 pub goes_on_same : (a : List (List Item)) → GoesOn a a
 goes_on_same a = record { longer = omega arith; same = λ s l. refl }

@@ -8,13 +8,14 @@ use Rattle.tables.specs.declared.decisions.Decided.{Decided}
 use Rattle.tables.specs.declared.decisions.Decided.TheVariants.{Moves, Clash as AClash}
 use Rattle.tables.specs.declared.decisions.Move.{Move}
 use Rattle.tables.specs.declared.decisions.Move.TheVariants.{Shift, Reduce, Accept}
-use Rattle.tables.specs.declared.input.Item.{Item}
+use Rattle.item_sets.specs.declared.item.Item.{Item}
 use Rattle.tables.specs.declared.progress.ClashAt.{ClashAt}
-use Rattle.tables.specs.Collection.{kernel_at, IsRow}
-use Rattle.tables.specs.Input.{Shape}
-use Rattle.tables.specs.Rows.{look_in}
-use Rattle.tables.specs.Sets.{IsItem, item_of}
-use Rattle.tables.specs.States.{HasKernel}
+use Rattle.item_sets.specs.Collection.{kernel_at}
+use Rattle.tables.specs.Gotos.{AreGotos, HasSteps}
+use Rattle.item_sets.specs.Lookaheads.{lookahead_at}
+use Rattle.item_sets.specs.Productions.{Shape}
+use Rattle.item_sets.specs.Sets.{IsItem, item_of}
+use Rattle.item_sets.specs.States.{HasKernel}
 
 -- the move, without the state that a shift leads to
 abbrev pub plain : Move → LrMove
@@ -40,7 +41,7 @@ IsMoveAt g kernels prefix look (Some m) = IsOnlyMove g prefix look (plain m) × 
 -- the moves of the state s
 pub record AreMoves (g : Grammar) (kernels : List (List Item)) (s : ℕ) (moves : List (Option Move)) : Type 0 where
   pub filled : length moves ≡ g.rules + 1
-  pub each : (k : ℕ) → k < length moves → (prefix : List Symbol) → HasKernel g (kernel_at kernels s) prefix → IsMoveAt g kernels prefix (look_in g k) (slice_index_or moves k None)
+  pub each : (k : ℕ) → k < length moves → (prefix : List Symbol) → HasKernel g (kernel_at kernels s) prefix → IsMoveAt g kernels prefix (lookahead_at k) (slice_index_or moves k None)
 
 -- two items of a state that conflict
 pub record IsClashAt (g : Shape) (kernels : List (List Item)) (f : ClashAt) : Type 0 where
@@ -49,24 +50,25 @@ pub record IsClashAt (g : Shape) (kernels : List (List Item)) (f : ClashAt) : Ty
   pub two : IsItem g f.clash.two
   pub conflict : (prefix : List Symbol) → HasKernel g.grammar (kernel_at kernels f.state) prefix → IsConflict g.grammar prefix (kind_of f.clash.look) (item_of g.grammar f.clash.one) (item_of g.grammar f.clash.two)
 
--- the rows and moves made so far, and the first conflict
+-- the gotos and moves made so far, and the first conflict
 pub record Made : Type 0 where
-  pub rows : List (List (Option ℕ))
+  pub gotos : List (List (Option ℕ))
   pub moves : List (List (Option Move))
   pub clash : Option ClashAt
 
--- a row more, with its moves or a conflict
+-- the moves of a state more, or a conflict
 abbrev pub AddsMoves : Made → Made → Decided → Type 0
 AddsMoves old new (Moves moves) = (new.moves ≡ old.moves ++ moves ∷ []) × (new.clash ≡ old.clash)
-AddsMoves old new (AClash clash) = (new.moves ≡ old.moves) × (((f : ClashAt) × (old.clash ≡ Some f) × (new.clash ≡ Some f)) ⊎ ((old.clash ≡ None) × (new.clash ≡ Some (record { state = length old.rows; clash = clash }))))
+AddsMoves old new (AClash clash) = (new.moves ≡ old.moves) × (((f : ClashAt) × (old.clash ≡ Some f) × (new.clash ≡ Some f)) ⊎ ((old.clash ≡ None) × (new.clash ≡ Some (record { state = length old.gotos; clash = clash }))))
 
 -- each state has its moves
 pub record AreAllMoves (g : Grammar) (kernels : List (List Item)) (t : Made) : Type 0 where
-  pub filled : length t.moves ≡ length t.rows
+  pub filled : length t.moves ≡ length t.gotos
   pub each : (s : ℕ) → s < length t.moves → AreMoves g kernels s (slice_index_or t.moves s [])
 
--- the rows of the first states, and their moves unless there is a conflict
+-- the gotos of the first states, and their moves unless there is a conflict
 pub record AreMade (g : Shape) (kernels : List (List Item)) (t : Made) : Type 0 where
-  pub within : length t.rows ≤ length kernels
-  pub rows : (s : ℕ) → s < length t.rows → IsRow g kernels s (slice_index_or t.rows s [])
+  pub within : length t.gotos ≤ length kernels
+  pub steps : (s : ℕ) → s < length t.gotos → HasSteps g kernels s
+  pub gotos : (s : ℕ) → s < length t.gotos → AreGotos g kernels s (slice_index_or t.gotos s [])
   pub moves : MatchOption t.clash (AreAllMoves g.grammar kernels t) (λ f. IsClashAt g kernels f)

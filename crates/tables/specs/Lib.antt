@@ -1,11 +1,6 @@
-pub mod First
-pub mod Input
-pub mod Sets
-pub mod States
 pub mod Moves
-pub mod Order
 pub mod Symbols
-pub mod Collection
+pub mod Gotos
 pub mod Rows
 pub mod Actions
 pub mod Reports
@@ -13,3 +8,5 @@ pub mod Tables
 pub mod Faults
 pub mod Decidable
 pub mod Expected
+pub use Rattle.item_sets.specs.Sets
+pub use Rattle.item_sets.specs.declared.item.Item

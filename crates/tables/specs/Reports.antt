@@ -4,7 +4,7 @@ use Rattle.definitions.specs.Trees.{Grammar}
 use Rattle.definitions.specs.Items.{Item as LrItem, Move, CallsFor, kind_of, IsConflict}
 use Rattle.tables.specs.declared.conflict.Conflict.{Conflict}
 use Rattle.tables.specs.declared.decisions.Clash.{Clash}
-use Rattle.tables.specs.Sets.{item_of, side}
+use Rattle.item_sets.specs.Sets.{item_of, side}
 
 -- one production comes before another, the added start production before all
 abbrev pub IsEarlier : Option ℕ → Option ℕ → Type 0

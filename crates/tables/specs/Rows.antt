@@ -1,23 +1,17 @@
--- The moves of a state, by the place of what is next: the token rules, then the end.
-use Rattle.std.specs.Prelude.{◌≡◌, ◌⊎◌, ◌+◌, ◌<◌, nat_lt, if◌then◌else◌, ℕ, List, Option, Some, None, length, slice_index_or, option_map}
+-- The moves of a state, by the column of what is next: the end, then the token rules.
+use Rattle.std.specs.Prelude.{◌≡◌, ◌⊎◌, ◌+◌, ◌<◌, ℕ, List, Option, Some, None, length, slice_index_or, option_map}
 use Rattle.definitions.specs.Trees.{Grammar}
 use Rattle.tables.specs.declared.decisions.Move.{Move}
 use Rattle.tables.specs.declared.decisions.Move.TheVariants.{Shift, Reduce, Accept}
 use Rattle.tables.specs.declared.decisions.Clash.{Clash}
 use Rattle.tables.specs.declared.decisions.Decided.{Decided}
 use Rattle.tables.specs.declared.decisions.Decided.TheVariants.{Moves, Clash as AClash}
-use Rattle.tables.specs.declared.input.Item.{Item}
+use Rattle.item_sets.specs.declared.item.Item.{Item}
 use Rattle.tables.specs.declared.moves.Call.{Call}
 use Rattle.tables.specs.declared.moves.Call.TheVariants.{Shift as ToShift, Reduce as ToReduce, Accept as ToAccept}
 use Rattle.tables.specs.declared.moves.Decision.TheVariants.{Nothing, Agreed, Conflict}
+use Rattle.item_sets.specs.Lookaheads.{lookahead_at}
 use Rattle.tables.specs.Moves.{IsDecision}
-
-abbrev pub look_in : Grammar → ℕ → Option ℕ
-look_in g k = if nat_lt k g.rules then Some k else None
-
-abbrev pub place_in : Grammar → Option ℕ → ℕ
-place_in g None = g.rules
-place_in g (Some a) = a
 
 -- the move of a state with this row whose items call for one thing
 abbrev pub chosen : List (Option ℕ) → Option ℕ → Call → Option Move
@@ -30,10 +24,10 @@ chosen row look ToAccept = Some Accept
 abbrev pub IsChosen : Grammar → List Item → List (Option ℕ) → Option ℕ → Option Move → Type 0
 IsChosen g items row look m = (IsDecision g items look Nothing × (m ≡ None)) ⊎ ((c : Call) × IsDecision g items look (Agreed c) × (m ≡ chosen row look c))
 
--- the moves that the items call for, at each place
+-- the moves that the items call for, in each column
 pub record AreChosen (g : Grammar) (items : List Item) (row : List (Option ℕ)) (moves : List (Option Move)) : Type 0 where
   pub filled : length moves ≡ g.rules + 1
-  pub each : (k : ℕ) → k < length moves → IsChosen g items row (look_in g k) (slice_index_or moves k None)
+  pub each : (k : ℕ) → k < length moves → IsChosen g items row (lookahead_at k) (slice_index_or moves k None)
 
 -- two of the items call for different moves
 abbrev pub IsClash : Grammar → List Item → Clash → Type 0

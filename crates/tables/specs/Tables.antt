@@ -6,12 +6,13 @@ use Rattle.definitions.specs.Trees.{Grammar}
 use Rattle.definitions.specs.Sentences.{AllProductive}
 use Rattle.definitions.specs.Items.{Move as LrMove, HasMove, HasNoConflict}
 use Rattle.tables.specs.declared.decisions.Move.{Move}
-use Rattle.tables.specs.declared.input.Item.{Item}
+use Rattle.item_sets.specs.declared.item.Item.{Item}
 use Rattle.tables.specs.Actions.{plain, AreMoves}
-use Rattle.tables.specs.Collection.{kernel_at, IsRow}
-use Rattle.tables.specs.Input.{Shape, IsSound}
-use Rattle.tables.specs.Sets.{IsItem}
-use Rattle.tables.specs.States.{HasKernel}
+use Rattle.item_sets.specs.Collection.{kernel_at}
+use Rattle.tables.specs.Gotos.{AreGotos, HasSteps}
+use Rattle.item_sets.specs.Productions.{Shape, IsSound}
+use Rattle.item_sets.specs.Sets.{IsItem}
+use Rattle.item_sets.specs.States.{HasKernel}
 
 -- what callers see of tables: their grammar, and the kernel of the set of each state
 pub record Sets : Type 0 where
@@ -33,15 +34,16 @@ pub record IsAccepted (g : Grammar) : Type 0 where
   pub free : HasNoConflict g
   pub productive : AllProductive g
 
--- the rows and moves of all states, of which the first is that of the empty prefix
-pub record AreTables (g : Shape) (kernels : List (List Item)) (gotos : List (List (Option ℕ))) (actions : List (List (Option Move))) : Type 0 where
+-- the gotos and moves of all states, of which the first is that of the empty prefix
+pub record AreTables (g : Shape) (kernels : List (List Item)) (rows : List (List (Option ℕ))) (actions : List (List (Option Move))) : Type 0 where
   pub sound : IsSound g
   pub begins : 0 < length kernels
   pub start : HasKernel g.grammar (kernel_at kernels 0) []
   pub known : (s : ℕ) → s < length kernels → All (IsItem g) (kernel_at kernels s)
   pub some_item : (s : ℕ) → s < length kernels → 0 < length (kernel_at kernels s)
-  pub rows_filled : length gotos ≡ length kernels
-  pub rows : (s : ℕ) → s < length kernels → IsRow g kernels s (slice_index_or gotos s [])
+  pub steps : (s : ℕ) → s < length kernels → HasSteps g kernels s
+  pub gotos_filled : length rows ≡ length kernels
+  pub gotos : (s : ℕ) → s < length kernels → AreGotos g kernels s (slice_index_or rows s [])
   pub moves_filled : length actions ≡ length kernels
   pub moves : (s : ℕ) → s < length kernels → AreMoves g.grammar kernels s (slice_index_or actions s [])
   pub accepted : IsAccepted g.grammar

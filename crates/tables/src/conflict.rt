@@ -1,23 +1,22 @@
 //! What is told of a conflict.
 ghost use Rattle.std.specs.Prelude.{◌≡◌, ◌≢◌, true, false, IfOk};
 ghost use Rattle.tables.specs.Actions.{IsClashAt};
-ghost use Rattle.tables.specs.Collection.{AreStates};
-ghost use Rattle.tables.specs.Input.{IsSound};
+ghost use Rattle.item_sets.specs.Collection.{AreStates};
 ghost use Rattle.tables.specs.Reports.{IsEarlier, IsInOrder, Differ, IsReport};
-ghost use Rattle.tables.specs.Sets.{IsItem, item_of};
+ghost use Rattle.item_sets.specs.Sets.{IsItem, item_of};
 
-use crate::collection::States;
 use crate::decisions::Clash;
-use crate::input::{Input, Item};
 use crate::progress::ClashAt;
 use definitions::Symbol;
+use item_sets::{AugmentedGrammar, Item, States};
 use std::alloc::{AllocError, Global};
 
 /// Two items that are valid for a prefix and call for different moves at a lookahead. None is the end. The place of `first`
 /// is at the end of its right side; where both are, its production is the earlier one, the added start production before all.
 #[derive(Debug, Drop)]
 pub struct Conflict {
-    /// Symbols for which both items are valid.
+    /// Symbols for which both items are valid, no more than in any other prefix of their set: the sets are met breadth first, and
+    /// of several with a conflict the one that is met first is told.
     pub prefix: Vec<Symbol>,
     /// The token rule at which both call for a move, or none at the end.
     pub look: Option<usize>,
@@ -43,19 +42,19 @@ fn is_earlier(one: Option<usize>, two: Option<usize>) -> bool
 }
 
 /// Whether the first of two items that conflict is to be told first.
-fn is_in_order(input: &Input, clash: Clash) -> bool
-    requires one { IsItem input.now clash.one }
-    requires two { IsItem input.now clash.two }
-    requires differ { Differ input.now.grammar clash }
+fn is_in_order(grammar: &AugmentedGrammar, clash: Clash) -> bool
+    requires one { IsItem grammar.now clash.one }
+    requires two { IsItem grammar.now clash.two }
+    requires differ { Differ grammar.now.grammar clash }
     ensures yes { result ≡ true
-        → IsInOrder (item_of input.now.grammar clash.one) (item_of input.now.grammar clash.two) }
+        → IsInOrder (item_of grammar.now.grammar clash.one) (item_of grammar.now.grammar clash.two) }
     ensures no { result ≡ false
-        → IsInOrder (item_of input.now.grammar clash.two) (item_of input.now.grammar clash.one) }
+        → IsInOrder (item_of grammar.now.grammar clash.two) (item_of grammar.now.grammar clash.one) }
 {
-    if input.next(clash.one).is_some() {
+    if grammar.next(clash.one).is_some() {
         return false;
     }
-    if input.next(clash.two).is_some() {
+    if grammar.next(clash.two).is_some() {
         return true;
     }
     is_earlier(clash.one.production, clash.two.production)
@@ -64,18 +63,17 @@ fn is_in_order(input: &Input, clash: Clash) -> bool
 /// The conflict of two items of a state.
 pub fn conflict_of(
     alloc: Global,
-    input: &Input,
+    grammar: &AugmentedGrammar,
     states: &States,
     at: ClashAt,
 ) -> Result<Conflict, AllocError>
-    requires sound { IsSound input.now }
-    requires states { AreStates input.now states.now }
-    requires clash { IsClashAt input.now states.now.kernels at }
-    ensures { IfOk result (IsReport input.now.grammar) }
+    requires states { AreStates grammar.now states.now }
+    requires clash { IsClashAt grammar.now states.now.kernels at }
+    ensures { IfOk result (IsReport grammar.now.grammar) }
 {
-    let prefix = states.prefix(alloc, input, at.state)?;
+    let prefix = states.prefix(alloc, grammar, at.state)?;
     let clash = at.clash;
-    let (first, second) = if is_in_order(input, clash) {
+    let (first, second) = if is_in_order(grammar, clash) {
         (clash.one, clash.two)
     } else {
         (clash.two, clash.one)

@@ -1,18 +1,17 @@
 //! The moves of a state.
-ghost use Rattle.std.specs.Prelude.{◌≡◌, ◌<◌, ◌+◌, Some, None, Option, ℕ, true, false, All, Contains, IfOk, IfSome, length, slice_index_or, take, is_some};
+ghost use Rattle.std.specs.Prelude.{◌≡◌, ◌<◌, ◌+◌, Some, None, Option, ℕ, true, false, All, Contains, IfOk, IfSome, length, slice_index_or, drop, is_some};
 ghost use Rattle.definitions.specs.Items.{Move as LrMove, CallsFor, kind_of};
-ghost use Rattle.tables.specs.declared.input.Item.{Item};
+ghost use Rattle.item_sets.specs.declared.item.Item.{Item};
 ghost use Rattle.tables.specs.Expected.{in_file_order, rules_with_move};
-ghost use Rattle.tables.specs.Input.{IsSound};
-ghost use Rattle.tables.specs.Rows.{look_in, place_in, chosen, IsDecided};
-ghost use Rattle.tables.specs.Sets.{IsItem, item_of};
+ghost use Rattle.item_sets.specs.Lookaheads.{rank};
+ghost use Rattle.tables.specs.Rows.{chosen, IsDecided};
+ghost use Rattle.item_sets.specs.Sets.{IsItem, item_of};
 
 use crate::expected::Expected;
-use crate::first::Marks;
-use crate::input::{Input, Item};
 use crate::moves::{Call, Decision, call_of, decide};
 use crate::rows::Row;
 use definitions::Symbol;
+use item_sets::{AugmentedGrammar, Item, Marks, lookahead_at};
 use std::alloc::{AllocError, Global};
 use std::marker::Model;
 
@@ -27,10 +26,10 @@ pub enum Move {
     Accept,
 }
 
-/// The moves of one state, by the place of what is next: the token rules, then the end.
+/// The moves of one state, by the column of what is next: the end, then the token rules.
 #[derive(Drop)]
 pub struct Moves {
-    /// The move at each place, if there is one.
+    /// The move in each column, if there is one.
     row: Vec<Option<Move>>,
 }
 
@@ -57,53 +56,66 @@ pub struct Clash {
 /// The moves of a state, or two items that conflict.
 #[derive(Drop)]
 pub enum Decided {
+    /// The moves, where no two items conflict.
     Moves(Moves),
+    /// Two items that conflict.
     Clash(Clash),
 }
 
-/// The lookahead at a place of a row: the token rules, then the end.
-fn look_in_row(input: &Input, place: usize) -> Option<usize>
-    ensures { result ≡ look_in input.now.grammar place }
+/// The column of the lookahead at which an item calls for a move, if it calls for one.
+fn column_called(grammar: &AugmentedGrammar, item: Item) -> Option<usize>
+    requires { IsItem grammar.now item }
+    ensures within { IfSome result (λ k. k < grammar.now.grammar.rules + 1) }
+    ensures column { (look : Option ℕ) (move : LrMove)
+        → CallsFor (item_of grammar.now.grammar item) (kind_of look) move
+        → result ≡ Some (rank look) }
 {
-    if place < input.rules() {
-        Some(place)
-    } else {
-        None
-    }
-}
-
-/// The place of the lookahead at which an item calls for a move, if it calls for one.
-fn place_called(input: &Input, item: Item) -> Option<usize>
-    requires sound { IsSound input.now }
-    requires item { IsItem input.now item }
-    ensures below { IfSome result (λ k. k < input.now.grammar.rules + 1) }
-    ensures place { (look : Option ℕ) (move : LrMove)
-        → CallsFor (item_of input.now.grammar item) (kind_of look) move
-        → result ≡ Some (place_in input.now.grammar look) }
-{
-    match input.next(item) {
-        Some(Symbol::Rule(a)) => Some(a),
+    match grammar.next(item) {
+        Some(Symbol::Rule(a)) => Some(grammar.column_of(Some(a))),
         Some(Symbol::Nonterminal(_)) => None,
-        None => match item.look {
-            Some(a) => Some(a),
-            None => Some(input.rules()),
-        },
+        None => Some(grammar.column_of(item.look)),
     }
 }
 
-/// Marks the places of the lookaheads at which the items call for moves.
-fn looks_called(alloc: Global, input: &Input, items: &[Item]) -> Result<Marks, AllocError>
-    requires sound { IsSound input.now }
-    requires known { All (IsItem input.now) items.now }
-    ensures length { IfOk result (λ m. length m ≡ input.now.grammar.rules + 1) }
-    ensures marked { IfOk result (λ m. (i : Item) (look : Option ℕ) (move : LrMove)
-        → Contains items.now i → CallsFor (item_of input.now.grammar i) (kind_of look) move
-        → slice_index_or m (place_in input.now.grammar look) false ≡ true) }
+/// The items that call for a move at some lookahead.
+fn callers(
+    alloc: Global,
+    grammar: &AugmentedGrammar,
+    items: &[Item],
+) -> Result<Vec<Item>, AllocError>
+    requires { All (IsItem grammar.now) items.now }
+    ensures known { IfOk result (λ called. All (IsItem grammar.now) called.items) }
+    ensures within { IfOk result (λ called. (i : Item) → Contains called.items i
+        → Contains items.now i) }
+    ensures all { IfOk result (λ called. (i : Item) (look : Option ℕ) (move : LrMove)
+        → Contains items.now i → CallsFor (item_of grammar.now.grammar i) (kind_of look) move
+        → Contains called.items i) }
 {
-    let mut marks = Marks::blank(alloc, input.rules() + 1)?;
-    'items: for item in items {
-        if let Some(place) = place_called(input, *item) {
-            marks.mark(place);
+    let mut called = Vec::new(alloc);
+    for item in items {
+        if column_called(grammar, *item).is_some() {
+            called.push(*item)?;
+        }
+    }
+    Ok(called)
+}
+
+/// Marks the columns of the lookaheads at which the items call for moves.
+fn columns_called(
+    alloc: Global,
+    grammar: &AugmentedGrammar,
+    items: &[Item],
+) -> Result<Marks, AllocError>
+    requires known { All (IsItem grammar.now) items.now }
+    ensures length { IfOk result (λ m. length m ≡ grammar.now.grammar.rules + 1) }
+    ensures marked { IfOk result (λ m. (i : Item) (look : Option ℕ) (move : LrMove)
+        → Contains items.now i → CallsFor (item_of grammar.now.grammar i) (kind_of look) move
+        → slice_index_or m (rank look) false ≡ true) }
+{
+    let mut marks = Marks::blank(alloc, grammar.lookaheads())?;
+    for item in items {
+        if let Some(column) = column_called(grammar, *item) {
+            marks.mark(column);
         }
     }
     Ok(marks)
@@ -127,24 +139,23 @@ fn move_at(row: &Row, look: Option<usize>, call: Call) -> Option<Move>
     }
 }
 
-/// The moves of the state with these items and this row, unless two of the items conflict.
-pub fn moves_of(
+/// The moves that the items call for in a state with this row, unless two of them conflict.
+fn moves_of_callers(
     alloc: Global,
-    input: &Input,
+    grammar: &AugmentedGrammar,
     items: &[Item],
     row: &Row,
 ) -> Result<Decided, AllocError>
-    requires sound { IsSound input.now }
-    requires known { All (IsItem input.now) items.now }
-    requires row { length row.now ≡ input.now.grammar.rules + input.now.nonterminals }
-    ensures { IfOk result (IsDecided input.now.grammar items.now row.now) }
+    requires known { All (IsItem grammar.now) items.now }
+    requires row { length row.now ≡ grammar.now.grammar.rules + grammar.now.nonterminals }
+    ensures { IfOk result (IsDecided grammar.now.grammar items.now row.now) }
 {
-    let called = looks_called(alloc, input, items)?;
+    let called = columns_called(alloc, grammar, items)?;
     let mut moves = Vec::new(alloc);
-    'looks: for place in 0..input.rules() + 1 {
-        if called.has(place) {
-            let look = look_in_row(input, place);
-            match decide(input, items, look) {
+    for column in 0..grammar.lookaheads() {
+        if called.has(column) {
+            let look = lookahead_at(column);
+            match decide(grammar, items, look) {
                 Decision::Nothing => moves.push(None)?,
                 Decision::Agreed(call) => moves.push(move_at(row, look, call))?,
                 Decision::Conflict(one, two) => {
@@ -158,21 +169,36 @@ pub fn moves_of(
     Ok(Decided::Moves(Moves { row: moves }))
 }
 
+/// The moves of the state with these items and this row, unless two of the items conflict.
+pub fn moves_of(
+    alloc: Global,
+    grammar: &AugmentedGrammar,
+    items: &[Item],
+    row: &Row,
+) -> Result<Decided, AllocError>
+    requires known { All (IsItem grammar.now) items.now }
+    requires row { length row.now ≡ grammar.now.grammar.rules + grammar.now.nonterminals }
+    ensures { IfOk result (IsDecided grammar.now.grammar items.now row.now) }
+{
+    let callers = callers(alloc, grammar, items)?;
+    moves_of_callers(alloc, grammar, &callers, row)
+}
+
 impl Moves {
-    /// The rules that have a move, where there are as many as this, and the end if it has one.
-    pub fn expected(&self, rules: usize) -> Expected<'_>
-        requires { length self.now ≡ rules + 1 }
-        ensures { result ≡ in_file_order (rules_with_move 0 (take rules self.now))
-            (is_some (slice_index_or self.now rules None)) }
+    /// The token rules that have a move, and the end if it has one.
+    pub fn expected(&self) -> Expected<'_>
+        requires { 0 < length self.now }
+        ensures { result ≡ in_file_order (rules_with_move 0 (drop 1 self.now))
+            (is_some (slice_index_or self.now 0 None)) }
     {
-        Expected::new(&self.row[..rules], self.row[rules].is_some())
+        Expected::new(&self.row[1..], self.row[0].is_some())
     }
 
-    /// The move at a place of the row.
-    pub fn at(&self, place: usize) -> Option<Move>
-        requires { place < length self.now }
-        ensures { result ≡ slice_index_or self.now place None }
+    /// The move in a column of the row.
+    pub fn at(&self, column: usize) -> Option<Move>
+        requires { column < length self.now }
+        ensures { result ≡ slice_index_or self.now column None }
     {
-        self.row[place]
+        self.row[column]
     }
 }

@@ -1,15 +1,9 @@
 //! Canonical LR(1) tables (Knuth 1965).
 #![tactic(auto)]
 
-mod closure;
-mod collection;
 mod conflict;
 mod decisions;
 mod expected;
-mod first;
-mod goto;
-mod input;
-mod kernels;
 pub mod laws;
 mod moves;
 mod progress;
@@ -20,5 +14,5 @@ mod tables;
 pub use conflict::Conflict;
 pub use decisions::Move;
 pub use expected::Expected;
-pub use input::Item;
+pub use item_sets::Item;
 pub use tables::{MOST_SETS, TableFault, Tables};

@@ -1,37 +1,42 @@
 //! What a set of items calls for.
 ghost use Rattle.std.specs.Prelude.{◌≡◌, Some, None, true, false, All, Contains, Option, ℕ};
-ghost use Rattle.tables.specs.declared.input.Item.{Item};
-ghost use Rattle.tables.specs.Sets.{IsItem};
+ghost use Rattle.item_sets.specs.declared.item.Item.{Item};
+ghost use Rattle.item_sets.specs.Sets.{IsItem};
 ghost use Rattle.tables.specs.Moves.{IsCall, IsDecision};
 
-use crate::first::is_same;
-use crate::input::{Input, Item};
 use definitions::Symbol;
+use item_sets::{AugmentedGrammar, Item};
 
 /// What an item calls for.
 #[derive(Clone, Copy, Debug, PartialEq, Eq)]
 pub enum Call {
+    /// To take what is next.
     Shift,
+    /// To reduce by the production with this number.
     Reduce(usize),
+    /// To accept.
     Accept,
 }
 
 /// What the items of a set call for at one lookahead.
 #[derive(Clone, Copy, Debug, PartialEq, Eq)]
 pub enum Decision {
+    /// For no move.
     Nothing,
+    /// All that call for a move call for this one.
     Agreed(Call),
+    /// Two of them call for different moves.
     Conflict(Item, Item),
 }
 
 /// What the item calls for where `look` is next.
-pub fn call_of(input: &Input, item: Item, look: Option<usize>) -> Option<Call>
-    requires { IsItem input.now item }
-    ensures { IsCall input.now.grammar item look result }
+pub fn call_of(grammar: &AugmentedGrammar, item: Item, look: Option<usize>) -> Option<Call>
+    requires { IsItem grammar.now item }
+    ensures { IsCall grammar.now.grammar item look result }
 {
-    match input.next(item) {
+    match grammar.next(item) {
         Some(Symbol::Rule(a)) => {
-            if is_same(look, Some(a)) {
+            if look == Some(a) {
                 Some(Call::Shift)
             } else {
                 None
@@ -39,7 +44,7 @@ pub fn call_of(input: &Input, item: Item, look: Option<usize>) -> Option<Call>
         }
         Some(Symbol::Nonterminal(_)) => None,
         None => {
-            if is_same(item.look, look) {
+            if item.look == look {
                 match item.production {
                     None => Some(Call::Accept),
                     Some(p) => Some(Call::Reduce(p)),
@@ -51,17 +56,10 @@ pub fn call_of(input: &Input, item: Item, look: Option<usize>) -> Option<Call>
     }
 }
 
-fn is_call(one: Call, two: Call) -> bool
-    ensures same { result ≡ true → one ≡ two }
-    ensures other { result ≡ false → one ≡ two → ⊥ }
-{
-    one == two
-}
-
 /// What all items call for, or two that call for different moves.
-pub fn decide(input: &Input, items: &[Item], look: Option<usize>) -> Decision
-    requires { All (IsItem input.now) items.now }
-    ensures { IsDecision input.now.grammar items.now look result }
+pub fn decide(grammar: &AugmentedGrammar, items: &[Item], look: Option<usize>) -> Decision
+    requires { All (IsItem grammar.now) items.now }
+    ensures { IsDecision grammar.now.grammar items.now look result }
 {
     let mut agreed: Option<Call> = None;
     let mut one = Item {
@@ -69,15 +67,15 @@ pub fn decide(input: &Input, items: &[Item], look: Option<usize>) -> Decision
         at: 0,
         look: None,
     };
-    'items: for item in items {
-        if let Some(c) = call_of(input, *item, look) {
+    for item in items {
+        if let Some(c) = call_of(grammar, *item, look) {
             match agreed {
                 None => {
                     agreed = Some(c);
                     one = *item;
                 }
                 Some(d) => {
-                    if !is_call(c, d) {
+                    if c != d {
                         return Decision::Conflict(one, *item);
                     }
                 }

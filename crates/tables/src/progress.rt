@@ -1,17 +1,11 @@
-//! The rows and the moves of the states so far.
+//! The gotos and the moves of the states so far.
 ghost use Rattle.std.specs.Prelude.{◌≡◌, ◌+◌, ◌<◌, ◌∷◌, ◌++◌, [], None, OnOk, length};
-ghost use Rattle.definitions.specs.Sentences.{AllProductive};
 ghost use Rattle.tables.specs.Actions.{AddsMoves, AreMade};
-ghost use Rattle.tables.specs.Collection.{AreStates};
-ghost use Rattle.tables.specs.First.{AreFirst};
-ghost use Rattle.tables.specs.Input.{IsSound};
+ghost use Rattle.item_sets.specs.Collection.{AreStates};
 
-use crate::closure::close;
-use crate::collection::States;
 use crate::decisions::{Clash, Decided, Moves, moves_of};
-use crate::first::First;
-use crate::input::Input;
-use crate::rows::Row;
+use crate::rows::{Row, row_of};
+use item_sets::{AugmentedGrammar, States, close};
 use std::alloc::{AllocError, Global};
 use std::marker::Model;
 
@@ -24,11 +18,11 @@ pub struct ClashAt {
     pub clash: Clash,
 }
 
-/// The rows and the moves of the first states, and the first conflict, behind which the moves are not complete.
+/// The gotos and the moves of the first states, and the first conflict, behind which the moves are not complete.
 #[derive(Drop)]
 pub struct Progress {
-    /// Where each symbol leads from each of the states.
-    pub rows: Vec<Row>,
+    /// Where the nonterminals lead from each of the states.
+    pub gotos: Vec<Row>,
     /// The moves of the states.
     pub moves: Vec<Moves>,
     /// The first conflict, if there was one.
@@ -40,34 +34,35 @@ impl Model for Progress {
 
     ghost Value = { Made };
 
-    ghost view = { λ a. record { rows = a.rows.items; moves = a.moves.items; clash = a.clash } };
+    ghost view = { λ a. record { gotos = a.gotos.items; moves = a.moves.items; clash = a.clash } };
 }
 
 impl Progress {
     /// No state yet.
     pub fn new(alloc: Global) -> Progress
-        ensures { result ≡ record { rows = []; moves = []; clash = None } }
+        ensures { result ≡ record { gotos = []; moves = []; clash = None } }
     {
         Progress {
-            rows: Vec::new(alloc),
+            gotos: Vec::new(alloc),
             moves: Vec::new(alloc),
             clash: None,
         }
     }
 
-    /// How many states have their row.
+    /// How many states have their gotos.
     pub fn len(&self) -> usize
-        ensures { result ≡ length self.now.rows }
+        ensures { result ≡ length self.now.gotos }
     {
-        self.rows.len()
+        self.gotos.len()
     }
 
-    fn add(&mut self, row: Row, decided: Decided) -> Result<(), AllocError>
-        ensures rows { OnOk result (self.new.rows ≡ self.old.rows ++ row ∷ []) }
+    /// Adds the gotos of the next state, and its moves or its conflict.
+    fn add(&mut self, gotos: Row, decided: Decided) -> Result<(), AllocError>
+        ensures gotos { OnOk result (self.new.gotos ≡ self.old.gotos ++ gotos ∷ []) }
         ensures moves { OnOk result (AddsMoves self.old self.new decided) }
     {
-        let state = self.rows.len();
-        self.rows.push(row)?;
+        let state = self.gotos.len();
+        self.gotos.push(gotos)?;
         match decided {
             Decided::Moves(moves) => self.moves.push(moves)?,
             Decided::Clash(clash) => {
@@ -80,27 +75,25 @@ impl Progress {
     }
 }
 
-/// Makes the row and the moves of the next state.
+/// Makes the gotos and the moves of the next state, to which its symbols may add states.
 pub fn advance(
     alloc: Global,
-    input: &Input,
-    first: &First,
+    grammar: &AugmentedGrammar,
     states: &mut States,
     made: &mut Progress,
 ) -> Result<(), AllocError>
-    requires sound { IsSound input.now }
-    requires productive { AllProductive input.now.grammar }
-    requires first { AreFirst input.now first.now }
-    requires states { AreStates input.now states.old }
-    requires made { AreMade input.now states.old.kernels made.old }
-    requires more { length made.old.rows < length states.old.kernels }
-    ensures states { OnOk result (AreStates input.now states.new) }
-    ensures made { OnOk result (AreMade input.now states.new.kernels made.new) }
-    ensures longer { OnOk result (length made.new.rows ≡ length made.old.rows + 1) }
+    requires states { AreStates grammar.now states.old }
+    requires made { AreMade grammar.now states.old.kernels made.old }
+    requires more { length made.old.gotos < length states.old.kernels }
+    ensures states { OnOk result (AreStates grammar.now states.new) }
+    ensures made { OnOk result (AreMade grammar.now states.new.kernels made.new) }
+    ensures longer { OnOk result (length made.new.gotos ≡ length made.old.gotos + 1) }
 {
-    let items = close(alloc, input, first, states.kernel(made.len()))?;
-    let row = states.row(alloc, input, &items, made.len())?;
-    let decided = moves_of(alloc, input, &items, &row)?;
-    made.add(row, decided)?;
+    let state = made.len();
+    let items = close(alloc, grammar, states.kernel(state))?;
+    let row = row_of(alloc, grammar, states, &items, state)?;
+    let decided = moves_of(alloc, grammar, &items, &row)?;
+    let gotos = row.gotos(alloc, grammar.rules())?;
+    made.add(gotos, decided)?;
     Ok(())
 }

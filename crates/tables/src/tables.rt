@@ -11,24 +11,20 @@ ghost use Rattle.definitions.specs.Sentences.{AllProductive};
 ghost use Rattle.definitions.specs.Trees.{HasProduction, HaveRoots, Tree};
 ghost use Rattle.theory.specs.Machine.{IsStackAfter};
 ghost use Rattle.tables.specs.Actions.{AreMade};
-ghost use Rattle.tables.specs.Collection.{AreStates};
-ghost use Rattle.tables.specs.Input.{IsSound};
+ghost use Rattle.item_sets.specs.Collection.{AreStates};
 ghost use Rattle.tables.specs.Expected.{AreExpected};
-ghost use Rattle.tables.specs.Faults.{IsConflictOf, IsRight, RefutesLr1};
+ghost use Rattle.tables.specs.Faults.{IsRight, RefutesLr1};
 ghost use Rattle.tables.specs.Tables.{IsStateOf, IsAction, IsAccepted};
 ghost use Rattle.tables.specs.Decidable.{AreMovesDecided};
 
-use crate::collection::States;
 use crate::conflict::{Conflict, conflict_of};
 use crate::decisions::{Move, Moves};
 use crate::expected::Expected;
-use crate::first::First;
-use crate::input::Input;
-use crate::kernels::Kernels;
 use crate::progress::{Progress, advance};
 use crate::rows::Row;
 use definitions::Kind;
 use grammar::Grammar;
+use item_sets::{AugmentedGrammar, Kernels, Productions, States};
 use std::alloc::Global;
 use std::marker::Model;
 
@@ -49,12 +45,12 @@ pub enum TableFault {
 /// Canonical LR(1) tables of a grammar (Knuth 1965).
 #[derive(Drop)]
 pub struct Tables {
-    /// The grammar.
-    input: Input,
+    /// The productions of the grammar.
+    productions: Productions,
     /// The kernel of the set of each state; the first is that of the empty prefix.
     kernels: Kernels,
-    /// Where each symbol leads from each state.
-    rows: Vec<Row>,
+    /// Where the nonterminals lead from each state.
+    gotos: Vec<Row>,
     /// What each state does at each kind that may come next.
     moves: Vec<Moves>,
 }
@@ -64,31 +60,40 @@ impl Model for Tables {
 
     ghost Value = { Sets };
 
-    ghost view = { λ a. record { grammar = a.input.grammar; kernels = a.kernels } };
+    ghost view = { λ a. record { grammar = a.productions.grammar; kernels = a.kernels } };
 
-    ghost invariant = { λ a. AreTables a.input a.kernels a.rows.items a.moves.items };
+    ghost invariant = { λ a. AreTables a.productions a.kernels a.gotos.items a.moves.items };
 }
 
 /// The tables of all states, or the conflict that was found.
-fn finish(alloc: Global, input: Input, states: States, made: Progress) -> Result<Tables, TableFault>
-    requires sound { IsSound input }
-    requires productive { AllProductive input.grammar }
-    requires states { AreStates input states }
-    requires made { AreMade input states.kernels made }
-    requires all { length made.rows ≡ length states.kernels }
-    ensures grammar { IfOk result (λ t. t.grammar ≡ input.grammar) }
-    ensures free { IfOk result (λ _. HasNoConflict input.grammar) }
-    ensures refused { IfErr result (IsConflictOf input.grammar) }
+fn finish(
+    alloc: Global,
+    grammar: AugmentedGrammar,
+    states: States,
+    made: Progress,
+) -> Result<Tables, TableFault>
+    requires states { AreStates grammar states }
+    requires made { AreMade grammar states.kernels made }
+    requires all { length made.gotos ≡ length states.kernels }
+    requires few { length made.gotos ≤ 8192 }
+    ensures grammar { IfOk result (λ t. t.grammar ≡ grammar.grammar) }
+    ensures free { IfOk result (λ _. HasNoConflict grammar.grammar) }
+    ensures few { IfOk result (λ _. HasMoreSetsThan grammar.grammar 8192 → ⊥) }
+    ensures refused { IfErr result (IsRight grammar.grammar 8192) }
 {
-    let Progress { rows, moves, clash } = made;
+    let Progress {
+        gotos,
+        moves,
+        clash,
+    } = made;
     match clash {
         None => Ok(Tables {
-            input,
+            productions: grammar.into_productions(),
             kernels: states.into_kernels(),
-            rows,
+            gotos,
             moves,
         }),
-        Some(at) => match conflict_of(alloc, &input, &states, at) {
+        Some(at) => match conflict_of(alloc, &grammar, &states, at) {
             Ok(conflict) => Err(TableFault::Conflict(conflict)),
             Err(_) => Err(TableFault::Memory),
         },
@@ -96,30 +101,25 @@ fn finish(alloc: Global, input: Input, states: States, made: Progress) -> Result
 }
 
 /// The tables of a grammar.
-fn tables_of(alloc: Global, input: Input) -> Result<Tables, TableFault>
-    requires sound { IsSound input }
-    requires productive { AllProductive input.grammar }
-    ensures grammar { IfOk result (λ t. t.grammar ≡ input.grammar) }
-    ensures free { IfOk result (λ _. HasNoConflict input.grammar) }
-    ensures few { IfOk result (λ _. HasMoreSetsThan input.grammar 8192 → ⊥) }
-    ensures refused { IfErr result (IsRight input.grammar 8192) }
+fn tables_of(alloc: Global, grammar: AugmentedGrammar) -> Result<Tables, TableFault>
+    ensures grammar { IfOk result (λ t. t.grammar ≡ grammar.grammar) }
+    ensures free { IfOk result (λ _. HasNoConflict grammar.grammar) }
+    ensures few { IfOk result (λ _. HasMoreSetsThan grammar.grammar 8192 → ⊥) }
+    ensures refused { IfErr result (IsRight grammar.grammar 8192) }
 {
-    let Ok(first) = First::new(alloc, &input) else {
-        return Err(TableFault::Memory);
-    };
-    let Ok(mut states) = States::new(alloc, &input) else {
+    let Ok(mut states) = States::new(alloc, &grammar) else {
         return Err(TableFault::Memory);
     };
     let mut made = Progress::new(alloc);
-    'states: while made.len() < states.len() {
+    while made.len() < states.len() {
         if states.len() > MOST_SETS {
             return Err(TableFault::TooManySets);
         }
-        if advance(alloc, &input, &first, &mut states, &mut made).is_err() {
+        if advance(alloc, &grammar, &mut states, &mut made).is_err() {
             return Err(TableFault::Memory);
         }
     }
-    finish(alloc, input, states, made)
+    finish(alloc, grammar, states, made)
 }
 
 impl Tables {
@@ -134,10 +134,10 @@ impl Tables {
         ensures refused { IfErr result (IsRight grammar.now.grammar 8192) }
         ensures refuted { IfErr result (RefutesLr1 grammar.now.grammar) }
     {
-        let Ok(input) = Input::of(alloc, grammar) else {
+        let Ok(augmented) = AugmentedGrammar::of(alloc, grammar) else {
             return Err(TableFault::Memory);
         };
-        tables_of(alloc, input)
+        tables_of(alloc, augmented)
     }
 
     /// The state of the empty prefix.
@@ -161,12 +161,12 @@ impl Tables {
     {
         let moves = &self.moves[state];
         match look {
-            None => moves.at(self.input.rules()),
+            None => moves.at(0),
             Some(kind) => match kind {
                 Kind::Invalid => None,
                 Kind::Rule(a) => {
-                    if a < self.input.rules() {
-                        moves.at(a)
+                    if a < self.productions.rules() {
+                        moves.at(a + 1)
                     } else {
                         None
                     }
@@ -184,8 +184,8 @@ impl Tables {
             MatchOption result (HasItem g next → ⊥)
             (λ to. HasItem g next × IsStateOf self.now next to) }
     {
-        if nonterminal < self.input.nonterminals() {
-            self.rows[state].to(self.input.rules() + nonterminal)
+        if nonterminal < self.productions.nonterminals() {
+            self.gotos[state].to(nonterminal)
         } else {
             None
         }
@@ -200,7 +200,7 @@ impl Tables {
             → IsStackAfter self.now.grammar x stack → HaveRoots self.now.grammar stack prefix
             → AreExpected self.now.grammar x result }
     {
-        self.moves[state].expected(self.input.rules())
+        self.moves[state].expected()
     }
 
     /// For every prefix with an item, and not for the states alone, it is decided what its items call for.
@@ -208,7 +208,7 @@ impl Tables {
         ensures { AreMovesDecided self.now.grammar }
     {
         // The read opens the invariant.
-        let _rows = &self.rows;
+        let _gotos = &self.gotos;
     }
 
     /// The left side of a production, and the length of its right side.
@@ -217,6 +217,6 @@ impl Tables {
         ensures { (right : List Symbol) × HasProduction self.now.grammar p result.0 right
             × (length right ≡ result.1) }
     {
-        (self.input.left(p), self.input.right(p).len())
+        (self.productions.left(p), self.productions.right(p).len())
     }
 }

@@ -10,7 +10,7 @@ use Rattle.tables.proofs.tables.Tables.build.Goals as goal
 
 pub returns : goal.returns
 returns c =
-    let g = c.in-Ok.input.grammar in
+    let g = c.in-Ok.augmented.grammar in
     let e = c.in-Ok.ensures in
     let t = c.tables_of.ensures in
     let r = c.tables_of.result in
@@ -18,8 +18,8 @@ returns c =
       grammar = t.grammar;
       free = t.free;
       lr1 = IfOk-weaker r (λ x. HasNoConflict g) (λ x. IsLr1 g) (λ x free. no_conflict_lr1 g free) t.free;
-      one_tree = IfOk-weaker r (λ x. HasNoConflict g) (λ x. HasOneTreeEach g) (λ x free. one_tree_of_used g e.productive free) t.free;
+      one_tree = IfOk-weaker r (λ x. HasNoConflict g) (λ x. HasOneTreeEach g) (λ x free. one_tree_of_used g e.sound.productive free) t.free;
       few = t.few;
       refused = t.refused;
-      refuted = IfErr-weaker r (IsRight g 8192) (RefutesLr1 g) (λ f h. refutes g 8192 e.productive e.distinct f h) t.refused;
+      refuted = IfErr-weaker r (IsRight g 8192) (RefutesLr1 g) (λ f h. refutes g 8192 e.sound.productive e.sound.distinct f h) t.refused;
     })

@@ -1,4 +1,4 @@
-use Rattle.std.proofs.Common.{◌≡◌, ◌<◌, ◌+◌, [], None, slice_index_or, ◌∙◌, arith}
+use Rattle.std.proofs.Common.{◌≡◌, ◌<◌, [], None, slice_index_or, ap, ◌∙◌, arith}
 use Rattle.std.proofs.lemmas.List.{get_or_default}
 use Rattle.tables.proofs.Answering.{goto_in_row, no_nonterminal}
 use Rattle.tables.proofs.tables.Tables.goto.Goals as goal
@@ -9,14 +9,14 @@ returns-then-nonterminal-nonterminals c =
     let t = c.self.invariant in
     let n = c.args.nonterminal in
     rw (← c.self.view_is) (λ prefix h.
-    let filled = t.rows_filled in
+    let filled = t.gotos_filled in
     let below = h.below in
-    let row : c.index.result.now ≡ slice_index_or inside.rows.items c.args.state [] = c.index.ensures ∙ get_or_default inside.rows.items c.args.state c.index.result.now [] (omega (arith, filled, below)) in
-    let at : c.to.result ≡ slice_index_or (slice_index_or inside.rows.items c.args.state []) (inside.input.grammar.rules + n) None = c.to.ensures ∙ (λ i. slice_index_or (row i) (c.rules.ensures i + n) None) in
-    let known : n < inside.input.nonterminals = (let e = c.nonterminals.ensures in let l = c.if-nonterminal-nonterminals.true in omega (arith, e, l)) in
-    rw at (goto_in_row inside.input inside.kernels inside.rows.items inside.moves.items t prefix c.args.state h n known))
+    let row : c.index.result.now ≡ slice_index_or inside.gotos.items c.args.state [] = c.index.ensures ∙ get_or_default inside.gotos.items c.args.state c.index.result.now [] (omega (arith, filled, below)) in
+    let at : c.to.result ≡ slice_index_or (slice_index_or inside.gotos.items c.args.state []) n None = c.to.ensures ∙ ap (λ r. slice_index_or r n None) row in
+    let known : n < inside.productions.nonterminals = (let e = c.nonterminals.ensures in let l = c.if-nonterminal-nonterminals.true in omega (arith, e, l)) in
+    rw at (goto_in_row inside.productions inside.kernels inside.gotos.items inside.moves.items t prefix c.args.state h n known))
 
 pub returns-else-nonterminal-nonterminals : goal.returns-else-nonterminal-nonterminals
 returns-else-nonterminal-nonterminals c =
     let inside = c.self.inside in
-    rw (← c.self.view_is) (λ prefix h. no_nonterminal inside.input inside.kernels inside.rows.items inside.moves.items c.self.invariant prefix c.args.state h c.args.nonterminal (let e = c.nonterminals.ensures in let l = c.if-nonterminal-nonterminals.false in omega (arith, e, l)))
+    rw (← c.self.view_is) (λ prefix h. no_nonterminal inside.productions inside.kernels inside.gotos.items inside.moves.items c.self.invariant prefix c.args.state h c.args.nonterminal (let e = c.nonterminals.ensures in let l = c.if-nonterminal-nonterminals.false in omega (arith, e, l)))

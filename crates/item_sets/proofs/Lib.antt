@@ -1,0 +1,15 @@
+pub mod Fixpoint
+pub mod Numbers
+pub mod Columns
+pub mod Wants
+pub mod Closing
+pub mod Collected
+pub mod Known
+pub mod Valid
+pub mod Moved
+pub mod Ordered
+pub mod Filed
+pub mod Collecting
+pub mod FromFile
+pub mod Follows
+pub mod Lefts

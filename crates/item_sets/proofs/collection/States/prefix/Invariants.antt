@@ -1,0 +1,15 @@
+use Rattle.std.proofs.Common.{◌<◌, ◌++◌, List, length}
+use Rattle.std.specs.Prelude.{reverse}
+use Rattle.definitions.specs.declared.Symbol.{Symbol}
+use Rattle.item_sets.specs.Collection.{kernel_at}
+use Rattle.item_sets.specs.States.{HasKernel}
+use Rattle.item_sets.proofs.collection.States.prefix.Given as goal
+
+abbrev pub invariant-loop-at : goal.invariant-loop-at
+invariant-loop-at l = record {
+  below : l.at < length l.self.kernels;
+  leads : (prefix : List Symbol) → HasKernel l.grammar.grammar (kernel_at l.self.kernels l.at) prefix → HasKernel l.grammar.grammar (kernel_at l.self.kernels l.state) (prefix ++ reverse l.symbols.items);
+}
+
+abbrev pub decreases-loop-at : goal.decreases-loop-at
+decreases-loop-at l = l.at

@@ -1,0 +1,33 @@
+-- Items, and the closure of a set of them.
+use Rattle.std.specs.Prelude.{◌≡◌, ◌<◌, ◌≤◌, ℕ, List, [], ◌∷◌, Option, Some, None, length, take, drop, Contains, IfSome}
+use Rattle.definitions.specs.declared.Symbol.{Symbol}
+use Rattle.definitions.specs.declared.Symbol.TheVariants.{Nonterminal}
+use Rattle.definitions.specs.Trees.{Grammar}
+use Rattle.definitions.specs.Items.{Item as LrItem}
+use Rattle.item_sets.specs.declared.item.Item.{Item}
+use Rattle.grammar.specs.Grammars.{left_of, right_of}
+use Rattle.item_sets.specs.Productions.{Shape}
+use Rattle.theory.specs.First.{MayFollow}
+
+-- the right side of a production, with S' = S as None
+abbrev pub side : Grammar → Option ℕ → List Symbol
+side g None = Nonterminal g.start ∷ []
+side g (Some p) = right_of g p
+
+-- the symbols behind the item's place
+abbrev pub behind : Grammar → Item → List Symbol
+behind g i = drop i.at (side g i.production)
+
+abbrev pub item_of : Grammar → Item → LrItem
+item_of g i = record { production = i.production; before = take i.at (side g i.production); after = behind g i; look = i.look }
+
+-- the item's numbers are in range
+pub record IsItem (g : Shape) (i : Item) : Type 0 where
+  pub production : IfSome i.production (λ p. p < length g.grammar.productions)
+  pub at : i.at ≤ length (side g.grammar i.production)
+  pub look : IfSome i.look (λ a. a < g.grammar.rules)
+
+-- the items of the set with this kernel
+pub data IsIn (g : Grammar) (kernel : List Item) : Item → Type 0 where
+  Kernel : {i : Item} → Contains kernel i → IsIn g kernel i
+  Closed : {i : Item} (n : ℕ) (rest : List Symbol) (p : ℕ) (a : Option ℕ) → IsIn g kernel i → behind g i ≡ Nonterminal n ∷ rest → p < length g.productions → left_of g p ≡ n → MayFollow g rest i.look a → IsIn g kernel (record { production = Some p; at = 0; look = a })

@@ -1,0 +1,149 @@
+//! The canonical collection: the sets of items, and where a symbol leads from each.
+ghost use Rattle.std.specs.Prelude.{◌≡◌, ◌<◌, ◌≤◌, ◌+◌, ◌∷◌, ◌++◌, List, [], None, All, IfOk, OnOk, length, slice_index_or};
+ghost use Rattle.definitions.specs.declared.Symbol.{Symbol};
+ghost use Rattle.item_sets.specs.Collection.{kernel_at, AreStates, Placed, GoesOn, IsStep};
+ghost use Rattle.item_sets.specs.States.{HasKernel, IsSetOf};
+
+use crate::augmented::AugmentedGrammar;
+use crate::goto::shifted;
+use crate::item::Item;
+use crate::kernels::Kernels;
+use definitions::Symbol;
+use std::alloc::{AllocError, Global};
+use std::marker::Model;
+
+/// The set and the symbol from which a set was first reached.
+#[derive(Clone, Copy)]
+pub struct Origin {
+    /// The earlier set.
+    from: usize,
+    /// The symbol that leads from it.
+    symbol: Symbol,
+}
+
+/// The sets found so far, by their kernels, and how each of them was first reached.
+#[derive(Drop)]
+pub struct States {
+    /// The kernel of each set.
+    kernels: Kernels,
+    /// How each set was first reached.
+    origins: Vec<Origin>,
+}
+
+impl Model for States {
+    ghost use Rattle.item_sets.specs.Collection.{Found};
+
+    ghost Value = { Found };
+
+    ghost view = { λ a. record { kernels = a.kernels; origins = a.origins.items } };
+}
+
+impl States {
+    /// The set of the empty prefix alone.
+    pub fn new(alloc: Global, grammar: &AugmentedGrammar) -> Result<States, AllocError>
+        ensures { IfOk result (AreStates grammar.now) }
+    {
+        let mut kernels = Kernels::new(alloc);
+        let mut kernel = Vec::new(alloc);
+        kernel.push(Item {
+            production: None,
+            at: 0,
+            look: None,
+        })?;
+        kernels.place(kernel)?;
+        let mut origins = Vec::new(alloc);
+        origins.push(Origin {
+            from: 0,
+            symbol: Symbol::Nonterminal(grammar.start()),
+        })?;
+        Ok(States { kernels, origins })
+    }
+
+    /// How many sets there are so far.
+    pub fn len(&self) -> usize
+        ensures { result ≡ length self.now.kernels }
+    {
+        self.kernels.len()
+    }
+
+    /// The kernel of a set.
+    pub fn kernel(&self, state: usize) -> &[Item]
+        requires { state < length self.now.kernels }
+        ensures { result.now ≡ kernel_at self.now.kernels state }
+    {
+        self.kernels.kernel(state)
+    }
+
+    /// The state with this kernel, which is added where it is new.
+    fn place(&mut self, kernel: Vec<Item>, from: usize, symbol: Symbol) -> Result<usize, AllocError>
+        requires { length self.old.origins ≡ length self.old.kernels }
+        ensures place { IfOk result (λ s. (s < length self.new.kernels)
+            × (kernel_at self.new.kernels s ≡ kernel.items)) }
+        ensures placed { OnOk result (Placed self.old self.new kernel.items from symbol) }
+    {
+        let state = self.kernels.place(kernel)?;
+        if state == self.origins.len() {
+            self.origins.push(Origin { from, symbol })?;
+        }
+        Ok(state)
+    }
+
+    /// Where the symbol leads from the state with these items. A state that is met for the first time is added.
+    pub fn goto(
+        &mut self,
+        alloc: Global,
+        grammar: &AugmentedGrammar,
+        items: &[Item],
+        from: usize,
+        symbol: Symbol,
+    ) -> Result<Option<usize>, AllocError>
+        requires states { AreStates grammar.now self.old }
+        requires from { from < length self.old.kernels }
+        requires items { IsSetOf grammar.now (kernel_at self.old.kernels from) items.now }
+        ensures states { OnOk result (AreStates grammar.now self.new) }
+        ensures goes_on { OnOk result (GoesOn self.old.kernels self.new.kernels) }
+        ensures step { IfOk result (IsStep grammar.now.grammar self.new.kernels from symbol) }
+    {
+        let kernel = shifted(alloc, grammar, items, symbol)?;
+        if kernel.is_empty() {
+            return Ok(None);
+        }
+        let to = self.place(kernel, from, symbol)?;
+        Ok(Some(to))
+    }
+
+    /// The symbols by which the state was first reached. Where the states are taken in order to be followed, no fewer symbols
+    /// lead there.
+    pub fn prefix(
+        &self,
+        alloc: Global,
+        grammar: &AugmentedGrammar,
+        state: usize,
+    ) -> Result<Vec<Symbol>, AllocError>
+        requires states { AreStates grammar.now self.now }
+        requires state { state < length self.now.kernels }
+        ensures { IfOk result (λ prefix. HasKernel grammar.now.grammar (kernel_at self.now.kernels
+            state) prefix.items) }
+    {
+        let mut symbols = Vec::new(alloc);
+        let mut at = state;
+        while at > 0 {
+            let origin = self.origins[at];
+            symbols.push(origin.symbol)?;
+            at = origin.from;
+        }
+        symbols.reverse();
+        Ok(symbols)
+    }
+
+    /// The kernels alone.
+    pub fn into_kernels(self) -> Kernels
+        ensures { result ≡ self.kernels }
+    {
+        let States {
+            kernels,
+            origins: _,
+        } = self;
+        kernels
+    }
+}

@@ -1,0 +1,230 @@
+//! Which nonterminals can vanish, and with which token rules they can begin.
+ghost use Rattle.std.specs.Prelude.{◌≡◌, ◌<◌, ◌≤◌, ◌↔◌, ℕ, Bool, true, false, List, [], Option, Some, None, length, All, IsTrue, IfOk, IfSome, slice_index_or, slice_set};
+ghost use Rattle.definitions.specs.declared.Symbol.{Symbol};
+ghost use Rattle.definitions.specs.Trees.{HasProduction};
+ghost use Rattle.item_sets.specs.First.{vanish_by, begin_by, holds_by, AreTrue, AreClosed, AreExact, AreFirst, unmarked};
+ghost use Rattle.theory.specs.First.{MayFollow};
+ghost use Rattle.theory.specs.First.{Vanishes, Begins};
+ghost use Rattle.item_sets.specs.Productions.{IsSound, IsKnown};
+
+use crate::marks::Marks;
+use crate::productions::Productions;
+use definitions::Symbol;
+use std::alloc::{AllocError, Global};
+use std::marker::Model;
+
+/// Whether each symbol is a marked nonterminal.
+fn vanish(productions: &Productions, marks: &Marks, symbols: &[Symbol]) -> bool
+    requires known { All (IsKnown productions.now) symbols.now }
+    requires marks { length marks.now ≡ productions.now.nonterminals }
+    ensures { result ≡ vanish_by marks.now symbols.now }
+{
+    for s in symbols {
+        match *s {
+            Symbol::Rule(_) => return false,
+            Symbol::Nonterminal(n) => {
+                if !marks.has(n) {
+                    return false;
+                }
+            }
+        }
+    }
+    true
+}
+
+/// Whether the symbols begin with the token rule, or with a marked nonterminal, behind what can vanish.
+fn begin(
+    productions: &Productions,
+    a: usize,
+    vanishing: &Marks,
+    marks: &Marks,
+    symbols: &[Symbol],
+) -> bool
+    requires known { All (IsKnown productions.now) symbols.now }
+    requires vanishing { length vanishing.now ≡ productions.now.nonterminals }
+    requires marks { length marks.now ≡ productions.now.nonterminals }
+    ensures { result ≡ begin_by a vanishing.now marks.now symbols.now }
+{
+    for s in symbols {
+        match *s {
+            Symbol::Rule(b) => return a == b,
+            Symbol::Nonterminal(n) => {
+                if marks.has(n) {
+                    return true;
+                }
+                if !vanishing.has(n) {
+                    return false;
+                }
+            }
+        }
+    }
+    false
+}
+
+/// Whether the symbols can vanish, or begin with the rule `look`.
+fn holds(
+    productions: &Productions,
+    look: Option<usize>,
+    vanishing: &Marks,
+    marks: &Marks,
+    symbols: &[Symbol],
+) -> bool
+    requires known { All (IsKnown productions.now) symbols.now }
+    requires vanishing { length vanishing.now ≡ productions.now.nonterminals }
+    requires marks { length marks.now ≡ productions.now.nonterminals }
+    ensures { result ≡ holds_by look vanishing.now marks.now symbols.now }
+{
+    match look {
+        None => vanish(productions, marks, symbols),
+        Some(a) => begin(productions, a, vanishing, marks, symbols),
+    }
+}
+
+/// Marks the left sides of the productions of which it holds, and tells whether one is new.
+fn pass(
+    productions: &Productions,
+    look: Option<usize>,
+    vanishing: &Marks,
+    marks: &mut Marks,
+) -> bool
+    requires sound { IsSound productions.now }
+    requires vanishing { length vanishing.now ≡ productions.now.nonterminals }
+    requires marks { length marks.old ≡ productions.now.nonterminals }
+    requires vanish { AreTrue productions.now.grammar None vanishing.now }
+    requires held { AreTrue productions.now.grammar look marks.old }
+    ensures marks { length marks.new ≡ productions.now.nonterminals }
+    ensures held { AreTrue productions.now.grammar look marks.new }
+    ensures closed { result ≡ false → AreClosed productions.now.grammar look vanishing.now marks.new }
+    ensures at_most { unmarked marks.new ≤ unmarked marks.old }
+    ensures fewer { result ≡ true → unmarked marks.new < unmarked marks.old }
+{
+    let mut changed = false;
+    for p in 0..productions.len() {
+        let left = productions.left(p);
+        if !marks.has(left) {
+            if holds(productions, look, vanishing, marks, productions.right(p)) {
+                marks.mark(left);
+                changed = true;
+            }
+        }
+    }
+    changed
+}
+
+/// The nonterminals that can vanish, or begin with the rule `look`.
+fn fixpoint(
+    alloc: Global,
+    productions: &Productions,
+    look: Option<usize>,
+    vanishing: &Marks,
+) -> Result<Marks, AllocError>
+    requires sound { IsSound productions.now }
+    requires vanishing { length vanishing.now ≡ productions.now.nonterminals }
+    requires vanish { AreTrue productions.now.grammar None vanishing.now }
+    ensures marks { IfOk result (λ m. length m ≡ productions.now.nonterminals) }
+    ensures held { IfOk result (AreTrue productions.now.grammar look) }
+    ensures closed { IfOk result (AreClosed productions.now.grammar look vanishing.now) }
+{
+    let mut marks = Marks::blank(alloc, productions.nonterminals())?;
+    let mut more = true;
+    while more {
+        more = pass(productions, look, vanishing, &mut marks);
+    }
+    Ok(marks)
+}
+
+/// Which nonterminals can vanish, and for each token rule, which can begin with it.
+#[derive(Drop)]
+pub struct First {
+    /// The nonterminals that can vanish.
+    vanishing: Marks,
+    /// For each token rule the nonterminals that can begin with it.
+    beginning: Vec<Marks>,
+}
+
+impl Model for First {
+    ghost use Rattle.item_sets.specs.First.{FirstSets};
+
+    ghost Value = { FirstSets };
+
+    ghost view = { λ a. record { vanishing = a.vanishing; beginning = a.beginning.items } };
+}
+
+impl First {
+    /// The sets of a grammar, each as the least that its productions allow.
+    pub fn new(alloc: Global, productions: &Productions) -> Result<First, AllocError>
+        requires { IsSound productions.now }
+        ensures { IfOk result (AreFirst productions.now) }
+    {
+        let blank = Marks::blank(alloc, productions.nonterminals())?;
+        let vanishing = fixpoint(alloc, productions, None, &blank)?;
+        let mut rows = Vec::new(alloc);
+        for a in 0..productions.rules() {
+            rows.push(fixpoint(alloc, productions, Some(a), &vanishing)?)?;
+        }
+        Ok(First {
+            vanishing,
+            beginning: rows,
+        })
+    }
+
+    /// The nonterminals that can vanish.
+    fn vanishing(&self) -> &Marks
+        ensures { result.now ≡ self.now.vanishing }
+    {
+        &self.vanishing
+    }
+
+    /// The nonterminals that can begin with this token rule.
+    fn beginning(&self, a: usize) -> &Marks
+        requires { a < length self.now.beginning }
+        ensures { result.now ≡ slice_index_or self.now.beginning a [] }
+    {
+        &self.beginning[a]
+    }
+
+    /// Whether the symbols can vanish.
+    fn vanishes(&self, productions: &Productions, symbols: &[Symbol]) -> bool
+        requires first { AreFirst productions.now self.now }
+        requires known { All (IsKnown productions.now) symbols.now }
+        ensures { IsTrue result ↔ Vanishes productions.now.grammar symbols.now }
+    {
+        vanish(productions, self.vanishing(), symbols)
+    }
+
+    /// Whether the symbols can begin with this token rule.
+    fn begins(&self, productions: &Productions, a: usize, symbols: &[Symbol]) -> bool
+        requires first { AreFirst productions.now self.now }
+        requires known { All (IsKnown productions.now) symbols.now }
+        requires rule { a < productions.now.grammar.rules }
+        ensures { IsTrue result ↔ Begins productions.now.grammar a symbols.now }
+    {
+        begin(productions, a, self.vanishing(), self.beginning(a), symbols)
+    }
+
+    /// Whether `a` can follow: it begins the symbols, or they can vanish and `look` is `a`.
+    pub fn sees(
+        &self,
+        productions: &Productions,
+        symbols: &[Symbol],
+        look: Option<usize>,
+        a: Option<usize>,
+    ) -> bool
+        requires first { AreFirst productions.now self.now }
+        requires known { All (IsKnown productions.now) symbols.now }
+        requires rule { IfSome a (λ b. b < productions.now.grammar.rules) }
+        ensures { IsTrue result ↔ MayFollow productions.now.grammar symbols.now look a }
+    {
+        let begun = match a {
+            None => false,
+            Some(b) => self.begins(productions, b, symbols),
+        };
+        if begun {
+            return true;
+        }
+        if look == a {
+            return self.vanishes(productions, symbols);
+        }
+        false
+    }
+}

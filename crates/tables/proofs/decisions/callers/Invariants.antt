@@ -1,0 +1,12 @@
+use Rattle.std.proofs.Common.{◌<◌, ℕ, Option, All, Contains, slice_index_or}
+use Rattle.definitions.specs.Items.{Move, CallsFor, kind_of}
+use Rattle.item_sets.specs.declared.item.Item.{Item}
+use Rattle.item_sets.specs.Sets.{IsItem, item_of}
+use Rattle.tables.proofs.decisions.callers.Given as goal
+
+abbrev pub invariant-loop-item : goal.invariant-loop-item
+invariant-loop-item l = record {
+  known : All (IsItem l.grammar) l.called.items;
+  within : (i : Item) → Contains l.called.items i → Contains l.items i;
+  all : (k : ℕ) (d : Item) (look : Option ℕ) (move : Move) → k < l.item-index → CallsFor (item_of l.grammar.grammar (slice_index_or l.items k d)) (kind_of look) move → Contains l.called.items (slice_index_or l.items k d);
+}
