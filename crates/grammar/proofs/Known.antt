@@ -14,7 +14,7 @@ use Rattle.grammar_file.specs.Statements.{Statement, Line, Nothing, Production, 
 use Rattle.grammar_file.specs.Contents.{as_rule, as_production, rules, productions, nonterminals, is_among, with_name, defines, defined_behind, defined}
 use Rattle.grammar.specs.Contents.{rule_names}
 use Rattle.grammar.specs.Grammars.{IsKnown}
-use Rattle.grammar.specs.Meaning.{file_grammar}
+use Rattle.grammar.specs.Meaning.{grammar_with}
 use Rattle.grammar_file.specs.Said.{with_rule, with_left}
 use Rattle.grammar_file.proofs.Lines.{rules-step, nonterminals-step}
 
@@ -38,14 +38,14 @@ more_nonterminals xs ys =
     ∙ fold-append with_name [] (map (λ p. p.left) (productions xs)) (map (λ p. p.left) (productions ys)) in
     omega (arith, ap length lefts, fold_longer (nonterminals xs) (map (λ p. p.left) (productions ys)))
 
-module _ (es : List Expression) (all : List Statement) where
+module _ (es : List Expression) (symbols : List Symbol) (all : List Statement) where
   abbrev AreKnown : List Symbol → Type 0
-  AreKnown xs = All (IsKnown (file_grammar all es)) xs
+  AreKnown xs = All (IsKnown (grammar_with all es symbols)) xs
 
-  known_rule : (k : ℕ) → k < length (rules all) → IsKnown (file_grammar all es) (Terminal k)
+  known_rule : (k : ℕ) → k < length (rules all) → IsKnown (grammar_with all es symbols) (Terminal k)
   known_rule k below = omega (arith, below, length-map (rule_names all) chars, length-map (rules all) (λ r. r.name))
 
-  known_nonterminal : (n : ℕ) → n < length (nonterminals all) → IsKnown (file_grammar all es) (Nonterminal n)
+  known_nonterminal : (n : ℕ) → n < length (nonterminals all) → IsKnown (grammar_with all es symbols) (Nonterminal n)
   known_nonterminal n below = omega (arith, below, length-map (nonterminals all) chars)
 
   -- what a line defines behind some lines, where all have no fewer names than these with it
@@ -56,23 +56,23 @@ module _ (es : List Expression) (all : List Statement) where
     where
       go : (b : Bool) → length (nonterminals after) ≡ length (if b then nonterminals before else nonterminals before ++ left ∷ []) → AreKnown (cons_option (if b then None else Some (Nonterminal (length (nonterminals before)))) xs)
       go true e = known
-      go false e = All-cons (IsKnown (file_grammar all es)) (Nonterminal (length (nonterminals before))) xs (known_nonterminal (length (nonterminals before)) (omega (arith, e, fewer, length-append (nonterminals before) (left ∷ [])))) known
+      go false e = All-cons (IsKnown (grammar_with all es symbols)) (Nonterminal (length (nonterminals before))) xs (known_nonterminal (length (nonterminals before)) (omega (arith, e, fewer, length-append (nonterminals before) (left ∷ [])))) known
   known_line before after (Rule skip name pattern) xs rs ns few fewer known =
-      All-cons (IsKnown (file_grammar all es)) (Terminal (length (rules before))) xs (known_rule (length (rules before)) (omega (arith, ap length rs, few, length-append (rules before) (record { skip = skip; name = name; pattern = pattern } ∷ [])))) known
+      All-cons (IsKnown (grammar_with all es symbols)) (Terminal (length (rules before))) xs (known_rule (length (rules before)) (omega (arith, ap length rs, few, length-append (rules before) (record { skip = skip; name = name; pattern = pattern } ∷ [])))) known
   known_line before after (Start name) xs rs ns few fewer known = known
   known_line before after (Fold name) xs rs ns few fewer known = known
   known_line before after Bad xs rs ns few fewer known = known
 
-  known_behind : (before ss : List Statement) → all ≡ before ++ ss → AreKnown (defined_behind before ss)
-  known_behind before [] e = All-nil (IsKnown (file_grammar all es))
-  known_behind before (s ∷ ss) e =
+  known_behind : (before ss rest : List Statement) → all ≡ before ++ (ss ++ rest) → AreKnown (defined_behind before ss)
+  known_behind before [] rest e = All-nil (IsKnown (grammar_with all es symbols))
+  known_behind before (s ∷ ss) rest e =
       let after : List Statement = before ++ s ∷ [] in
-      let split : all ≡ after ++ ss = e ∙ sym (append_assoc before (s ∷ []) ss) in
+      let split : all ≡ after ++ (ss ++ rest) = e ∙ sym (append_assoc before (s ∷ []) (ss ++ rest)) in
       known_line before after s.says (defined_behind after ss) (rules-step before s.number s.says) (nonterminals-step before s.number s.says)
-      (omega (arith, more_rules after ss, ap (λ xs. length (rules xs)) split))
-      (omega (arith, more_nonterminals after ss, ap (λ xs. length (nonterminals xs)) split))
-      (known_behind after ss split)
+      (omega (arith, more_rules after (ss ++ rest), ap (λ xs. length (rules xs)) split))
+      (omega (arith, more_nonterminals after (ss ++ rest), ap (λ xs. length (nonterminals xs)) split))
+      (known_behind after ss rest split)
 
--- all that the statements define has a number in range
-pub known : (ss : List Statement) (es : List Expression) → All (IsKnown (file_grammar ss es)) (defined ss)
-known ss es = known_behind es ss [] ss refl
+-- all that the statements define has a number in range, also where others stand behind them
+pub known : (ss rest : List Statement) (es : List Expression) (symbols : List Symbol) → All (IsKnown (grammar_with (ss ++ rest) es symbols)) (defined ss)
+known ss rest es symbols = known_behind es symbols (ss ++ rest) [] ss rest refl

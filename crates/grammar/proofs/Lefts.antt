@@ -36,7 +36,7 @@ with_one w x names rest =
           (ap (λ t. t || is_among w rest) (sym (list_any-append (λ v. bytes_eq v w) names (x ∷ []))) ∙ h)
     ]
 
-among_fold : (w : List ℕ) (names ws : List (List ℕ)) → is_among w (fold with_name names ws) ≡ true → (is_among w names || is_among w ws) ≡ true
+pub among_fold : (w : List ℕ) (names ws : List (List ℕ)) → is_among w (fold with_name names ws) ≡ true → (is_among w names || is_among w ws) ≡ true
 among_fold w names [] h = either_none (is_among w names) h
 among_fold w names (x ∷ ws) h = with_one w x names ws (among_fold w (with_name names x) ws h)
 

@@ -3,6 +3,7 @@ pub mod Lefts
 pub mod Numbered
 pub mod Known
 pub mod Ranges
+pub mod WrittenOut
 pub mod Using
 pub mod Noting
 pub mod Meant

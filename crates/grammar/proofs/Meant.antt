@@ -13,25 +13,33 @@ use Rattle.grammar_file.specs.declared.statements.Numbered.{Numbered}
 use Rattle.grammar_file.specs.declared.statements.File.{File}
 use Rattle.grammar_file.specs.Words.{Word}
 use Rattle.grammar_file.specs.Statements.{Statement, statements}
-use Rattle.grammar_file.specs.Contents.{productions, nonterminals}
+use Rattle.std.specs.List.{flat_map}
+use Rattle.grammar_file.specs.Contents.{RuleLine, productions, nonterminals, defined}
+use Rattle.grammar_file.specs.WrittenOut.{added, marked, written_out}
 use Rattle.grammar.specs.Contents.{production_of, grammar_of}
 use Rattle.grammar_file.specs.Faults.{IsWhole, HaveReferents, IsFileFault, Unproductive}
 use Rattle.grammar.specs.Faults.{IsFirstProduction, IsFault, file_fault, unproductive}
 use Rattle.grammar.specs.Grammars.{FileGrammar, IsGrammar, IsUsable}
 use Rattle.grammar.specs.Marks.{AreBelow, AllProductiveIn, IsUnproductiveIn}
-use Rattle.grammar.specs.Meaning.{file_grammar, IsGrammarOf}
-use Rattle.grammar_file.specs.Said.{texts, all_said, IsRead}
+use Rattle.grammar.specs.Meaning.{grammar_with, file_grammar, IsGrammarOf}
+use Rattle.grammar_file.specs.Said.{texts, all_said, ArePatterns, IsWrittenOut}
 use Rattle.grammar_file.specs.Told.{Tells}
+use Rattle.grammar.proofs.Known.{known}
 use Rattle.grammar.proofs.Ranges.{lefts_below, is_grammar}
+use Rattle.grammar.proofs.WrittenOut.{rules_written, few_nonterminals, few_productions, are_once, plain_lefts, are_fine, are_short, start_in}
 use Rattle.grammar_file.proofs.Splits.{tells_map, length-texts}
 
 -- what is told of the lines and names is told of the file
 pub told_of_file : (text : List ℕ) (r : Refusal) → Tells r (λ n c. IsFileFault text n c) → Tells r (λ n c. IsFault text n c)
 told_of_file text r tells = tells_map r (λ n c. IsFileFault text n c) (λ n c. IsFault text n c) (λ n c h. file_fault n c h) tells
 
-module _ (text : List ℕ) (file : File) (whole : IsWhole text) (read : IsRead file (statements text)) (refers : HaveReferents (statements text) (statements text)) where
+module _ (text : List ℕ) (file : File) (whole : IsWhole text) (read : IsWrittenOut file (statements text)) (refers : HaveReferents (statements text) (statements text)) where
+  abbrev own : List Statement
+  own = statements text
+
+  -- with the productions of the marked words
   abbrev ss : List Statement
-  ss = statements text
+  ss = written_out own
 
   pub productions_are : (ns : List Numbered) (ps : List Production') → ns ≡ file.statements.items → ps ≡ map (production_of file.names.nonterminals (map (λ r. r.name) file.names.rules)) (productions (all_said ns)) → ps ≡ (grammar_of ss).productions
   productions_are ns ps same are =
@@ -65,14 +73,19 @@ module _ (text : List ℕ) (file : File) (whole : IsWhole text) (read : IsRead f
   productive : (names : List (Bor (List ℕ))) (ps : List Production') → texts names ≡ file.names.nonterminals → ps ≡ (grammar_of ss).productions → AllProductiveIn ps (length names) → (n : ℕ) → n < length (nonterminals ss) → IsProductive (grammar_of ss) (Nonterminal n)
   productive names ps same are all n within = all (grammar_of ss) n (sym are) (omega (arith, within, count_is names same))
 
-  pub is_sound : (names : List (Bor (List ℕ))) (ps : List Production') → texts names ≡ file.names.nonterminals → ps ≡ (grammar_of ss).productions → AllProductiveIn ps (length names) → IsGrammar (file_grammar (all_said file.statements.items) file.patterns.items)
+  pub is_sound : (names : List (Bor (List ℕ))) (ps : List Production') → texts names ≡ file.names.nonterminals → ps ≡ (grammar_of ss).productions → AllProductiveIn ps (length names) → IsGrammar (grammar_with (all_said file.statements.items) file.patterns.items file.defined.items)
   is_sound names ps same are all =
-      subst (λ (xs : List Statement). IsGrammar (file_grammar xs file.patterns.items)) (sym read.statements)
-      (is_grammar ss file.patterns.items whole.faultless refers whole.started read.few read.patterns (productive names ps same are all))
+      subst (λ (xs : List Statement). IsGrammar (grammar_with xs file.patterns.items file.defined.items)) (sym read.statements)
+      (subst (λ (xs : List Symbol). IsGrammar (grammar_with ss file.patterns.items xs)) (sym read.defined)
+      (is_grammar ss file.patterns.items (defined own)
+      (are_once own whole.faultless (plain_lefts text)) (are_fine own refers) (are_short own read.few) (start_in own refers whole.started)
+      (omega (arith, read.few.few_rules, ap length (rules_written own))) (few_nonterminals own read.few) (few_productions own read.few)
+      (subst (λ (rs : List RuleLine). ArePatterns rs file.patterns.items) (sym (rules_written own)) read.patterns)
+      (productive names ps same are all) (known own (flat_map added (marked own)) file.patterns.items (defined own))))
 
-  pub is_meant : (names : List (Bor (List ℕ))) (ps : List Production') (f : FileGrammar) → texts names ≡ file.names.nonterminals → ps ≡ (grammar_of ss).productions → AllProductiveIn ps (length names) → f ≡ file_grammar (all_said file.statements.items) file.patterns.items → IsGrammarOf text f
+  pub is_meant : (names : List (Bor (List ℕ))) (ps : List Production') (f : FileGrammar) → texts names ≡ file.names.nonterminals → ps ≡ (grammar_of ss).productions → AllProductiveIn ps (length names) → f ≡ grammar_with (all_said file.statements.items) file.patterns.items file.defined.items → IsGrammarOf text f
   is_meant names ps f same are all is =
-      let of_file : f ≡ file_grammar ss file.patterns.items = is ∙ ap (λ xs. file_grammar xs file.patterns.items) read.statements in
+      let of_file : f ≡ file_grammar own file.patterns.items = is ∙ (λ i. grammar_with (read.statements i) file.patterns.items (read.defined i)) in
       subst (λ (g : FileGrammar). IsGrammarOf text g) (sym of_file)
       (record { whole = whole; referents = refers; patterns = read.patterns; productive = productive names ps same are all; is = refl })
 

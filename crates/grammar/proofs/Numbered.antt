@@ -11,14 +11,14 @@ use Rattle.std.proofs.lemmas.List.Folds.{list_any_at}
 use Rattle.std.proofs.lemmas.Bool.{cases_lt}
 use Rattle.definitions.specs.declared.Symbol.TheVariants.{Rule as Terminal, Nonterminal}
 use Rattle.definitions.specs.Trees.{HasDistinctProductions}
-use Rattle.grammar_file.specs.Words.{Word}
+use Rattle.grammar_file.specs.Words.{Word, plain}
 use Rattle.grammar.proofs.Lefts.{bytes_eq_same}
 use Rattle.grammar_file.specs.Statements.{Statement, Line, Nothing, Production, Rule, Start, Fold, Bad}
 use Rattle.grammar_file.specs.Contents.{ProductionLine, as_production, productions, nonterminals, is_among, number_of}
 use Rattle.grammar.specs.Contents.{rule_names, symbol_of, production_of, grammar_of}
 use Rattle.grammar_file.specs.Faults.{AreFaultless, early_fault, has_production, is_production, has_rule, or_else, told, reserved, Cause, DefinedTwice}
 
-same_bytes : (v w : Word) → bytes_eq v w ≡ true → v ≡ w
+pub same_bytes : (v w : Word) → bytes_eq v w ≡ true → v ≡ w
 same_bytes v w h = (bytes_eq-Decides v w).0 h
 
 abbrev place : Word → List Word → ℕ
@@ -165,7 +165,7 @@ said_again l x e =
 earlier : (ss : List Statement) → AreFaultless ss → (i j : ℕ) (s r : Statement) (x : ProductionLine) → slice_get ss i ≡ Some s → slice_get ss j ≡ Some r → s.says ≡ Production x.left x.right → r.says ≡ Production x.left x.right → i < j → ⊥
 earlier ss free i j s r x a b e f l =
     let early : early_fault (take j ss) (Production x.left x.right) ≡ None = subst (λ y. early_fault (take j ss) y ≡ None) f (free j r b).early in
-    let both : (has_rule (take j ss) x.left || has_production (take j ss) x.left x.right) ≡ false = not_told (has_rule (take j ss) x.left || has_production (take j ss) x.left x.right) (DefinedTwice x.left) (neither (reserved (x.left ∷ x.right)) (told (has_rule (take j ss) x.left || has_production (take j ss) x.left x.right) (DefinedTwice x.left)) early).1 in
+    let both : (has_rule (take j ss) x.left || has_production (take j ss) x.left x.right) ≡ false = not_told (has_rule (take j ss) x.left || has_production (take j ss) x.left x.right) (DefinedTwice x.left) (neither (reserved (x.left ∷ map plain x.right)) (told (has_rule (take j ss) x.left || has_production (take j ss) x.left x.right) (DefinedTwice x.left)) early).1 in
     let twice : has_production (take j ss) x.left x.right ≡ false = (or_false (has_rule (take j ss) x.left) (has_production (take j ss) x.left x.right) both).1 in
     let found : has_production (take j ss) x.left x.right ≡ true = any_at (λ y. is_production x.left x.right y.says) (take j ss) i s (get_take ss i j s l a) (said_again s.says x e) in
     true_not_false (sym found ∙ twice)
@@ -174,7 +174,11 @@ earlier ss free i j s r x a b e f l =
 abbrev pub AreNamed : List Statement → Type 0
 AreNamed ss = (p : ℕ) (x : ProductionLine) → slice_get (productions ss) p ≡ Some x → (is_among x.left (nonterminals ss) ≡ true) × AllNamed (nonterminals ss) (rule_names ss) x.right
 
-one_line : (ss : List Statement) → AreFaultless ss → (p q : ℕ) (x : ProductionLine) → slice_get (productions ss) p ≡ Some x → slice_get (productions ss) q ≡ Some x → p ≡ q
+-- each production stands at one place
+abbrev pub AreOnce : List Statement → Type 0
+AreOnce ss = (p q : ℕ) (x : ProductionLine) → slice_get (productions ss) p ≡ Some x → slice_get (productions ss) q ≡ Some x → p ≡ q
+
+pub one_line : (ss : List Statement) → AreFaultless ss → (p q : ℕ) (x : ProductionLine) → slice_get (productions ss) p ≡ Some x → slice_get (productions ss) q ≡ Some x → p ≡ q
 one_line ss free p q x a b =
     let one = comes_from (λ s. as_production s.says) ss p x a in
     let two = comes_from (λ s. as_production s.says) ss q x b in
@@ -199,8 +203,8 @@ made_from h [] k y e = cc
 made_from h (x ∷ xs) zero y e = record { item = x; there = refl; is = some_same (h x) y e }
 made_from h (x ∷ xs) (suc k) y e = let r = made_from h xs k y e in record { item = r.item; there = r.there; is = r.is }
 
-pub distinct : (ss : List Statement) → AreFaultless ss → AreNamed ss → HasDistinctProductions (grammar_of ss)
-distinct ss free named p q n right a b =
+pub distinct : (ss : List Statement) → AreOnce ss → AreNamed ss → HasDistinctProductions (grammar_of ss)
+distinct ss once named p q n right a b =
     let ns = nonterminals ss in
     let rs = rule_names ss in
     let one = made_from (production_of ns rs) (productions ss) p (record { left = n; right = right }) a in
@@ -209,4 +213,4 @@ distinct ss free named p q n right a b =
     let left : one.item.left ≡ two.item.left = number_tells one.item.left two.item.left ns (named p one.item one.there).0 (named q two.item two.there).0 (ap (λ x. x.left) same) in
     let rights : one.item.right ≡ two.item.right = symbols_tell ns rs one.item.right two.item.right (named p one.item one.there).1 (named q two.item two.there).1 (ap (λ x. x.right) same) in
     let item : one.item ≡ two.item = ap (λ l. record { left = l; right = one.item.right }) left ∙ ap (λ r. record { left = two.item.left; right = r }) rights in
-    one_line ss free p q one.item one.there (two.there ∙ ap Some (sym item))
+    once p q one.item one.there (two.there ∙ ap Some (sym item))

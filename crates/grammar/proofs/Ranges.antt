@@ -1,5 +1,5 @@
 -- The numbers of a file's names are in range.
-use Rattle.std.proofs.Common.{◌≡◌, inl, inr, ℕ, zero, suc, ◌<◌, Bool, true, false, ◌&&◌, ◌||◌, List, [], ◌∷◌, ◌++◌, refl, ap, sym, ◌∙◌, length, arith, subst, if◌then◌else◌}
+use Rattle.std.proofs.Common.{◌≡◌, inl, inr, ℕ, zero, suc, ◌<◌, ◌≤◌, Bool, true, false, ◌&&◌, ◌||◌, List, [], ◌∷◌, ◌++◌, refl, ap, sym, ◌∙◌, length, arith, subst, if◌then◌else◌}
 use Rattle.std.specs.Prelude.{not, nat_lt, Some, None, map, slice_get, slice_index_or, All}
 use Rattle.std.specs.List.{list_any, fold}
 use Rattle.std.specs.Str.{bytes_eq}
@@ -12,43 +12,42 @@ use Rattle.std.proofs.lemmas.List.Elements.{All-nil, All-cons}
 use Rattle.definitions.specs.declared.expression.Expression.{Expression}
 use Rattle.definitions.specs.Trees.{HasProduction}
 use Rattle.definitions.specs.Sentences.{IsProductive}
-use Rattle.grammar.specs.Grammars.{FileGrammar, IsUsable, IsGrammar}
+use Rattle.grammar.specs.Grammars.{FileGrammar, IsUsable, IsKnown, IsGrammar}
 use Rattle.grammar.specs.Marks.{AreBelow}
-use Rattle.grammar.specs.Meaning.{file_grammar}
-use Rattle.grammar_file.specs.Said.{ArePatterns, AreFew}
-use Rattle.grammar_file.specs.Words.{Word}
+use Rattle.grammar.specs.Meaning.{grammar_with}
+use Rattle.grammar_file.specs.Said.{ArePatterns}
+use Rattle.grammar_file.specs.Words.{Word, plain}
 use Rattle.grammar_file.specs.Statements.{Statement, Line, Nothing, Production, Rule, Start, Fold, Bad}
 use Rattle.grammar_file.specs.Contents.{RuleLine, ProductionLine, as_production, as_start, rules, productions, starts, nonterminals, with_name, is_among, number_of}
 use Rattle.grammar.specs.Contents.{first_of, rule_names, symbol_of, production_of, is_fold, grammar_of}
-use Rattle.grammar_file.specs.Faults.{AreFaultless, HaveReferents, symbol_fault, right_fault, reference_fault, NotANonterminal, is_skip_rule, has_rule}
-use Rattle.grammar.proofs.Known.{known}
+use Rattle.grammar_file.specs.Faults.{HaveReferents, symbol_fault, right_fault, reference_fault, NotANonterminal, is_skip_rule, has_rule}
 use Rattle.grammar.proofs.Lefts.{bytes_eq_same}
 use Rattle.grammar_file.proofs.Mapped.{list_any-map}
-use Rattle.grammar.proofs.Numbered.{AllNamed, AreNamed, comes_from, says_production, neither, not_told, or_false, number_below, number_at, nonterminal_is, terminal_is, IsMadeFrom, made_from, distinct}
+use Rattle.grammar.proofs.Numbered.{AllNamed, AreNamed, AreOnce, comes_from, says_production, not_told, or_false, number_below, number_at, nonterminal_is, terminal_is, IsMadeFrom, made_from, distinct}
 
 kept : (w x : Word) (names : List Word) → is_among w names ≡ true → is_among w (with_name names x) ≡ true
 kept w x names h =
     elim (is_among x names) as (λ t. is_among w (if t then names else names ++ x ∷ []) ≡ true)
     [ true ↦ h | false ↦ list_any-append (λ v. bytes_eq v w) names (x ∷ []) ∙ ap (λ b. b || is_among w (x ∷ [])) h ]
 
-or_true : (a : Bool) → (a || true) ≡ true
+pub or_true : (a : Bool) → (a || true) ≡ true
 or_true true = refl
 or_true false = refl
 
-added : (x : Word) (names : List Word) → is_among x (with_name names x) ≡ true
-added x names = go (is_among x names) refl
+pub names_added : (x : Word) (names : List Word) → is_among x (with_name names x) ≡ true
+names_added x names = go (is_among x names) refl
   where
     go : (b : Bool) → is_among x names ≡ b → is_among x (with_name names x) ≡ true
     go true e = rw e e
     go false e = rw e (list_any-append (λ v. bytes_eq v x) names (x ∷ []) ∙ ap (λ b. is_among x names || (b || false)) (bytes_eq_same x) ∙ or_true (is_among x names))
 
-fold_keeps : (w : Word) (names ws : List Word) → is_among w names ≡ true → is_among w (fold with_name names ws) ≡ true
+pub fold_keeps : (w : Word) (names ws : List Word) → is_among w names ≡ true → is_among w (fold with_name names ws) ≡ true
 fold_keeps w names [] h = h
 fold_keeps w names (x ∷ ws) h = fold_keeps w (with_name names x) ws (kept w x names h)
 
 fold_adds : (w : Word) (names ws : List Word) (k : ℕ) → slice_get ws k ≡ Some w → is_among w (fold with_name names ws) ≡ true
 fold_adds w names [] k e = cc
-fold_adds w names (x ∷ ws) zero e = let same : x ≡ w = cc in fold_keeps w (with_name names x) ws (subst (λ v. is_among v (with_name names x) ≡ true) same (added x names))
+fold_adds w names (x ∷ ws) zero e = let same : x ≡ w = cc in fold_keeps w (with_name names x) ws (subst (λ v. is_among v (with_name names x) ≡ true) same (names_added x names))
 fold_adds w names (x ∷ ws) (suc k) e = fold_adds w (with_name names x) ws k e
 
 get_map : (xs : List ProductionLine) (k : ℕ) (x : ProductionLine) → slice_get xs k ≡ Some x → slice_get (map (λ p. p.left) xs) k ≡ Some x.left
@@ -71,7 +70,7 @@ pub data IsFine (ss : List Statement) (w : Word) : Type 0 where
   Of_nonterminal : is_among w (nonterminals ss) ≡ true → IsFine ss w
   Of_rule : is_among w (nonterminals ss) ≡ false → list_any (is_skip_rule w) (rules ss) ≡ false → is_among w (rule_names ss) ≡ true → IsFine ss w
 
-is_fine : (ss : List Statement) (w : Word) → symbol_fault ss w ≡ None → IsFine ss w
+pub is_fine : (ss : List Statement) (w : Word) → symbol_fault ss w ≡ None → IsFine ss w
 is_fine ss w h = go (is_among w (nonterminals ss)) (list_any (is_skip_rule w) (rules ss)) (has_rule ss w) refl refl refl
   where
     go : (a b c : Bool) → is_among w (nonterminals ss) ≡ a → list_any (is_skip_rule w) (rules ss) ≡ b → has_rule ss w ≡ c → IsFine ss w
@@ -80,26 +79,28 @@ is_fine ss w h = go (is_among w (nonterminals ss)) (list_any (is_skip_rule w) (r
     go false false true e f g = Of_rule e f (list_any-map (λ v. bytes_eq v w) (λ r. r.name) (rules ss) ∙ g)
     go false false false e f g = let bad = (rw (e, f, g) at h) in cc
 
-pub right_fine : (ss : List Statement) (ws : List Word) → right_fault ss ws ≡ None → (P : Word → Type 0) → ((w : Word) → IsFine ss w → P w) → (k : ℕ) (w : Word) → slice_get ws k ≡ Some w → P w
-right_fine ss [] h P f k w e = cc
-right_fine ss (v ∷ vs) h P f zero w e =
-    let same : v ≡ w = cc in
-    subst P same (f v (is_fine ss v (neither (symbol_fault ss v) (right_fault ss vs) h).0))
-right_fine ss (v ∷ vs) h P f (suc k) w e = right_fine ss vs (neither (symbol_fault ss v) (right_fault ss vs) h).1 P f k w e
+-- each name of a right side is fine
+abbrev pub AllFine : List Statement → List Word → Type 0
+AllFine ss [] = Unit {0}
+AllFine ss (w ∷ ws) = IsFine ss w × AllFine ss ws
 
-all_named : (ss : List Statement) (ws : List Word) → right_fault ss ws ≡ None → AllNamed (nonterminals ss) (rule_names ss) ws
-all_named ss [] h = tt
-all_named ss (w ∷ ws) h =
-    let both = neither (symbol_fault ss w) (right_fault ss ws) h in
-    (elim (is_fine ss w both.0) [ Of_nonterminal a ↦ inl a | Of_rule a b c ↦ inr (a, c) ], all_named ss ws both.1)
+abbrev pub AreFine : List Statement → Type 0
+AreFine ss = (p : ℕ) (x : ProductionLine) → slice_get (productions ss) p ≡ Some x → AllFine ss x.right
 
-pub right_faultless : (ss : List Statement) → HaveReferents ss ss → (p : ℕ) (x : ProductionLine) → slice_get (productions ss) p ≡ Some x → right_fault ss x.right ≡ None
+abbrev pub AreShort : List Statement → Type 0
+AreShort ss = (p : ℕ) (x : ProductionLine) → slice_get (productions ss) p ≡ Some x → length x.right ≤ 16
+
+all_named : (ss : List Statement) (ws : List Word) → AllFine ss ws → AllNamed (nonterminals ss) (rule_names ss) ws
+all_named ss [] fine = tt
+all_named ss (w ∷ ws) fine = (elim fine.0 [ Of_nonterminal a ↦ inl a | Of_rule a b c ↦ inr (a, c) ], all_named ss ws fine.1)
+
+pub right_faultless : (ss : List Statement) → HaveReferents ss ss → (p : ℕ) (x : ProductionLine) → slice_get (productions ss) p ≡ Some x → right_fault ss (map plain x.right) ≡ None
 right_faultless ss refers p x e =
     let c = comes_from (λ s. as_production s.says) ss p x e in
     subst (λ l. reference_fault ss l ≡ None) (says_production c.item x c.gives) (refers c.place c.item c.there)
 
-pub named : (ss : List Statement) → HaveReferents ss ss → AreNamed ss
-named ss refers p x e = (left_among ss p x e, all_named ss x.right (right_faultless ss refers p x e))
+pub named : (ss : List Statement) → AreFine ss → AreNamed ss
+named ss fine p x e = (left_among ss p x e, all_named ss x.right (fine p x e))
 
 says_start : (s : Statement) (w : Word) → as_start s.says ≡ Some w → s.says ≡ Start w
 says_start s w h = go s.says h
@@ -134,8 +135,8 @@ first_among ss refers (w ∷ rest) e h =
     let fine : reference_fault ss (Start w) ≡ None = subst (λ l. reference_fault ss l ≡ None) says (refers k s there) in
     is_true (is_among w (nonterminals ss)) (not_told (not (is_among w (nonterminals ss))) (NotANonterminal w) fine)
 
-pub start_below : (ss : List Statement) → HaveReferents ss ss → nat_lt 0 (length (starts ss)) ≡ true → number_of (first_of (starts ss)) (nonterminals ss) < length (nonterminals ss)
-start_below ss refers h = number_below (first_of (starts ss)) (nonterminals ss) (first_among ss refers (starts ss) refl h)
+pub start_among : (ss : List Statement) → HaveReferents ss ss → nat_lt 0 (length (starts ss)) ≡ true → is_among (first_of (starts ss)) (nonterminals ss) ≡ true
+start_among ss refers h = first_among ss refers (starts ss) refl h
 
 -- a rule that isn't skipped, at its number
 not_skipped_at : (rs : List RuleLine) (w : Word) (k : ℕ) → list_any (is_skip_rule w) rs ≡ false → slice_get (map (λ r. r.name) rs) k ≡ Some w → slice_index_or (map (λ r. r.skip) rs) k false ≡ false
@@ -148,9 +149,9 @@ not_skipped_at (r ∷ rs) w zero h e =
 not_skipped_at (r ∷ rs) w (suc k) h e = not_skipped_at rs w k (or_false (is_skip_rule w r) (list_any (is_skip_rule w) rs) h).1 e
 
 -- what the statements define
-module _ (ss : List Statement) (es : List Expression) where
+module _ (ss : List Statement) (es : List Expression) (symbols : List Symbol) where
   abbrev f : FileGrammar
-  f = file_grammar ss es
+  f = grammar_with ss es symbols
 
   patterns_long : (rs : List RuleLine) (xs : List Expression) → ArePatterns rs xs → length xs ≡ length rs
   patterns_long [] [] h = refl
@@ -171,13 +172,11 @@ module _ (ss : List Statement) (es : List Expression) where
     not_skipped_at (rules ss) w (number_of w (rule_names ss)) b (number_at w (rule_names ss) c),
   )
 
-  all_usable : (ws : List Word) → right_fault ss ws ≡ None → All (IsUsable f) (map (symbol_of (nonterminals ss) (rule_names ss)) ws)
-  all_usable [] h = All-nil (IsUsable f)
-  all_usable (w ∷ ws) h =
-      let both = neither (symbol_fault ss w) (right_fault ss ws) h in
-      All-cons (IsUsable f) (symbol_of (nonterminals ss) (rule_names ss) w) (map (symbol_of (nonterminals ss) (rule_names ss)) ws) (usable w (is_fine ss w both.0)) (all_usable ws both.1)
+  all_usable : (ws : List Word) → AllFine ss ws → All (IsUsable f) (map (symbol_of (nonterminals ss) (rule_names ss)) ws)
+  all_usable [] fine = All-nil (IsUsable f)
+  all_usable (w ∷ ws) fine = All-cons (IsUsable f) (symbol_of (nonterminals ss) (rule_names ss) w) (map (symbol_of (nonterminals ss) (rule_names ss)) ws) (usable w fine.0) (all_usable ws fine.1)
 
-  module _ (free : AreFaultless ss) (refers : HaveReferents ss ss) (started : nat_lt 0 (length (starts ss)) ≡ true) (few : AreFew ss) (patterned : ArePatterns (rules ss) es) (productive : (n : ℕ) → n < length (nonterminals ss) → IsProductive (grammar_of ss) (Nonterminal n)) where
+  module _ (once : AreOnce ss) (fine : AreFine ss) (short : AreShort ss) (started : is_among (first_of (starts ss)) (nonterminals ss) ≡ true) (few_rules : length (rules ss) ≤ 256) (few_nonterminals : length (nonterminals ss) ≤ 256) (few_productions : length (productions ss) ≤ 1024) (patterned : ArePatterns (rules ss) es) (productive : (n : ℕ) → n < length (nonterminals ss) → IsProductive (grammar_of ss) (Nonterminal n)) (are_known : All (IsKnown f) symbols) where
     from_line : (p n : ℕ) (right : List Symbol) → HasProduction (grammar_of ss) p n right → IsMadeFrom (production_of (nonterminals ss) (rule_names ss)) (productions ss) p (record { left = n; right = right })
     from_line p n right h = made_from (production_of (nonterminals ss) (rule_names ss)) (productions ss) p (record { left = n; right = right }) h
 
@@ -187,10 +186,10 @@ module _ (ss : List Statement) (es : List Expression) where
       patterns = patterns_long (rules ss) es patterned ∙ sym many_rules;
       skips = length-map (rules ss) (λ r. r.skip) ∙ sym many_rules;
       folds = length-map (nonterminals ss) (λ w. is_fold w ss) ∙ sym many_nonterminals;
-      few_rules = omega (arith, few.few_rules, many_rules);
-      few_nonterminals = omega (arith, few.few_nonterminals, many_nonterminals);
-      few_productions = omega (arith, few.few_productions, length-map (productions ss) (production_of (nonterminals ss) (rule_names ss)));
-      start = let below : number_of (first_of (starts ss)) (nonterminals ss) < length (nonterminals ss) = start_below ss refers started in omega (arith, below, many_nonterminals);
+      few_rules = omega (arith, few_rules, many_rules);
+      few_nonterminals = omega (arith, few_nonterminals, many_nonterminals);
+      few_productions = omega (arith, few_productions, length-map (productions ss) (production_of (nonterminals ss) (rule_names ss)));
+      start = let below : number_of (first_of (starts ss)) (nonterminals ss) < length (nonterminals ss) = number_below (first_of (starts ss)) (nonterminals ss) started in omega (arith, below, many_nonterminals);
       left = λ p n right h.
           let m = from_line p n right h in
           let below : number_of m.item.left (nonterminals ss) < length (nonterminals ss) = number_below m.item.left (nonterminals ss) (left_among ss p m.item m.there) in
@@ -198,12 +197,12 @@ module _ (ss : List Statement) (es : List Expression) where
           omega (arith, below, is, many_nonterminals);
       right = λ p n right h.
           let m = from_line p n right h in
-          subst (λ ys. All (IsUsable f) ys) (ap (λ x. x.right) m.is) (all_usable m.item.right (right_faultless ss refers p m.item m.there));
+          subst (λ ys. All (IsUsable f) ys) (ap (λ x. x.right) m.is) (all_usable m.item.right (fine p m.item m.there));
       short = λ p n right h.
           let m = from_line p n right h in
           let is : map (symbol_of (nonterminals ss) (rule_names ss)) m.item.right ≡ right = ap (λ x. x.right) m.is in
-          omega (arith, few.short p m.item m.there, ap length is, length-map m.item.right (symbol_of (nonterminals ss) (rule_names ss)));
-      distinct = distinct ss free (named ss refers);
+          omega (arith, short p m.item m.there, ap length is, length-map m.item.right (symbol_of (nonterminals ss) (rule_names ss)));
+      distinct = distinct ss once (named ss fine);
       productive = λ n l. productive n (omega (arith, l, many_nonterminals));
-      defined = known ss es;
+      defined = are_known;
     }

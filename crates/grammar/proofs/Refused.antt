@@ -9,6 +9,7 @@ use Rattle.grammar_file.specs.declared.fault.Refusal.{Refusal}
 use Rattle.grammar_file.specs.declared.fault.Refusal.TheVariants.{Fault, Memory}
 use Rattle.grammar_file.specs.Statements.{Statement, statements, Line, Nothing, Production, Rule, Start, Fold, Bad}
 use Rattle.grammar_file.specs.Contents.{nonterminals}
+use Rattle.grammar_file.specs.WrittenOut.{written_out}
 use Rattle.grammar_file.specs.Faults.{Cause, HasPattern, HasPatternFault, IsFaultless, IsLineFault, IsFileFault, too_large, first_line, line, no_start, reference, reference_fault}
 use Rattle.grammar.specs.Faults.{IsFault, file_fault, unproductive}
 use Rattle.grammar.specs.Grammars.{FileGrammar}
@@ -71,7 +72,7 @@ module _ (text : List ℕ) (g : FileGrammar) (of : IsGrammarOf text g) where
 
   no_fault : (n : ℕ) (c : Cause) → IsFault text n c → ⊥
   no_fault n c (file_fault m d h) = no_file_fault m d h
-  no_fault n c (unproductive m k w whole refers first there at) = first.unproductive (of.productive k (slice_get_within (nonterminals ss) k w there))
+  no_fault n c (unproductive m k w whole refers first there at) = first.unproductive (of.productive k (slice_get_within (nonterminals (written_out ss)) k w there))
 
 -- the text that is refused for a cause is no grammar's file
 pub no_file : (text : List ℕ) (r : Refusal) (o : Option Cause) (n : ℕ) → Tells r (λ m c. IsFault text m c) → TellsCause o (λ c. IsFor r n c) → TellsCause o (λ c. (g : FileGrammar) → IsGrammarOf text g → ⊥)

@@ -7,6 +7,7 @@ use Rattle.definitions.specs.Sentences.{IsProductive}
 use Rattle.grammar_file.specs.Words.{Word}
 use Rattle.grammar_file.specs.Statements.{Line, Production, Statement, statements}
 use Rattle.grammar_file.specs.Contents.{nonterminals}
+use Rattle.grammar_file.specs.WrittenOut.{written_out}
 use Rattle.grammar_file.specs.Faults.{IsWhole, HaveReferents, IsFileFault}
 pub use Rattle.grammar_file.specs.Faults.{Cause, Unproductive}
 use Rattle.grammar.specs.Contents.{grammar_of}
@@ -26,8 +27,8 @@ abbrev pub IsFirstProduction : List Statement → Word → ℕ → Type 0
 IsFirstProduction ss w n =
     (before after : List Statement) × ((s : Statement) × (ss ≡ before ++ (s ∷ after)) × (n ≡ s.number) × (list_any (λ r. is_production_of w r.says) before ≡ false) × (is_production_of w s.says ≡ true))
 
--- The first fault of a file: one of those that its lines and names tell; else an unproductive nonterminal, at its first
--- production.
+-- The first fault of a file: one of those that its lines and names tell; else an unproductive nonterminal of the statements in
+-- which its marked words are written out, at its first production.
 pub data IsFault (text : List ℕ) : ℕ → Cause → Type 0 where
   file_fault : (n : ℕ) (c : Cause) → IsFileFault text n c → IsFault text n c
-  unproductive : (n k : ℕ) (w : Word) → IsWhole text → HaveReferents (statements text) (statements text) → IsFirstUnproductive (statements text) k → slice_get (nonterminals (statements text)) k ≡ Some w → IsFirstProduction (statements text) w n → IsFault text n (Unproductive w)
+  unproductive : (n k : ℕ) (w : Word) → IsWhole text → HaveReferents (statements text) (statements text) → IsFirstUnproductive (written_out (statements text)) k → slice_get (nonterminals (written_out (statements text))) k ≡ Some w → IsFirstProduction (written_out (statements text)) w n → IsFault text n (Unproductive w)

@@ -1,27 +1,33 @@
 -- Which text is the file of which grammar.
 use Rattle.std.specs.Prelude.{◌≡◌, ℕ, ◌<◌, List, length, map}
 use Rattle.std.specs.Str.{chars}
+use Rattle.definitions.specs.declared.Symbol.{Symbol}
 use Rattle.definitions.specs.declared.Symbol.TheVariants.{Nonterminal}
 use Rattle.definitions.specs.declared.expression.Expression.{Expression}
 use Rattle.definitions.specs.Sentences.{IsProductive}
 use Rattle.grammar_file.specs.Statements.{Statement, statements}
 use Rattle.grammar_file.specs.Contents.{rules, nonterminals, defined}
+use Rattle.grammar_file.specs.WrittenOut.{written_out}
 use Rattle.grammar.specs.Contents.{rule_names, is_fold, grammar_of}
 use Rattle.grammar_file.specs.Faults.{IsWhole, HaveReferents}
 use Rattle.grammar.specs.Grammars.{FileGrammar}
 use Rattle.grammar_file.specs.Said.{ArePatterns}
 
--- what the statements define, where these are the expressions of the rules
-abbrev pub file_grammar : List Statement → List Expression → FileGrammar
-file_grammar ss expressions = record {
+-- what the statements define, where these are the expressions of the rules and these symbols stand on lines of the file
+abbrev pub grammar_with : List Statement → List Expression → List Symbol → FileGrammar
+grammar_with ss expressions symbols = record {
   names = map chars (rule_names ss);
   patterns = expressions;
   skips = map (λ r. r.skip) (rules ss);
   nonterminals = map chars (nonterminals ss);
   folds = map (λ w. is_fold w ss) (nonterminals ss);
   grammar = grammar_of ss;
-  defined = defined ss;
+  defined = symbols;
 }
+
+-- what a file of these statements defines: that of the statements in which its marked words are written out
+abbrev pub file_grammar : List Statement → List Expression → FileGrammar
+file_grammar ss expressions = grammar_with (written_out ss) expressions (defined ss)
 
 -- The text is a grammar file without a fault: no line has one, each name that is used is defined, each rule has a pattern, and
 -- each nonterminal is productive. It defines this grammar.
@@ -29,5 +35,5 @@ pub record IsGrammarOf (text : List ℕ) (f : FileGrammar) : Type 0 where
   pub whole : IsWhole text
   pub referents : HaveReferents (statements text) (statements text)
   pub patterns : ArePatterns (rules (statements text)) f.patterns
-  pub productive : (n : ℕ) → n < length (nonterminals (statements text)) → IsProductive (grammar_of (statements text)) (Nonterminal n)
+  pub productive : (n : ℕ) → n < length (nonterminals (written_out (statements text))) → IsProductive (grammar_of (written_out (statements text))) (Nonterminal n)
   pub is : f ≡ file_grammar (statements text) f.patterns

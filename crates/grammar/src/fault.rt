@@ -19,10 +19,10 @@ pub struct GrammarFault {
     pub cause: GrammarCause,
 }
 
-/// What is wrong with a line of a grammar file. Names are the leftmost ones at fault.
+/// What is wrong with a line of a grammar file. Names are the leftmost ones at fault, without marks.
 #[derive(Debug, PartialEq, Eq, Drop, Error)]
 pub enum GrammarCause {
-    /// The first line is not `lrgrammar 1`.
+    /// The first line is neither `lrgrammar 1` nor `lrgrammar 2`.
     #[error("G1 first line")]
     FirstLine,
     /// The line is none of those that there are.

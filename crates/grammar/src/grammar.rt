@@ -49,7 +49,8 @@ impl Model for Name {
     ghost view = { λ n. chars (string_bytes n.text) };
 }
 
-/// What a grammar file defines: its rules and nonterminals in file order, and its productions.
+/// What a grammar file defines: its rules and nonterminals in file order, and its productions. A marked word, as `X*`, is
+/// a nonterminal of this name. The marked words stand behind what the lines define, and so do their productions.
 #[derive(Drop)]
 pub struct Grammar {
     /// The names of the rules, in file order.
@@ -91,10 +92,10 @@ impl Model for Grammar {
 impl Grammar {
     /// The grammar of a file, or its first fault.
     ///
-    /// Told first is a file of more than 65,536 bytes, then a first line that is not `lrgrammar 1`, then the first line
-    /// with a fault of its own, then that there is no start, then the first line that uses a name wrongly, and then the
-    /// first unproductive nonterminal, at its first production. Where memory is refused the cause is
-    /// `GrammarCause::Memory`, which says nothing of the file.
+    /// Told first is a file of more than 65,536 bytes, then a first line that is neither `lrgrammar 1` nor
+    /// `lrgrammar 2`, then the first line with a fault of its own, then that there is no start, then the first line that
+    /// uses a name wrongly, and then the first unproductive nonterminal, at its first production. Where memory is
+    /// refused the cause is `GrammarCause::Memory`, which says nothing of the file.
     pub fn read(alloc: Global, text: &str) -> Result<Grammar, GrammarFault>
         ensures grammar { IfOk result (λ g. IsGrammarOf text.now g) }
         ensures fault { IfErr result (λ f.

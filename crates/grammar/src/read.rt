@@ -5,8 +5,8 @@ ghost use Rattle.std.specs.Str.{chars};
 ghost use Rattle.grammar.specs.Contents.{grammar_of};
 ghost use Rattle.grammar.specs.Faults.{IsFault};
 ghost use Rattle.grammar.specs.Grammars.{IsGrammar};
-ghost use Rattle.grammar.specs.Meaning.{file_grammar, IsGrammarOf};
-ghost use Rattle.grammar_file.specs.Said.{rule_line, all_said, AreNames, AreFew};
+ghost use Rattle.grammar.specs.Meaning.{grammar_with, IsGrammarOf};
+ghost use Rattle.grammar_file.specs.Said.{rule_line, all_said, AreNames};
 ghost use Rattle.grammar_file.specs.Told.{Tells};
 
 use crate::grammar::{Grammar, Name, Production};
@@ -14,7 +14,7 @@ use crate::notes::notes;
 use crate::numbers;
 use crate::unproductive::test_productive;
 use crate::used::used;
-use grammar_file::{File, Refusal, RuleName, defined, read_file};
+use grammar_file::{File, Refusal, RuleName, read_file};
 use std::alloc::{AllocError, Global};
 
 /// The grammar of a file, or the first fault.
@@ -30,29 +30,29 @@ pub fn read<'a>(alloc: Global, text: &'a str) -> Result<Grammar, Refusal<'a>>
     Ok(grammar)
 }
 
-/// The grammar of the lines, which have no fault, and of their productions.
+/// The grammar of the lines and the productions of their marked words, which have no fault.
 fn grammar_of(
     alloc: Global,
     file: File<'_>,
     productions: Vec<Production>,
 ) -> Result<Grammar, AllocError>
     requires names { AreNames file.names (all_said file.statements.items) }
-    requires few { AreFew (all_said file.statements.items) }
     requires productions { productions.items
         ≡ (grammar_of (all_said file.statements.items)).productions }
-    requires grammar { IsGrammar (file_grammar (all_said file.statements.items)
-        file.patterns.items) }
+    requires grammar { IsGrammar (grammar_with (all_said file.statements.items) file.patterns.items
+        file.defined.items) }
     ensures { IfOk result (λ g.
-        g ≡ file_grammar (all_said file.entry.statements.items) file.entry.patterns.items) }
+        g ≡ grammar_with (all_said file.entry.statements.items) file.entry.patterns.items
+        file.entry.defined.items) }
 {
     let File {
         statements,
         names,
         patterns,
+        defined,
     } = file;
     let skips = skips(alloc, names.rules.as_slice())?;
     let start = numbers::start(&statements, &names);
-    let defined = defined(alloc, &statements)?;
     let marks = used(alloc, names.nonterminals.len(), start, &productions)?;
     let notes = notes(alloc, &defined, &skips, &productions, &marks)?;
     Ok(Grammar {

@@ -1,23 +1,33 @@
 -- What a file's lines say, as a whole.
-use Rattle.std.proofs.Common.{◌≡◌, ℕ, ◌≤◌, Bool, true, false, List, [], ◌∷◌, refl, ap, sym, ◌∙◌, length, drop, subst, Bor}
+use Rattle.std.proofs.Common.{◌≡◌, ℕ, ◌≤◌, true, false, List, [], ◌∷◌, refl, ap, sym, ◌∙◌, length, drop, subst, Bor}
+use Rattle.std.specs.Prelude.{Option, Some, is_some, unwrap_or}
 use Rattle.std.specs.Str.Lines.{lines}
+use Rattle.grammar_file.specs.declared.line.Version.{Version}
+use Rattle.grammar_file.specs.declared.line.Version.TheVariants.{One}
 use Rattle.grammar_file.specs.declared.statements.File.{File}
 use Rattle.grammar_file.specs.declared.fault.Refusal.{Refusal}
-use Rattle.grammar_file.specs.Statements.{Statement, statements, statements_in, is_headed}
+use Rattle.grammar_file.specs.Statements.{Statement, statements, statements_in, version_of, is_headed}
 use Rattle.grammar_file.specs.Faults.{NoStart, IsFileFault, line, no_start, reference, IsWhole, IsFirstLineFault, IsFirstReferenceFault}
 use Rattle.grammar_file.specs.Said.{texts, IsRead}
 use Rattle.grammar_file.specs.Told.{Tells}
 use Rattle.grammar_file.proofs.Splits.{tells_map}
 
-pub headed_is : (v xs : List (Bor (List ℕ))) (t : List ℕ) (b : Bool) → b ≡ is_headed (texts v) → v ≡ xs → texts xs ≡ lines t → is_headed (lines t) ≡ b
-headed_is v xs t b is same all = ap is_headed (sym all) ∙ ap (λ y. is_headed (texts y)) (sym same) ∙ sym is
+-- the version that the first line tells
+pub version_is : (v xs : List (Bor (List ℕ))) (t : List ℕ) (told o : Option Version) → told ≡ version_of (texts v) → v ≡ xs → texts xs ≡ lines t → told ≡ o → version_of (lines t) ≡ o
+version_is v xs t told o is same all found = ap version_of (sym all) ∙ ap (λ y. version_of (texts y)) (sym same) ∙ sym is ∙ found
+
+pub headed : (t : List ℕ) (o : Option Version) → version_of (lines t) ≡ o → is_headed (lines t) ≡ is_some o
+headed t o e = ap is_some e
 
 rest_texts : (v : List (Bor (List ℕ))) → texts (drop 1 v) ≡ drop 1 (texts v)
 rest_texts [] = refl
 rest_texts (w ∷ ws) = refl
 
-pub statements_are : (v xs : List (Bor (List ℕ))) (t : List ℕ) → v ≡ xs → texts xs ≡ lines t → statements_in (texts (drop 1 v)) ≡ statements t
-statements_are v xs t same all = ap statements_in (rest_texts v ∙ ap (λ y. drop 1 (texts y)) same ∙ ap (λ y. drop 1 y) all)
+pub statements_are : (v xs ys : List (Bor (List ℕ))) (t : List ℕ) (version : Version) → ys ≡ drop 1 v → v ≡ xs → texts xs ≡ lines t → version_of (lines t) ≡ Some version → statements_in version (texts ys) ≡ statements t
+statements_are v xs ys t version rest same all is =
+    ap (λ y. statements_in version (texts y)) rest
+    ∙ ap (statements_in version) (rest_texts v ∙ ap (λ y. drop 1 (texts y)) same ∙ ap (λ y. drop 1 y) all)
+    ∙ ap (λ o. statements_in (unwrap_or o One) (drop 1 (lines t))) (sym is)
 
 pub line_fault : (t : List ℕ) (ss : List Statement) (r : Refusal) → length t ≤ 65536 → is_headed (lines t) ≡ true → ss ≡ statements t → Tells r (λ n c. IsFirstLineFault ss n c) → Tells r (λ n c. IsFileFault t n c)
 line_fault t ss r small headed same tells =

@@ -1,9 +1,10 @@
 pub mod Mapped
 pub mod Finding
 pub mod Sets
+pub mod Marked
 pub mod Blanks
 pub mod Pushed
 pub mod Lines
 pub mod Splits
-pub mod Defining
+pub mod WritingOut
 pub mod Files

@@ -1,24 +1,29 @@
 -- What one more line makes of the contents.
-use Rattle.std.proofs.Common.{◌≡◌, ℕ, ◌≤◌, ◌<◌, Bool, true, false, if◌then◌else◌, List, [], ◌∷◌, ◌++◌, refl, ap, ◌∙◌, sym, length, arith, subst, length-append, inr, take, append-nil}
-use Rattle.std.specs.Prelude.{Option, Some, None, map, nat_lt, not, slice_get, ◌&&◌}
-use Rattle.std.specs.List.{fold, cons_option, list_any}
+use Rattle.std.proofs.Common.{◌≡◌, ℕ, ◌≤◌, Bool, true, false, List, [], ◌∷◌, ◌++◌, refl, ap, ◌∙◌, sym, length, arith, subst, length-append, append_assoc, inr, take, append-nil}
+use Rattle.std.specs.Prelude.{Option, Some, None, map, filter, nat_lt, slice_get, ◌+◌, ◌*◌}
+use Rattle.std.specs.List.{fold, cons_option, flat_map, list_any}
 use Rattle.std.specs.Str.{chars}
-use Rattle.std.proofs.lemmas.Grind.{common_steps}
-use Rattle.std.proofs.lemmas.Bool.{ltb-true}
+use Rattle.std.proofs.lemmas.Grind.{common_steps, flat_map-append}
 use Rattle.grammar_file.specs.declared.statements.File.{File}
 use Rattle.std.proofs.lemmas.List.{map-append, take-append-le}
 use Rattle.std.proofs.lemmas.List.Sums.{fold-append}
 use Rattle.std.proofs.lemmas.Option.{slice_get_within}
 use Rattle.definitions.specs.Spelling.{IsPattern}
 use Rattle.grammar_file.specs.declared.names.Names.{Names}
-use Rattle.grammar_file.proofs.Pushed.{push_at, take-all}
+use Rattle.grammar_file.proofs.Pushed.{push_at, take-all, cons_option-append}
 use Rattle.grammar_file.proofs.Sets.{skips-step, sides-step}
-use Rattle.std.proofs.lemmas.List.Elements.{filter_map-append}
+use Rattle.grammar_file.specs.declared.fault.Refusal.{Refusal}
+use Rattle.grammar_file.specs.Told.{Tells}
+use Rattle.grammar_file.proofs.Splits.{tells_map}
+use Rattle.std.proofs.lemmas.List.Elements.{filter-append, filter_map-append}
 use Rattle.definitions.specs.declared.expression.Expression.{Expression}
 use Rattle.grammar_file.specs.Statements.{Line, Nothing, Production, Rule, Start, Fold, Bad, Statement, at}
+use Rattle.definitions.specs.declared.Symbol.{Symbol}
+use Rattle.grammar_file.specs.Words.{Word, is_marked}
 use Rattle.grammar_file.specs.Contents as of
-use Rattle.grammar_file.specs.Faults.{Cause, is_skip_rule, HasPattern, early_fault, late_fault, told, or_else, IsFaultless, AreFaultless, IsLineFault}
-use Rattle.grammar_file.specs.Said.{are_among, with_rule, with_skip, with_left, with_sides, with_production, with_start, AreNames, ArePatterns, IsPatternOf, with_pattern, AreFew, IsRead, all_said}
+use Rattle.grammar_file.specs.WrittenOut.{with_marked, marked}
+use Rattle.grammar_file.specs.Faults.{Cause, is_skip_rule, HasPattern, early_fault, line_limit, limit_fault, late_fault, nonterminal_count, production_count, passed_limit, told, or_else, IsFaultless, AreFaultless, IsLineFault}
+use Rattle.grammar_file.specs.Said.{are_among, with_rule, with_skip, with_left, with_right, with_sides, with_production, with_start, AreNames, ArePatterns, IsPatternOf, with_pattern, AreFew, IsRead, all_said}
 
 pub has_pattern : (l : Line) (p : Option Expression) → IsPatternOf l p → HasPattern l
 has_pattern Nothing p h = tt
@@ -28,6 +33,13 @@ has_pattern (Rule skip name pattern) (Some e) h = (e, h)
 has_pattern (Start name) p h = tt
 has_pattern (Fold name) p h = tt
 has_pattern Bad p h = tt
+
+pub behind_more : (before ss : List Statement) (s : Statement) → of.defined_behind before (ss ++ s ∷ []) ≡ of.defined_behind before ss ++ cons_option (of.defines (before ++ ss) s.says) []
+behind_more before [] s = ap (λ front. cons_option (of.defines front s.says) []) (sym (append-nil before))
+behind_more before (t ∷ ss) s =
+    ap (cons_option (of.defines before t.says)) (behind_more (before ++ t ∷ []) ss s)
+    ∙ ap (λ front. cons_option (of.defines before t.says) (of.defined_behind (before ++ t ∷ []) ss ++ cons_option (of.defines front s.says) [])) (append_assoc before (t ∷ []) ss)
+    ∙ cons_option-append (of.defines before t.says) (of.defined_behind (before ++ t ∷ []) ss) (cons_option (of.defines (before ++ t ∷ ss) s.says) [])
 
 pub late_line_fault : (ss : List Statement) (l : Line) (p : Option Expression) (c : Cause) → early_fault ss l ≡ None → IsPatternOf l p → late_fault ss l ≡ Some c → IsLineFault ss l c
 late_line_fault ss l p c early pattern late = inr (inr (early, has_pattern l p pattern, late))
@@ -84,6 +96,26 @@ counts-step ps Bad = refl
 pub count-step : (ss : List Statement) (n : ℕ) (l : Line) → length (of.productions (ss ++ at n l ∷ [])) ≡ with_production (length (of.productions ss)) l
 count-step ss n l = ap length (productions-step ss n l) ∙ counts-step (of.productions ss) l
 
+-- the marked words of a list of productions
+abbrev pub marks : List of.ProductionLine → List Word
+marks ps = with_marked [] (flat_map (λ p. p.right) ps)
+
+pub with_marked-append : (names ws vs : List Word) → with_marked names (ws ++ vs) ≡ with_marked (with_marked names ws) vs
+with_marked-append names ws vs = ap (λ xs. fold of.with_name names xs) (filter-append is_marked ws vs) ∙ fold-append of.with_name names (filter is_marked ws) (filter is_marked vs)
+
+marks-step : (ps : List of.ProductionLine) (l : Line) → marks (with_line ps l) ≡ with_right (marks ps) l
+marks-step ps Nothing = refl
+marks-step ps (Production left right) =
+    ap (with_marked []) (flat_map-append (λ p. p.right) ps (record { left = left; right = right } ∷ []) ∙ ap (λ ws. flat_map (λ p. p.right) ps ++ ws) (append-nil right))
+    ∙ with_marked-append [] (flat_map (λ p. p.right) ps) right
+marks-step ps (Rule skip name pattern) = refl
+marks-step ps (Start name) = refl
+marks-step ps (Fold name) = refl
+marks-step ps Bad = refl
+
+pub marked-step : (ss : List Statement) (n : ℕ) (l : Line) → marked (ss ++ at n l ∷ []) ≡ with_right (marked ss) l
+marked-step ss n l = ap marks (productions-step ss n l) ∙ marks-step (of.productions ss) l
+
 more_than_none : (ws : List (List ℕ)) (w : List ℕ) → nat_lt 0 (length (ws ++ w ∷ [])) ≡ true
 more_than_none [] w = refl
 more_than_none (v ∷ ws) w = grind (arith, common_steps)
@@ -100,11 +132,12 @@ start-step ss n (Start name) = ap (λ ws. nat_lt 0 (length ws)) (filter_map-appe
 start-step ss n (Fold name) = starts_with_none ss n (Fold name) refl
 start-step ss n Bad = starts_with_none ss n Bad refl
 
-pub names-step : (names names' : Names) (ss : List Statement) (n : ℕ) (l : Line) → AreNames names ss → names'.rules ≡ with_rule names.rules l → names'.skips ≡ with_skip names.skips l → names'.nonterminals ≡ with_left names.nonterminals l → names'.sides ≡ with_sides names.sides l → names'.productions ≡ with_production names.productions l → names'.started ≡ with_start names.started l → AreNames names' (ss ++ at n l ∷ [])
-names-step names names' ss n l are rs ks ns bs ps st = record {
+pub names-step : (names names' : Names) (ss : List Statement) (n : ℕ) (l : Line) → AreNames names ss → names'.rules ≡ with_rule names.rules l → names'.skips ≡ with_skip names.skips l → names'.nonterminals ≡ with_left names.nonterminals l → names'.marked ≡ with_right names.marked l → names'.sides ≡ with_sides names.sides l → names'.productions ≡ with_production names.productions l → names'.started ≡ with_start names.started l → AreNames names' (ss ++ at n l ∷ [])
+names-step names names' ss n l are rs ks ns ms bs ps st = record {
   rules = rs ∙ ap (λ x. with_rule x l) are.rules ∙ sym (rules-step ss n l);
   skips = λ w. ap (of.is_among w) ks ∙ skips-step names.skips (of.rules ss) l are.skips w ∙ ap (list_any (is_skip_rule w)) (sym (rules-step ss n l));
   nonterminals = ns ∙ ap (λ x. with_left x l) are.nonterminals ∙ sym (nonterminals-step ss n l);
+  marked = ms ∙ ap (λ x. with_right x l) are.marked ∙ sym (marked-step ss n l);
   sides = λ left right. ap (are_among (left ∷ right)) bs ∙ sides-step names.sides ss n l are.sides left right;
   productions = ps ∙ ap (λ x. with_production x l) are.productions ∙ sym (count-step ss n l);
   started = st ∙ ap (λ x. with_start x l) are.started ∙ sym (start-step ss n l);
@@ -145,76 +178,71 @@ or_else-none : (a b : Option Cause) → or_else a b ≡ None → (a ≡ None) ×
 or_else-none None b h = (refl, h)
 or_else-none (Some c) b h = absurd (cc)
 
-below : (n m : ℕ) → not (nat_lt n m) ≡ false → n < m
-below n m h = ltb-true n m (elim (nat_lt n m) as (λ b. not b ≡ false → b ≡ true) [ true ↦ λ e. refl | false ↦ λ e. absurd (cc) ] h)
-
-not_above : (n : ℕ) → nat_lt 16 n ≡ false → n ≤ 16
-not_above n h = grind (arith, common_steps)
-
-few_rules-step : (rs : List of.RuleLine) (ss : List Statement) (l : Line) → of.rules ss ≡ rs → length rs ≤ 256 → late_fault ss l ≡ None → length (with_rule rs l) ≤ 256
-few_rules-step rs ss Nothing is few late = few
-few_rules-step rs ss (Production left right) is few late = few
-few_rules-step rs ss (Rule skip name pattern) is few late =
-    let less : length (of.rules ss) < 256 = below (length (of.rules ss)) 256 (told-none _ _ late) in
-    omega (arith, ap length is, length-append rs (record { skip = skip; name = name; pattern = pattern } ∷ []))
-few_rules-step rs ss (Start name) is few late = few
-few_rules-step rs ss (Fold name) is few late = few
-few_rules-step rs ss Bad is few late = few
-
-few_names : (ws : List (List ℕ)) (w : List ℕ) → length ws ≤ 256 → (not (of.is_among w ws) && not (nat_lt (length ws) 256)) ≡ false → length (of.with_name ws w) ≤ 256
-few_names ws w few h =
-    elim (of.is_among w ws) as (λ b. (not b && not (nat_lt (length ws) 256)) ≡ false → length (if b then ws else ws ++ w ∷ []) ≤ 256)
-    [ true ↦ λ e. few | false ↦ λ e. (let less : length ws < 256 = below (length ws) 256 e in omega (arith, length-append ws (w ∷ []))) ] h
-
-production_late : (ss : List Statement) (left : List ℕ) (right : List (List ℕ)) → late_fault ss (Production left right) ≡ None → (length right ≤ 16) × ((not (of.is_among left (of.nonterminals ss)) && not (nat_lt (length (of.nonterminals ss)) 256)) ≡ false) × (length (of.productions ss) < 1024)
-production_late ss left right late =
-    let one = or_else-none _ _ late in
-    let two = or_else-none _ _ one.1 in
-    (not_above (length right) (told-none _ _ one.0), told-none _ _ two.0, below (length (of.productions ss)) 1024 (told-none _ _ two.1))
-
-few_nonterminals-step : (ss : List Statement) (l : Line) → length (of.nonterminals ss) ≤ 256 → late_fault ss l ≡ None → length (with_left (of.nonterminals ss) l) ≤ 256
-few_nonterminals-step ss Nothing few late = few
-few_nonterminals-step ss (Production left right) few late = few_names (of.nonterminals ss) left few (production_late ss left right late).1
-few_nonterminals-step ss (Rule skip name pattern) few late = few
-few_nonterminals-step ss (Start name) few late = few
-few_nonterminals-step ss (Fold name) few late = few
-few_nonterminals-step ss Bad few late = few
-
-few_productions-step : (ss : List Statement) (l : Line) → length (of.productions ss) ≤ 1024 → late_fault ss l ≡ None → with_production (length (of.productions ss)) l ≤ 1024
-few_productions-step ss Nothing few late = few
-few_productions-step ss (Production left right) few late = omega (arith, (production_late ss left right late).2)
-few_productions-step ss (Rule skip name pattern) few late = few
-few_productions-step ss (Start name) few late = few
-few_productions-step ss (Fold name) few late = few
-few_productions-step ss Bad few late = few
+not_above : (m n : ℕ) → nat_lt m n ≡ false → n ≤ m
+not_above m n h = grind (arith, common_steps)
 
 abbrev pub AreShort : List of.ProductionLine → Type 0
 AreShort ps = (k : ℕ) (p : of.ProductionLine) → slice_get ps k ≡ Some p → length p.right ≤ 16
 
-short-step : (ss : List Statement) (ps : List of.ProductionLine) (l : Line) → AreShort ps → late_fault ss l ≡ None → AreShort (with_line ps l)
+short-step : (ss : List Statement) (ps : List of.ProductionLine) (l : Line) → AreShort ps → line_limit ss l ≡ None → AreShort (with_line ps l)
 short-step ss ps Nothing short late = short
-short-step ss ps (Production left right) short late = push_at (λ k p. length p.right ≤ 16) ps (record { left = left; right = right }) short (production_late ss left right late).0
+short-step ss ps (Production left right) short late = push_at (λ k p. length p.right ≤ 16) ps (record { left = left; right = right }) short (not_above 16 (length right) (told-none _ _ late))
 short-step ss ps (Rule skip name pattern) short late = short
 short-step ss ps (Start name) short late = short
 short-step ss ps (Fold name) short late = short
 short-step ss ps Bad short late = short
 
-pub few-step : (ss : List Statement) (n : ℕ) (l : Line) → AreFew ss → late_fault ss l ≡ None → AreFew (ss ++ at n l ∷ [])
-few-step ss n l few late = record {
-  few_rules = omega (arith, ap length (rules-step ss n l), few_rules-step (of.rules ss) ss l refl few.few_rules late);
-  few_nonterminals = omega (arith, ap length (nonterminals-step ss n l), few_nonterminals-step ss l few.few_nonterminals late);
-  few_productions = omega (arith, count-step ss n l, few_productions-step ss l few.few_productions late);
-  short = subst AreShort (sym (productions-step ss n l)) (short-step ss (of.productions ss) l few.short late);
-}
+-- the limits that are kept
+pub few-step : (ss : List Statement) (n : ℕ) (l : Line) → AreFew ss → line_limit ss l ≡ None → limit_fault (ss ++ at n l ∷ []) ≡ None → AreFew (ss ++ at n l ∷ [])
+few-step ss n l few short none =
+    let one = or_else-none _ _ none in
+    let two = or_else-none _ _ one.1 in
+    record {
+      few_rules = not_above 256 (length (of.rules (ss ++ at n l ∷ []))) (told-none _ _ one.0);
+      few_nonterminals = not_above 256 (nonterminal_count (ss ++ at n l ∷ [])) (told-none _ _ two.0);
+      few_productions = not_above 1024 (production_count (ss ++ at n l ∷ [])) (told-none _ _ two.1);
+      short = subst AreShort (sym (productions-step ss n l)) (short-step ss (of.productions ss) l few.short short);
+    }
 
-pub read-step : (f g : File) (ss : List Statement) (n : ℕ) (l : Line) (p : Option Expression) → IsRead f ss → IsFaultless ss l → IsPatternOf l p → all_said g.statements.items ≡ all_said f.statements.items ++ at n l ∷ [] → AreNames g.names (ss ++ at n l ∷ []) → g.patterns.items ≡ with_pattern f.patterns.items p → IsRead g (ss ++ at n l ∷ [])
-read-step f g ss n l p read is pattern statements names patterns = record {
+-- the limits speak of no line's number
+pub limit-anywhere : (ss : List Statement) (n m : ℕ) (l : Line) → limit_fault (ss ++ at n l ∷ []) ≡ limit_fault (ss ++ at m l ∷ [])
+limit-anywhere ss n m l =
+    let rs = rules-step ss n l ∙ sym (rules-step ss m l) in
+    let ns = nonterminals-step ss n l ∙ sym (nonterminals-step ss m l) in
+    let ms = marked-step ss n l ∙ sym (marked-step ss m l) in
+    let ps = count-step ss n l ∙ sym (count-step ss m l) in
+    λ i. passed_limit (length (rs i)) (length (ns i) + length (ms i)) (ps i + 2 * length (ms i))
+
+then_this : (a b : Option Cause) (o : Option Cause) → a ≡ None → b ≡ o → or_else a b ≡ o
+then_this a b o none is = ap (λ x. or_else x b) none ∙ is
+
+first_this : (a b : Option Cause) (c : Cause) → a ≡ Some c → or_else a b ≡ Some c
+first_this a b c is = ap (λ x. or_else x b) is
+
+pub late-of : (ss : List Statement) (n : ℕ) (l : Line) (o : Option Cause) → line_limit ss l ≡ None → limit_fault (ss ++ at n l ∷ []) ≡ o → late_fault ss l ≡ o
+late-of ss n l o none is = then_this (line_limit ss l) (limit_fault (ss ++ at 0 l ∷ [])) o none (limit-anywhere ss 0 n l ∙ is)
+
+pub late-own : (ss : List Statement) (l : Line) (c : Cause) → line_limit ss l ≡ Some c → late_fault ss l ≡ Some c
+late-own ss l c is = first_this (line_limit ss l) (limit_fault (ss ++ at 0 l ∷ [])) c is
+
+pub is_faultless : (ss : List Statement) (n : ℕ) (l : Line) (p : Option Expression) → early_fault ss l ≡ None → IsPatternOf l p → line_limit ss l ≡ None → limit_fault (ss ++ at n l ∷ []) ≡ None → IsFaultless ss l
+is_faultless ss n l p early pattern short none = record { early = early; pattern = has_pattern l p pattern; late = late-of ss n l None short none }
+
+pub read-step : (f g : File) (ss : List Statement) (n : ℕ) (l : Line) (p : Option Expression) (symbol : Option Symbol) → IsRead f ss → early_fault ss l ≡ None → IsPatternOf l p → line_limit ss l ≡ None → limit_fault (ss ++ at n l ∷ []) ≡ None → all_said g.statements.items ≡ all_said f.statements.items ++ at n l ∷ [] → AreNames g.names (ss ++ at n l ∷ []) → g.patterns.items ≡ with_pattern f.patterns.items p → symbol ≡ of.defines ss l → g.defined.items ≡ f.defined.items ++ cons_option symbol [] → IsRead g (ss ++ at n l ∷ [])
+read-step f g ss n l p symbol read early pattern short none statements names patterns is defined = record {
   statements = statements ∙ ap (λ x. x ++ at n l ∷ []) read.statements;
   names = names;
   patterns =
       let P : List of.RuleLine → List Expression → Type 0 = ArePatterns in
       subst (λ (rs : List of.RuleLine). ArePatterns rs g.patterns.items) (sym (rules-step ss n l))
       (subst (λ (es : List Expression). ArePatterns (with_rule (of.rules ss) l) es) (sym patterns) (all_patterns-step (of.rules ss) f.patterns.items l p read.patterns pattern));
-  faultless = faultless-step ss n l read.faultless is;
-  few = few-step ss n l read.few is.late;
+  defined = defined ∙ (λ i. read.defined i ++ cons_option (is i) []) ∙ sym (behind_more [] ss (at n l));
+  faultless = faultless-step ss n l read.faultless (is_faultless ss n l p early pattern short none);
+  few = few-step ss n l read.few short none;
 }
+
+-- a limit that the lines pass with this one
+pub limit_line_fault : (ss ts : List Statement) (number : ℕ) (l : Line) (p : Option Expression) (r : Refusal) → ts ≡ ss ++ at number l ∷ [] → early_fault ss l ≡ None → IsPatternOf l p → line_limit ss l ≡ None → Tells r (λ n c. (n ≡ number) × (limit_fault ts ≡ Some c)) → Tells r (λ n c. (n ≡ number) × IsLineFault ss l c)
+limit_line_fault ss ts number l p r same early pattern short tells =
+    tells_map r (λ n c. (n ≡ number) × (limit_fault ts ≡ Some c)) (λ n c. (n ≡ number) × IsLineFault ss l c)
+    (λ n c h. (h.0, late_line_fault ss l p c early pattern (late-of ss number l (Some c) short (ap limit_fault (sym same) ∙ h.1)))) tells

@@ -3,6 +3,7 @@ use Rattle.std.proofs.Common.{◌≡◌, ◌≢◌, ℕ, suc, ◌+◌, ◌<◌, 
 use Rattle.std.specs.Prelude.{Option, Some, None, map, option_map}
 use Rattle.std.specs.List.{filter_map, cons_option, enumerate_from}
 use Rattle.std.proofs.lemmas.List.{map-append, take_more, take-append-drop, length-take-le}
+use Rattle.grammar_file.specs.declared.line.Version.{Version}
 use Rattle.grammar_file.specs.declared.statements.Numbered.{Numbered}
 use Rattle.grammar_file.specs.Statements.{Statement, Line, Nothing, Production, Rule, Start, Fold, Bad, at, line_of, numbered, statements_in}
 use Rattle.std.proofs.lemmas.List.Elements.{filter_map-append}
@@ -13,11 +14,7 @@ use Rattle.grammar_file.specs.declared.statements.File.{File}
 use Rattle.grammar_file.specs.declared.fault.Refusal.{Refusal}
 use Rattle.grammar_file.specs.declared.fault.Refusal.TheVariants.{Fault, Memory}
 use Rattle.grammar_file.specs.Told.{Tells, cause_of}
-use Rattle.grammar_file.proofs.Pushed.{push_at}
-
-pub cons_option-append : {Y : Type 0} (o : Option Y) (xs ys : List Y) → cons_option o (xs ++ ys) ≡ cons_option o xs ++ ys
-cons_option-append None xs ys = refl
-cons_option-append (Some x) xs ys = refl
+use Rattle.grammar_file.proofs.Pushed.{push_at, cons_option-append}
 
 numbered-split : {Y : Type 0} (h : (ℕ × List ℕ) → Option Y) (xs : List (List ℕ)) (y : List ℕ) (zs : List (List ℕ)) (n m : ℕ) → m ≡ n + length xs → filter_map h (enumerate_from n (xs ++ y ∷ zs)) ≡ filter_map h (enumerate_from n xs) ++ cons_option (h (m, y)) (filter_map h (enumerate_from (m + 1) zs))
 numbered-split h [] y zs n m e =
@@ -41,19 +38,19 @@ length-front lines i within =
     omega arith
 
 -- what one more line says
-pub statements_more : (lines : List (Bor (List ℕ))) (i : ℕ) (d : Bor (List ℕ)) → i < length lines → statements_in (texts (take (i + 1) lines)) ≡ statements_in (texts (take i lines)) ++ cons_option (numbered (i + 2) (line_of (get_or lines i d).now)) []
-statements_more lines i d within =
-    ap (λ front. statements_in (texts front)) (take_more lines i d within)
-    ∙ ap statements_in (map-append (λ w. w.now) (take i lines) (get_or lines i d ∷ []))
-    ∙ numbered-split (λ t. numbered t.0 (line_of t.1)) (texts (take i lines)) (get_or lines i d).now [] 2 (i + 2) (length-front lines i within)
+pub statements_more : (v : Version) (lines : List (Bor (List ℕ))) (i : ℕ) (d : Bor (List ℕ)) → i < length lines → statements_in v (texts (take (i + 1) lines)) ≡ statements_in v (texts (take i lines)) ++ cons_option (numbered (i + 2) (line_of v (get_or lines i d).now)) []
+statements_more v lines i d within =
+    ap (λ front. statements_in v (texts front)) (take_more lines i d within)
+    ∙ ap (statements_in v) (map-append (λ w. w.now) (take i lines) (get_or lines i d ∷ []))
+    ∙ numbered-split (λ t. numbered t.0 (line_of v t.1)) (texts (take i lines)) (get_or lines i d).now [] 2 (i + 2) (length-front lines i within)
 
 -- and what all of them say, of which one says something
-pub statements_split : (lines : List (Bor (List ℕ))) (i : ℕ) (d : Bor (List ℕ)) → i < length lines → (after : List Statement) × (statements_in (texts lines) ≡ statements_in (texts (take i lines)) ++ cons_option (numbered (i + 2) (line_of (get_or lines i d).now)) after)
-statements_split lines i d within = (
-  filter_map (λ t. numbered t.0 (line_of t.1)) (enumerate_from (i + 2 + 1) (texts (drop (i + 1) lines))),
-  ap (λ all. statements_in (texts all)) (cut lines i d within)
-      ∙ ap statements_in (map-append (λ w. w.now) (take i lines) (get_or lines i d ∷ drop (i + 1) lines))
-      ∙ numbered-split (λ t. numbered t.0 (line_of t.1)) (texts (take i lines)) (get_or lines i d).now (texts (drop (i + 1) lines)) 2 (i + 2) (length-front lines i within),
+pub statements_split : (v : Version) (lines : List (Bor (List ℕ))) (i : ℕ) (d : Bor (List ℕ)) → i < length lines → (after : List Statement) × (statements_in v (texts lines) ≡ statements_in v (texts (take i lines)) ++ cons_option (numbered (i + 2) (line_of v (get_or lines i d).now)) after)
+statements_split v lines i d within = (
+  filter_map (λ t. numbered t.0 (line_of v t.1)) (enumerate_from (i + 2 + 1) (texts (drop (i + 1) lines))),
+  ap (λ all. statements_in v (texts all)) (cut lines i d within)
+      ∙ ap (statements_in v) (map-append (λ w. w.now) (take i lines) (get_or lines i d ∷ drop (i + 1) lines))
+      ∙ numbered-split (λ t. numbered t.0 (line_of v t.1)) (texts (take i lines)) (get_or lines i d).now (texts (drop (i + 1) lines)) 2 (i + 2) (length-front lines i within),
 )
 
 pub said_more : (ns : List Numbered) (i : ℕ) (x : Numbered) → i < length ns → x ≡ get_or ns i x → all_said (take (i + 1) ns) ≡ all_said (take i ns) ++ statement_of x ∷ []
@@ -81,21 +78,21 @@ numbered-some n (Fold name) says = refl
 numbered-some n Bad says = refl
 
 -- what is read of one more line
-pub read_more : (f g : File) (lines : List (Bor (List ℕ))) (i : ℕ) (d : Bor (List ℕ)) (l : Line) → i < length lines → IsRead f (statements_in (texts (take i lines))) → l ≡ line_of (get_or lines i d).now → IsRead g (all_said f.statements.items ++ cons_option (numbered (i + 2) l) []) → IsRead g (statements_in (texts (take (i + 1) lines)))
-read_more f g lines i d l within before is read =
+pub read_more : (v : Version) (f g : File) (lines : List (Bor (List ℕ))) (i : ℕ) (d : Bor (List ℕ)) (l : Line) → i < length lines → IsRead f (statements_in v (texts (take i lines))) → l ≡ line_of v (get_or lines i d).now → IsRead g (all_said f.statements.items ++ cons_option (numbered (i + 2) l) []) → IsRead g (statements_in v (texts (take (i + 1) lines)))
+read_more v f g lines i d l within before is read =
     let told : List Statement = all_said f.statements.items in
-    let e : told ++ cons_option (numbered (i + 2) l) [] ≡ statements_in (texts (take (i + 1) lines)) =
+    let e : told ++ cons_option (numbered (i + 2) l) [] ≡ statements_in v (texts (take (i + 1) lines)) =
     ap (λ k. told ++ cons_option (numbered (i + 2) k) []) is
-    ∙ ap (λ ss. ss ++ cons_option (numbered (i + 2) (line_of (get_or lines i d).now)) []) before.statements
-    ∙ sym (statements_more lines i d within) in
+    ∙ ap (λ ss. ss ++ cons_option (numbered (i + 2) (line_of v (get_or lines i d).now)) []) before.statements
+    ∙ sym (statements_more v lines i d within) in
     subst (λ (ss : List Statement). IsRead g ss) e read
 
 -- the first line that has a fault
-pub first_line_fault : (f : File) (lines : List (Bor (List ℕ))) (i : ℕ) (d : Bor (List ℕ)) (l : Line) (n : ℕ) (c : Cause) → i < length lines → IsRead f (statements_in (texts (take i lines))) → l ≡ line_of (get_or lines i d).now → (n ≡ i + 2) × (l ≢ Nothing) × IsLineFault (all_said f.statements.items) l c → IsFirstLineFault (statements_in (texts lines)) n c
-first_line_fault f lines i d l n c within before is fault =
-    let split = statements_split lines i d within in
-    let front : List Statement = statements_in (texts (take i lines)) in
-    let some : numbered (i + 2) (line_of (get_or lines i d).now) ≡ Some (at (i + 2) l) = ap (λ k. numbered (i + 2) k) (sym is) ∙ numbered-some (i + 2) l fault.1 in (
+pub first_line_fault : (v : Version) (f : File) (lines : List (Bor (List ℕ))) (i : ℕ) (d : Bor (List ℕ)) (l : Line) (n : ℕ) (c : Cause) → i < length lines → IsRead f (statements_in v (texts (take i lines))) → l ≡ line_of v (get_or lines i d).now → (n ≡ i + 2) × (l ≢ Nothing) × IsLineFault (all_said f.statements.items) l c → IsFirstLineFault (statements_in v (texts lines)) n c
+first_line_fault v f lines i d l n c within before is fault =
+    let split = statements_split v lines i d within in
+    let front : List Statement = statements_in v (texts (take i lines)) in
+    let some : numbered (i + 2) (line_of v (get_or lines i d).now) ≡ Some (at (i + 2) l) = ap (λ k. numbered (i + 2) k) (sym is) ∙ numbered-some (i + 2) l fault.1 in (
       front,
       split.0,
       (

@@ -1,5 +1,5 @@
 -- The first fault of a grammar file that its lines and names tell.
-use Rattle.std.specs.Prelude.{◌≡◌, ℕ, ◌<◌, ◌≤◌, ◌⊎◌, ◌&&◌, ◌||◌, Bool, not, nat_lt, true, false, if◌then◌else◌, List, [], ◌∷◌, ◌++◌, length, take, slice_get, Option, Some, None}
+use Rattle.std.specs.Prelude.{◌≡◌, ℕ, ◌+◌, ◌*◌, ◌<◌, ◌≤◌, ◌⊎◌, ◌&&◌, ◌||◌, Bool, not, nat_lt, true, false, if◌then◌else◌, List, [], ◌∷◌, ◌++◌, length, map, take, slice_get, Option, Some, None}
 use Rattle.std.specs.List.{list_any}
 use Rattle.std.specs.Str.{bytes_eq, chars}
 use Rattle.std.specs.Str.Lines.{lines}
@@ -10,9 +10,10 @@ use Rattle.definitions.specs.PatternFaults.{IsFault as IsPatternFault}
 use Rattle.definitions.specs.Spelling.{IsPattern}
 use Rattle.grammar_file.specs.declared.fault.Limit.{Limit}
 use Rattle.grammar_file.specs.declared.fault.Limit.TheVariants.{File, Tokens, Nonterminals, Productions, Symbols}
-use Rattle.grammar_file.specs.Words.{Word, is_reserved}
-use Rattle.grammar_file.specs.Statements.{Line, Nothing, Production, Rule, Start, Fold, Bad, Statement, statements, is_headed}
+use Rattle.grammar_file.specs.Words.{Word, is_reserved, plain}
+use Rattle.grammar_file.specs.Statements.{Line, Nothing, Production, Rule, Start, Fold, Bad, Statement, at, statements, is_headed}
 use Rattle.grammar_file.specs.Contents.{RuleLine, rules, productions, starts, nonterminals, is_among}
+use Rattle.grammar_file.specs.WrittenOut.{marked}
 
 pub data Cause : Type 0 where
   FirstLine BadLine NoStart SecondStart : Cause
@@ -49,7 +50,7 @@ has_rule ss w = list_any (λ r. bytes_eq r.name w) (rules ss)
 abbrev pub early_fault : List Statement → Line → Option Cause
 early_fault ss Nothing = None
 early_fault ss (Production left right) =
-    or_else (reserved (left ∷ right))
+    or_else (reserved (left ∷ map plain right))
     (told (has_rule ss left || has_production ss left right) (DefinedTwice left))
 early_fault ss (Rule skip name pattern) =
     or_else (reserved (name ∷ []))
@@ -58,15 +59,32 @@ early_fault ss (Start name) = reserved (name ∷ [])
 early_fault ss (Fold name) = reserved (name ∷ [])
 early_fault ss Bad = Some BadLine
 
--- And those that are told behind it: a second start, and the limits.
+-- how many nonterminals and productions there are, each marked word being one nonterminal and two productions
+abbrev pub nonterminal_count : List Statement → ℕ
+nonterminal_count ss = length (nonterminals ss) + length (marked ss)
+
+abbrev pub production_count : List Statement → ℕ
+production_count ss = length (productions ss) + 2 * length (marked ss)
+
+-- the first limit that these numbers of rules, nonterminals and productions pass
+abbrev pub passed_limit : ℕ → ℕ → ℕ → Option Cause
+passed_limit rules nonterminals productions =
+    or_else (told (nat_lt 256 rules) (Passed Tokens))
+    (or_else (told (nat_lt 256 nonterminals) (Passed Nonterminals))
+    (told (nat_lt 1024 productions) (Passed Productions)))
+
+abbrev pub limit_fault : List Statement → Option Cause
+limit_fault ss = passed_limit (length (rules ss)) (nonterminal_count ss) (production_count ss)
+
+-- a second start, or a right side that is too long
+abbrev pub line_limit : List Statement → Line → Option Cause
+line_limit ss (Production left right) = told (nat_lt 16 (length right)) (Passed Symbols)
+line_limit ss (Start name) = told (nat_lt 0 (length (starts ss))) SecondStart
+line_limit ss _ = None
+
+-- And those that are told behind its pattern's: the line's own, then the limits that the statements pass with the line.
 abbrev pub late_fault : List Statement → Line → Option Cause
-late_fault ss (Production left right) =
-    or_else (told (nat_lt 16 (length right)) (Passed Symbols))
-    (or_else (told (not (is_among left (nonterminals ss)) && not (nat_lt (length (nonterminals ss)) 256)) (Passed Nonterminals))
-    (told (not (nat_lt (length (productions ss)) 1024)) (Passed Productions)))
-late_fault ss (Rule skip name pattern) = told (not (nat_lt (length (rules ss)) 256)) (Passed Tokens)
-late_fault ss (Start name) = told (nat_lt 0 (length (starts ss))) SecondStart
-late_fault ss _ = None
+late_fault ss l = or_else (line_limit ss l) (limit_fault (ss ++ at 0 l ∷ []))
 
 -- the pattern of a rule is one
 abbrev pub HasPattern : Line → Type 0
@@ -119,7 +137,7 @@ right_fault ss (w ∷ ws) = or_else (symbol_fault ss w) (right_fault ss ws)
 
 -- what is wrong with the names that a line uses
 abbrev pub reference_fault : List Statement → Line → Option Cause
-reference_fault ss (Production left right) = right_fault ss right
+reference_fault ss (Production left right) = right_fault ss (map plain right)
 reference_fault ss (Start name) = told (not (is_among name (nonterminals ss))) (NotANonterminal name)
 reference_fault ss (Fold name) = told (not (is_among name (nonterminals ss))) (NotANonterminal name)
 reference_fault ss _ = None

@@ -14,8 +14,9 @@ use Rattle.grammar_file.specs.declared.statements.Numbered.{Numbered}
 use Rattle.grammar_file.specs.declared.statements.File.{File}
 use Rattle.grammar_file.specs.Words.{Word}
 use Rattle.grammar_file.specs.Statements.{Line, Nothing, Production, Rule, Start, Fold, Bad, Statement}
-use Rattle.grammar_file.specs.Contents.{RuleLine, ProductionLine, rules, productions, starts, nonterminals, is_among, with_name}
-use Rattle.grammar_file.specs.Faults.{AreFaultless, is_skip_rule, has_production}
+use Rattle.grammar_file.specs.Contents.{RuleLine, ProductionLine, rules, productions, starts, nonterminals, is_among, with_name, defined}
+use Rattle.grammar_file.specs.WrittenOut.{with_marked, marked, written_out}
+use Rattle.grammar_file.specs.Faults.{AreFaultless, is_skip_rule, has_production, nonterminal_count, production_count}
 
 -- what these point to
 abbrev pub texts : List (Bor (List ℕ)) → List Word
@@ -51,6 +52,7 @@ pub record AreNames (names : Names) (ss : List Statement) : Type 0 where
   pub skips : (w : Word) → is_among w names.skips ≡ list_any (is_skip_rule w) (rules ss)
   pub rules : names.rules ≡ rules ss
   pub nonterminals : names.nonterminals ≡ nonterminals ss
+  pub marked : names.marked ≡ marked ss
   pub sides : (left : Word) (right : List Word) → are_among (left ∷ right) names.sides ≡ has_production ss left right
   pub productions : names.productions ≡ length (productions ss)
   pub started : names.started ≡ nat_lt 0 (length (starts ss))
@@ -67,6 +69,10 @@ with_skip names _ = names
 abbrev pub with_left : List Word → Line → List Word
 with_left names (Production left right) = with_name names left
 with_left names _ = names
+
+abbrev pub with_right : List Word → Line → List Word
+with_right names (Production left right) = with_marked names right
+with_right names _ = names
 
 abbrev pub with_sides : List (List Word) → Line → List (List Word)
 with_sides all (Production left right) = with_names all (left ∷ right)
@@ -90,8 +96,8 @@ ArePatterns (r ∷ rs) (e ∷ es) = IsPattern (chars r.pattern) e × ArePatterns
 -- the limits are kept, and no production is there twice
 pub record AreFew (ss : List Statement) : Type 0 where
   pub few_rules : length (rules ss) ≤ 256
-  pub few_nonterminals : length (nonterminals ss) ≤ 256
-  pub few_productions : length (productions ss) ≤ 1024
+  pub few_nonterminals : nonterminal_count ss ≤ 256
+  pub few_productions : production_count ss ≤ 1024
   pub short : (k : ℕ) (p : ProductionLine) → slice_get (productions ss) k ≡ Some p → length p.right ≤ 16
 
 -- the file's lines so far are these statements, which have no fault
@@ -99,7 +105,16 @@ pub record IsRead (file : File) (ss : List Statement) : Type 0 where
   pub statements : all_said file.statements.items ≡ ss
   pub names : AreNames file.names ss
   pub patterns : ArePatterns (rules ss) file.patterns.items
+  pub defined : file.defined.items ≡ defined ss
   pub faultless : AreFaultless ss
+  pub few : AreFew ss
+
+-- the file has the lines of these statements, and behind them the productions of their marked words
+pub record IsWrittenOut (file : File) (ss : List Statement) : Type 0 where
+  pub statements : all_said file.statements.items ≡ written_out ss
+  pub names : AreNames file.names (written_out ss)
+  pub patterns : ArePatterns (rules ss) file.patterns.items
+  pub defined : file.defined.items ≡ defined ss
   pub few : AreFew ss
 
 -- the expression of a rule's line, and none for another line

@@ -1,9 +1,11 @@
 -- What the lines of a grammar file say.
-use Rattle.std.specs.Prelude.{ℕ, ◌&&◌, ◌==◌, Bool, true, false, if◌then◌else◌, List, [], ◌∷◌, drop, slice_index, Option, Some, None, codes}
+use Rattle.std.specs.Prelude.{ℕ, ◌&&◌, ◌==◌, Bool, true, false, if◌then◌else◌, List, [], ◌∷◌, drop, slice_index, Option, Some, None, is_some, unwrap_or, codes}
 use Rattle.std.specs.List.{list_all, filter_map, enumerate_from}
 use Rattle.std.specs.Str.{bytes_eq}
 use Rattle.std.specs.Str.Lines.{lines}
-use Rattle.grammar_file.specs.Words.{Word, words, is_name, behind_equals}
+use Rattle.grammar_file.specs.declared.line.Version.{Version}
+use Rattle.grammar_file.specs.declared.line.Version.TheVariants.{One, Two}
+use Rattle.grammar_file.specs.Words.{Word, words, is_name, plain, behind_equals}
 
 -- what a line says
 pub data Line : Type 0 where
@@ -21,8 +23,13 @@ pub data Line : Type 0 where
 abbrev pub is_comment : Word → Bool
 is_comment w = slice_index w 0 == 35
 
-abbrev pub production : Word → List Word → Line
-production left right = if is_name left && list_all is_name right then Production left right else Bad
+-- the word may stand on a right side: a name, in version 2 also with a mark behind it
+abbrev pub is_right_word : Version → Word → Bool
+is_right_word One w = is_name w
+is_right_word Two w = is_name (plain w)
+
+abbrev pub production : Version → Word → List Word → Line
+production v left right = if is_name left && list_all (is_right_word v) right then Production left right else Bad
 
 abbrev pub rule : Word → Word → Word → Line
 rule keyword name pattern =
@@ -30,28 +37,28 @@ rule keyword name pattern =
     else if is_name name && bytes_eq keyword (codes "skip") then Rule true name pattern
     else Bad
 
-abbrev pub mark : Word → Word → Line
-mark keyword name =
+abbrev pub naming : Word → Word → Line
+naming keyword name =
     if is_name name && bytes_eq keyword (codes "start") then Start name
     else if is_name name && bytes_eq keyword (codes "fold") then Fold name
     else Bad
 
 -- a line of two words, and of three or more, that is neither a comment nor a production
 abbrev pub statement : Word → Word → List Word → Word → Line
-statement a b [] pattern = mark a b
+statement a b [] pattern = naming a b
 statement a b (c ∷ ws) pattern = if bytes_eq c (codes "=") then rule a b pattern else Bad
 
-abbrev pub longer_line : Word → Word → List Word → Word → Line
-longer_line a b ws pattern = if bytes_eq b (codes "=") then production a ws else statement a b ws pattern
+abbrev pub longer_line : Version → Word → Word → List Word → Word → Line
+longer_line v a b ws pattern = if bytes_eq b (codes "=") then production v a ws else statement a b ws pattern
 
 -- a line of these words, with this text behind its first `=`, which no keyword and no name holds
-abbrev pub line_of_words : List Word → Word → Line
-line_of_words [] pattern = Nothing
-line_of_words (a ∷ []) pattern = if is_comment a then Nothing else Bad
-line_of_words (a ∷ b ∷ ws) pattern = if is_comment a then Nothing else longer_line a b ws pattern
+abbrev pub line_of_words : Version → List Word → Word → Line
+line_of_words v [] pattern = Nothing
+line_of_words v (a ∷ []) pattern = if is_comment a then Nothing else Bad
+line_of_words v (a ∷ b ∷ ws) pattern = if is_comment a then Nothing else longer_line v a b ws pattern
 
-abbrev pub line_of : List ℕ → Line
-line_of text = line_of_words (words text) (behind_equals text)
+abbrev pub line_of : Version → List ℕ → Line
+line_of v text = line_of_words v (words text) (behind_equals text)
 
 -- a line that says something, with its number, the first line's being 1
 pub record Statement : Type 0 where
@@ -66,17 +73,23 @@ numbered n Nothing = None
 numbered n l = Some (at n l)
 
 -- what these lines say, which stand from the second line of the file on
-abbrev pub statements_in : List (List ℕ) → List Statement
-statements_in texts = filter_map (λ t. numbered t.0 (line_of t.1)) (enumerate_from 2 texts)
+abbrev pub statements_in : Version → List (List ℕ) → List Statement
+statements_in v texts = filter_map (λ t. numbered t.0 (line_of v t.1)) (enumerate_from 2 texts)
+
+-- the version that a first line tells: `lrgrammar 1` or `lrgrammar 2`
+abbrev pub version_told : List ℕ → Option Version
+version_told line =
+    if bytes_eq line (codes "lrgrammar 1") then Some One
+    else if bytes_eq line (codes "lrgrammar 2") then Some Two
+    else None
+
+abbrev pub version_of : List (List ℕ) → Option Version
+version_of [] = None
+version_of (l ∷ ls) = version_told l
+
+abbrev pub is_headed : List (List ℕ) → Bool
+is_headed ls = is_some (version_of ls)
 
 -- the statements of a file: what its lines behind the first one say
 abbrev pub statements : List ℕ → List Statement
-statements text = statements_in (drop 1 (lines text))
-
--- the first line is `lrgrammar 1`
-abbrev pub is_header : List ℕ → Bool
-is_header line = bytes_eq line (codes "lrgrammar 1")
-
-abbrev pub is_headed : List (List ℕ) → Bool
-is_headed [] = false
-is_headed (l ∷ ls) = is_header l
+statements text = statements_in (unwrap_or (version_of (lines text)) One) (drop 1 (lines text))

@@ -1,8 +1,10 @@
 -- The words of a line. Texts are lists of bytes in UTF-8.
-use Rattle.std.specs.Prelude.{ℕ, ◌&&◌, ◌||◌, ◌==◌, Bool, not, false, if◌then◌else◌, List, [], ◌∷◌, length, filter, codes}
+use Rattle.std.specs.Prelude.{ℕ, ◌&&◌, ◌||◌, ◌==◌, Bool, not, true, false, if◌then◌else◌, List, [], ◌∷◌, length, filter, codes}
 use Rattle.std.specs.List.{slice_split, flat_map, list_all, after_first}
 use Rattle.std.specs.Char.{is_ascii_alphabetic, is_ascii_alphanumeric}
 use Rattle.std.specs.Str.{bytes_eq}
+use Rattle.grammar_file.specs.declared.right_word.Mark.{Mark}
+use Rattle.grammar_file.specs.declared.right_word.Mark.TheVariants.{Once, Any, AtLeastOnce, AtMostOnce}
 
 -- a text is a list of bytes
 abbrev pub Word : Type 0
@@ -50,3 +52,32 @@ is_name (b ∷ bs) = is_letter b && list_all is_name_byte (b ∷ bs)
 -- these names stand for the end of a text and for what no rule matches
 abbrev pub is_reserved : Word → Bool
 is_reserved w = bytes_eq w (codes "end") || bytes_eq w (codes "invalid")
+
+-- the last byte of a word, and 0 where there is none; the word without it
+abbrev pub last_byte : Word → ℕ
+last_byte [] = 0
+last_byte (b ∷ []) = b
+last_byte (b ∷ c ∷ bs) = last_byte (c ∷ bs)
+
+abbrev pub without_last : Word → Word
+without_last [] = []
+without_last (b ∷ []) = []
+without_last (b ∷ c ∷ bs) = b ∷ without_last (c ∷ bs)
+
+-- the mark of a word that ends with this byte: `*`, `+`, `?`, or none of them
+abbrev pub mark_at : ℕ → Mark
+mark_at b = if b == 42 then Any else if b == 43 then AtLeastOnce else if b == 63 then AtMostOnce else Once
+
+abbrev pub mark_of : Word → Mark
+mark_of w = mark_at (last_byte w)
+
+abbrev pub is_mark : Mark → Bool
+is_mark Once = false
+is_mark _ = true
+
+abbrev pub is_marked : Word → Bool
+is_marked w = is_mark (mark_of w)
+
+-- the word without its mark, if it has one
+abbrev pub plain : Word → Word
+plain w = if is_marked w then without_last w else w

@@ -26,10 +26,10 @@ pub enum Limit {
     Symbols,
 }
 
-/// What is wrong with a line, where names are borrowed from the file. They are the leftmost ones at fault.
+/// What is wrong with a line, where names are borrowed from the file. They are the leftmost ones at fault, without marks.
 #[derive(Clone, Copy, Debug, PartialEq, Eq)]
 pub enum Cause<'a> {
-    /// The first line is not `lrgrammar 1`.
+    /// The first line is neither `lrgrammar 1` nor `lrgrammar 2`.
     FirstLine,
     /// The line is none of those that there are.
     BadLine,

@@ -8,10 +8,11 @@ mod name_set;
 mod names;
 mod production_set;
 mod references;
+mod right_word;
 mod rules;
 mod statements;
-mod symbols;
 mod words;
+mod written_out;
 
 pub use fault::{Cause, Limit, Refusal};
 pub use file::read_file;
@@ -20,4 +21,3 @@ pub use name_set::NameSet;
 pub use names::Names;
 pub use rules::{RuleName, Rules};
 pub use statements::{File, Numbered};
-pub use symbols::defined;

@@ -1,12 +1,23 @@
 //! What the lines of a grammar file say.
 
 ghost use Rattle.std.specs.Prelude.{◌≡◌, IfOk};
-ghost use Rattle.grammar_file.specs.Statements.{line_of, is_comment, longer_line, production, rule, mark, statement};
+ghost use Rattle.std.specs.List.{list_all};
+ghost use Rattle.grammar_file.specs.Statements.{line_of, is_comment, is_right_word, longer_line, production, rule, naming, statement};
 ghost use Rattle.grammar_file.specs.Said.{said, texts};
 ghost use Rattle.grammar_file.specs.Words.{behind_equals};
 
-use crate::words::{are_names, behind_equals, is_name, words};
+use crate::right_word::plain;
+use crate::words::{behind_equals, is_name, words};
 use std::alloc::{AllocError, Global};
+
+/// The version of a grammar file, which its first line tells.
+#[derive(Clone, Copy)]
+pub enum Version {
+    /// `lrgrammar 1`
+    One,
+    /// `lrgrammar 2`: names on right sides may have marks.
+    Two,
+}
 
 /// What a line says.
 #[derive(Drop)]
@@ -17,7 +28,7 @@ pub enum Line<'a> {
     Production {
         /// The nonterminal.
         left: &'a str,
-        /// The names that may stand for it.
+        /// The words that may stand for it, as they are written.
         right: Vec<&'a str>,
     },
     /// `token NAME = PATTERN` or `skip NAME = PATTERN`
@@ -38,15 +49,15 @@ pub enum Line<'a> {
 }
 
 /// What the line says.
-pub fn read_line(alloc: Global, line: &str) -> Result<Line<'_>, AllocError>
-    ensures { IfOk result (λ l. said l ≡ line_of line.now) }
+pub fn read_line(alloc: Global, version: Version, line: &str) -> Result<Line<'_>, AllocError>
+    ensures { IfOk result (λ l. said l ≡ line_of version line.now) }
 {
     let words = words(alloc, line)?;
     match words.as_slice() {
         [] => Ok(Line::Nothing),
         [first, ..] if is_comment(first) => Ok(Line::Nothing),
         [_] => Ok(Line::Bad),
-        [first, second, rest @ ..] => longer_line(alloc, first, second, rest, line),
+        [first, second, rest @ ..] => longer_line(alloc, version, first, second, rest, line),
     }
 }
 
@@ -62,16 +73,18 @@ fn is_comment(word: &str) -> bool
 /// A line of two words or more that is no comment.
 fn longer_line<'a>(
     alloc: Global,
+    version: Version,
     first: &'a str,
     second: &'a str,
     rest: &[&'a str],
     line: &'a str,
 ) -> Result<Line<'a>, AllocError>
     ensures { IfOk result (λ l.
-        said l ≡ longer_line first.now second.now (texts rest.now) (behind_equals line.now)) }
+        said l
+        ≡ longer_line version first.now second.now (texts rest.now) (behind_equals line.now)) }
 {
     if second == "=" {
-        production(alloc, first, rest)
+        production(alloc, version, first, rest)
     } else {
         Ok(statement(first, second, rest, line))
     }
@@ -83,23 +96,45 @@ fn statement<'a>(keyword: &str, name: &'a str, rest: &[&str], line: &'a str) -> 
         ≡ statement keyword.now name.now (texts rest.now) (behind_equals line.now) }
 {
     match rest {
-        [] => mark(keyword, name),
+        [] => naming(keyword, name),
         [equals, ..] if *equals == "=" => rule(keyword, name, behind_equals(line)),
         _ => Line::Bad,
     }
 }
 
 /// A line with a left side and a right side.
-fn production<'a>(alloc: Global, left: &'a str, right: &[&'a str]) -> Result<Line<'a>, AllocError>
-    ensures { IfOk result (λ l. said l ≡ production left.now (texts right.now)) }
+fn production<'a>(
+    alloc: Global,
+    version: Version,
+    left: &'a str,
+    right: &[&'a str],
+) -> Result<Line<'a>, AllocError>
+    ensures { IfOk result (λ l. said l ≡ production version left.now (texts right.now)) }
 {
-    if is_name(left) && are_names(right) {
+    if is_name(left) && are_right_words(version, right) {
         Ok(Line::Production {
             left,
             right: right.to_vec(alloc)?,
         })
     } else {
         Ok(Line::Bad)
+    }
+}
+
+/// Whether all of the words may stand on a right side.
+fn are_right_words(version: Version, words: &[&str]) -> bool
+    ensures { result ≡ list_all (is_right_word version) (texts words.now) }
+{
+    words.iter().all(|word| is_right_word(version, word))
+}
+
+/// Whether the word is a name, in version 2 one that may have a mark.
+fn is_right_word(version: Version, word: &str) -> bool
+    ensures { result ≡ is_right_word version word.now }
+{
+    match version {
+        Version::One => is_name(word),
+        Version::Two => is_name(plain(word)),
     }
 }
 
@@ -123,8 +158,8 @@ fn rule<'a>(keyword: &str, name: &'a str, pattern: &'a str) -> Line<'a>
 }
 
 /// A line of a keyword and a name.
-fn mark<'a>(keyword: &str, name: &'a str) -> Line<'a>
-    ensures { said result ≡ mark keyword.now name.now }
+fn naming<'a>(keyword: &str, name: &'a str) -> Line<'a>
+    ensures { said result ≡ naming keyword.now name.now }
 {
     match keyword {
         "start" if is_name(name) => Line::Start(name),

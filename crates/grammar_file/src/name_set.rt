@@ -1,6 +1,6 @@
 //! Names in order, each found by its text.
 
-ghost use Rattle.std.specs.Prelude.{◌≡◌, [], length, OnOk};
+ghost use Rattle.std.specs.Prelude.{◌≡◌, ◌<◌, ◌^◌, [], length, OnOk};
 ghost use Rattle.grammar_file.specs.Contents.{is_among, number_of, with_name};
 ghost use Rattle.grammar_file.specs.Said.{texts};
 
@@ -35,7 +35,8 @@ impl<'a> NameSet<'a> {
 
     /// How many names there are.
     pub fn len(&self) -> usize
-        ensures { result ≡ length self.now }
+        ensures len { result ≡ length self.now }
+        ensures small { result < 2 ^ 63 }
     {
         self.names.len()
     }

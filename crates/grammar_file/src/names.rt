@@ -4,11 +4,13 @@ ghost use Rattle.std.specs.Prelude.{◌≡◌, ◌+◌, ◌<◌, ◌≤◌, ◌^
 ghost use Rattle.definitions.specs.declared.Symbol.TheVariants.{Nonterminal};
 ghost use Rattle.grammar_file.specs.Statements.{Statement};
 ghost use Rattle.grammar_file.specs.Contents.{defines, is_among};
-ghost use Rattle.grammar_file.specs.Said.{said, rule_line, texts, AreNames, with_rule, with_skip, with_left, with_sides, with_production, with_start};
+ghost use Rattle.grammar_file.specs.WrittenOut.{with_marked};
+ghost use Rattle.grammar_file.specs.Said.{said, rule_line, texts, AreNames, with_rule, with_skip, with_left, with_right, with_sides, with_production, with_start};
 
 use crate::line::Line;
 use crate::name_set::NameSet;
 use crate::production_set::ProductionSet;
+use crate::right_word::is_marked;
 use crate::rules::{RuleName, Rules};
 use definitions::Symbol;
 use std::alloc::{AllocError, Global};
@@ -22,6 +24,8 @@ pub struct Names<'a> {
     pub(crate) skips: NameSet<'a>,
     /// The nonterminals, in the order of their first productions.
     pub nonterminals: NameSet<'a>,
+    /// The marked words on right sides, in the order of first occurrence.
+    pub(crate) marked: NameSet<'a>,
     /// The productions.
     pub(crate) sides: ProductionSet<'a>,
     /// How many productions there are.
@@ -39,6 +43,7 @@ impl<'a> Names<'a> {
             rules: Rules::new(alloc),
             skips: NameSet::new(alloc),
             nonterminals: NameSet::new(alloc),
+            marked: NameSet::new(alloc),
             sides: ProductionSet::new(alloc),
             productions: 0,
             started: false,
@@ -52,6 +57,7 @@ impl<'a> Names<'a> {
         ensures skips { OnOk result (self.new.skips ≡ with_skip self.old.skips (said line.now)) }
         ensures nonterminals { OnOk result (self.new.nonterminals
             ≡ with_left self.old.nonterminals (said line.now)) }
+        ensures marked { OnOk result (self.new.marked ≡ with_right self.old.marked (said line.now)) }
         ensures sides { OnOk result (self.new.sides ≡ with_sides self.old.sides (said line.now)) }
         ensures productions { OnOk result (self.new.productions
             ≡ with_production self.old.productions (said line.now)) }
@@ -75,6 +81,7 @@ impl<'a> Names<'a> {
             }
             Line::Production { left, right } => {
                 self.nonterminals.add(left)?;
+                add_marked(&mut self.marked, right)?;
                 self.sides.add(alloc, left, right)?;
                 self.productions += 1;
             }
@@ -108,4 +115,16 @@ impl<'a> Names<'a> {
             Some(Symbol::Nonterminal(self.nonterminals.len()))
         }
     }
+}
+
+/// Adds the marked ones of the words.
+fn add_marked<'a>(marked: &mut NameSet<'a>, words: &[&'a str]) -> Result<(), AllocError>
+    ensures { OnOk result (marked.new ≡ with_marked marked.old (texts words.now)) }
+{
+    for word in words {
+        if is_marked(word) {
+            marked.add(word)?;
+        }
+    }
+    Ok(())
 }

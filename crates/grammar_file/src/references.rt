@@ -1,16 +1,18 @@
 //! The names that the lines use.
 
-ghost use Rattle.std.specs.Prelude.{◌≡◌, IfErr, OnOk, List, not, option_map};
+ghost use Rattle.std.specs.Prelude.{◌≡◌, IfErr, OnOk, List, map, not, option_map};
 ghost use Rattle.grammar_file.specs.Contents.{nonterminals, is_among};
 ghost use Rattle.grammar_file.specs.Faults;
 ghost use Rattle.grammar_file.specs.Faults.{told, symbol_fault, right_fault, reference_fault, HaveReferents, IsFirstReferenceFault};
 ghost use Rattle.grammar_file.specs.Statements.{Statement};
+ghost use Rattle.grammar_file.specs.Words.{plain};
 ghost use Rattle.grammar_file.specs.Said.{said, all_said, texts, AreNames};
 ghost use Rattle.grammar_file.specs.Told.{cause_of, Tells};
 
 use crate::fault::{Cause, Refusal};
 use crate::line::Line;
 use crate::names::Names;
+use crate::right_word::plain;
 use crate::statements::Numbered;
 
 /// Tests the names that the lines use, from the first line on.
@@ -55,13 +57,13 @@ fn nonterminal_fault<'a>(names: &Names<'a>, name: &'a str) -> Option<Cause<'a>>
     }
 }
 
-/// What is wrong with the leftmost name that may not stand on a right side.
+/// What is wrong with the leftmost word whose name may not stand on a right side.
 fn right_fault<'a>(names: &Names<'a>, right: &[&'a str]) -> Option<Cause<'a>>
     ensures { (ss : List Statement) → AreNames names.now ss →
-        option_map cause_of result ≡ right_fault ss (texts right.now) }
+        option_map cause_of result ≡ right_fault ss (map plain (texts right.now)) }
 {
-    for name in right {
-        if let Some(cause) = symbol_fault(names, name) {
+    for word in right {
+        if let Some(cause) = symbol_fault(names, plain(word)) {
             return Some(cause);
         }
     }

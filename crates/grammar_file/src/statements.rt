@@ -1,6 +1,6 @@
 //! The statements of a file, line by line.
 
-ghost use Rattle.std.specs.Prelude.{◌≡◌, ◌≢◌, ◌+◌, ◌<◌, ◌≤◌, ◌^◌, ◌++◌, ◌∷◌, ◌||◌, [], ℕ, Bool, List, None, Some, length, map, not, nat_lt, option_map, IfOk, IfErr, OnOk, MatchOption};
+ghost use Rattle.std.specs.Prelude.{◌≡◌, ◌≢◌, ◌≤◌, ◌^◌, ◌++◌, ◌∷◌, ◌||◌, [], ℕ, Bool, List, None, Some, map, option_map, IfOk, IfErr, OnOk};
 ghost use Rattle.std.specs.List.{cons_option};
 ghost use Rattle.std.specs.Str.{chars};
 ghost use Rattle.definitions.specs.declared.expression.PatternFault.{PatternFault};
@@ -8,17 +8,17 @@ ghost use Rattle.definitions.specs.PatternFaults.{IsFault as IsPatternFault};
 ghost use Rattle.definitions.specs.Spelling.{IsPattern};
 ghost use Rattle.grammar_file.specs.Statements.{line_of, Statement, numbered, statements_in, Nothing, at};
 ghost use Rattle.grammar_file.specs.Statements;
-ghost use Rattle.grammar_file.specs.Contents.{rules, starts};
-ghost use Rattle.grammar_file.specs.Faults.{reserved, told, has_rule, has_production, early_fault, late_fault, IsFaultless, IsLineFault, IsFirstLineFault, HasPattern, HasPatternFault, BadPattern, Passed};
-ghost use Rattle.grammar_file.specs.Faults;
+ghost use Rattle.grammar_file.specs.Words.{plain};
+ghost use Rattle.grammar_file.specs.Faults.{reserved, has_rule, has_production, early_fault, line_limit, limit_fault, IsLineFault, IsFirstLineFault, HasPatternFault, BadPattern, Passed};
 ghost use Rattle.grammar_file.specs.Said.{said, all_said, texts, AreNames, IsRead, IsPatternOf, with_pattern};
 ghost use Rattle.grammar_file.specs.Told.{cause_of, Tells};
 
 use crate::fault::{Cause, Limit, Refusal};
-use crate::line::{Line, read_line};
+use crate::line::{Line, Version, read_line};
 use crate::names::Names;
+use crate::right_word::plain;
 use crate::words::is_reserved;
-use definitions::PatternCause;
+use definitions::{PatternCause, Symbol};
 use patterns::Pattern;
 use std::alloc::{AllocError, Global};
 
@@ -34,7 +34,8 @@ const MOST_PRODUCTIONS: usize = 1024;
 /// The most symbols of a right side.
 const MOST_SYMBOLS: usize = 16;
 
-/// A line that says something, with its number, the first line's being 1.
+/// A line that says something, with its number, the first line's being 1. The production of a marked word stands on no
+/// line, and has number 0.
 #[derive(Drop)]
 pub struct Numbered<'a> {
     /// The line's number.
@@ -46,27 +47,34 @@ pub struct Numbered<'a> {
 /// What is kept of a file's lines, which have no fault.
 #[derive(Drop)]
 pub struct File<'a> {
-    /// The lines that say something, in file order.
+    /// The lines that say something, in file order, and behind all of them the productions of the marked words.
     pub statements: Vec<Numbered<'a>>,
     /// The names that they define.
     pub names: Names<'a>,
     /// The patterns of the rules, in file order.
     pub patterns: Vec<Pattern>,
+    /// All that the lines define, in file order: a rule, and a nonterminal at its first production.
+    pub defined: Vec<Symbol>,
 }
 
 /// What the lines say, of which the first has number 2; or the first fault.
-pub fn read_statements<'a>(alloc: Global, lines: &[&'a str]) -> Result<File<'a>, Refusal<'a>>
-    ensures read { IfOk result (λ f. IsRead f (statements_in (texts lines.now))) }
+pub fn read_statements<'a>(
+    alloc: Global,
+    version: Version,
+    lines: &[&'a str],
+) -> Result<File<'a>, Refusal<'a>>
+    ensures read { IfOk result (λ f. IsRead f (statements_in version (texts lines.now))) }
     ensures fault { IfErr result (λ r.
-        Tells r (λ n c. IsFirstLineFault (statements_in (texts lines.now)) n c)) }
+        Tells r (λ n c. IsFirstLineFault (statements_in version (texts lines.now)) n c)) }
 {
     let mut file = File {
         statements: Vec::new(alloc),
         names: Names::new(alloc),
         patterns: Vec::new(alloc),
+        defined: Vec::new(alloc),
     };
     for (index, text) in lines.iter().enumerate() {
-        let line = read_line(alloc, text)?;
+        let line = read_line(alloc, version, text)?;
         file.add(alloc, index + 2, line)?;
     }
     Ok(file)
@@ -105,12 +113,13 @@ impl<'a> File<'a> {
     {
         let pattern = self.tested(alloc, number, &line)?;
         add_pattern(&mut self.patterns, pattern)?;
+        add_symbol(&mut self.defined, self.names.defined_by(&line))?;
         self.names.note(alloc, &line)?;
         add_line(&mut self.statements, number, line)?;
-        Ok(())
+        self.test_limits(number)
     }
 
-    /// Tests a line, and hands out the pattern of a rule.
+    /// Tests a line but for the limits that all lines have to keep, and hands out the pattern of a rule.
     fn tested(
         &self,
         alloc: Global,
@@ -118,9 +127,11 @@ impl<'a> File<'a> {
         line: &Line<'a>,
     ) -> Result<Option<Pattern>, Refusal<'a>>
         requires { AreNames self.now.names (all_said self.now.statements.items) }
-        ensures faultless { IfOk result (λ _.
-            IsFaultless (all_said self.now.statements.items) (said line.now)) }
+        ensures early { IfOk result (λ _.
+            early_fault (all_said self.now.statements.items) (said line.now) ≡ None) }
         ensures pattern { IfOk result (λ p. IsPatternOf (said line.now) p) }
+        ensures limit { IfOk result (λ _.
+            line_limit (all_said self.now.statements.items) (said line.now) ≡ None) }
         ensures fault { IfErr result (λ r.
             Tells r (λ n c.
             (n ≡ number) × IsLineFault (all_said self.now.statements.items) (said line.now) c)) }
@@ -129,7 +140,7 @@ impl<'a> File<'a> {
             return Err(Refusal::Fault(number, cause));
         }
         let pattern = pattern_of(alloc, number, line)?;
-        match self.late_fault(line) {
+        match self.line_limit(line) {
             Some(cause) => Err(Refusal::Fault(number, cause)),
             None => Ok(pattern),
         }
@@ -210,64 +221,52 @@ impl<'a> File<'a> {
         None
     }
 
-    /// A fault that is told behind the pattern's.
-    fn late_fault(&self, line: &Line<'a>) -> Option<Cause<'a>>
+    /// A second start, or a right side that is too long.
+    fn line_limit(&self, line: &Line<'a>) -> Option<Cause<'a>>
         requires { AreNames self.now.names (all_said self.now.statements.items) }
         ensures { option_map cause_of result
-            ≡ late_fault (all_said self.now.statements.items) (said line.now) }
+            ≡ line_limit (all_said self.now.statements.items) (said line.now) }
     {
         match line {
-            Line::Production { left, right } => self.production_limit(left, right),
-            Line::Rule { .. } => self.rule_limit(),
-            Line::Start(_) => self.second_start(),
-            Line::Nothing | Line::Fold(_) | Line::Bad => None,
+            Line::Production { right, .. } if MOST_SYMBOLS < right.len() => {
+                Some(Cause::Passed(Limit::Symbols))
+            }
+            Line::Start(_) if self.names.started => Some(Cause::SecondStart),
+            _ => None,
         }
     }
 
-    fn rule_limit(&self) -> Option<Cause<'a>>
-        requires { AreNames self.now.names (all_said self.now.statements.items) }
-        ensures { option_map cause_of result
-            ≡ told (not (nat_lt (length (rules (all_said self.now.statements.items))) 256))
-            (Passed Limit.Tokens) }
+    /// Tests that the lines keep the limits.
+    fn test_limits(&self, number: usize) -> Result<(), Refusal<'a>>
+        requires names { AreNames self.now.names (all_said self.now.statements.items) }
+        requires small { self.now.names.productions ≤ 2 ^ 32 }
+        ensures fine { OnOk result (limit_fault (all_said self.now.statements.items) ≡ None) }
+        ensures fault { IfErr result (λ r.
+            Tells r (λ n c.
+            (n ≡ number) × (limit_fault (all_said self.now.statements.items) ≡ Some c))) }
     {
-        if self.names.rules.len() < MOST_RULES {
-            None
-        } else {
-            Some(Cause::Passed(Limit::Tokens))
+        match passed_limit(&self.names) {
+            Some(limit) => Err(Refusal::Fault(number, Cause::Passed(limit))),
+            None => Ok(()),
         }
     }
+}
 
-    fn second_start(&self) -> Option<Cause<'a>>
-        requires { AreNames self.now.names (all_said self.now.statements.items) }
-        ensures { option_map cause_of result
-            ≡ told (nat_lt 0 (length (starts (all_said self.now.statements.items))))
-            Faults.SecondStart }
-    {
-        if self.names.started {
-            Some(Cause::SecondStart)
-        } else {
-            None
-        }
-    }
-
-    fn production_limit(&self, left: &str, right: &[&str]) -> Option<Cause<'a>>
-        requires { AreNames self.now.names (all_said self.now.statements.items) }
-        ensures { option_map cause_of result
-            ≡ late_fault (all_said self.now.statements.items)
-            (Statements.Production left.now (texts right.now)) }
-    {
-        if MOST_SYMBOLS < right.len() {
-            return Some(Cause::Passed(Limit::Symbols));
-        }
-        if !self.names.nonterminals.contains(left)
-            && self.names.nonterminals.len() >= MOST_NONTERMINALS
-        {
-            return Some(Cause::Passed(Limit::Nonterminals));
-        }
-        if self.names.productions < MOST_PRODUCTIONS {
-            return None;
-        }
-        Some(Cause::Passed(Limit::Productions))
+/// The first limit that the lines pass, where a marked word counts as one nonterminal and two productions.
+fn passed_limit(names: &Names<'_>) -> Option<Limit>
+    requires { names.now.productions ≤ 2 ^ 32 }
+    ensures { (ss : List Statement) → AreNames names.now ss →
+        option_map Passed result ≡ limit_fault ss }
+{
+    let marked = names.marked.len();
+    if MOST_RULES < names.rules.len() {
+        Some(Limit::Tokens)
+    } else if MOST_NONTERMINALS < names.nonterminals.len() + marked {
+        Some(Limit::Nonterminals)
+    } else if MOST_PRODUCTIONS < names.productions + 2 * marked {
+        Some(Limit::Productions)
+    } else {
+        None
     }
 }
 
@@ -283,7 +282,20 @@ fn add_pattern(patterns: &mut Vec<Pattern>, pattern: Option<Pattern>) -> Result<
     }
 }
 
-fn add_line<'a>(
+fn add_symbol(symbols: &mut Vec<Symbol>, symbol: Option<Symbol>) -> Result<(), AllocError>
+    ensures { OnOk result (symbols.new.items ≡ symbols.old.items ++ cons_option symbol []) }
+{
+    match symbol {
+        Some(symbol) => {
+            symbols.push(symbol)?;
+            Ok(())
+        }
+        None => Ok(()),
+    }
+}
+
+/// Adds a line with its number.
+pub fn add_line<'a>(
     statements: &mut Vec<Numbered<'a>>,
     number: usize,
     line: Line<'a>,
@@ -305,11 +317,12 @@ fn reserved<'a>(name: &'a str) -> Option<Cause<'a>>
     }
 }
 
-/// The leftmost reserved name.
-fn first_reserved<'a>(names: &[&'a str]) -> Option<Cause<'a>>
-    ensures { option_map cause_of result ≡ reserved (texts names.now) }
+/// The leftmost reserved name of a right side.
+fn first_reserved<'a>(words: &[&'a str]) -> Option<Cause<'a>>
+    ensures { option_map cause_of result ≡ reserved (map plain (texts words.now)) }
 {
-    for name in names {
+    for word in words {
+        let name = plain(word);
         if is_reserved(name) {
             return Some(Cause::Reserved(name));
         }

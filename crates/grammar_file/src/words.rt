@@ -129,13 +129,6 @@ pub fn is_name(word: &str) -> bool
     }
 }
 
-/// Whether all of the words are names.
-pub fn are_names(words: &[&str]) -> bool
-    ensures { result ≡ list_all is_name (map (λ w. w.now) words.now) }
-{
-    words.iter().all(|word| is_name(word))
-}
-
 /// `end` and `invalid`.
 pub fn is_reserved(word: &str) -> bool
     ensures { result ≡ is_reserved word.now }

@@ -39,7 +39,8 @@ fn tells_the_line_at_fault(rt: HostRuntime) -> Result<(), Fail> {
     let alloc = rt.alloc();
     let rows = [
         (SUMS, 99),
-        ("lrgrammar 2\n", 1),
+        ("lrgrammar 3\n", 1),
+        ("lrgrammar 2\n", 0),
         ("lrgrammar 1\n", 0),
         ("lrgrammar 1\n\nstart\n", 3),
         ("lrgrammar 1\nstart S\nS = X\n", 3),

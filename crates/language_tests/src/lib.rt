@@ -8,6 +8,10 @@ mod grammar_lines;
 #[cfg(test)]
 mod grammars;
 #[cfg(test)]
+mod marked_trees;
+#[cfg(test)]
+mod marked_words;
+#[cfg(test)]
 mod parses;
 #[cfg(test)]
 mod rows_and_trees;

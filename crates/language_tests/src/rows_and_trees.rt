@@ -5,7 +5,7 @@ use grammar::Grammar;
 use lexer::{Kind, Tokens, Whole};
 use std::alloc::{AllocError, Global};
 use std::test::Fail;
-use text::{LONGEST_TEXT, Text};
+use text::{LONGEST_TEXT, Text, Unit};
 use trees::{Child, NodeId, Store};
 use views::{Range, token_rows, tree_text};
 use worked::{LISTS, SUMS};
@@ -18,7 +18,7 @@ fn rows(alloc: Global, file: &str, text: &str) -> Result<String, Fail> {
     let count = text.len();
     prove!(count <= LONGEST_TEXT);
     let tokens = Tokens::scan(alloc, &grammar, &automaton, &Whole(&text))?;
-    let rows = token_rows(alloc, &grammar, &text, &tokens)?;
+    let rows = token_rows(alloc, &grammar, Unit::Utf16, &text, &tokens)?;
     let mut lines = String::new(alloc);
     for row in &rows {
         lines.push_str(line(alloc, row.name, row.range)?.as_str())?;
@@ -76,7 +76,7 @@ fn rows_of_a_million_tokens(rt: HostRuntime) -> Result<(), Fail> {
     let count = text.len();
     prove!(count <= LONGEST_TEXT);
     let tokens = Tokens::scan(alloc, &grammar, &automaton, &Whole(&text))?;
-    let rows = token_rows(alloc, &grammar, &text, &tokens)?;
+    let rows = token_rows(alloc, &grammar, Unit::Utf16, &text, &tokens)?;
     assert_eq!(rt; rows.len(), 1_000_000);
     for (i, (name, from)) in [(0, ("NUM", 0)), (999_999, ("PLUS", 999_999))] {
         let Some(row) = rows.get(i) else {

@@ -1,8 +1,9 @@
-use Rattle.std.proofs.Common.{◌≡◌, drop, List}
+use Rattle.std.proofs.Common.{◌≡◌, drop, List, map}
+use Rattle.grammar_file.specs.Words.{plain}
 use Rattle.grammar_file.specs.Statements.{Statement}
 use Rattle.grammar_file.specs.Faults.{right_fault}
 use Rattle.grammar_file.specs.Said.{texts, AreNames}
 use Rattle.grammar_file.proofs.references.right_fault.Given as goal
 
-abbrev pub invariant-loop-name : goal.invariant-loop-name
-invariant-loop-name l = (ss : List Statement) → AreNames l.names ss → right_fault ss (texts l.right) ≡ right_fault ss (texts (drop l.name-index l.right))
+abbrev pub invariant-loop-word : goal.invariant-loop-word
+invariant-loop-word l = (ss : List Statement) → AreNames l.names ss → right_fault ss (map plain (texts l.right)) ≡ right_fault ss (map plain (texts (drop l.word-index l.right)))

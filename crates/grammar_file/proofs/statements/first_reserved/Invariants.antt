@@ -1,7 +1,8 @@
-use Rattle.std.proofs.Common.{◌≡◌, drop}
+use Rattle.std.proofs.Common.{◌≡◌, drop, map}
+use Rattle.grammar_file.specs.Words.{plain}
 use Rattle.grammar_file.specs.Faults.{reserved}
 use Rattle.grammar_file.specs.Said.{texts}
 use Rattle.grammar_file.proofs.statements.first_reserved.Given as goal
 
-abbrev pub invariant-loop-name : goal.invariant-loop-name
-invariant-loop-name l = reserved (texts l.names) ≡ reserved (texts (drop l.name-index l.names))
+abbrev pub invariant-loop-word : goal.invariant-loop-word
+invariant-loop-word l = reserved (map plain (texts l.words)) ≡ reserved (map plain (texts (drop l.word-index l.words)))

@@ -4,4 +4,4 @@ use Rattle.grammar_file.specs.Said.{texts, IsRead}
 use Rattle.grammar_file.proofs.statements.read_statements.Given as goal
 
 abbrev pub invariant-loop-index : goal.invariant-loop-index
-invariant-loop-index l = IsRead l.file (statements_in (texts (take l.index l.lines)))
+invariant-loop-index l = IsRead l.file (statements_in l.version (texts (take l.index l.lines)))

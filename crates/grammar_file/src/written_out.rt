@@ -1,0 +1,105 @@
+//! What marked words mean: each is a nonterminal with two productions.
+
+ghost use Rattle.std.specs.Prelude.{◌≡◌, ◌+◌, ◌≤◌, ◌<◌, ◌^◌, ◌++◌, ◌∷◌, [], length, IfOk, OnOk};
+ghost use Rattle.grammar_file.specs.Statements.{at};
+ghost use Rattle.grammar_file.specs.Statements;
+ghost use Rattle.grammar_file.specs.WrittenOut.{added};
+ghost use Rattle.grammar_file.specs.Said.{all_said, texts, AreNames, IsRead, IsWrittenOut};
+
+use crate::line::Line;
+use crate::names::Names;
+use crate::right_word::{Mark, RightWord};
+use crate::statements::{File, Numbered, add_line};
+use std::alloc::{AllocError, Global};
+
+/// The file with the productions of its marked words behind its lines, in the order in which the words first stand.
+pub fn write_out<'a>(alloc: Global, file: File<'a>) -> Result<File<'a>, AllocError>
+    requires { IsRead file (all_said file.statements.items) }
+    ensures { IfOk result (λ f. IsWrittenOut f (all_said file.entry.statements.items)) }
+{
+    let File {
+        mut statements,
+        mut names,
+        patterns,
+        defined,
+    } = file;
+    let words = names.marked.as_slice().to_vec(alloc)?;
+    for word in &words {
+        add_productions(alloc, &mut statements, &mut names, word)?;
+    }
+    Ok(File {
+        statements,
+        names,
+        patterns,
+        defined,
+    })
+}
+
+/// Adds the productions of a marked word.
+fn add_productions<'a>(
+    alloc: Global,
+    statements: &mut Vec<Numbered<'a>>,
+    names: &mut Names<'a>,
+    word: &'a str,
+) -> Result<(), AllocError>
+    requires names { AreNames names.old (all_said statements.old.items) }
+    requires few { names.old.productions < 2 ^ 31 }
+    ensures statements { OnOk result (all_said statements.new.items
+        ≡ all_said statements.old.items ++ added word.now) }
+    ensures names { OnOk result (AreNames names.new (all_said statements.new.items)) }
+    ensures few { OnOk result (names.new.productions ≤ names.old.productions + 2) }
+{
+    let RightWord { name, mark } = RightWord::read(word);
+    match mark {
+        Mark::Once => Ok(()),
+        Mark::Any => add_two(alloc, statements, names, word, &[], &[word, name]),
+        Mark::AtLeastOnce => add_two(alloc, statements, names, word, &[name], &[word, name]),
+        Mark::AtMostOnce => add_two(alloc, statements, names, word, &[], &[name]),
+    }
+}
+
+/// Adds two productions of one nonterminal.
+fn add_two<'a>(
+    alloc: Global,
+    statements: &mut Vec<Numbered<'a>>,
+    names: &mut Names<'a>,
+    left: &'a str,
+    first: &[&'a str],
+    second: &[&'a str],
+) -> Result<(), AllocError>
+    requires names { AreNames names.old (all_said statements.old.items) }
+    requires few { names.old.productions < 2 ^ 31 }
+    ensures statements { OnOk result (all_said statements.new.items
+        ≡ all_said statements.old.items
+        ++ at 0 (Statements.Production left.now (texts first.now))
+        ∷ at 0 (Statements.Production left.now (texts second.now)) ∷ []) }
+    ensures names { OnOk result (AreNames names.new (all_said statements.new.items)) }
+    ensures few { OnOk result (names.new.productions ≡ names.old.productions + 2) }
+{
+    add_production(alloc, statements, names, left, first)?;
+    add_production(alloc, statements, names, left, second)
+}
+
+/// Adds a production that stands on no line.
+fn add_production<'a>(
+    alloc: Global,
+    statements: &mut Vec<Numbered<'a>>,
+    names: &mut Names<'a>,
+    left: &'a str,
+    right: &[&'a str],
+) -> Result<(), AllocError>
+    requires names { AreNames names.old (all_said statements.old.items) }
+    requires few { names.old.productions < 2 ^ 32 }
+    ensures statements { OnOk result (all_said statements.new.items
+        ≡ all_said statements.old.items
+        ++ at 0 (Statements.Production left.now (texts right.now)) ∷ []) }
+    ensures names { OnOk result (AreNames names.new (all_said statements.new.items)) }
+    ensures few { OnOk result (names.new.productions ≡ names.old.productions + 1) }
+{
+    let line = Line::Production {
+        left,
+        right: right.to_vec(alloc)?,
+    };
+    names.note(alloc, &line)?;
+    add_line(statements, 0, line)
+}
