@@ -5,7 +5,7 @@ use Rattle.definitions.specs.declared.Kind.{Kind}
 use Rattle.definitions.specs.declared.Position.{Position}
 use Rattle.definitions.specs.declared.Range.{Range}
 use Rattle.definitions.specs.declared.Symbol.{Symbol}
-use Rattle.definitions.specs.declared.Unit.TheVariants.{Utf16}
+use Rattle.definitions.specs.declared.Unit.{Unit as Encoding}
 use Rattle.definitions.specs.Answers.{Diagnostic}
 use Rattle.definitions.specs.DocumentNodes.{AreDocumentTrees}
 use Rattle.definitions.specs.Sentences.{IsExpected, IsVerdict, IsViable, Verdict, HasTree, FaultAt, FaultAtEnd}
@@ -29,9 +29,9 @@ pub record LayersAnswer (file : FileGrammar) : Type 0 where
   pub expected : (x : List Kind) → IsViable file.grammar x
       → (rules : List ℕ) × (at_end : Bool) × IsExpected file.grammar x rules at_end
   pub folds : (t : List ℕ) (tokens : List Token) (trees : List Tree) → (pairs : List (ℕ × ℕ)) × AreFoldsOf file t tokens trees pairs
-  pub selections : (t : List ℕ) (tokens : List Token) (trees : List Tree) (symbols : List Symbol) → AreTokens file.patterns t tokens
+  pub selections : (encoding : Encoding) (t : List ℕ) (tokens : List Token) (trees : List Tree) (symbols : List Symbol) → AreTokens file.patterns t tokens
       → HaveRoots file.grammar trees symbols → length (all_kinds trees) ≤ length (kinds file.skips tokens)
-      → (o : ℕ) → (ranges : List Range) × IsSelectionOf file t tokens trees o ranges
+      → (o : ℕ) → (ranges : List Range) × IsSelectionOf encoding file t tokens trees o ranges
 
 viable_front : (file : FileGrammar) → LayersAnswer file → (x : List Kind) (k : ℕ) → IsVerdict file.grammar x (FaultAt k) → IsViable file.grammar (take k x)
 viable_front file always x zero is = subst (λ y. IsViable file.grammar y) (nothing x) always.begins
@@ -54,26 +54,26 @@ some_reading file always t fit =
     let trees = some_trees file always (kinds file.skips tokens.0) verdict.0 verdict.1 in
     (record { tokens = tokens.0; verdict = verdict.0; trees = trees.0 }, record { tokens = tokens.1; verdict = verdict.1; trees = trees.1 })
 
-fault_behind : (file : FileGrammar) → LayersAnswer file → (t : List ℕ) (tokens : List Token) (x : List Kind) → IsViable file.grammar x → (fault : Option Diagnostic) × IsFaultBehind file t tokens x fault
-fault_behind file always t tokens x viable = let next = always.expected x viable in (_, (next.0, next.1, next.2, refl))
+fault_behind : (encoding : Encoding) (file : FileGrammar) → LayersAnswer file → (t : List ℕ) (tokens : List Token) (x : List Kind) → IsViable file.grammar x → (fault : Option Diagnostic) × IsFaultBehind encoding file t tokens x fault
+fault_behind encoding file always t tokens x viable = let next = always.expected x viable in (_, (next.0, next.1, next.2, refl))
 
-some_diagnosis : (file : FileGrammar) → LayersAnswer file → (t : List ℕ) (tokens : List Token) (v : Verdict) → IsVerdict file.grammar (kinds file.skips tokens) v → (fault : Option Diagnostic) × IsDiagnosis file t tokens v fault
-some_diagnosis file always t tokens (HasTree tree) is = (None, refl)
-some_diagnosis file always t tokens (FaultAt k) is = fault_behind file always t tokens (take k (kinds file.skips tokens)) (viable_front file always (kinds file.skips tokens) k is)
-some_diagnosis file always t tokens FaultAtEnd is = fault_behind file always t tokens (kinds file.skips tokens) is.1
+some_diagnosis : (encoding : Encoding) (file : FileGrammar) → LayersAnswer file → (t : List ℕ) (tokens : List Token) (v : Verdict) → IsVerdict file.grammar (kinds file.skips tokens) v → (fault : Option Diagnostic) × IsDiagnosis encoding file t tokens v fault
+some_diagnosis encoding file always t tokens (HasTree tree) is = (None, refl)
+some_diagnosis encoding file always t tokens (FaultAt k) is = fault_behind encoding file always t tokens (take k (kinds file.skips tokens)) (viable_front file always (kinds file.skips tokens) k is)
+some_diagnosis encoding file always t tokens FaultAtEnd is = fault_behind encoding file always t tokens (kinds file.skips tokens) is.1
 
-some_selections : (file : FileGrammar) → LayersAnswer file → (t : List ℕ) (reading : Reading) → IsReading file t reading → (positions : List Position) → (selections : List (List Range)) × AreSelections file t reading positions selections
-some_selections file always t reading is [] = ([], refl)
-some_selections file always t reading is (p ∷ positions) =
+some_selections : (encoding : Encoding) (file : FileGrammar) → LayersAnswer file → (t : List ℕ) (reading : Reading) → IsReading file t reading → (positions : List Position) → (selections : List (List Range)) × AreSelections encoding file t reading positions selections
+some_selections encoding file always t reading is [] = ([], refl)
+some_selections encoding file always t reading is (p ∷ positions) =
     let rooted = document_rooted file.grammar (kinds file.skips reading.tokens) reading.verdict reading.trees is.verdict is.trees in
-    let first = always.selections t reading.tokens reading.trees rooted.0 is.tokens rooted.1 rooted.2 (offset Utf16 t p) in
-    let others = some_selections file always t reading is positions in
+    let first = always.selections encoding t reading.tokens reading.trees rooted.0 is.tokens rooted.1 rooted.2 (offset encoding t p) in
+    let others = some_selections encoding file always t reading is positions in
     (first.0 ∷ others.0, (first.0, others.0, refl, first.1, others.1))
 
 pub always_answers : (file : FileGrammar) → LayersAnswer file → AlwaysAnswers file
 always_answers file always = record {
   readings = some_reading file always;
-  faults = λ t r is. some_diagnosis file always t r.tokens r.verdict is.verdict;
+  faults = λ encoding t r is. some_diagnosis encoding file always t r.tokens r.verdict is.verdict;
   folds = λ t r is. always.folds t r.tokens r.trees;
-  selections = λ t r is. some_selections file always t r is;
+  selections = λ encoding t r is. some_selections encoding file always t r is;
 }

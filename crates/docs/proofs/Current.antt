@@ -7,7 +7,7 @@ use Rattle.std.proofs.lemmas.List.Elements.{recursion_from_All}
 use Rattle.definitions.specs.declared.Kind.{Kind}
 use Rattle.definitions.specs.declared.Range.{Range}
 use Rattle.definitions.specs.declared.Position.{Position}
-use Rattle.definitions.specs.declared.Unit.TheVariants.{Utf16}
+use Rattle.definitions.specs.declared.Unit.{Unit as Encoding}
 use Rattle.definitions.specs.declared.Diagnostic.{Diagnostic as Stored}
 use Rattle.definitions.specs.Answers.{Diagnostic as Fault}
 use Rattle.definitions.specs.Answers.{Node, AreFolds, IsSelection}
@@ -92,9 +92,9 @@ stacked_reading l d current = is_reading l d (stacked_trees l d current) current
 
 -- ---- what is told
 
-pub rows_told : (l : LanguageData) (d : Doc) (file : FileGrammar) (told : List (List ℕ × Range)) → IsCurrent l d → file ≡ l.file → told ≡ rows file d.text (map plain d.tokens.items) → Reads l.file d.text (λ reading. told ≡ rows l.file d.text reading.tokens)
-rows_told l d file told current same e =
-    (reading_of d (stacked_trees l d current), stacked_reading l d current, e ∙ ap (λ (f : FileGrammar). rows f d.text (map plain d.tokens.items)) same)
+pub rows_told : (encoding : Encoding) (l : LanguageData) (d : Doc) (file : FileGrammar) (told : List (List ℕ × Range)) → IsCurrent l d → file ≡ l.file → told ≡ rows encoding file d.text (map plain d.tokens.items) → Reads l.file d.text (λ reading. told ≡ rows encoding l.file d.text reading.tokens)
+rows_told encoding l d file told current same e =
+    (reading_of d (stacked_trees l d current), stacked_reading l d current, e ∙ ap (λ (f : FileGrammar). rows encoding f d.text (map plain d.tokens.items)) same)
 
 pub verdict_told : (l : LanguageData) (d : Doc) (told : Option (List ℕ)) → IsCurrent l d → told ≡ tree_told l.file (verdict_in d.store d.parse.verdict) → Reads l.file d.text (λ reading. told ≡ tree_told l.file reading.verdict)
 verdict_told l d told current e = (reading_of d (stacked_trees l d current), stacked_reading l d current, e)
@@ -163,65 +163,65 @@ folds_told l d file roots pairs current has same stack are =
     subst (λ (f : FileGrammar). AreFoldsOf f d.text (map plain d.tokens.items) (trees_of_roots d.store d.parse.stack) pairs) same (subst (λ (cs : List Child). AreFoldsOf file d.text (map plain d.tokens.items) (trees_of_roots d.store cs) pairs) stack are) in
     (reading_of d has.trees, is_reading l d has.trees current has.are, folds_by d.text (placed_parts l.file (map plain d.tokens.items)) _ _ (node_same l d current has) l.file.folds pairs here)
 
-pub selection_told : (l : LanguageData) (d : Doc) (o : ℕ) (ranges : List Range) → IsCurrent l d → (has : HasTheNodes l d) → IsSelectionOf l.file d.text (map plain d.tokens.items) (trees_of_roots d.store d.parse.stack) o ranges → IsSelectionOf l.file d.text (map plain d.tokens.items) has.trees o ranges
-selection_told l d o ranges current has is = (is.0, selection_by d.text (placed_parts l.file (map plain d.tokens.items)) _ _ (node_same l d current has) o is.0 is.1, is.2)
+pub selection_told : (encoding : Encoding) (l : LanguageData) (d : Doc) (o : ℕ) (ranges : List Range) → IsCurrent l d → (has : HasTheNodes l d) → IsSelectionOf encoding l.file d.text (map plain d.tokens.items) (trees_of_roots d.store d.parse.stack) o ranges → IsSelectionOf encoding l.file d.text (map plain d.tokens.items) has.trees o ranges
+selection_told encoding l d o ranges current has is = (is.0, selection_by d.text (placed_parts l.file (map plain d.tokens.items)) _ _ (node_same l d current has) o is.0 is.1, is.2)
 
 -- what a walk down the stack finds around a position
-pub selection_answered : {E : Type 0} (l : LanguageData) (d : Doc) (roots : List Child) (result : Result (Vec Range Global) E) (at : ℕ) (position : Position) → IsCurrent l d → HasTheNodes l d → roots ≡ d.parse.stack → at ≡ offset Utf16 d.text position
-    → (AreTokensOf l.file.patterns l.file.skips d.text d.tokens.items → AreRootsOf l.file d.store (map plain d.tokens.items) roots → IfOk result (λ ranges. IsSelectionOf l.file d.text (map plain d.tokens.items) (trees_of_roots d.store roots) at ranges.items))
-    → IfOk result (λ ranges. IsSelectionOf l.file d.text (map plain d.tokens.items) (trees_of_roots d.store d.parse.stack) (offset Utf16 d.text position) ranges.items)
-selection_answered l d roots result at position current has stack same found =
+pub selection_answered : {E : Type 0} (encoding : Encoding) (l : LanguageData) (d : Doc) (roots : List Child) (result : Result (Vec Range Global) E) (at : ℕ) (position : Position) → IsCurrent l d → HasTheNodes l d → roots ≡ d.parse.stack → at ≡ offset encoding d.text position
+    → (AreTokensOf l.file.patterns l.file.skips d.text d.tokens.items → AreRootsOf l.file d.store (map plain d.tokens.items) roots → IfOk result (λ ranges. IsSelectionOf encoding l.file d.text (map plain d.tokens.items) (trees_of_roots d.store roots) at ranges.items))
+    → IfOk result (λ ranges. IsSelectionOf encoding l.file d.text (map plain d.tokens.items) (trees_of_roots d.store d.parse.stack) (offset encoding d.text position) ranges.items)
+selection_answered encoding l d roots result at position current has stack same found =
     let is = found current.tokens (roots_found l d l.file roots current has refl stack) in
-    if_ok result (λ ranges told. subst (λ (o : ℕ). IsSelectionOf l.file d.text (map plain d.tokens.items) (trees_of_roots d.store d.parse.stack) o ranges.items) same (subst (λ (cs : List Child). IsSelectionOf l.file d.text (map plain d.tokens.items) (trees_of_roots d.store cs) at ranges.items) stack told)) is
+    if_ok result (λ ranges told. subst (λ (o : ℕ). IsSelectionOf encoding l.file d.text (map plain d.tokens.items) (trees_of_roots d.store d.parse.stack) o ranges.items) same (subst (λ (cs : List Child). IsSelectionOf encoding l.file d.text (map plain d.tokens.items) (trees_of_roots d.store cs) at ranges.items) stack told)) is
 
 -- the selections around more and more positions
-pub selections_more : (l : LanguageData) (t : List ℕ) (reading : Reading) (positions : List Position) (p : Position) (selections : List (List Range)) (one : List Range) → AreSelections l.file t reading positions selections → IsSelectionOf l.file t reading.tokens reading.trees (offset Utf16 t p) one → AreSelections l.file t reading (positions ++ (p ∷ [])) (selections ++ (one ∷ []))
-selections_more l t reading [] p selections one e is = (one, [], ap (λ (s : List (List Range)). s ++ (one ∷ [])) e, is, refl)
-selections_more l t reading (q ∷ positions) p selections one are is =
-    (are.0, are.1 ++ (one ∷ []), ap (λ (s : List (List Range)). s ++ (one ∷ [])) are.2, are.3, selections_more l t reading positions p are.1 one are.4 is)
+pub selections_more : (encoding : Encoding) (l : LanguageData) (t : List ℕ) (reading : Reading) (positions : List Position) (p : Position) (selections : List (List Range)) (one : List Range) → AreSelections encoding l.file t reading positions selections → IsSelectionOf encoding l.file t reading.tokens reading.trees (offset encoding t p) one → AreSelections encoding l.file t reading (positions ++ (p ∷ [])) (selections ++ (one ∷ []))
+selections_more encoding l t reading [] p selections one e is = (one, [], ap (λ (s : List (List Range)). s ++ (one ∷ [])) e, is, refl)
+selections_more encoding l t reading (q ∷ positions) p selections one are is =
+    (are.0, are.1 ++ (one ∷ []), ap (λ (s : List (List Range)). s ++ (one ∷ [])) are.2, are.3, selections_more encoding l t reading positions p are.1 one are.4 is)
 
-selections_told : (l : LanguageData) (d : Doc) (positions : List Position) (selections : List (List Range)) → IsCurrent l d → (has : HasTheNodes l d) → AreSelections l.file d.text (reading_of d (trees_of_roots d.store d.parse.stack)) positions selections → AreSelections l.file d.text (reading_of d has.trees) positions selections
-selections_told l d [] selections current has e = e
-selections_told l d (p ∷ positions) selections current has are =
-    (are.0, are.1, are.2, selection_told l d (offset Utf16 d.text p) are.0 current has are.3, selections_told l d positions are.1 current has are.4)
+selections_told : (encoding : Encoding) (l : LanguageData) (d : Doc) (positions : List Position) (selections : List (List Range)) → IsCurrent l d → (has : HasTheNodes l d) → AreSelections encoding l.file d.text (reading_of d (trees_of_roots d.store d.parse.stack)) positions selections → AreSelections encoding l.file d.text (reading_of d has.trees) positions selections
+selections_told encoding l d [] selections current has e = e
+selections_told encoding l d (p ∷ positions) selections current has are =
+    (are.0, are.1, are.2, selection_told encoding l d (offset encoding d.text p) are.0 current has are.3, selections_told encoding l d positions are.1 current has are.4)
 
-pub selections_read : (l : LanguageData) (d : Doc) (positions : List Position) (selections : List (List Range)) → IsCurrent l d → HasTheNodes l d → AreSelections l.file d.text (reading_of d (trees_of_roots d.store d.parse.stack)) positions selections → Reads l.file d.text (λ reading. AreSelections l.file d.text reading positions selections)
-selections_read l d positions selections current has are =
-    (reading_of d has.trees, is_reading l d has.trees current has.are, selections_told l d positions selections current has are)
+pub selections_read : (encoding : Encoding) (l : LanguageData) (d : Doc) (positions : List Position) (selections : List (List Range)) → IsCurrent l d → HasTheNodes l d → AreSelections encoding l.file d.text (reading_of d (trees_of_roots d.store d.parse.stack)) positions selections → Reads l.file d.text (λ reading. AreSelections encoding l.file d.text reading positions selections)
+selections_read encoding l d positions selections current has are =
+    (reading_of d has.trees, is_reading l d has.trees current has.are, selections_told encoding l d positions selections current has are)
 
 -- ---- the fault
 
 -- what is told of the fault, by a grammar file and tables that are those of the language
-pub fault_told : (l : LanguageData) (d : Doc) (file : FileGrammar) (tables : Sets) (told : Option Stored) → IsCurrent l d → file ≡ l.file → tables ≡ l.tables
-    → ((cells : List Cell) → IsParseOf tables (significant_kinds d.tokens.items) cells d.parse → IsDiagnosis file d.text (map plain d.tokens.items) (verdict_in cells d.parse.verdict) (option_map fault_of told))
+pub fault_told : (encoding : Encoding) (l : LanguageData) (d : Doc) (file : FileGrammar) (tables : Sets) (told : Option Stored) → IsCurrent l d → file ≡ l.file → tables ≡ l.tables
+    → ((cells : List Cell) → IsParseOf tables (significant_kinds d.tokens.items) cells d.parse → IsDiagnosis encoding file d.text (map plain d.tokens.items) (verdict_in cells d.parse.verdict) (option_map fault_of told))
     → IsTold told (option_map fault_of told)
-    → Reads l.file d.text (λ reading. (fault : Option Fault) × IsDiagnosis l.file d.text reading.tokens reading.verdict fault × IsTold told fault)
-fault_told l d file tables told current same by_tables is bytes =
+    → Reads l.file d.text (λ reading. (fault : Option Fault) × IsDiagnosis encoding l.file d.text reading.tokens reading.verdict fault × IsTold told fault)
+fault_told encoding l d file tables told current same by_tables is bytes =
     let fault = option_map fault_of told in
     let v = verdict_in d.store d.parse.verdict in
     let parse : IsParseOf tables (significant_kinds d.tokens.items) d.store d.parse = subst (λ (t : Sets). IsParseOf t (significant_kinds d.tokens.items) d.store d.parse) (sym by_tables) current.parse in
-    let here : IsDiagnosis l.file d.text (map plain d.tokens.items) v fault = subst (λ (f : FileGrammar). IsDiagnosis f d.text (map plain d.tokens.items) v fault) same (is d.store parse) in
+    let here : IsDiagnosis encoding l.file d.text (map plain d.tokens.items) v fault = subst (λ (f : FileGrammar). IsDiagnosis encoding f d.text (map plain d.tokens.items) v fault) same (is d.store parse) in
     (reading_of d (stacked_trees l d current), stacked_reading l d current, (fault, here, bytes))
 
 -- where no fault is told, there is a tree
-pub no_fault : (file : FileGrammar) (t : List ℕ) (items : List Token) (cells : List Cell) (v : Verdict) → IsDiagnosis file t (map plain items) (verdict_in cells v) None → (root : NodeId) × (v ≡ TreeAt root)
-no_fault file t items cells (TreeAt root) is = (root, refl)
-no_fault file t items cells (FaultAt k) is = absurd (let e = is.3 in let f : ⊥ = cc e in f)
-no_fault file t items cells FaultAtEnd is = absurd (let e = is.3 in let f : ⊥ = cc e in f)
+pub no_fault : (encoding : Encoding) (file : FileGrammar) (t : List ℕ) (items : List Token) (cells : List Cell) (v : Verdict) → IsDiagnosis encoding file t (map plain items) (verdict_in cells v) None → (root : NodeId) × (v ≡ TreeAt root)
+no_fault encoding file t items cells (TreeAt root) is = (root, refl)
+no_fault encoding file t items cells (FaultAt k) is = absurd (let e = is.3 in let f : ⊥ = cc e in f)
+no_fault encoding file t items cells FaultAtEnd is = absurd (let e = is.3 in let f : ⊥ = cc e in f)
 
-pub tree_there : (l : LanguageData) (d : Doc) (file : FileGrammar) (tables : Sets) (told : Option Stored) → IsCurrent l d → tables ≡ l.tables
-    → ((cells : List Cell) → IsParseOf tables (significant_kinds d.tokens.items) cells d.parse → IsDiagnosis file d.text (map plain d.tokens.items) (verdict_in cells d.parse.verdict) (option_map fault_of told))
+pub tree_there : (encoding : Encoding) (l : LanguageData) (d : Doc) (file : FileGrammar) (tables : Sets) (told : Option Stored) → IsCurrent l d → tables ≡ l.tables
+    → ((cells : List Cell) → IsParseOf tables (significant_kinds d.tokens.items) cells d.parse → IsDiagnosis encoding file d.text (map plain d.tokens.items) (verdict_in cells d.parse.verdict) (option_map fault_of told))
     → told ≡ None → (root : NodeId) × (d.parse.verdict ≡ TreeAt root)
-tree_there l d file tables told current by_tables is none =
+tree_there encoding l d file tables told current by_tables is none =
     let parse : IsParseOf tables (significant_kinds d.tokens.items) d.store d.parse = subst (λ (t : Sets). IsParseOf t (significant_kinds d.tokens.items) d.store d.parse) (sym by_tables) current.parse in
-    no_fault file d.text d.tokens.items d.store d.parse.verdict (subst (λ (o : Option Stored). IsDiagnosis file d.text (map plain d.tokens.items) (verdict_in d.store d.parse.verdict) (option_map fault_of o)) none (is d.store parse))
+    no_fault encoding file d.text d.tokens.items d.store d.parse.verdict (subst (λ (o : Option Stored). IsDiagnosis encoding file d.text (map plain d.tokens.items) (verdict_in d.store d.parse.verdict) (option_map fault_of o)) none (is d.store parse))
 
 -- ---- what a text comes to
 
-pub fault_outcome : (file : FileGrammar) (t : List ℕ) (d : Stored) (told : Option Stored) → told ≡ Some d → Reads file t (λ reading. (fault : Option Fault) × IsDiagnosis file t reading.tokens reading.verdict fault × IsTold told fault) → IsOutcome file t (OutcomeFault d)
-fault_outcome file t d told some h = by h.2.0 h.2.1 (subst (λ (o : Option Stored). IsTold o h.2.0) some h.2.2)
+pub fault_outcome : (encoding : Encoding) (file : FileGrammar) (t : List ℕ) (d : Stored) (told : Option Stored) → told ≡ Some d → Reads file t (λ reading. (fault : Option Fault) × IsDiagnosis encoding file t reading.tokens reading.verdict fault × IsTold told fault) → IsOutcome encoding file t (OutcomeFault d)
+fault_outcome encoding file t d told some h = by h.2.0 h.2.1 (subst (λ (o : Option Stored). IsTold o h.2.0) some h.2.2)
   where
-    by : (fault : Option Fault) → IsDiagnosis file t h.0.tokens h.0.verdict fault → IsTold (Some d) fault → IsOutcome file t (OutcomeFault d)
+    by : (fault : Option Fault) → IsDiagnosis encoding file t h.0.tokens h.0.verdict fault → IsTold (Some d) fault → IsOutcome encoding file t (OutcomeFault d)
     by None is e = absurd (let f : ⊥ = cc in f)
     by (Some fault) is e = (h.0, h.1, (fault, is, e))
 

@@ -8,7 +8,7 @@ use Rattle.definitions.specs.declared.Edit.{Edit}
 use Rattle.definitions.specs.declared.Kind.{Kind}
 use Rattle.definitions.specs.declared.Range.{Range}
 use Rattle.definitions.specs.declared.Stats.{Stats}
-use Rattle.definitions.specs.declared.Unit.TheVariants.{Utf16}
+use Rattle.definitions.specs.declared.Unit.{Unit as Encoding}
 use Rattle.definitions.specs.Nodes.{StandsIn, branches, branches_of, all_branches}
 use Rattle.definitions.specs.Text.{changed, span}
 use Rattle.definitions.specs.TokenEdits.{Splice, made, splice}
@@ -148,12 +148,12 @@ next_positive n m is = by (cases_lt 18_446_744_073_709_551_615 (n + 1))
         omega (arith, is, e)
     by (inr more) = let e = min-eq_left more in omega (arith, is, e)
 
-pub same_edit : (text : List ℕ) (range : Option Range) (s : List ℕ) (away : ℕ × ℕ) (inserted told number : ℕ) → away ≡ span Utf16 text range → inserted ≡ length s → told ≡ number
-    → record { at = away.0; removed = away.1 - away.0; inserted = inserted; number = told } ≡ edit_of text range s number
-same_edit text range s away inserted told number places long same =
+pub same_edit : (encoding : Encoding) (text : List ℕ) (range : Option Range) (s : List ℕ) (away : ℕ × ℕ) (inserted told number : ℕ) → away ≡ span encoding text range → inserted ≡ length s → told ≡ number
+    → record { at = away.0; removed = away.1 - away.0; inserted = inserted; number = told } ≡ edit_of encoding text range s number
+same_edit encoding text range s away inserted told number places long same =
     let first : Edit = record { at = away.0; removed = away.1 - away.0; inserted = inserted; number = told } in
-    let place : first ≡ record { at = (span Utf16 text range).0; removed = (span Utf16 text range).1 - (span Utf16 text range).0; inserted = inserted; number = told } = ap (λ (p : ℕ × ℕ). record { at = p.0; removed = p.1 - p.0; inserted = inserted; number = told }) places in
-    place ∙ (ap (λ n. record { at = (span Utf16 text range).0; removed = (span Utf16 text range).1 - (span Utf16 text range).0; inserted = n; number = told }) long ∙ ap (edit_of text range s) same)
+    let place : first ≡ record { at = (span encoding text range).0; removed = (span encoding text range).1 - (span encoding text range).0; inserted = inserted; number = told } = ap (λ (p : ℕ × ℕ). record { at = p.0; removed = p.1 - p.0; inserted = inserted; number = told }) places in
+    place ∙ (ap (λ n. record { at = (span encoding text range).0; removed = (span encoding text range).1 - (span encoding text range).0; inserted = n; number = told }) long ∙ ap (edit_of encoding text range s) same)
 
 -- the kinds before the fault, where there is one
 abbrev before : Doc → List Kind
@@ -175,16 +175,16 @@ module _ (l : LanguageData) (d e : Doc) (current : IsCurrent l d) (current_next 
       let new = subst (λ (ts : List Tree). Built s (was.trees ++ last_leaf (before d)) 0 ts e.parse.built) is.stack_is old in
       built_before s was.trees (before d) is.trees (before e) new
 
-  pub next_is : (range : Option Range) (s : List ℕ) (change : Edit) (spliced : Splice) → e.text ≡ changed Utf16 d.text range s
-      → e.parse.number ≡ min (d.parse.number + 1) 18_446_744_073_709_551_615 → change ≡ edit_of d.text range s e.parse.number
+  pub next_is : (encoding : Encoding) (range : Option Range) (s : List ℕ) (change : Edit) (spliced : Splice) → e.text ≡ changed encoding d.text range s
+      → e.parse.number ≡ min (d.parse.number + 1) 18_446_744_073_709_551_615 → change ≡ edit_of encoding d.text range s e.parse.number
       → spliced ≡ splice l.file.skips change (map plain_token d.tokens.items) (map plain_token e.tokens.items)
       → e.tokens.scanned ≡ length (made change (map plain_token d.tokens.items) (map plain_token e.tokens.items)) → Spliced spliced → MadeAnew
-      → (next : LastEdit) × (last_edit e ≡ Some next) × IsNext l.file d.text range s (last_edit d) next
-  next_is range s change spliced text number edit same scanned built anew =
+      → (next : LastEdit) × (last_edit e ≡ Some next) × IsNext encoding l.file d.text range s (last_edit d) next
+  next_is encoding range s change spliced text number edit same scanned built anew =
       let old : number_of (last_edit d) ≡ d.parse.number = told_number d.parse.number d.tokens.scanned d.parse.built in
       let behind : number_behind (last_edit d) ≡ e.parse.number = ap (λ n. min (n + 1) 18_446_744_073_709_551_615) old ∙ sym number in
-      let so : change ≡ edit_of d.text range s (number_behind (last_edit d)) = edit ∙ ap (edit_of d.text range s) (sym behind) in
-      let reading : IsReading l.file (changed Utf16 d.text range s) (reading_of e (stacked_trees l e current_next)) = subst (λ (t : List ℕ). IsReading l.file t (reading_of e (stacked_trees l e current_next))) text (stacked_reading l e current_next) in (
+      let so : change ≡ edit_of encoding d.text range s (number_behind (last_edit d)) = edit ∙ ap (edit_of encoding d.text range s) (sym behind) in
+      let reading : IsReading l.file (changed encoding d.text range s) (reading_of e (stacked_trees l e current_next)) = subst (λ (t : List ℕ). IsReading l.file t (reading_of e (stacked_trees l e current_next))) text (stacked_reading l e current_next) in (
         record { number = e.parse.number; scanned = e.tokens.scanned; built = e.parse.built },
         told_last e.parse.number e.tokens.scanned e.parse.built (next_positive d.parse.number e.parse.number number),
         record {
@@ -228,9 +228,9 @@ one_built (New never below a) (Kept kept b) = absurd (never kept)
 one_built (New {m = m} {n = n} never below a) (New {m = i} {n = j} other beside b) =
     ap (λ k. 1 + k + j) (one_built below beside) ∙ ap (λ k. 1 + m + k) (one_built a b)
 
-made_once : (file : FileGrammar) (t : List ℕ) (range : Option Range) (s : List ℕ) (last : Option LastEdit) (r q : Reading) (one other : LastEdit)
-    → Makes file (edit_of t range s (number_behind last)) last r q one → Makes file (edit_of t range s (number_behind last)) last r q other → other ≡ one
-made_once file t range s last r q one other a b =
+made_once : (encoding : Encoding) (file : FileGrammar) (t : List ℕ) (range : Option Range) (s : List ℕ) (last : Option LastEdit) (r q : Reading) (one other : LastEdit)
+    → Makes file (edit_of encoding t range s (number_behind last)) last r q one → Makes file (edit_of encoding t range s (number_behind last)) last r q other → other ≡ one
+made_once encoding file t range s last r q one other a b =
     same (b.number ∙ sym a.number) (b.scanned ∙ sym a.scanned) (built (cases_lt (number_of last) (number_behind last)))
   where
     same : other.number ≡ one.number → other.scanned ≡ one.scanned → other.built ≡ one.built → other ≡ one
@@ -243,14 +243,14 @@ made_once file t range s last r q one other a b =
     built (inl less) = one_built (a.built less) (b.built less)
     built (inr more) = b.all_built more ∙ sym (a.all_built more)
 
-edits_once : (file : FileGrammar) → AnswersOnce file → (t : List ℕ) (range : Option Range) (s : List ℕ) (last : Option LastEdit) (one other : LastEdit)
-    → IsNext file t range s last one → IsNext file t range s last other → other ≡ one
-edits_once file once t range s last one other a b =
-    let e = edit_of t range s (number_behind last) in
+edits_once : (file : FileGrammar) → AnswersOnce file → (encoding : Encoding) (t : List ℕ) (range : Option Range) (s : List ℕ) (last : Option LastEdit) (one other : LastEdit)
+    → IsNext encoding file t range s last one → IsNext encoding file t range s last other → other ≡ one
+edits_once file once encoding t range s last one other a b =
+    let e = edit_of encoding t range s (number_behind last) in
     let old : b.old ≡ a.old = once.readings t a.old b.old a.was b.was in
     let new : b.new ≡ a.new = once.readings _ a.new b.new a.is b.is in
     let here : Makes file e last a.old a.new other = subst (λ (q : Reading). Makes file e last a.old q other) new (subst (λ (r : Reading). Makes file e last r b.new other) old b.makes) in
-    made_once file t range s last a.old a.new one other a.makes here
+    made_once encoding file t range s last a.old a.new one other a.makes here
 
 same_stats : (one other : Stats) → other.edit ≡ one.edit → other.scanned ≡ one.scanned → other.tokens ≡ one.tokens → other.branches ≡ one.branches → other.built ≡ one.built → without_nodes other ≡ without_nodes one
 same_stats one other edit scanned tokens branches built =

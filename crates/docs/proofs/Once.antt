@@ -4,7 +4,7 @@ use Rattle.std.specs.Prelude.{Option, Some}
 use Rattle.definitions.specs.declared.Kind.{Kind}
 use Rattle.definitions.specs.declared.Position.{Position}
 use Rattle.definitions.specs.declared.Range.{Range}
-use Rattle.definitions.specs.declared.Unit.TheVariants.{Utf16}
+use Rattle.definitions.specs.declared.Unit.{Unit as Encoding}
 use Rattle.definitions.specs.declared.expression.Expression.{Expression}
 use Rattle.definitions.specs.Answers.{AreFolds, Diagnostic, IsSelection, diagnostic, range_of}
 use Rattle.definitions.specs.DocumentNodes.{AreDocumentTrees, IsNodeOf}
@@ -40,28 +40,28 @@ module _ (unique : Unique) (file : FileGrammar) (free : HasNoConflict file.gramm
       let second : record { tokens = a.tokens; verdict = b.verdict; trees = b.trees } ≡ record { tokens = a.tokens; verdict = a.verdict; trees = b.trees } = ap (λ v. record { tokens = a.tokens; verdict = v; trees = b.trees }) verdict in
       first ∙ (second ∙ ap (λ ts. record { tokens = a.tokens; verdict = a.verdict; trees = ts }) trees)
 
-  one_selection : (t : List ℕ) (r : Reading) (o : ℕ) (one other : List Range) → IsSelectionOf file t r.tokens r.trees o one → IsSelectionOf file t r.tokens r.trees o other → other ≡ one
-  one_selection t r o one other a b =
-      b.2 ∙ (ap (λ spans. reverse (map (range_of Utf16 t) spans)) (unique.selections file.grammar r.trees t (placed_parts file r.tokens) o b.0 a.0 b.1 a.1) ∙ sym a.2)
+  one_selection : (encoding : Encoding) (t : List ℕ) (r : Reading) (o : ℕ) (one other : List Range) → IsSelectionOf encoding file t r.tokens r.trees o one → IsSelectionOf encoding file t r.tokens r.trees o other → other ≡ one
+  one_selection encoding t r o one other a b =
+      b.2 ∙ (ap (λ spans. reverse (map (range_of encoding t) spans)) (unique.selections file.grammar r.trees t (placed_parts file r.tokens) o b.0 a.0 b.1 a.1) ∙ sym a.2)
 
-  one_list : (t : List ℕ) (r : Reading) (positions : List Position) (one other : List (List Range)) → AreSelections file t r positions one → AreSelections file t r positions other → other ≡ one
-  one_list t r [] one other a b = b ∙ sym a
-  one_list t r (p ∷ positions) one other a b =
-      let first : b.0 ≡ a.0 = one_selection t r (offset Utf16 t p) a.0 b.0 a.3 b.3 in
-      let others : b.1 ≡ a.1 = one_list t r positions a.1 b.1 a.4 b.4 in
+  one_list : (encoding : Encoding) (t : List ℕ) (r : Reading) (positions : List Position) (one other : List (List Range)) → AreSelections encoding file t r positions one → AreSelections encoding file t r positions other → other ≡ one
+  one_list encoding t r [] one other a b = b ∙ sym a
+  one_list encoding t r (p ∷ positions) one other a b =
+      let first : b.0 ≡ a.0 = one_selection encoding t r (offset encoding t p) a.0 b.0 a.3 b.3 in
+      let others : b.1 ≡ a.1 = one_list encoding t r positions a.1 b.1 a.4 b.4 in
       b.2 ∙ (ap (λ f. f ∷ b.1) first ∙ (ap (λ fs. a.0 ∷ fs) others ∙ sym a.2))
 
-  one_behind : (t : List ℕ) (tokens : List Token) (x : List Kind) (one other : Option Diagnostic) → IsFaultBehind file t tokens x one → IsFaultBehind file t tokens x other → other ≡ one
-  one_behind t tokens x one other a b =
-      let told : List ℕ → Bool → Option Diagnostic = λ rules at_end. Some (diagnostic Utf16 file.names t (placed_parts file tokens) (length x) (looks rules at_end)) in
+  one_behind : (encoding : Encoding) (t : List ℕ) (tokens : List Token) (x : List Kind) (one other : Option Diagnostic) → IsFaultBehind encoding file t tokens x one → IsFaultBehind encoding file t tokens x other → other ≡ one
+  one_behind encoding t tokens x one other a b =
+      let told : List ℕ → Bool → Option Diagnostic = λ rules at_end. Some (diagnostic encoding file.names t (placed_parts file tokens) (length x) (looks rules at_end)) in
       let rules : b.0 ≡ a.0 = unique.rules file.grammar x b.0 a.0 b.1 a.1 b.2 a.2 in
       let ends : b.1 ≡ a.1 = unique.ends file.grammar x b.0 a.0 b.1 a.1 b.2 a.2 in
       b.3 ∙ (ap (λ rs. told rs b.1) rules ∙ (ap (λ e. told a.0 e) ends ∙ sym a.3))
 
-  one_diagnosis : (t : List ℕ) (tokens : List Token) (v : Verdict) (one other : Option Diagnostic) → IsDiagnosis file t tokens v one → IsDiagnosis file t tokens v other → other ≡ one
-  one_diagnosis t tokens (HasTree tree) one other a b = b ∙ sym a
-  one_diagnosis t tokens (FaultAt k) one other a b = one_behind t tokens _ one other a b
-  one_diagnosis t tokens FaultAtEnd one other a b = one_behind t tokens _ one other a b
+  one_diagnosis : (encoding : Encoding) (t : List ℕ) (tokens : List Token) (v : Verdict) (one other : Option Diagnostic) → IsDiagnosis encoding file t tokens v one → IsDiagnosis encoding file t tokens v other → other ≡ one
+  one_diagnosis encoding t tokens (HasTree tree) one other a b = b ∙ sym a
+  one_diagnosis encoding t tokens (FaultAt k) one other a b = one_behind encoding t tokens _ one other a b
+  one_diagnosis encoding t tokens FaultAtEnd one other a b = one_behind encoding t tokens _ one other a b
 
   one_folds : (t : List ℕ) (r : Reading) (one other : List (ℕ × ℕ)) → AreFoldsOf file t r.tokens r.trees one → AreFoldsOf file t r.tokens r.trees other → other ≡ one
   one_folds t r one other a b = unique.folds file.grammar r.trees t (placed_parts file r.tokens) file.folds other one b a
@@ -69,7 +69,7 @@ module _ (unique : Unique) (file : FileGrammar) (free : HasNoConflict file.gramm
   pub answers_once : AnswersOnce file
   answers_once = record {
     readings = one_reading;
-    faults = λ t r. one_diagnosis t r.tokens r.verdict;
+    faults = λ encoding t r. one_diagnosis encoding t r.tokens r.verdict;
     folds = one_folds;
     selections = one_list;
   }

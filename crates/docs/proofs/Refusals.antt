@@ -4,7 +4,7 @@ use Rattle.std.specs.Prelude.{Option, Some, None, Result, Ok, Err, nat_le, encod
 use Rattle.std.specs.Str.{chars, IsUtf8}
 use Rattle.definitions.specs.Text.{IsText, changed, span}
 use Rattle.definitions.specs.declared.Range.{Range}
-use Rattle.definitions.specs.declared.Unit.TheVariants.{Utf16}
+use Rattle.definitions.specs.declared.Unit.{Unit as Encoding}
 use Rattle.definitions.proofs.Characters.{IsText-chars, IsText-edit}
 use Rattle.text.specs.declared.document.TextFault.{TextFault}
 use Rattle.text.specs.declared.document.TextFault.TheVariants as text
@@ -35,9 +35,9 @@ from_text text.TooLarge e = refl
 from_text text.NoMemory e = absurd (let f : ⊥ = cc in f)
 
 -- a changed text is one of characters
-pub IsText-changed : (t : List ℕ) (range : Option Range) (bs : List ℕ) → IsText t → IsUtf8 bs → IsText (changed Utf16 t range (chars bs))
+pub IsText-changed : (encoding : Encoding) (t : List ℕ) (range : Option Range) (bs : List ℕ) → IsText t → IsUtf8 bs → IsText (changed encoding t range (chars bs))
 unfolding changed
-IsText-changed t range bs is utf8 = IsText-edit t (span Utf16 t range).0 (span Utf16 t range).1 (chars bs) is (IsText-chars bs utf8)
+IsText-changed encoding t range bs is utf8 = IsText-edit t (span encoding t range).0 (span encoding t range).1 (chars bs) is (IsText-chars bs utf8)
 
 -- a change is too large where the edit that it comes to is
 pub large_edit : {S : Type 0} (made : Result S TextFault) {changed_text edited : List ℕ} → changed_text ≡ edited

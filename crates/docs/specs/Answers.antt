@@ -1,19 +1,20 @@
 -- What a text is by a grammar file, and what is told of it.
 --     Reading, IsReading file text reading      what a text is by a grammar file: its tokens, the verdict on their kinds, and its trees
 --     Reads file text Tells      the text reads so, and of this reading that is told
---     rows file text tokens      the names and ranges of these tokens of the text
+--     rows encoding file text tokens      the names and ranges of these tokens of the text
 --     tree_told file verdict      the text of the tree that a verdict tells, if it tells one
---     AreSelections file text reading positions selections      what can be selected around each of these positions
+--     AreSelections encoding file text reading positions selections      what can be selected around each of these positions
 --     IsTold told fault      a diagnostic of the code tells this fault, or that there is none
---     IsOutcome file text outcome      what a text comes to: the text of its tree, or its fault
+--     IsOutcome encoding file text outcome      what a text comes to: the text of its tree, or its fault
 --     AlwaysAnswers file      each text that fits has a reading, and each reading all that can be told of it
 --     AnswersOnce file      it has one reading, and one of each
 use Rattle.std.specs.Prelude.{◌≡◌, ℕ, List, [], ◌∷◌, map, Option, Some, None, option_map, encode_utf8_all, string_bytes, true}
 use Rattle.definitions.specs.declared.Diagnostic.{Diagnostic as Stored}
 use Rattle.definitions.specs.declared.Position.{Position}
 use Rattle.definitions.specs.declared.Range.{Range}
-use Rattle.definitions.specs.declared.Unit.TheVariants.{Utf16}
-use Rattle.definitions.specs.Answers.{Diagnostic, token_rows}
+use Rattle.definitions.specs.declared.Unit.{Unit as Encoding}
+pub use Rattle.definitions.specs.Answers.{Diagnostic}
+use Rattle.definitions.specs.Answers.{token_rows}
 use Rattle.definitions.specs.DocumentNodes.{AreDocumentTrees, tree_text}
 use Rattle.definitions.specs.Sentences.{Verdict, HasTree, FaultAt, FaultAtEnd, IsVerdict}
 use Rattle.definitions.specs.Text.{offset}
@@ -40,8 +41,8 @@ abbrev pub Reads : FileGrammar → List ℕ → (Reading → Type 0) → Type 0
 Reads file text Tells = (reading : Reading) × IsReading file text reading × Tells reading
 
 -- the names are in UTF-8
-abbrev pub rows : FileGrammar → List ℕ → List Token → List (List ℕ × Range)
-rows file text tokens = map (λ r. (encode_utf8_all r.0, r.1)) (token_rows Utf16 file.names text (placed 0 tokens))
+abbrev pub rows : Encoding → FileGrammar → List ℕ → List Token → List (List ℕ × Range)
+rows encoding file text tokens = map (λ r. (encode_utf8_all r.0, r.1)) (token_rows encoding file.names text (placed 0 tokens))
 
 -- the text of a tree in UTF-8
 abbrev pub tree_bytes : FileGrammar → Tree → List ℕ
@@ -52,35 +53,35 @@ tree_told file (HasTree t) = Some (tree_bytes file t)
 tree_told file (FaultAt k) = None
 tree_told file FaultAtEnd = None
 
-abbrev pub AreSelections : FileGrammar → List ℕ → Reading → List Position → List (List Range) → Type 0
-AreSelections file text reading [] selections = selections ≡ []
-AreSelections file text reading (p ∷ positions) selections =
+abbrev pub AreSelections : Encoding → FileGrammar → List ℕ → Reading → List Position → List (List Range) → Type 0
+AreSelections encoding file text reading [] selections = selections ≡ []
+AreSelections encoding file text reading (p ∷ positions) selections =
     (first : List Range) × (others : List (List Range)) × (selections ≡ first ∷ others)
-    × IsSelectionOf file text reading.tokens reading.trees (offset Utf16 text p) first
-    × AreSelections file text reading positions others
+    × IsSelectionOf encoding file text reading.tokens reading.trees (offset encoding text p) first
+    × AreSelections encoding file text reading positions others
 
 abbrev pub IsTold : Option Stored → Option Diagnostic → Type 0
 IsTold told fault = option_map told_bytes told ≡ option_map in_utf8 fault
 
-abbrev pub IsOutcome : FileGrammar → List ℕ → Outcome → Type 0
-IsOutcome file text (comes.Tree told) =
+abbrev pub IsOutcome : Encoding → FileGrammar → List ℕ → Outcome → Type 0
+IsOutcome encoding file text (comes.Tree told) =
     Reads file text (λ reading. Some (string_bytes told) ≡ tree_told file reading.verdict)
-IsOutcome file text (comes.Fault told) =
+IsOutcome encoding file text (comes.Fault told) =
     Reads file text (λ reading.
-    (fault : Diagnostic) × IsDiagnosis file text reading.tokens reading.verdict (Some fault) × IsTold (Some told) (Some fault))
+    (fault : Diagnostic) × IsDiagnosis encoding file text reading.tokens reading.verdict (Some fault) × IsTold (Some told) (Some fault))
 
 pub record AlwaysAnswers (file : FileGrammar) : Type 0 where
   pub readings : (t : List ℕ) → fits t ≡ true → (r : Reading) × IsReading file t r
-  pub faults : (t : List ℕ) (r : Reading) → IsReading file t r → (fault : Option Diagnostic) × IsDiagnosis file t r.tokens r.verdict fault
+  pub faults : (encoding : Encoding) (t : List ℕ) (r : Reading) → IsReading file t r → (fault : Option Diagnostic) × IsDiagnosis encoding file t r.tokens r.verdict fault
   pub folds : (t : List ℕ) (r : Reading) → IsReading file t r → (pairs : List (ℕ × ℕ)) × AreFoldsOf file t r.tokens r.trees pairs
-  pub selections : (t : List ℕ) (r : Reading) → IsReading file t r → (positions : List Position)
-      → (selections : List (List Range)) × AreSelections file t r positions selections
+  pub selections : (encoding : Encoding) (t : List ℕ) (r : Reading) → IsReading file t r → (positions : List Position)
+      → (selections : List (List Range)) × AreSelections encoding file t r positions selections
 
 pub record AnswersOnce (file : FileGrammar) : Type 0 where
   pub readings : (t : List ℕ) (r s : Reading) → IsReading file t r → IsReading file t s → s ≡ r
-  pub faults : (t : List ℕ) (r : Reading) (one other : Option Diagnostic) → IsDiagnosis file t r.tokens r.verdict one
-      → IsDiagnosis file t r.tokens r.verdict other → other ≡ one
+  pub faults : (encoding : Encoding) (t : List ℕ) (r : Reading) (one other : Option Diagnostic) → IsDiagnosis encoding file t r.tokens r.verdict one
+      → IsDiagnosis encoding file t r.tokens r.verdict other → other ≡ one
   pub folds : (t : List ℕ) (r : Reading) (one other : List (ℕ × ℕ)) → AreFoldsOf file t r.tokens r.trees one
       → AreFoldsOf file t r.tokens r.trees other → other ≡ one
-  pub selections : (t : List ℕ) (r : Reading) (positions : List Position) (one other : List (List Range))
-      → AreSelections file t r positions one → AreSelections file t r positions other → other ≡ one
+  pub selections : (encoding : Encoding) (t : List ℕ) (r : Reading) (positions : List Position) (one other : List (List Range))
+      → AreSelections encoding file t r positions one → AreSelections encoding file t r positions other → other ≡ one

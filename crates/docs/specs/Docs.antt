@@ -1,5 +1,5 @@
 -- A document, as its callers see it.
---     open_document d      its version and text, and its last edit
+--     open_document d      its unit, version and text, and its last edit
 --     IsCurrent language d      the tokens and the parse that it keeps are those of its text, by this language
 use Rattle.std.specs.Prelude.{◌≡◌, ◌≤◌, ◌==◌, if◌then◌else◌, length, Option, Some, None}
 use Rattle.lexer.specs.Rescans.{significant_kinds}
@@ -18,7 +18,7 @@ last_edit d =
     else Some (record { number = d.parse.number; scanned = d.tokens.scanned; built = d.parse.built })
 
 abbrev pub open_document : Doc → OpenDocument
-open_document d = record { version = d.version; text = d.text; last = last_edit d }
+open_document d = record { unit = d.unit; version = d.version; text = d.text; last = last_edit d }
 
 -- The tables are of the file's grammar. Opening has made all there is, and the store is bounded.
 pub record IsCurrent (language : LanguageData) (d : Doc) : Type 0 where

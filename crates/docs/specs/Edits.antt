@@ -1,8 +1,8 @@
 -- The edits of a document, and how much they make.
 --     LastEdit      the last edit of a document: its number, and how many tokens and nodes it made
 --     number_behind last      the number of the edit behind the last one
---     edit_of text range s number      a change of a text, as the edit of this number
---     IsNext file text range s last next      behind the last edit, that change of the text makes this one
+--     edit_of encoding text range s number      a change of a text, as the edit of this number
+--     IsNext encoding file text range s last next      behind the last edit, that change of the text makes this one
 --     AreStats file document stats      how much there is of a document, and how much its last edit made
 --     without_nodes stats      what is told but the count of the nodes in memory
 --     CountsOnce file      of each edit one thing is told, and of each document, but for that count
@@ -10,7 +10,7 @@ use Rattle.std.specs.Prelude.{◌≡◌, ℕ, ◌+◌, ◌-◌, ◌*◌, ◌<◌
 use Rattle.definitions.specs.declared.Edit.{Edit}
 use Rattle.definitions.specs.declared.Range.{Range}
 use Rattle.definitions.specs.declared.Stats.{Stats}
-use Rattle.definitions.specs.declared.Unit.TheVariants.{Utf16}
+use Rattle.definitions.specs.declared.Unit.{Unit as Encoding}
 use Rattle.definitions.specs.Nodes.{all_branches}
 use Rattle.definitions.specs.Text.{changed, span}
 use Rattle.definitions.specs.TokenEdits.{made, splice}
@@ -28,9 +28,9 @@ number_of (Some last) = last.number
 abbrev pub number_behind : Option LastEdit → ℕ
 number_behind last = min (number_of last + 1) 18_446_744_073_709_551_615
 
-abbrev pub edit_of : List ℕ → Option Range → List ℕ → ℕ → Edit
-edit_of text range s number =
-    let away = span Utf16 text range in
+abbrev pub edit_of : Encoding → List ℕ → Option Range → List ℕ → ℕ → Edit
+edit_of encoding text range s number =
+    let away = span encoding text range in
     record { at = away.0; removed = away.1 - away.0; inserted = length s; number = number }
 
 -- The tokens that the edit doesn't keep, and the nodes that lie in no kept one. Where the numbers have ended, no node is kept.
@@ -40,12 +40,12 @@ pub record Makes (file : FileGrammar) (e : Edit) (last : Option LastEdit) (old n
   pub built : number_of last < e.number → Built (splice file.skips e old.tokens new.tokens) old.trees 0 new.trees next.built
   pub all_built : e.number ≤ number_of last → next.built ≡ all_branches new.trees
 
-pub record IsNext (file : FileGrammar) (text : List ℕ) (range : Option Range) (s : List ℕ) (last : Option LastEdit) (next : LastEdit) : Type 0 where
+pub record IsNext (encoding : Encoding) (file : FileGrammar) (text : List ℕ) (range : Option Range) (s : List ℕ) (last : Option LastEdit) (next : LastEdit) : Type 0 where
   pub old : Reading
   pub new : Reading
   pub was : IsReading file text old
-  pub is : IsReading file (changed Utf16 text range s) new
-  pub makes : Makes file (edit_of text range s (number_behind last)) last old new next
+  pub is : IsReading file (changed encoding text range s) new
+  pub makes : Makes file (edit_of encoding text range s (number_behind last)) last old new next
 
 -- opening makes all there is
 abbrev pub TellsLast : Option LastEdit → Stats → Type 0
@@ -66,7 +66,7 @@ without_nodes s =
     record { edit = s.edit; scanned = s.scanned; tokens = s.tokens; branches = s.branches; built = s.built; nodes = 0 }
 
 pub record CountsOnce (file : FileGrammar) : Type 0 where
-  pub edits : (t : List ℕ) (range : Option Range) (s : List ℕ) (last : Option LastEdit) (one other : LastEdit)
-      → IsNext file t range s last one → IsNext file t range s last other → other ≡ one
+  pub edits : (encoding : Encoding) (t : List ℕ) (range : Option Range) (s : List ℕ) (last : Option LastEdit) (one other : LastEdit)
+      → IsNext encoding file t range s last one → IsNext encoding file t range s last other → other ≡ one
   pub stats : (d : OpenDocument) (one other : Stats) → AreStats file d one → AreStats file d other
       → without_nodes other ≡ without_nodes one

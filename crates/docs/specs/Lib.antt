@@ -7,3 +7,7 @@ pub mod Edits
 pub use Rattle.views.specs.Diagnostics
 pub use Rattle.views.specs.Told
 pub use Rattle.views.specs.Views
+pub use Rattle.definitions.specs.Nodes
+pub use Rattle.definitions.specs.Text
+pub use Rattle.grammar.specs.Grammars
+pub use Rattle.definitions.specs.contracts.expression.Expression

@@ -1,9 +1,10 @@
 -- Documents, and their texts.
 --     LastEdit      an edit's number, and how many tokens and nodes it made
---     OpenDocument      a document's version and text, and its last edit, if there was one
+--     OpenDocument      the unit that a document's positions count, its version and text, and its last edit, if there was one
 --     fits text      it is a text of Unicode characters, and isn't too long
 use Rattle.std.specs.Prelude.{ℕ, ℤ, ◌&&◌, Bool, nat_le, List, length, Option, encode_utf8_all}
 use Rattle.std.specs.Str.{all_scalars}
+use Rattle.definitions.specs.declared.Unit.{Unit as Encoding}
 
 pub record LastEdit : Type 0 where
   pub number : ℕ
@@ -11,6 +12,7 @@ pub record LastEdit : Type 0 where
   pub built : ℕ
 
 pub record OpenDocument : Type 0 where
+  pub unit : Encoding
   pub version : ℤ
   pub text : List ℕ
   pub last : Option LastEdit

@@ -4,7 +4,6 @@ ghost use Rattle.std.specs.Prelude.{◌≡◌, ◌↔◌, ℕ, Option, Err, None
 ghost use Rattle.std.specs.Str.{chars};
 ghost use Rattle.definitions.specs.Answers.{Diagnostic as Fault};
 ghost use Rattle.definitions.specs.Text.{changed, offset};
-ghost use Rattle.definitions.specs.declared.Unit.TheVariants.{Utf16};
 ghost use Rattle.lexer.specs.Tokens.{plain};
 ghost use Rattle.parser.specs.declared.parse.Verdict.TheVariants as Verdict;
 ghost use Rattle.trees.specs.declared.store.NodeId.{NodeId};
@@ -65,11 +64,12 @@ pub enum Outcome {
     Fault(Diagnostic),
 }
 
-/// A document of a language. The tokens are those of the text, and the parse is that of the tokens.
+/// A document of a language. Its positions count one unit. The tokens are those of the text, and the parse is that of the tokens.
 ///
 /// A language that is handed in is always the one by which the document was opened.
 #[derive(Drop)]
 pub struct Doc {
+    unit: Unit,
     version: i32,
     text: Text,
     tokens: Tokens,
@@ -79,21 +79,23 @@ pub struct Doc {
 }
 
 impl Doc {
-    /// A document of this text. `TooLarge` exactly where the text has more than 1,048,576 bytes in UTF-8.
+    /// A document of this text, whose positions count this unit. `TooLarge` exactly where the text has more than 1,048,576 bytes in UTF-8.
     pub fn open(
         alloc: Global,
         language: &Language,
+        unit: Unit,
         version: i32,
         text: &str,
     ) -> Result<Doc, DocFault>
         ensures is { IfOk result (λ d.
-            open_document d ≡ record { version = version; text = chars text.now; last = None }) }
+            open_document d
+            ≡ record { unit = unit; version = version; text = chars text.now; last = None }) }
         ensures fits { IfOk result (λ _. fits (chars text.now) ≡ true) }
         ensures current { IfOk result (IsCurrent language.now) }
         ensures too_large { (result ≡ Err DocFault.TooLarge) ↔ (fits (chars text.now) ≡ false) }
     {
         let text = Text::open(alloc, text)?;
-        Ok(Doc::of(alloc, language, version, text)?)
+        Ok(Doc::of(alloc, language, unit, version, text)?)
     }
 
     /// The document after a change (LSP 3.17, "TextDocumentContentChangeEvent"): `new` stands in the place of the range, or of
@@ -107,17 +109,20 @@ impl Doc {
         new: &str,
     ) -> Result<Doc, DocFault>
         requires { IsCurrent language.now self }
-        ensures is { let text = changed Utf16 self.text range (chars new.now) in
+        ensures is { let text = changed self.unit self.text range (chars new.now) in
             IfOk result (λ d.
-            open_document d ≡ record { version = self.version; text = text; last = last_edit d }) }
+            let last = last_edit d in
+            open_document d
+            ≡ record { unit = self.unit; version = self.version; text = text; last = last }) }
         ensures last { let last = last_edit self in
             IfOk result (λ d. (next : LastEdit) × (last_edit d ≡ Some next)
-            × IsNext language.now.file self.text range (chars new.now) last next) }
+            × IsNext self.unit language.now.file self.text range (chars new.now) last next) }
         ensures current { IfOk result (IsCurrent language.now) }
-        ensures too_large { let text = changed Utf16 self.text range (chars new.now) in
+        ensures too_large { let text = changed self.unit self.text range (chars new.now) in
             (result ≡ Err DocFault.TooLarge) ↔ (fits text ≡ false) }
     {
         let Doc {
+            unit,
             version,
             mut text,
             mut tokens,
@@ -125,7 +130,7 @@ impl Doc {
             mut parse,
         } = self;
         let before = text.len();
-        let (from, to) = text.span(Unit::Utf16, range);
+        let (from, to) = text.span(unit, range);
         text.replace(alloc, from, to, new)?;
         let edit = Edit {
             at: from,
@@ -136,6 +141,7 @@ impl Doc {
         let splice = language.rescan(alloc, &mut tokens, &text, edit)?;
         language.reparse(alloc, &mut parse, &mut store, &tokens, splice, edit.number)?;
         Ok(Doc {
+            unit,
             version,
             text,
             tokens,
@@ -145,9 +151,16 @@ impl Doc {
     }
 
     /// Scans and parses a text. Refuses for memory alone.
-    fn of(alloc: Global, language: &Language, version: i32, text: Text) -> Result<Doc, AllocError>
+    fn of(
+        alloc: Global,
+        language: &Language,
+        unit: Unit,
+        version: i32,
+        text: Text,
+    ) -> Result<Doc, AllocError>
         ensures is { IfOk result (λ d.
-            open_document d ≡ record { version = version; text = text; last = None }) }
+            open_document d
+            ≡ record { unit = unit; version = version; text = text; last = None }) }
         ensures current { IfOk result (IsCurrent language.now) }
     {
         // The read opens what a language says of its tables.
@@ -156,6 +169,7 @@ impl Doc {
         let mut store = Store::new(alloc);
         let parse = language.parse(alloc, &mut store, &kinds)?;
         Ok(Doc {
+            unit,
             version,
             text,
             tokens,
@@ -174,7 +188,9 @@ impl Doc {
     /// Gives the document another version.
     pub fn set_version(&mut self, version: i32)
         ensures is { let last = last_edit self.old in
-            open_document self.new ≡ record { version = version; text = self.old.text; last = last } }
+            let unit = self.old.unit in
+            open_document self.new
+            ≡ record { unit = unit; version = version; text = self.old.text; last = last } }
         ensures current { (language : LanguageData)
             → IsCurrent language self.old → IsCurrent language self.new }
     {
@@ -188,7 +204,7 @@ impl Doc {
         self.text.to_string(alloc)
     }
 
-    /// The names and ranges of the tokens, in lines and UTF-16 units. Refuses for memory alone.
+    /// The names and ranges of the tokens. Refuses for memory alone.
     pub fn rows<'a>(
         &self,
         alloc: Global,
@@ -197,9 +213,10 @@ impl Doc {
         requires { IsCurrent language.now self.now }
         ensures { let file = language.now.file in
             IfOk result (λ told. Reads file self.now.text (λ reading.
-            map row_bytes told.items ≡ rows file self.now.text reading.tokens)) }
+            map row_bytes told.items ≡ rows self.now.unit file self.now.text reading.tokens)) }
     {
-        token_rows(alloc, language.grammar(), &self.text, &self.tokens)
+        let grammar = language.grammar();
+        token_rows(alloc, grammar, self.unit, &self.text, &self.tokens)
     }
 
     /// The text of the tree, where there is one. Refuses for memory alone.
@@ -229,7 +246,7 @@ impl Doc {
         ensures told { let file = language.now.file in
             let text = self.now.text in
             IfOk result (λ told. Reads file text (λ reading. (fault : Option Fault)
-            × IsDiagnosis file text reading.tokens reading.verdict fault × IsTold told fault)) }
+            × IsDiagnosis self.now.unit file text reading.tokens reading.verdict fault × IsTold told fault)) }
         ensures tree { IfOk result (λ told.
             told ≡ None → (root : NodeId) × (self.now.parse.verdict ≡ Verdict.Tree root)) }
     {
@@ -237,6 +254,7 @@ impl Doc {
             alloc,
             language.grammar(),
             language.tables(),
+            self.unit,
             &self.text,
             &self.tokens,
             &self.parse,
@@ -246,7 +264,7 @@ impl Doc {
     /// The text of the tree, or where there is none, the fault. Refuses for memory alone.
     pub fn outcome(&self, alloc: Global, language: &Language) -> Result<Outcome, AllocError>
         requires { IsCurrent language.now self.now }
-        ensures { IfOk result (IsOutcome language.now.file self.now.text) }
+        ensures { IfOk result (IsOutcome self.now.unit language.now.file self.now.text) }
     {
         if let Some(fault) = self.diagnostic(alloc, language)? {
             return Ok(Outcome::Fault(fault));
@@ -304,7 +322,7 @@ impl Doc {
             (language : LanguageData) → IsCurrent language self.now
             → IfOk result (λ found. Reads language.file text (λ reading.
             let ranges = map (λ ranges. ranges.items) found.items in
-            AreSelections language.file text reading positions.now ranges)) }
+            AreSelections self.now.unit language.file text reading positions.now ranges)) }
     {
         stack_has_the_nodes_of_the_document();
         let mut selections = Vec::with_capacity(alloc, positions.len())?;
@@ -320,18 +338,19 @@ impl Doc {
         ensures { let text = self.now.text in
             let tokens = map plain self.now.tokens.items in
             let trees = trees_of_roots self.now.store self.now.parse.stack in
-            let at = offset Utf16 text position in
+            let at = offset self.now.unit text position in
             (language : LanguageData) → IsCurrent language self.now
-            → IfOk result (λ ranges. IsSelectionOf language.file text tokens trees at ranges.items) }
+            → IfOk result (λ ranges. IsSelectionOf self.now.unit language.file text tokens trees at ranges.items) }
     {
         stack_has_the_nodes_of_the_document();
         selection(
             alloc,
+            self.unit,
             &self.text,
             &self.tokens,
             &self.store,
             self.parse.stack(),
-            self.text.offset(Unit::Utf16, position),
+            self.text.offset(self.unit, position),
         )
     }
 }

@@ -2,7 +2,7 @@
 
 use rpc::{
     Call, Diagnostic, Id, Log, Loss, Malformed, Message, Note, Position, Range, Refusal, Reply,
-    Row, RpcFault, Stats, one_hearing, read, some_hearing, to_bytes,
+    Row, RpcFault, Stats, Unit, one_hearing, read, some_hearing, to_bytes,
 };
 use std::alloc::Global;
 use std::process::Abort;
@@ -26,8 +26,27 @@ fn has_bytes(
 fn results_have_their_bytes(rt: HostRuntime) -> Result<(), Fail> {
     let rows = [
         (
-            Reply::Capabilities { id: Id::Number(1) },
+            Reply::Capabilities {
+                id: Id::Number(1),
+                unit: Unit::Utf16,
+            },
             r#"{"id":1,"jsonrpc":"2.0","result":{"capabilities":{"foldingRangeProvider":true,"positionEncoding":"utf-16","selectionRangeProvider":true,"textDocumentSync":{"change":2,"openClose":true}}}}"#,
+            187,
+        ),
+        (
+            Reply::Capabilities {
+                id: Id::Number(1),
+                unit: Unit::Utf8,
+            },
+            r#"{"id":1,"jsonrpc":"2.0","result":{"capabilities":{"foldingRangeProvider":true,"positionEncoding":"utf-8","selectionRangeProvider":true,"textDocumentSync":{"change":2,"openClose":true}}}}"#,
+            186,
+        ),
+        (
+            Reply::Capabilities {
+                id: Id::Number(1),
+                unit: Unit::Utf32,
+            },
+            r#"{"id":1,"jsonrpc":"2.0","result":{"capabilities":{"foldingRangeProvider":true,"positionEncoding":"utf-32","selectionRangeProvider":true,"textDocumentSync":{"change":2,"openClose":true}}}}"#,
             187,
         ),
         (
@@ -317,9 +336,17 @@ fn note_kind(note: &Note) -> &'static str {
     }
 }
 
+fn unit_kind(unit: Unit) -> &'static str {
+    match unit {
+        Unit::Utf8 => "initialize in utf-8",
+        Unit::Utf16 => "initialize",
+        Unit::Utf32 => "initialize in utf-32",
+    }
+}
+
 fn kind(outcome: &Result<Message, RpcFault>) -> &'static str {
     match outcome {
-        Ok(Message::Request(_, Call::Initialize)) => "initialize",
+        Ok(Message::Request(_, Call::Initialize { unit })) => unit_kind(*unit),
         Ok(Message::Request(_, Call::Shutdown)) => "shutdown",
         Ok(Message::Request(_, Call::FoldingRange { .. })) => "foldingRange",
         Ok(Message::Request(_, Call::SelectionRange { .. })) => "selectionRange",
@@ -434,6 +461,65 @@ fn ids_have_their_kinds(rt: HostRuntime) -> Result<(), Fail> {
         let content = format!(in alloc; r#"{{"jsonrpc":"2.0","id":{id},"method":"$/x"}}"#)?;
         let outcome = read(alloc, content.as_bytes());
         assert_eq!(rt; kind(&outcome), wanted, "at {id}");
+    }
+    Ok(())
+}
+
+/// The first unit that a client names is chosen, and UTF-16 where it names none.
+#[test]
+fn units_are_chosen(rt: HostRuntime) -> Result<(), Fail> {
+    let alloc = rt.alloc();
+    let cases = [
+        (
+            r#"{"capabilities":{"general":{"positionEncodings":["utf-8"]}}}"#,
+            "initialize in utf-8",
+        ),
+        (
+            r#"{"capabilities":{"general":{"positionEncodings":["utf-7","utf-32","utf-8"]}}}"#,
+            "initialize in utf-32",
+        ),
+        (
+            r#"{"capabilities":{"general":{"positionEncodings":["utf-16","utf-8"]}}}"#,
+            "initialize",
+        ),
+        (
+            r#"{"capabilities":{"general":{"positionEncodings":[8,null,["utf-32"],"utf-8","utf-32"]}}}"#,
+            "initialize in utf-8",
+        ),
+        (
+            r#"{"capabilities":{"general":{"positionEncodings":[]}}}"#,
+            "initialize",
+        ),
+        (
+            r#"{"capabilities":{"general":{"positionEncodings":["UTF-8","utf8","utf-7"]}}}"#,
+            "initialize",
+        ),
+        (
+            r#"{"capabilities":{"general":{"positionEncodings":5}}}"#,
+            "initialize",
+        ),
+        (
+            r#"{"capabilities":{"general":{"positionEncodings":"utf-8"}}}"#,
+            "initialize",
+        ),
+        (
+            r#"{"capabilities":{"general":{"positionEncodings":{"0":"utf-8"}}}}"#,
+            "initialize",
+        ),
+        (
+            r#"{"capabilities":{"general":{"positionEncoding":["utf-8"]}}}"#,
+            "initialize",
+        ),
+        (r#"{"capabilities":{"general":[]}}"#, "initialize"),
+        (r#"{"capabilities":null}"#, "initialize"),
+        (r#"{"positionEncodings":["utf-8"]}"#, "initialize"),
+    ];
+    for (params, wanted) in cases {
+        let content = format!(in alloc;
+            r#"{{"jsonrpc":"2.0","id":1,"method":"initialize","params":{params}}}"#
+        )?;
+        let outcome = read(alloc, content.as_bytes());
+        assert_eq!(rt; kind(&outcome), wanted, "at {params}");
     }
     Ok(())
 }

@@ -63,7 +63,7 @@ refusal_is_whole (DocumentLost loss) = refl
 refusal_is_whole NotInitialized = refl
 
 pub reply_is_whole : (a : Answer) → has_float (reply_data a) ≡ false
-reply_is_whole (told_capabilities id) = result_is_whole (id_data id) capabilities (id_is_whole id) refl
+reply_is_whole (told_capabilities id unit) = result_is_whole (id_data id) (capabilities unit) (id_is_whole id) refl
 reply_is_whole (told_null id) = result_is_whole (id_data id) null (id_is_whole id) refl
 reply_is_whole (told_text id version text) = result_is_whole (id_data id) (document_data version text) (id_is_whole id) (ap (λ b. b || false) (integer_is_whole version))
 reply_is_whole (told_tokens id rows) = result_is_whole (id_data id) (rows_data rows) (id_is_whole id) (rows_are_whole rows)

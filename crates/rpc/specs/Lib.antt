@@ -2,3 +2,8 @@ pub mod Fields
 pub mod Messages
 pub mod Reading
 pub mod Replies
+pub use Rattle.definitions.specs.declared.Diagnostic
+pub use Rattle.definitions.specs.declared.Range
+pub use Rattle.definitions.specs.declared.Stats
+pub use Rattle.definitions.specs.declared.Unit
+pub use Rattle.serde_json.specs.Written

@@ -7,6 +7,7 @@
 use Rattle.std.specs.Prelude.{ℤ, ℕ, Bool, List, map, Option, Some, None, Result, Ok, Err, option_map, string_bytes}
 use Rattle.definitions.specs.declared.Position.{Position}
 use Rattle.definitions.specs.declared.Range.{Range}
+use Rattle.definitions.specs.declared.Unit.{Unit as Encoding}
 use Rattle.rpc.specs.declared.message.Id.{Id}
 use Rattle.rpc.specs.declared.message.Id.TheVariants.{Text, Number}
 use Rattle.rpc.specs.declared.message.Change.{Change}
@@ -34,10 +35,10 @@ pub data Question : Type 0 where
   its_folds : Question
   its_selections : List Position → Question
 
--- what a request asks; about a document it has the document's URI; `stats` asks for how much there is of a document, and what its
+-- what a request asks; `initialize` has the unit that positions are to count; about a document it has the document's URI; `stats` asks for how much there is of a document, and what its
 -- last edit made
 pub data Asked : Type 0 where
-  initialize : Asked
+  initialize : Encoding → Asked
   shutdown : Asked
   about : List ℕ → Question → Asked
   stats : List ℕ → Asked
@@ -84,7 +85,7 @@ id_view (Text s) = named (string_bytes s)
 id_view (Number z) = numbered z
 
 abbrev pub call_view : Call → Asked
-call_view call.Initialize = initialize
+call_view (call.Initialize unit) = initialize unit
 call_view call.Shutdown = shutdown
 call_view (call.Text uri) = about (string_bytes uri) its_text
 call_view (call.Tokens uri) = about (string_bytes uri) its_tokens

@@ -4,14 +4,18 @@
 --     message_of d      what a JSON value is heard as: the tests, in their order
 --     request_of method id params, notice_of method params      what a request and a notification of a method are heard as
 --     id_at, uri_at, version_at, document_text, position_of, positions_at, range_of, change_of, changes_at      parts of a value, where they fit
+--     unit_at d      the unit that positions are to count, of those that a client names
 --     Gives result heard      what a function returned is that, where memory was not refused
 use Rattle.std.specs.Prelude.{◌≡◌, ℕ, ℤ, ◌&&◌, ◌||◌, Bool, true, false, not, if◌then◌else◌, List, [], ◌∷◌, codes, Option, Some, None, Result, IfSome, option_map, option_and_then, unwrap_or, is_some, is_none}
+use Rattle.std.specs.Option.{option_or}
 use Rattle.std.specs.Str.{is_utf8, bytes_eq}
 use Rattle.serde_json.specs.Data.{Data, null, string, Items, no_items, item}
-use Rattle.serde_json.specs.Find.{get, as_object, as_array}
+use Rattle.serde_json.specs.Find.{get, as_object, as_array, as_str}
 use Rattle.serde_json.specs.Read.{read}
 use Rattle.definitions.specs.declared.Position.{Position}
 use Rattle.definitions.specs.declared.Range.{Range}
+use Rattle.definitions.specs.declared.Unit.{Unit as Encoding}
+use Rattle.definitions.specs.declared.Unit.TheVariants.{Utf8, Utf16, Utf32}
 use Rattle.rpc.specs.declared.message.Message.{Message}
 use Rattle.rpc.specs.declared.message.RpcFault.{RpcFault}
 use Rattle.rpc.specs.Fields.{integer_of, text_at, integer_at, natural_at, has_key}
@@ -92,11 +96,37 @@ changes_of (item d ds) = first_and (change_of d) (changes_of ds)
 abbrev pub changes_at : Data → Option (List ChangeSaid)
 changes_at d = option_and_then changes_of (option_and_then as_array (get (codes "contentChanges") d))
 
+-- ---- the unit of positions
+
+-- the unit of this name (LSP 3.17, "PositionEncodingKind")
+abbrev pub unit_named : List ℕ → Option Encoding
+unit_named s =
+    if bytes_eq s (codes "utf-8") then Some Utf8 else (
+    if bytes_eq s (codes "utf-16") then Some Utf16 else (
+    if bytes_eq s (codes "utf-32") then Some Utf32 else None))
+
+abbrev pub unit_of : Data → Option Encoding
+unit_of d = option_and_then unit_named (as_str d)
+
+-- the first of the items that names a unit
+abbrev pub first_unit : Items → Option Encoding
+first_unit no_items = None
+first_unit (item d ds) = option_or (unit_of d) (first_unit ds)
+
+-- `capabilities.general.positionEncodings` (LSP 3.17, "General client capabilities")
+abbrev pub encodings_at : Data → Option Data
+encodings_at d =
+    option_and_then (get (codes "positionEncodings")) (option_and_then (get (codes "general")) (get (codes "capabilities") d))
+
+-- the first unit that the client names, and UTF-16 where it names none
+abbrev pub unit_at : Data → Encoding
+unit_at d = unwrap_or (option_and_then first_unit (option_and_then as_array (encodings_at d))) Utf16
+
 -- ---- requests (the last argument is the parameters)
 
 -- the parameters are an object
 abbrev pub asked_initialize : Ident → Data → Heard
-asked_initialize id d = if is_some (as_object d) then said (request id initialize) else refused (params id true)
+asked_initialize id d = if is_some (as_object d) then said (request id (initialize (unit_at d))) else refused (params id true)
 
 -- the parameters have the URI of the document that is asked about
 abbrev pub asked_about : Question → Ident → Option (List ℕ) → Heard

@@ -17,15 +17,17 @@ use Rattle.definitions.specs.declared.Diagnostic.{Diagnostic}
 use Rattle.definitions.specs.declared.Position.{Position}
 use Rattle.definitions.specs.declared.Range.{Range}
 use Rattle.definitions.specs.declared.Stats.{Stats}
+use Rattle.definitions.specs.declared.Unit.{Unit as Encoding}
+use Rattle.definitions.specs.declared.Unit.TheVariants.{Utf8, Utf16, Utf32}
 use Rattle.rpc.specs.declared.reply.Row.{Row}
 use Rattle.rpc.specs.declared.reply.Reply.{Reply}
 use Rattle.rpc.specs.declared.reply.Reply.TheVariants.{Capabilities, Null, Text, Tokens, Tree, Stats as StatsReply, Folds, Selections, Error, Diagnostics, Log}
 use Rattle.rpc.specs.Messages.{Ident, named, numbered, id_view}
 
--- Replies begin with the id of their request. Folds are pairs of lines; each selection is its ranges from inner to outer. Diagnostics
+-- Replies begin with the id of their request. That to `initialize` tells the unit of positions. Folds are pairs of lines; each selection is its ranges from inner to outer. Diagnostics
 -- are those of a URI, of the version that is told, if one is: a range and a message, or none.
 pub data Answer : Type 0 where
-  told_capabilities : Ident → Answer
+  told_capabilities : Ident → Encoding → Answer
   told_null : Ident → Answer
   told_text : Ident → ℤ → List ℕ → Answer
   told_tokens : Ident → List (List ℕ × Range) → Answer
@@ -46,7 +48,7 @@ abbrev pub diagnostic_view : Diagnostic → Range × List ℕ
 diagnostic_view d = (d.range, string_bytes d.message)
 
 abbrev pub reply_view : Reply → Answer
-reply_view (Capabilities id) = told_capabilities (id_view id)
+reply_view (Capabilities id unit) = told_capabilities (id_view id) unit
 reply_view (Null id) = told_null (id_view id)
 reply_view (Text id version text) = told_text (id_view id) version (string_bytes text)
 reply_view (Tokens id rows) = told_tokens (id_view id) (map row_view rows.items)
@@ -105,17 +107,23 @@ synchronisation = object
     (member (codes "change") (number (unsigned 2))
     (member (codes "openClose") (boolean true) no_members))
 
+-- LSP 3.17, "PositionEncodingKind"
+abbrev pub unit_name : Encoding → List ℕ
+unit_name Utf8 = codes "utf-8"
+unit_name Utf16 = codes "utf-16"
+unit_name Utf32 = codes "utf-32"
+
 -- LSP 3.17, "ServerCapabilities"
-abbrev pub capability_list : Data
-capability_list = object
+abbrev pub capability_list : Encoding → Data
+capability_list unit = object
     (member (codes "foldingRangeProvider") (boolean true)
-    (member (codes "positionEncoding") (string (codes "utf-16"))
+    (member (codes "positionEncoding") (string (unit_name unit))
     (member (codes "selectionRangeProvider") (boolean true)
     (member (codes "textDocumentSync") synchronisation no_members))))
 
 -- LSP 3.17, "InitializeResult"
-abbrev pub capabilities : Data
-capabilities = object (member (codes "capabilities") capability_list no_members)
+abbrev pub capabilities : Encoding → Data
+capabilities unit = object (member (codes "capabilities") (capability_list unit) no_members)
 
 abbrev pub document_data : ℤ → List ℕ → Data
 document_data version text = object
@@ -233,7 +241,7 @@ error_data id code text = object
     (member (codes "jsonrpc") (string (codes "2.0")) no_members)))
 
 abbrev pub reply_data : Answer → Data
-reply_data (told_capabilities id) = result_data (id_data id) capabilities
+reply_data (told_capabilities id unit) = result_data (id_data id) (capabilities unit)
 reply_data (told_null id) = result_data (id_data id) null
 reply_data (told_text id version text) = result_data (id_data id) (document_data version text)
 reply_data (told_tokens id rows) = result_data (id_data id) (rows_data rows)

@@ -9,7 +9,7 @@ mod parts;
 mod reading;
 mod reply;
 
-pub use definitions::{Diagnostic, Position, Range, Stats};
+pub use definitions::{Diagnostic, Position, Range, Stats, Unit};
 pub use laws::{one_hearing, some_hearing};
 pub use message::{Call, Change, Id, Malformed, Message, Note, RpcFault};
 pub use reading::read;

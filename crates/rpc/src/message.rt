@@ -3,7 +3,7 @@
 ghost use Rattle.std.specs.Prelude.{◌≡◌};
 ghost use Rattle.rpc.specs.declared.message.RpcFault.TheVariants.{Memory};
 
-use definitions::{Position, Range};
+use definitions::{Position, Range, Unit};
 use std::alloc::{AllocError, AllocFailed};
 
 /// What a request is named by, and its reply with it (JSON-RPC 2.0, "Request object").
@@ -24,8 +24,11 @@ pub struct Change {
 /// What a request asks.
 #[derive(Debug, Drop)]
 pub enum Call {
-    /// `initialize` (LSP 3.17, "Initialize Request").
-    Initialize,
+    /// `initialize` (LSP 3.17, "Initialize Request"). The unit is the first of those that the client names, and UTF-16
+    /// where it names none.
+    Initialize {
+        unit: Unit,
+    },
     /// `shutdown` (LSP 3.17, "Shutdown Request").
     Shutdown,
     /// `textDocument/foldingRange` (LSP 3.17, "Folding Range Request").

@@ -4,11 +4,11 @@ ghost use Rattle.std.specs.Prelude.{◌≡◌, codes, option_map, IfOk};
 ghost use Rattle.serde_json.specs.View.{view, items_view};
 ghost use Rattle.rpc.specs.Fields.{text_at};
 ghost use Rattle.rpc.specs.Messages.{id_view};
-ghost use Rattle.rpc.specs.Reading.{ident_of, id_at, uri_at, version_at, document_text, position_of, position_at, positions_of, positions_at, range_of, is_text, is_reply, is_invalid};
+ghost use Rattle.rpc.specs.Reading.{ident_of, id_at, uri_at, version_at, document_text, position_of, position_at, positions_of, positions_at, range_of, unit_named, unit_of, first_unit, encodings_at, unit_at, is_text, is_reply, is_invalid};
 
 use crate::fields::{has_key, integer_at, integer_of, natural_at, text_at};
 use crate::message::Id;
-use definitions::{Position, Range};
+use definitions::{Position, Range, Unit};
 use serde_json::Value;
 use std::alloc::{AllocError, Global};
 
@@ -104,6 +104,60 @@ pub fn range_of(value: &Value) -> Option<Range>
         start: position_at(value, "start")?,
         end: position_at(value, "end")?,
     })
+}
+
+/// The unit of this name (LSP 3.17, "PositionEncodingKind").
+fn unit_named(name: &str) -> Option<Unit>
+    ensures { result ≡ unit_named name.now }
+{
+    if name == "utf-8" {
+        Some(Unit::Utf8)
+    } else if name == "utf-16" {
+        Some(Unit::Utf16)
+    } else if name == "utf-32" {
+        Some(Unit::Utf32)
+    } else {
+        None
+    }
+}
+
+/// The unit that a value names.
+fn unit_of(value: &Value) -> Option<Unit>
+    ensures { result ≡ unit_of (view value.now) }
+{
+    unit_named(value.as_str()?)
+}
+
+/// The first of the items that names a unit.
+fn first_unit(items: &[Value]) -> Option<Unit>
+    ensures { result ≡ first_unit (items_view items.now) }
+{
+    for item in items {
+        if let Some(unit) = unit_of(item) {
+            return Some(unit);
+        }
+    }
+    None
+}
+
+/// What stands under `capabilities.general.positionEncodings` (LSP 3.17, "General client capabilities").
+fn encodings_at(params: &Value) -> Option<&Value>
+    ensures { option_map (λ v. view v.now) result ≡ encodings_at (view params.now) }
+{
+    params
+        .get("capabilities")?
+        .get("general")?
+        .get("positionEncodings")
+}
+
+/// The unit that positions are to count: the first that the client names, and UTF-16 where it names none.
+pub fn unit_at(params: &Value) -> Unit
+    ensures { result ≡ unit_at (view params.now) }
+{
+    match encodings_at(params) {
+        Some(Value::Array(items)) => first_unit(items).unwrap_or(Unit::Utf16),
+        _ => Unit::Utf16,
+    }
 }
 
 /// Whether the value has no method, but what a reply has (JSON-RPC 2.0, "Response object").

@@ -10,7 +10,7 @@ ghost use Rattle.rpc.specs.Reading.{maybe_range, change_of, changes_of, changes_
 use crate::fields::text_at;
 use crate::message::{Call, Change, Id, Malformed, Message, Note, RpcFault};
 use crate::parts::{
-    document_text, id_at, is_invalid, is_reply, positions_at, range_of, uri_at, version_at,
+    document_text, id_at, is_invalid, is_reply, positions_at, range_of, unit_at, uri_at, version_at,
 };
 use definitions::Range;
 use serde_json::Value;
@@ -107,12 +107,13 @@ fn closing(alloc: Global, params: &Value) -> Result<Note, AllocError>
     }
 }
 
-/// An `initialize`, whose parameters are an object.
+/// An `initialize`, whose parameters are an object that may name units of positions.
 fn asked_initialize(id: Id, params: &Value) -> Result<Message, RpcFault>
     ensures { Gives result (asked_initialize (id_view id) (view params.now)) }
 {
     if params.is_object() {
-        Ok(Message::Request(id, Call::Initialize))
+        let unit = unit_at(params);
+        Ok(Message::Request(id, Call::Initialize { unit }))
     } else {
         Err(RpcFault::Params {
             id,

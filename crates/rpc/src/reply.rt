@@ -5,10 +5,10 @@ ghost use Rattle.serde_json.specs.Data.{string};
 ghost use Rattle.serde_json.specs.View.{view};
 ghost use Rattle.serde_json.specs.Written.{compact_text};
 ghost use Rattle.rpc.specs.Messages.{id_view};
-ghost use Rattle.rpc.specs.Replies.{id_data, maybe_id_data, code_of, loss_text, log_text, message_text, capabilities, result_data, error_data, document_data, row_data, row_view, rows_data, stats_data, fold_data, folds_data, position_data, range_data, with_parent, selection_data, selections_data, diagnostic_data, diagnostic_view, diagnostic_list, published, log_data, notice_data, reply_data, reply_view};
+ghost use Rattle.rpc.specs.Replies.{id_data, maybe_id_data, code_of, loss_text, log_text, message_text, unit_name, capabilities, result_data, error_data, document_data, row_data, row_view, rows_data, stats_data, fold_data, folds_data, position_data, range_data, with_parent, selection_data, selections_data, diagnostic_data, diagnostic_view, diagnostic_list, published, log_data, notice_data, reply_data, reply_view};
 
 use crate::message::Id;
-use definitions::{Diagnostic, Position, Range, Stats};
+use definitions::{Diagnostic, Position, Range, Stats, Unit};
 use serde_json::{Value, json};
 use std::alloc::{AllocError, Global};
 
@@ -61,9 +61,10 @@ pub struct Row {
 /// What is sent: the reply to a request, diagnostics, or what is logged.
 #[derive(Debug, Drop)]
 pub enum Reply {
-    /// What the server can do, for `initialize` (LSP 3.17, "InitializeResult").
+    /// What the server can do, and the unit that positions count, for `initialize` (LSP 3.17, "InitializeResult").
     Capabilities {
         id: Id,
+        unit: Unit,
     },
     /// The result is `null`.
     Null {
@@ -194,14 +195,26 @@ fn message_text(refusal: Refusal) -> &'static str
     }
 }
 
-/// What the server can do (LSP 3.17, "InitializeResult").
-fn capabilities(alloc: Global) -> Result<Value, AllocError>
-    ensures { IfOk result (λ v. view v ≡ capabilities) }
+/// The name of a unit (LSP 3.17, "PositionEncodingKind").
+fn unit_name(unit: Unit) -> &'static str
+    ensures { result.now ≡ unit_name unit }
 {
+    match unit {
+        Unit::Utf8 => "utf-8",
+        Unit::Utf16 => "utf-16",
+        Unit::Utf32 => "utf-32",
+    }
+}
+
+/// What the server can do, where positions count this unit (LSP 3.17, "InitializeResult").
+fn capabilities(alloc: Global, unit: Unit) -> Result<Value, AllocError>
+    ensures { IfOk result (λ v. view v ≡ capabilities unit) }
+{
+    let name = unit_name(unit);
     json!(in alloc; {
         "capabilities": {
             "foldingRangeProvider": true,
-            "positionEncoding": "utf-16",
+            "positionEncoding": name,
             "selectionRangeProvider": true,
             "textDocumentSync": {"change": 2, "openClose": true}
         }
@@ -391,8 +404,8 @@ fn reply_value(alloc: Global, reply: &Reply) -> Result<Value, AllocError>
     ensures { IfOk result (λ v. view v ≡ reply_data (reply_view reply.now)) }
 {
     match reply {
-        Reply::Capabilities { id } => {
-            result_value(alloc, id_value(alloc, id)?, capabilities(alloc)?)
+        Reply::Capabilities { id, unit } => {
+            result_value(alloc, id_value(alloc, id)?, capabilities(alloc, *unit)?)
         }
         Reply::Null { id } => result_value(alloc, id_value(alloc, id)?, Value::Null),
         Reply::Text { id, version, text } => {

@@ -4,12 +4,12 @@ use Rattle.std.specs.Prelude.{Option, Some, None, All}
 use Rattle.std.specs.Str.{chars}
 use Rattle.std.specs.FinMap.{get}
 use Rattle.std.proofs.lemmas.List.Elements.{All-from_recursion}
-use Rattle.definitions.specs.declared.Unit.TheVariants.{Utf16}
-use Rattle.definitions.specs.Text.{changed}
+use Rattle.rpc.specs.Unit.{Unit as Encoding}
+use Rattle.docs.specs.Text.{changed}
 use Rattle.docs.specs.Answers.{AnswersOnce}
 use Rattle.docs.specs.Edits.{CountsOnce}
 use Rattle.docs.specs.Texts.{LastEdit, OpenDocument}
-use Rattle.grammar.specs.Grammars.{FileGrammar}
+use Rattle.docs.specs.Grammars.{FileGrammar}
 use Rattle.rpc.specs.Messages.{Ident, Asked, initialize, shutdown, about, stats, Question, Told, initialized, exit, open_text, change_text, close, malformed, unfit_open, unfit_change, unfit_close, request, notice, ignored, Heard, unread, refused, said, ChangeSaid}
 use Rattle.rpc.specs.Replies.{Answer, told_diagnostics, told_log, told_stats}
 use Rattle.rpc.specs.declared.reply.Log.TheVariants.{Lost}
@@ -38,13 +38,13 @@ published_elsewhere : (file : FileGrammar) (uri other : List ℕ) (d : OpenDocum
 published_elsewhere file uri other d a is apart p = apart (sym (subst (Publishes uri) is.2.2 p))
 
 effect_left : (name : Option (List ℕ)) (old : State) (answers : List Answer) (stop : Option ℕ) (new : State) → Effect name old answers stop new → (uri : List ℕ) → name ≢ Some uri → IsLeft uri old answers new
-effect_left name old answers stop new (stays quiet file documents) uri apart = (ap (λ h. get h uri) documents, quiet uri)
-effect_left name old answers stop new (stands other (is_open d) is fit s) uri apart =
+effect_left name old answers stop new (stays quiet file documents units) uri apart = (ap (λ h. get h uri) documents, quiet uri)
+effect_left name old answers stop new (stands other (is_open d) is fit unit s) uri apart =
     let away = apart_from name uri other is apart in (
       ap (λ (x : State). get x.documents uri) s.3.1 ∙ get_other old.documents other uri (is_open d) away,
       subst (λ (told : List Answer). All (λ a. ¬ Publishes uri a) told) (sym s.2) (All-from_recursion (λ a. ¬ Publishes uri a) (s.0 ∷ []) (published_elsewhere old.file uri other d s.0 s.1 away, tt)),
     )
-effect_left name old answers stop new (stands other (is_lost loss) is fit s) uri apart =
+effect_left name old answers stop new (stands other (is_lost loss) is fit unit s) uri apart =
     let away = apart_from name uri other is apart in
     let told : List Answer = told_diagnostics other None None ∷ told_log (Lost loss) ∷ [] in (
       ap (λ (x : State). get x.documents uri) s.1.1 ∙ get_other old.documents other uri (is_lost loss) away,
@@ -60,20 +60,21 @@ effect_left name old answers stop new (goes other is s) uri apart =
 -- ---- a message that names it
 
 -- what the last edit is
-one_last : (file : FileGrammar) → CountsOnce file → (text : List ℕ) (changes : List ChangeSaid) (last one other : Option LastEdit) → IsLastAfter file text changes last one → IsLastAfter file text changes last other → other ≡ one
-one_last file counts text [] last one other a b = b ∙ sym a
-one_last file counts text (c ∷ cs) last one other a b =
-    let same : b.0 ≡ a.0 = counts.edits text c.range (chars c.text) last a.0 b.0 a.1 b.1 in
-    one_last file counts (changed Utf16 text c.range (chars c.text)) cs (Some a.0) one other a.2 (subst (λ (e : LastEdit). IsLastAfter file (changed Utf16 text c.range (chars c.text)) cs (Some e) other) same b.2)
+one_last : (encoding : Encoding) (file : FileGrammar) → CountsOnce file → (text : List ℕ) (changes : List ChangeSaid) (last one other : Option LastEdit) → IsLastAfter encoding file text changes last one → IsLastAfter encoding file text changes last other → other ≡ one
+one_last encoding file counts text [] last one other a b = b ∙ sym a
+one_last encoding file counts text (c ∷ cs) last one other a b =
+    let same : b.0 ≡ a.0 = counts.edits encoding text c.range (chars c.text) last a.0 b.0 a.1 b.1 in
+    one_last encoding file counts (changed encoding text c.range (chars c.text)) cs (Some a.0) one other a.2 (subst (λ (e : LastEdit). IsLastAfter encoding file (changed encoding text c.range (chars c.text)) cs (Some e) other) same b.2)
 
 -- what an open document becomes, but for want of memory
 one_becomes : (file : FileGrammar) → CountsOnce file → (version : ℤ) (now : OpenDocument) (changes : List ChangeSaid) (s t : DocumentState) → (s ≡ is_lost NoMemory → ⊥) → (t ≡ is_lost NoMemory → ⊥) → Becomes file version now changes s → Becomes file version now changes t → t ≡ s
 one_becomes file counts version now changes (is_open d) (is_open e) ns nt a b =
     let texts : Some e.text ≡ Some d.text = sym b.0 ∙ a.0 in
     let same : e.text ≡ d.text = cc in
-    ap (λ v. is_open (record { version = v; text = e.text; last = e.last })) (b.1 ∙ sym a.1)
-    ∙ (ap (λ t. is_open (record { version = d.version; text = t; last = e.last })) same
-    ∙ ap (λ (l : Option LastEdit). is_open (record { version = d.version; text = d.text; last = l })) (one_last file counts now.text changes now.last d.last e.last a.2 b.2))
+    ap (λ u. is_open (record { unit = u; version = e.version; text = e.text; last = e.last })) (b.1 ∙ sym a.1)
+    ∙ (ap (λ v. is_open (record { unit = d.unit; version = v; text = e.text; last = e.last })) (b.2 ∙ sym a.2)
+    ∙ (ap (λ t. is_open (record { unit = d.unit; version = d.version; text = t; last = e.last })) same
+    ∙ ap (λ (l : Option LastEdit). is_open (record { unit = d.unit; version = d.version; text = d.text; last = l })) (one_last now.unit file counts now.text changes now.last d.last e.last a.3 b.3)))
 one_becomes file counts version now changes (is_open d) (is_lost TooLarge) ns nt a b = absurd (let e : Some d.text ≡ None = sym a.0 ∙ b in let f : ⊥ = cc in f)
 one_becomes file counts version now changes (is_lost TooLarge) (is_open e) ns nt a b = absurd (let g : Some e.text ≡ None = sym b.0 ∙ a in let f : ⊥ = cc in f)
 one_becomes file counts version now changes (is_lost TooLarge) (is_lost TooLarge) ns nt a b = refl
@@ -131,8 +132,8 @@ module _ (file : FileGrammar) (once : AnswersOnce file) (counts : CountsOnce fil
   both_answer (Some (is_lost loss)) id question one yours a b = b ∙ sym a
   both_answer (Some (is_open d)) id question one yours a b = one_answer file once d id question one yours a b
 
-  both_tell : (id : Ident) (question : Question) → Asks Ready old id (about uri question) answers stop new → Asks Ready two id (about uri question) other_answers other_stop other → Same
-  both_tell id question a b =
+  both_tell : (unit : Encoding) (id : Ident) (question : Question) → Asks (Ready unit) old id (about uri question) answers stop new → Asks (Ready unit) two id (about uri question) other_answers other_stop other → Same
+  both_tell unit id question a b =
       let mine : IsAnswer file id (get old.documents uri) question a.0 = subst (λ (f : FileGrammar). IsAnswer f id (get old.documents uri) question a.0) by_file a.1 in
       let theirs : IsAnswer file id (get two.documents uri) question b.0 = subst (λ (f : FileGrammar). IsAnswer f id (get two.documents uri) question b.0) two_file b.1 in
       let yours : IsAnswer file id (get old.documents uri) question b.0 = subst (λ (o : Option DocumentState). IsAnswer file id o question b.0) look.held theirs in
@@ -145,8 +146,8 @@ module _ (file : FileGrammar) (once : AnswersOnce file) (counts : CountsOnce fil
   both_counts (Some (is_lost loss)) id one yours a b = ap but_nodes (b ∙ sym a)
   both_counts (Some (is_open d)) id one yours a b = ap but_nodes b.2 ∙ (ap (told_stats id) (counts.stats d a.0 b.0 a.1 b.1) ∙ sym (ap but_nodes a.2))
 
-  both_count : (id : Ident) → Asks Ready old id (stats uri) answers stop new → Asks Ready two id (stats uri) other_answers other_stop other → Same
-  both_count id a b =
+  both_count : (unit : Encoding) (id : Ident) → Asks (Ready unit) old id (stats uri) answers stop new → Asks (Ready unit) two id (stats uri) other_answers other_stop other → Same
+  both_count unit id a b =
       let mine : IsCount file id (get old.documents uri) a.0 = subst (λ (f : FileGrammar). IsCount f id (get old.documents uri) a.0) by_file a.1 in
       let theirs : IsCount file id (get two.documents uri) b.0 = subst (λ (f : FileGrammar). IsCount f id (get two.documents uri) b.0) two_file b.1 in
       let yours : IsCount file id (get old.documents uri) b.0 = subst (λ (o : Option DocumentState). IsCount file id o b.0) look.held theirs in
@@ -186,32 +187,32 @@ module _ (file : FileGrammar) (once : AnswersOnce file) (counts : CountsOnce fil
 
   both_ask : (phase : Phase) (id : Ident) (question : Question) → Asks phase old id (about uri question) answers stop new → Asks phase two id (about uri question) other_answers other_stop other → Same
   both_ask New id question a b = both_reply _ a b
-  both_ask Ready id question a b = both_tell id question a b
+  both_ask (Ready unit) id question a b = both_tell unit id question a b
   both_ask Down id question a b = both_reply _ a b
 
   both_ask_counts : (phase : Phase) (id : Ident) → Asks phase old id (stats uri) answers stop new → Asks phase two id (stats uri) other_answers other_stop other → Same
   both_ask_counts New id a b = both_reply _ a b
-  both_ask_counts Ready id a b = both_count id a b
+  both_ask_counts (Ready unit) id a b = both_count unit id a b
   both_ask_counts Down id a b = both_reply _ a b
 
   both_hear_open : (phase : Phase) (version : ℤ) (text : List ℕ) → Tells phase old (open_text uri version text) answers stop new → Tells phase two (open_text uri version text) other_answers other_stop other → Same
   both_hear_open New version text a b = both_ignore a b
-  both_hear_open Ready version text a b = both_open (has_room uri old.documents) (opened version (chars text)) a (subst (λ (r : Bool). Opens r two uri (opened version (chars text)) other_answers other_stop other) look.room b)
+  both_hear_open (Ready unit) version text a b = both_open (has_room uri old.documents) (opened unit version (chars text)) a (subst (λ (r : Bool). Opens r two uri (opened unit version (chars text)) other_answers other_stop other) look.room b)
   both_hear_open Down version text a b = both_ignore a b
 
   both_hear_change : (phase : Phase) (version : ℤ) (changes : List ChangeSaid) → ¬ LosesMemory uri old new → ¬ LosesMemory uri two other → Tells phase old (change_text uri version changes) answers stop new → Tells phase two (change_text uri version changes) other_answers other_stop other → Same
   both_hear_change New version changes mine yours a b = both_ignore a b
-  both_hear_change Ready version changes mine yours a b = both_change (get old.documents uri) version changes refl mine yours a (subst (λ (o : Option DocumentState). Changes o two uri version changes other_answers other_stop other) look.held b)
+  both_hear_change (Ready unit) version changes mine yours a b = both_change (get old.documents uri) version changes refl mine yours a (subst (λ (o : Option DocumentState). Changes o two uri version changes other_answers other_stop other) look.held b)
   both_hear_change Down version changes mine yours a b = both_ignore a b
 
   both_hear_close : (phase : Phase) → Tells phase old (close uri) answers stop new → Tells phase two (close uri) other_answers other_stop other → Same
   both_hear_close New a b = both_ignore a b
-  both_hear_close Ready a b = both_close (get old.documents uri) a (subst (λ (o : Option DocumentState). Closes o two uri other_answers other_stop other) look.held b)
+  both_hear_close (Ready unit) a b = both_close (get old.documents uri) a (subst (λ (o : Option DocumentState). Closes o two uri other_answers other_stop other) look.held b)
   both_hear_close Down a b = both_ignore a b
 
   both_hear_misfit : (phase : Phase) → Tells phase old (malformed (unfit_change (Some uri))) answers stop new → Tells phase two (malformed (unfit_change (Some uri))) other_answers other_stop other → Same
   both_hear_misfit New a b = both_ignore a b
-  both_hear_misfit Ready a b = both_spoil (get old.documents uri) a (subst (λ (o : Option DocumentState). Spoils o two uri other_answers other_stop other) look.held b)
+  both_hear_misfit (Ready unit) a b = both_spoil (get old.documents uri) a (subst (λ (o : Option DocumentState). Spoils o two uri other_answers other_stop other) look.held b)
   both_hear_misfit Down a b = both_ignore a b
 
 -- ---- both
@@ -243,7 +244,7 @@ module _ (file : FileGrammar) (once : AnswersOnce file) (counts : CountsOnce fil
   tells_alike (malformed unfit_close) uri name a b = absurd (let f : ⊥ = cc in f)
 
   asks_alike : (id : Ident) (asked : Asked) (uri : List ℕ) → named (said (request id asked)) ≡ Some uri → Asks old.phase old id asked answers stop new → Asks two.phase two id asked other_answers other_stop other → Alike uri
-  asks_alike id initialize uri name a b = absurd (let f : ⊥ = cc in f)
+  asks_alike id (initialize unit) uri name a b = absurd (let f : ⊥ = cc in f)
   asks_alike id shutdown uri name a b = absurd (let f : ⊥ = cc in f)
   asks_alike id (about u question) uri name a b =
       let there = λ (p : Phase). Asks p two id (about u question) other_answers other_stop other in

@@ -1,4 +1,4 @@
--- A session keeps its file, and the texts of its open documents fit.
+-- A session keeps its file, the texts of its open documents fit, and their unit is that of its phase.
 use Rattle.std.proofs.Common.{◌≡◌, ℕ, Bool, true, false, cond, List, [], ◌∷◌, ◌++◌, sym, ap, subst, ◌∙◌}
 use Rattle.std.specs.Prelude.{Option, Some, None, MatchOption}
 use Rattle.std.specs.Ordering.{nat_cmp, eq_by_cmp}
@@ -7,7 +7,7 @@ use Rattle.std.specs.FinMap.{empty, get, insert, remove, get-empty, get-insert, 
 use Rattle.std.proofs.lemmas.Cmp.{nat_list_cmp_total}
 use Rattle.docs.specs.Answers.{AlwaysAnswers}
 use Rattle.docs.specs.Texts.{OpenDocument, fits}
-use Rattle.grammar.specs.Grammars.{FileGrammar}
+use Rattle.docs.specs.Grammars.{FileGrammar}
 use Rattle.rpc.specs.Messages.{Heard}
 use Rattle.rpc.specs.Reading.{hearing}
 use Rattle.rpc.specs.Replies.{Answer}
@@ -16,54 +16,79 @@ use Rattle.server.specs.Runs.{Run}
 use Rattle.server.specs.Sessions.{AllFit, CanServe}
 use Rattle.server.specs.Steps.{State, first_state, Step}
 use Rattle.server.proofs.Edits.{IsFit}
-use Rattle.server.proofs.Effects.{Effect, stays, stands, goes, step_effect}
+use Rattle.server.specs.declared.state.Phase.{Phase}
+use Rattle.server.specs.declared.state.Phase.TheVariants.{New}
+use Rattle.server.proofs.Effects.{AreOfPhase, IsOfPhase, Effect, stays, stands, goes, step_effect}
 
 none_fits : AllFit empty
 none_fits uri document found = absurd (let e : Some (is_open document) ≡ None = sym found ∙ get-empty (slice_cmp nat_cmp) uri in let f : ⊥ = cc in f)
 
-inserted_fits : (documents : Held) (uri : List ℕ) (state : DocumentState) → AllFit documents → IsFit state → AllFit (insert documents uri state)
-inserted_fits documents uri state all fit other document found =
+pub none_stand : AreOfPhase New empty
+none_stand uri document found = absurd (let e : Some (is_open document) ≡ None = sym found ∙ get-empty (slice_cmp nat_cmp) uri in let f : ⊥ = cc in f)
+
+-- each open document has a property
+abbrev AllOpen : (OpenDocument → Type 0) → Held → Type 0
+AllOpen P documents = (uri : List ℕ) (d : OpenDocument) → get documents uri ≡ Some (is_open d) → P d
+
+abbrev IfOpen : (OpenDocument → Type 0) → DocumentState → Type 0
+IfOpen P (is_open d) = P d
+IfOpen P (is_lost loss) = Unit {0}
+
+inserted_all : (P : OpenDocument → Type 0) (documents : Held) (uri : List ℕ) (state : DocumentState) → AllOpen P documents → IfOpen P state → AllOpen P (insert documents uri state)
+inserted_all P documents uri state all has other document found =
     by (eq_by_cmp (slice_cmp nat_cmp) other uri) (sym (get-insert nat_list_cmp_total documents uri state other) ∙ found)
   where
-    by : (b : Bool) → cond b (Some state) (get documents other) ≡ Some (is_open document) → fits document.text ≡ true
-    by true e = let same : state ≡ is_open document = cc in subst IsFit same fit
+    by : (b : Bool) → cond b (Some state) (get documents other) ≡ Some (is_open document) → P document
+    by true e = let same : state ≡ is_open document = cc in subst (IfOpen P) same has
     by false e = all other document e
 
-removed_fits : (documents : Held) (uri : List ℕ) → AllFit documents → AllFit (remove documents uri)
-removed_fits documents uri all other document found =
+removed_all : (P : OpenDocument → Type 0) (documents : Held) (uri : List ℕ) → AllOpen P documents → AllOpen P (remove documents uri)
+removed_all P documents uri all other document found =
     by (eq_by_cmp (slice_cmp nat_cmp) other uri) (sym (get-remove nat_list_cmp_total documents uri other) ∙ found)
   where
-    by : (b : Bool) → cond b None (get documents other) ≡ Some (is_open document) → fits document.text ≡ true
+    by : (b : Bool) → cond b None (get documents other) ≡ Some (is_open document) → P document
     by true e = absurd (let f : ⊥ = cc in f)
     by false e = all other document e
+
+abbrev HasFit : OpenDocument → Type 0
+HasFit d = fits d.text ≡ true
 
 pub found_fits : (documents : Held) (uri : List ℕ) (o : Option DocumentState) → AllFit documents → get documents uri ≡ o → (d : OpenDocument) → o ≡ Some (is_open d) → fits d.text ≡ true
 found_fits documents uri o all e d is = all uri d (e ∙ is)
 
 -- ---- what a step keeps
 
--- the file stays, and texts that fit give way to such
+-- the file stays, texts that fit give way to such, and documents of the phase to such
 pub record Keeps (old new : State) : Type 0 where
   pub file : new.file ≡ old.file
   pub fit : AllFit old.documents → AllFit new.documents
+  pub units : AreOfPhase old.phase old.documents → AreOfPhase new.phase new.documents
 
 same_state : (old new : State) → new ≡ old → Keeps old new
-same_state old new e = record { file = ap (λ (s : State). s.file) e; fit = λ all. subst (λ (s : State). AllFit s.documents) (sym e) all }
+same_state old new e = record {
+  file = ap (λ (s : State). s.file) e;
+  fit = λ all. subst (λ (s : State). AllFit s.documents) (sym e) all;
+  units = λ all. subst (λ (s : State). AreOfPhase s.phase s.documents) (sym e) all;
+}
 
-next_state : (old new : State) (documents : Held) → (AllFit old.documents → AllFit documents) → new ≡ record { file = old.file; phase = old.phase; documents = documents } → Keeps old new
-next_state old new documents fit e = record { file = ap (λ (s : State). s.file) e; fit = λ all. subst (λ (s : State). AllFit s.documents) (sym e) (fit all) }
+next_state : (old new : State) (documents : Held) → (AllFit old.documents → AllFit documents) → (AreOfPhase old.phase old.documents → AreOfPhase old.phase documents) → new ≡ record { file = old.file; phase = old.phase; documents = documents } → Keeps old new
+next_state old new documents fit units e = record {
+  file = ap (λ (s : State). s.file) e;
+  fit = λ all. subst (λ (s : State). AllFit s.documents) (sym e) (fit all);
+  units = λ all. subst (λ (s : State). AreOfPhase s.phase s.documents) (sym e) (units all);
+}
 
 effect_keeps : (name : Option (List ℕ)) (old : State) (answers : List Answer) (stop : Option ℕ) (new : State) → Effect name old answers stop new → Keeps old new
-effect_keeps name old answers stop new (stays quiet file documents) = record { file = file; fit = λ all. subst AllFit (sym documents) all }
-effect_keeps name old answers stop new (stands uri (is_open d) is fit s) = next_state old new (insert old.documents uri (is_open d)) (λ all. inserted_fits old.documents uri (is_open d) all (fit all)) s.3.1
-effect_keeps name old answers stop new (stands uri (is_lost loss) is fit s) = next_state old new (insert old.documents uri (is_lost loss)) (λ all. inserted_fits old.documents uri (is_lost loss) all tt) s.1.1
-effect_keeps name old answers stop new (goes uri is s) = next_state old new (remove old.documents uri) (removed_fits old.documents uri) s.1.1
+effect_keeps name old answers stop new (stays quiet file documents units) = record { file = file; fit = λ all. subst AllFit (sym documents) all; units = λ all. subst (AreOfPhase new.phase) (sym documents) (units all) }
+effect_keeps name old answers stop new (stands uri (is_open d) is fit unit s) = next_state old new (insert old.documents uri (is_open d)) (λ all. inserted_all HasFit old.documents uri (is_open d) all (fit all)) (λ all. inserted_all (IsOfPhase old.phase) old.documents uri (is_open d) all (unit all)) s.3.1
+effect_keeps name old answers stop new (stands uri (is_lost loss) is fit unit s) = next_state old new (insert old.documents uri (is_lost loss)) (λ all. inserted_all HasFit old.documents uri (is_lost loss) all tt) (λ all. inserted_all (IsOfPhase old.phase) old.documents uri (is_lost loss) all tt) s.1.1
+effect_keeps name old answers stop new (goes uri is s) = next_state old new (remove old.documents uri) (removed_all HasFit old.documents uri) (removed_all (IsOfPhase old.phase) old.documents uri) s.1.1
 
 pub step_keeps : (old : State) (heard : Heard) (answers : List Answer) (stop : Option ℕ) (new : State) → Step old heard answers stop new → Keeps old new
 step_keeps old heard answers stop new s = effect_keeps _ old answers stop new (step_effect old answers stop new heard s)
 
 keeps_both : (old mid new : State) → Keeps old mid → Keeps mid new → Keeps old new
-keeps_both old mid new a b = record { file = b.file ∙ a.file; fit = λ all. b.fit (a.fit all) }
+keeps_both old mid new a b = record { file = b.file ∙ a.file; fit = λ all. b.fit (a.fit all); units = λ all. b.units (a.units all) }
 
 pub run_keeps : (contents : List (List ℕ)) (old : State) (answers : List Answer) (stop : Option ℕ) (new : State) → Run old contents answers stop new → Keeps old new
 run_keeps [] old answers stop new r = same_state old new r.2

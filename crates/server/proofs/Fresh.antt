@@ -6,10 +6,11 @@ use Rattle.std.specs.Ordering.{nat_cmp}
 use Rattle.std.specs.Cmp.Lexicographic.{slice_cmp}
 use Rattle.std.specs.FinMap.{empty, get, insert, remove, len, get-empty, len-empty}
 use Rattle.std.proofs.lemmas.List.Elements.{All-append, All-from_recursion}
+use Rattle.rpc.specs.Unit.{Unit as Encoding}
 use Rattle.docs.specs.Answers.{Reading, AlwaysAnswers, AnswersOnce, AreSelections, rows, tree_told}
 use Rattle.docs.specs.Texts.{LastEdit, OpenDocument, fits}
 use Rattle.docs.proofs.Texts.{spelled_again}
-use Rattle.grammar.specs.Grammars.{FileGrammar}
+use Rattle.docs.specs.Grammars.{FileGrammar}
 use Rattle.rpc.specs.Messages.{Ident, numbered, Question, its_text, its_tokens, its_tree, its_folds, its_selections, about, open_text, change_text, request, notice, Heard, said, ChangeSaid}
 use Rattle.rpc.specs.Reading.{hearing}
 use Rattle.rpc.specs.Replies.{Answer, told_tokens, told_folds, told_selections, told_diagnostics, told_log}
@@ -23,8 +24,8 @@ use Rattle.server.specs.Answers.{IsAnswer, IsAnswerOf, IsPublished, told_of, tre
 use Rattle.server.specs.Steps.{State, first_state, Asks, Changes, Holds, Opens, Step, Tells, opened}
 use Rattle.server.specs.Runs.{Run}
 use Rattle.server.specs.Fresh.{IsFresh, RepliesOnly, AnswerAlike, Publishes, IsLastPublished, EveryAnswerIsFresh, EachTextIsItsEdits}
-use Rattle.server.proofs.Effects.{AreQuiet, none_quiet, Effect, stays, stands, goes, step_effect}
-use Rattle.server.proofs.Fits.{step_keeps, run_keeps, run_serves, first_serves}
+use Rattle.server.proofs.Effects.{AreQuiet, none_quiet, IsOfPhase, Effect, stays, stands, goes, step_effect}
+use Rattle.server.proofs.Fits.{Keeps, step_keeps, run_keeps, run_serves, first_serves, none_stand}
 use Rattle.server.proofs.LookUps.{get_inserted, get_other, get_removed, get_other_removed, same_or_not}
 use Rattle.server.proofs.Totals.{some_answer_of}
 
@@ -33,19 +34,19 @@ use Rattle.server.proofs.Totals.{some_answer_of}
 module _ (file : FileGrammar) (once : AnswersOnce file) where
   pub one_answer : (d : OpenDocument) (id : Ident) (question : Question) (one other : Answer) → IsAnswerOf file id d question one → IsAnswerOf file id d question other → other ≡ one
   one_answer d id its_text one other a b = b ∙ sym a
-  one_answer d id its_tokens one other a b = b.2 ∙ (ap (λ (r : Reading). told_tokens id (rows file d.text r.tokens)) (once.readings d.text a.0 b.0 a.1 b.1) ∙ sym a.2)
+  one_answer d id its_tokens one other a b = b.2 ∙ (ap (λ (r : Reading). told_tokens id (rows d.unit file d.text r.tokens)) (once.readings d.text a.0 b.0 a.1 b.1) ∙ sym a.2)
   one_answer d id its_tree one other a b = b.2 ∙ (ap (λ (r : Reading). tree_answer id (tree_told file r.verdict)) (once.readings d.text a.0 b.0 a.1 b.1) ∙ sym a.2)
   one_answer d id its_folds one other a b =
       let told : AreFoldsOf file d.text a.0.tokens a.0.trees b.2.0 = subst (λ (r : Reading). AreFoldsOf file d.text r.tokens r.trees b.2.0) (once.readings d.text a.0 b.0 a.1 b.1) b.2.1 in
       b.2.2 ∙ (ap (told_folds id) (once.folds d.text a.0 a.2.0 b.2.0 a.2.1 told) ∙ sym a.2.2)
   one_answer d id (its_selections positions) one other a b =
-      let told : AreSelections file d.text a.0 positions b.2.0 = subst (λ (r : Reading). AreSelections file d.text r positions b.2.0) (once.readings d.text a.0 b.0 a.1 b.1) b.2.1 in
-      b.2.2 ∙ (ap (told_selections id) (once.selections d.text a.0 positions a.2.0 b.2.0 a.2.1 told) ∙ sym a.2.2)
+      let told : AreSelections d.unit file d.text a.0 positions b.2.0 = subst (λ (r : Reading). AreSelections d.unit file d.text r positions b.2.0) (once.readings d.text a.0 b.0 a.1 b.1) b.2.1 in
+      b.2.2 ∙ (ap (told_selections id) (once.selections d.unit d.text a.0 positions a.2.0 b.2.0 a.2.1 told) ∙ sym a.2.2)
 
   pub one_published : (uri : List ℕ) (d : OpenDocument) (one other : Answer) → IsPublished file uri d one → IsPublished file uri d other → other ≡ one
   one_published uri d one other a b =
-      let fault : IsDiagnosis file d.text a.0.tokens a.0.verdict b.2.0 = subst (λ (r : Reading). IsDiagnosis file d.text r.tokens r.verdict b.2.0) (once.readings d.text a.0 b.0 a.1 b.1) b.2.1 in
-      b.2.2 ∙ (ap (λ f. told_diagnostics uri (Some d.version) (option_map told_of f)) (once.faults d.text a.0 a.2.0 b.2.0 a.2.1 fault) ∙ sym a.2.2)
+      let fault : IsDiagnosis d.unit file d.text a.0.tokens a.0.verdict b.2.0 = subst (λ (r : Reading). IsDiagnosis d.unit file d.text r.tokens r.verdict b.2.0) (once.readings d.text a.0 b.0 a.1 b.1) b.2.1 in
+      b.2.2 ∙ (ap (λ f. told_diagnostics uri (Some d.version) (option_map told_of f)) (once.faults d.unit d.text a.0 a.2.0 b.2.0 a.2.1 fault) ∙ sym a.2.2)
 
 -- ---- the last diagnostics
 
@@ -116,8 +117,8 @@ holds_published file prior old uri (is_lost loss) answers stop new by_file s all
     subst (λ (told : List Answer). AllPublished file (prior ++ told) new.documents) (sym s.0) (subst (λ (h : Held). AllPublished file (prior ++ told) h) (sym (ap (λ (x : State). x.documents) s.1.1)) next)
 
 effect_published : (file : FileGrammar) (prior : List Answer) (name : Option (List ℕ)) (old : State) (answers : List Answer) (stop : Option ℕ) (new : State) → old.file ≡ file → Effect name old answers stop new → AllPublished file prior old.documents → AllPublished file (prior ++ answers) new.documents
-effect_published file prior name old answers stop new by_file (stays quiet same_file documents) all = quiet_step file prior answers old.documents new.documents quiet documents all
-effect_published file prior name old answers stop new by_file (stands uri state is fit s) all = holds_published file prior old uri state answers stop new by_file s all
+effect_published file prior name old answers stop new by_file (stays quiet same_file documents units) all = quiet_step file prior answers old.documents new.documents quiet documents all
+effect_published file prior name old answers stop new by_file (stands uri state is fit unit s) all = holds_published file prior old uri state answers stop new by_file s all
 effect_published file prior name old answers stop new by_file (goes uri is s) all =
     let told : List Answer = told_diagnostics uri None None ∷ [] in
     let next : AllPublished file (prior ++ told) (remove old.documents uri) =
@@ -153,8 +154,8 @@ none_published file uri d found = absurd (let e : Some (is_open d) ≡ None = sy
 
 -- ---- a fresh server
 
-abbrev document_of : ℤ → List ℕ → OpenDocument
-document_of version text = record { version = version; text = text; last = None }
+abbrev document_of : Encoding → ℤ → List ℕ → OpenDocument
+document_of unit version text = record { unit = unit; version = version; text = text; last = None }
 
 -- what was just initialized has room
 room_first : (uri : List ℕ) → has_room uri empty ≡ true
@@ -163,54 +164,54 @@ room_first uri =
     ap (λ o. is_some o || nat_lt (len none) 64) (get-empty (slice_cmp nat_cmp) uri) ∙ ap (λ n. nat_lt n 64) (len-empty (slice_cmp nat_cmp) DocumentState)
 
 -- and a text that fits is open then
-opened_so : (version : ℤ) (text : List ℕ) → fits text ≡ true → opened version text ≡ is_open (document_of version text)
-opened_so version text fit = ap (λ b. cond b (is_open (document_of version text)) (is_lost TooLarge)) fit
+opened_so : (unit : Encoding) (version : ℤ) (text : List ℕ) → fits text ≡ true → opened unit version text ≡ is_open (document_of unit version text)
+opened_so unit version text fit = ap (λ b. cond b (is_open (document_of unit version text)) (is_lost TooLarge)) fit
 
-abbrev ready_state : FileGrammar → State
-ready_state file = record { file = file; phase = Ready; documents = empty }
+abbrev ready_state : FileGrammar → Encoding → State
+ready_state file unit = record { file = file; phase = Ready unit; documents = empty }
 
 abbrev open_state : FileGrammar → List ℕ → OpenDocument → State
-open_state file uri d = record { file = file; phase = Ready; documents = insert empty uri (is_open d) }
+open_state file uri d = record { file = file; phase = Ready d.unit; documents = insert empty uri (is_open d) }
 
 -- this document is open, by this file
 record HasOpen (file : FileGrammar) (uri : List ℕ) (document : OpenDocument) (state : State) : Type 0 where
   by_file : state.file ≡ file
-  ready : state.phase ≡ Ready
+  ready : state.phase ≡ Ready document.unit
   held : get state.documents uri ≡ Some (is_open document)
 
 -- opening a text in the ready state is to hold it
-opens_is : (file : FileGrammar) (uri : List ℕ) (version : ℤ) (bytes text : List ℕ) (answers : List Answer) (stop : Option ℕ) (state : State) → chars bytes ≡ text → fits text ≡ true
-    → Step (ready_state file) (said (notice (open_text uri version bytes))) answers stop state ≡ Holds (ready_state file) uri (is_open (document_of version text)) answers stop state
-opens_is file uri version bytes text answers stop state spelled fit =
-    let old = ready_state file in
-    ap (λ b. Opens b old uri (opened version (chars bytes)) answers stop state) (room_first uri)
-    ∙ ap (λ s. Holds old uri s answers stop state) (ap (opened version) spelled ∙ opened_so version text fit)
+opens_is : (file : FileGrammar) (unit : Encoding) (uri : List ℕ) (version : ℤ) (bytes text : List ℕ) (answers : List Answer) (stop : Option ℕ) (state : State) → chars bytes ≡ text → fits text ≡ true
+    → Step (ready_state file unit) (said (notice (open_text uri version bytes))) answers stop state ≡ Holds (ready_state file unit) uri (is_open (document_of unit version text)) answers stop state
+opens_is file unit uri version bytes text answers stop state spelled fit =
+    let old = ready_state file unit in
+    ap (λ b. Opens b old uri (opened unit version (chars bytes)) answers stop state) (room_first uri)
+    ∙ ap (λ s. Holds old uri s answers stop state) (ap (opened unit version) spelled ∙ opened_so unit version text fit)
 
-fresh_holds : (file : FileGrammar) (uri : List ℕ) (version : ℤ) (text : List ℕ) (published : Answer) (state : State) → fits text ≡ true → IsFresh file uri version text published state → Holds (ready_state file) uri (is_open (document_of version text)) (published ∷ []) None state
-fresh_holds file uri version text published state fit f =
-    let opens : Step (ready_state file) (said (notice (open_text uri version f.bytes))) (published ∷ []) None state = subst (λ (s : State). Step s (said (notice (open_text uri version f.bytes))) (published ∷ []) None state) f.initializes.2 f.opens in
-    subst (λ (T : Type 0). T) (opens_is file uri version f.bytes text (published ∷ []) None state f.spelled fit) opens
+fresh_holds : (file : FileGrammar) (unit : Encoding) (uri : List ℕ) (version : ℤ) (text : List ℕ) (published : Answer) (state : State) → fits text ≡ true → IsFresh file unit uri version text published state → Holds (ready_state file unit) uri (is_open (document_of unit version text)) (published ∷ []) None state
+fresh_holds file unit uri version text published state fit f =
+    let opens : Step (ready_state file unit) (said (notice (open_text uri version f.bytes))) (published ∷ []) None state = subst (λ (s : State). Step s (said (notice (open_text uri version f.bytes))) (published ∷ []) None state) f.initializes.2 f.opens in
+    subst (λ (T : Type 0). T) (opens_is file unit uri version f.bytes text (published ∷ []) None state f.spelled fit) opens
 
-fresh_has : (file : FileGrammar) (uri : List ℕ) (version : ℤ) (text : List ℕ) (published : Answer) (state : State) → Holds (ready_state file) uri (is_open (document_of version text)) (published ∷ []) None state → HasOpen file uri (document_of version text) state
-fresh_has file uri version text published state h = record {
+fresh_has : (file : FileGrammar) (unit : Encoding) (uri : List ℕ) (version : ℤ) (text : List ℕ) (published : Answer) (state : State) → Holds (ready_state file unit) uri (is_open (document_of unit version text)) (published ∷ []) None state → HasOpen file uri (document_of unit version text) state
+fresh_has file unit uri version text published state h = record {
   by_file = ap (λ (s : State). s.file) h.3.1;
   ready = ap (λ (s : State). s.phase) h.3.1;
-  held = ap (λ (s : State). get s.documents uri) h.3.1 ∙ get_inserted empty uri (is_open (document_of version text));
+  held = ap (λ (s : State). get s.documents uri) h.3.1 ∙ get_inserted empty uri (is_open (document_of unit version text));
 }
 
-fresh_published : (file : FileGrammar) (uri : List ℕ) (version : ℤ) (text : List ℕ) (published : Answer) (state : State) → Holds (ready_state file) uri (is_open (document_of version text)) (published ∷ []) None state → IsPublished file uri (document_of version text) published
-fresh_published file uri version text published state h =
+fresh_published : (file : FileGrammar) (unit : Encoding) (uri : List ℕ) (version : ℤ) (text : List ℕ) (published : Answer) (state : State) → Holds (ready_state file unit) uri (is_open (document_of unit version text)) (published ∷ []) None state → IsPublished file uri (document_of unit version text) published
+fresh_published file unit uri version text published state h =
     let lists : published ∷ [] ≡ h.0 ∷ [] = h.2 in
     let same : h.0 ≡ published = cc in
-    subst (λ (a : Answer). IsPublished file uri (document_of version text) a) same h.1
+    subst (λ (a : Answer). IsPublished file uri (document_of unit version text) a) same h.1
 
-some_fresh : (file : FileGrammar) (uri : List ℕ) (version : ℤ) (text : List ℕ) (published : Answer) → fits text ≡ true → IsPublished file uri (document_of version text) published → (state : State) × (told : Answer) × IsFresh file uri version text told state
-some_fresh file uri version text published fit is =
+some_fresh : (file : FileGrammar) (unit : Encoding) (uri : List ℕ) (version : ℤ) (text : List ℕ) (published : Answer) → fits text ≡ true → IsPublished file uri (document_of unit version text) published → (state : State) × (told : Answer) × IsFresh file unit uri version text told state
+some_fresh file unit uri version text published fit is =
     let spelled : chars (encode_utf8_all text) ≡ text = spelled_again text fit in
-    let state = open_state file uri (document_of version text) in
-    let holds : Holds (ready_state file) uri (is_open (document_of version text)) (published ∷ []) None state = (published, is, refl, (refl, refl)) in
-    let opens = subst (λ (T : Type 0). T) (sym (opens_is file uri version (encode_utf8_all text) text (published ∷ []) None state spelled fit)) holds in
-    (state, published, record { id = numbered (pos 0); bytes = encode_utf8_all text; mid = ready_state file; spelled = spelled; initializes = (refl, refl, refl); opens = opens })
+    let state = open_state file uri (document_of unit version text) in
+    let holds : Holds (ready_state file unit) uri (is_open (document_of unit version text)) (published ∷ []) None state = (published, is, refl, (refl, refl)) in
+    let opens = subst (λ (T : Type 0). T) (sym (opens_is file unit uri version (encode_utf8_all text) text (published ∷ []) None state spelled fit)) holds in
+    (state, published, record { id = numbered (pos 0); bytes = encode_utf8_all text; mid = ready_state file unit; spelled = spelled; initializes = (refl, refl, refl); opens = opens })
 
 -- ---- the answers of both
 
@@ -222,49 +223,77 @@ replies_only file uri d state has id question answer is only =
     record {
       replies = subst (λ (p : Phase). Asks p state id (about uri question) (answer ∷ []) None state) (sym has.ready) (answer, subst (λ (T : Type 0). T) (sym (here answer)) is, (refl, refl, refl));
       only = λ answers stop new step.
-          let s : Asks Ready state id (about uri question) answers stop new = subst (λ (p : Phase). Asks p state id (about uri question) answers stop new) has.ready step in
+          let s : Asks (Ready d.unit) state id (about uri question) answers stop new = subst (λ (p : Phase). Asks p state id (about uri question) answers stop new) has.ready step in
           let same : s.0 ≡ answer = only s.0 (subst (λ (T : Type 0). T) (here s.0) s.1) in
           (s.2.0 ∙ ap (λ a. a ∷ []) same, s.2.1, s.2.2);
     }
 
 -- what is answered doesn't depend on the last edit
-answers_opened : (file : FileGrammar) (id : Ident) (d : OpenDocument) (question : Question) (answer : Answer) → IsAnswerOf file id d question answer → IsAnswerOf file id (document_of d.version d.text) question answer
+answers_opened : (file : FileGrammar) (id : Ident) (d : OpenDocument) (question : Question) (answer : Answer) → IsAnswerOf file id d question answer → IsAnswerOf file id (document_of d.unit d.version d.text) question answer
 answers_opened file id d its_text answer is = is
 answers_opened file id d its_tokens answer is = is
 answers_opened file id d its_tree answer is = is
 answers_opened file id d its_folds answer is = is
 answers_opened file id d (its_selections positions) answer is = is
 
-alike : (file : FileGrammar) → AlwaysAnswers file → AnswersOnce file → (uri : List ℕ) (d : OpenDocument) → fits d.text ≡ true → (state fresh : State) → HasOpen file uri d state → HasOpen file uri (document_of d.version d.text) fresh → AnswerAlike uri state fresh
+alike : (file : FileGrammar) → AlwaysAnswers file → AnswersOnce file → (uri : List ℕ) (d : OpenDocument) → fits d.text ≡ true → (state fresh : State) → HasOpen file uri d state → HasOpen file uri (document_of d.unit d.version d.text) fresh → AnswerAlike uri state fresh
 alike file always once uri d fit state fresh has fresh_has id question =
-    let e = document_of d.version d.text in
+    let e = document_of d.unit d.version d.text in
     let some = some_answer_of file always id d fit question in
     let here = answers_opened file id d question some.0 some.1 in
     let only = λ (other : Answer) (is : IsAnswerOf file id d question other). one_answer file once d id question some.0 other some.1 is in
     let only_fresh = λ (other : Answer) (is : IsAnswerOf file id e question other). one_answer file once e id question some.0 other here is in
     (some.0, replies_only file uri d state has id question some.0 some.1 only, replies_only file uri e fresh fresh_has id question some.0 here only_fresh)
 
+-- there is a fresh server with this unit, and each such one answers alike
+abbrev IsAsFresh : FileGrammar → List Answer → State → List ℕ → OpenDocument → Encoding → Type 0
+IsAsFresh file answers state uri document unit =
+    ((fresh : State) × (published : Answer) × IsFresh file unit uri document.version document.text published fresh)
+    × ((fresh : State) (published : Answer) → IsFresh file unit uri document.version document.text published fresh
+    → AnswerAlike uri state fresh × IsLastPublished uri answers published)
+
 pub every_answer_is_fresh : (file : FileGrammar) → AlwaysAnswers file → AnswersOnce file → EveryAnswerIsFresh file
-every_answer_is_fresh file always once contents answers state uri document run ready held =
-    let fit : fits document.text ≡ true = (run_serves contents (first_state file) answers None state run (first_serves file always)).fit uri document held in
-    let has : HasOpen file uri document state = record { by_file = (run_keeps contents (first_state file) answers None state run).file; ready = ready; held = held } in
-    let last = run_published file contents [] (first_state file) answers None state refl run (none_published file) uri document held in (
-      some_fresh file uri document.version document.text last.0 fit last.1,
+every_answer_is_fresh file always once contents answers state unit uri document run ready held = subst (IsAsFresh file answers state uri document) of_phase own
+  where
+    keeps : Keeps (first_state file) state
+    keeps = run_keeps contents (first_state file) answers None state run
+
+    -- the document has the unit of the session
+    of_phase : document.unit ≡ unit
+    of_phase = subst (λ (p : Phase). IsOfPhase p document) ready (keeps.units none_stand uri document held)
+
+    fit : fits document.text ≡ true
+    fit = (run_serves contents (first_state file) answers None state run (first_serves file always)).fit uri document held
+
+    has : HasOpen file uri document state
+    has = record { by_file = keeps.file; ready = ready ∙ ap (λ u. Ready u) (sym of_phase); held = held }
+
+    last : (a : Answer) × IsPublished file uri document a × IsLastPublished uri answers a
+    last = run_published file contents [] (first_state file) answers None state refl run (none_published file) uri document held
+
+    own : IsAsFresh file answers state uri document document.unit
+    own = (
+      some_fresh file document.unit uri document.version document.text last.0 fit last.1,
       λ fresh published is.
-          let holds = fresh_holds file uri document.version document.text published fresh fit is in
-          let same : last.0 ≡ published = one_published file once uri document published last.0 (fresh_published file uri document.version document.text published fresh holds) last.1 in
-          (alike file always once uri document fit state fresh has (fresh_has file uri document.version document.text published fresh holds), subst (λ (a : Answer). IsLastPublished uri answers a) same last.2),
+          let holds = fresh_holds file document.unit uri document.version document.text published fresh fit is in
+          let same : last.0 ≡ published = one_published file once uri document published last.0 (fresh_published file document.unit uri document.version document.text published fresh holds) last.1 in
+          (alike file always once uri document fit state fresh has (fresh_has file document.unit uri document.version document.text published fresh holds), subst (λ (a : Answer). IsLastPublished uri answers a) same last.2),
     )
 
 -- ---- edits
 
 -- the document has the text, or is lost for want of memory
-edits_or_lost : (file : FileGrammar) (version : ℤ) (old : OpenDocument) (text : List ℕ) (changes : List ChangeSaid) (state : DocumentState) → edited old.text changes ≡ Some text → Becomes file version old changes state
-    → ((last : Option LastEdit) × (state ≡ is_open (record { version = version; text = text; last = last }))) ⊎ (state ≡ is_lost NoMemory)
+edits_or_lost : (file : FileGrammar) (version : ℤ) (old : OpenDocument) (text : List ℕ) (changes : List ChangeSaid) (state : DocumentState) → edited old.unit old.text changes ≡ Some text → Becomes file version old changes state
+    → ((last : Option LastEdit) × (state ≡ is_open (record { unit = old.unit; version = version; text = text; last = last }))) ⊎ (state ≡ is_lost NoMemory)
 edits_or_lost file version old text changes (is_open d) edits b =
     let here : Some d.text ≡ Some text = sym b.0 ∙ edits in
     let same : d.text ≡ text = cc in
-    inl (d.last, ap (λ v. is_open (record { version = v; text = d.text; last = d.last })) b.1 ∙ ap (λ t. is_open (record { version = version; text = t; last = d.last })) same)
+    inl (
+      d.last,
+      ap (λ u. is_open (record { unit = u; version = d.version; text = d.text; last = d.last })) b.1
+          ∙ (ap (λ v. is_open (record { unit = old.unit; version = v; text = d.text; last = d.last })) b.2
+          ∙ ap (λ t. is_open (record { unit = old.unit; version = version; text = t; last = d.last })) same),
+    )
 edits_or_lost file version old text changes (is_lost TooLarge) edits b = absurd (let here : Some text ≡ None = sym edits ∙ b in let f : ⊥ = cc in f)
 edits_or_lost file version old text changes (is_lost MalformedChange) edits b = absurd b
 edits_or_lost file version old text changes (is_lost NoMemory) edits b = inr refl
@@ -275,7 +304,7 @@ holds_documents old uri (is_open d) answers stop new s = ap (λ (x : State). x.d
 holds_documents old uri (is_lost loss) answers stop new s = ap (λ (x : State). x.documents) s.1.1
 
 pub each_text_is_its_edits : EachTextIsItsEdits
-each_text_is_its_edits old new uri version changes document text answers stop ready held edits step =
+each_text_is_its_edits old new unit uri version changes document text answers stop ready held edits step =
     let change : Changes (get old.documents uri) old uri version changes answers stop new = subst (λ (p : Phase). Tells p old (change_text uri version changes) answers stop new) ready step in
     let s : Changes (Some (is_open document)) old uri version changes answers stop new = subst (λ (o : Option DocumentState). Changes o old uri version changes answers stop new) held change in
     let documents : new.documents ≡ insert old.documents uri s.0 = holds_documents old uri s.0 answers stop new s.2 in

@@ -4,7 +4,7 @@ use Rattle.std.specs.Prelude.{Option, Some, None}
 use Rattle.std.specs.FinMap.{get, insert, remove}
 use Rattle.docs.specs.Docs.{open_document}
 use Rattle.docs.specs.declared.doc.Doc.{Doc}
-use Rattle.grammar.specs.Grammars.{FileGrammar}
+use Rattle.docs.specs.Grammars.{FileGrammar}
 use Rattle.rpc.specs.Replies.{Answer, told_diagnostics, told_log}
 use Rattle.rpc.specs.declared.reply.Log.TheVariants.{CloseNotOpen, Lost}
 use Rattle.rpc.specs.declared.reply.Loss.{Loss}

@@ -5,7 +5,7 @@ use Rattle.std.specs.Io.KnownBytes.{Consumes, Keeps, IsAtEnd}
 use Rattle.frames.specs.declared.fault.FrameFault.{FrameFault}
 use Rattle.frames.specs.declared.fault.FrameFault.TheVariants as frame
 use Rattle.frames.specs.Frames.{Tail, Open, Faulty, Splits, IsOpen, GoesOn, fault_of, finish_of}
-use Rattle.grammar.specs.Grammars.{FileGrammar}
+use Rattle.docs.specs.Grammars.{FileGrammar}
 use Rattle.docs.specs.Answers.{AlwaysAnswers}
 use Rattle.server.specs.declared.serve.RunFault.{RunFault}
 use Rattle.server.specs.declared.serve.RunFault.TheVariants.{Frame, Read, Write, Memory}

@@ -4,7 +4,7 @@ use Rattle.std.specs.Prelude.{Option, Some, None, MatchOption, IfSome}
 use Rattle.std.specs.Io.KnownBytes.{Appends}
 use Rattle.std.proofs.lemmas.Grind.{flat_map-append}
 use Rattle.std.proofs.lemmas.List.{take_more, map-append, take-append-drop}
-use Rattle.serde_json.specs.Written.{compact_text}
+use Rattle.rpc.specs.Written.{compact_text}
 use Rattle.frames.specs.Write.{frame}
 use Rattle.frames.specs.Contents.{contents}
 use Rattle.frames.specs.declared.decoder.Frame.{Frame}

@@ -1,11 +1,11 @@
 -- What is answered, from what a document tells.
 use Rattle.std.proofs.Common.{◌≡◌, ℕ, List, refl, ap}
 use Rattle.std.specs.Prelude.{Option, Some, None, option_map, Result, Ok, Err, IfOk}
-use Rattle.definitions.specs.declared.Diagnostic.{Diagnostic as Stored}
-use Rattle.definitions.specs.Answers.{Diagnostic}
+use Rattle.rpc.specs.Diagnostic.{Diagnostic as Stored}
+use Rattle.docs.specs.Answers.{Diagnostic}
 use Rattle.docs.specs.Answers.{Reading, IsTold, Reads}
 use Rattle.docs.specs.Texts.{OpenDocument}
-use Rattle.grammar.specs.Grammars.{FileGrammar}
+use Rattle.docs.specs.Grammars.{FileGrammar}
 use Rattle.rpc.specs.Replies.{diagnostic_view, told_diagnostics}
 use Rattle.docs.specs.Diagnostics.{in_utf8, told_bytes}
 use Rattle.docs.specs.Told.{IsDiagnosis}
@@ -34,7 +34,7 @@ told_same (Some told) None e = absurd (let f : ⊥ = cc in f)
 told_same (Some told) (Some fault) e = let same : told_bytes told ≡ in_utf8 fault = cc in ap (λ x. Some x) (told_pair told fault same)
 
 -- the diagnostics that tell a fault
-pub diagnosis_published : (file : FileGrammar) (uri : List ℕ) (d : OpenDocument) (told : Option Stored) → Reads file d.text (λ reading. (fault : Option Diagnostic) × IsDiagnosis file d.text reading.tokens reading.verdict fault × IsTold told fault)
+pub diagnosis_published : (file : FileGrammar) (uri : List ℕ) (d : OpenDocument) (told : Option Stored) → Reads file d.text (λ reading. (fault : Option Diagnostic) × IsDiagnosis d.unit file d.text reading.tokens reading.verdict fault × IsTold told fault)
     → IsPublished file uri d (told_diagnostics uri (Some d.version) (option_map diagnostic_view told))
 diagnosis_published file uri d told r =
     (r.0, r.1, (r.2.0, r.2.1, ap (told_diagnostics uri (Some d.version)) (told_same told r.2.0 r.2.2)))

@@ -3,12 +3,12 @@ use Rattle.std.proofs.Common.{◌≡◌, ℕ, ℤ, true, false, Bool, List, [], 
 use Rattle.std.specs.Prelude.{Option, Some, None, option_map}
 use Rattle.std.specs.Str.{chars}
 use Rattle.std.specs.FinMap.{get}
-use Rattle.definitions.specs.declared.Stats.{Stats}
-use Rattle.definitions.specs.Nodes.{all_branches}
+use Rattle.rpc.specs.Stats.{Stats}
+use Rattle.docs.specs.Nodes.{all_branches}
 use Rattle.docs.specs.Answers.{AlwaysAnswers, Reading, IsReading}
 use Rattle.docs.specs.Edits.{AreStats, TellsLast}
 use Rattle.docs.specs.Texts.{LastEdit, OpenDocument, fits}
-use Rattle.grammar.specs.Grammars.{FileGrammar}
+use Rattle.docs.specs.Grammars.{FileGrammar}
 use Rattle.rpc.specs.Messages.{Ident, Asked, Question, its_text, its_tokens, its_tree, its_folds, its_selections, initialize, shutdown, about, stats, Told, initialized, exit, open_text, change_text, close, malformed, Unfit, unfit_open, unfit_change, unfit_close, request, notice, ignored, invalid, unknown, params, Heard, unread, refused, said, ChangeSaid}
 use Rattle.rpc.specs.Reading.{hearing}
 use Rattle.rpc.specs.Replies.{Answer, told_folds, told_selections, told_diagnostics}
@@ -36,7 +36,7 @@ some_answer_of file always id d fit its_folds =
     (told_folds id pairs.0, (r.0, r.1, (pairs.0, pairs.1, refl)))
 some_answer_of file always id d fit (its_selections positions) =
     let r = always.readings d.text fit in
-    let selections = always.selections d.text r.0 r.1 positions in
+    let selections = always.selections d.unit d.text r.0 r.1 positions in
     (told_selections id selections.0, (r.0, r.1, (selections.0, selections.1, refl)))
 
 some_answer : (file : FileGrammar) → AlwaysAnswers file → (id : Ident) (o : Option DocumentState) → ((d : OpenDocument) → o ≡ Some (is_open d) → fits d.text ≡ true) → (question : Question) → (answer : Answer) × IsAnswer file id o question answer
@@ -84,7 +84,7 @@ some_count file always id (Some (is_open d)) fit =
 some_published : (file : FileGrammar) → AlwaysAnswers file → (uri : List ℕ) (d : OpenDocument) → fits d.text ≡ true → (answer : Answer) × IsPublished file uri d answer
 some_published file always uri d fit =
     let r = always.readings d.text fit in
-    let fault = always.faults d.text r.0 r.1 in
+    let fault = always.faults d.unit d.text r.0 r.1 in
     (told_diagnostics uri (Some d.version) (option_map told_of fault.0), (r.0, r.1, (fault.0, fault.1, refl)))
 
 -- ---- steps
@@ -127,16 +127,16 @@ module _ (old : State) (can : CanServe old) where
   some_misses unfit_close = (_, _, _, (refl, refl, refl))
 
   some_asks : (phase : Phase) (id : Ident) (asked : Asked) → SomeStep (Asks phase old id asked)
-  some_asks New id initialize = (_, _, _, (refl, refl, refl))
+  some_asks New id (initialize unit) = (_, _, _, (refl, refl, refl))
   some_asks New id shutdown = (_, _, _, (refl, refl, refl))
   some_asks New id (about uri question) = (_, _, _, (refl, refl, refl))
   some_asks New id (stats uri) = (_, _, _, (refl, refl, refl))
-  some_asks Ready id initialize = (_, _, _, (refl, refl, refl))
-  some_asks Ready id shutdown = (_, _, _, (refl, refl, refl))
-  some_asks Ready id (about uri question) =
+  some_asks (Ready unit) id (initialize other) = (_, _, _, (refl, refl, refl))
+  some_asks (Ready unit) id shutdown = (_, _, _, (refl, refl, refl))
+  some_asks (Ready unit) id (about uri question) =
       let some = some_answer old.file can.always id (get old.documents uri) (λ d e. can.fit uri d e) question in
       (some.0 ∷ [], None, old, (some.0, some.1, (refl, refl, refl)))
-  some_asks Ready id (stats uri) =
+  some_asks (Ready unit) id (stats uri) =
       let some = some_count old.file can.always id (get old.documents uri) (λ d e. can.fit uri d e) in
       (some.0 ∷ [], None, old, (some.0, some.1, (refl, refl, refl)))
   some_asks Down id asked = (_, _, _, (refl, refl, refl))
@@ -148,12 +148,12 @@ module _ (old : State) (can : CanServe old) where
   some_tells New (change_text uri version changes) = (_, _, _, (refl, refl, refl))
   some_tells New (close uri) = (_, _, _, (refl, refl, refl))
   some_tells New (malformed unfit) = (_, _, _, (refl, refl, refl))
-  some_tells Ready initialized = (_, _, _, (refl, refl, refl))
-  some_tells Ready exit = (_, _, _, (refl, refl, refl))
-  some_tells Ready (open_text uri version text) = some_opens (has_room uri old.documents) uri (opened version (chars text)) (opened_fit version (chars text))
-  some_tells Ready (change_text uri version changes) = some_changes (get old.documents uri) uri version changes refl
-  some_tells Ready (close uri) = some_closes (get old.documents uri) uri
-  some_tells Ready (malformed unfit) = some_misses unfit
+  some_tells (Ready unit) initialized = (_, _, _, (refl, refl, refl))
+  some_tells (Ready unit) exit = (_, _, _, (refl, refl, refl))
+  some_tells (Ready unit) (open_text uri version text) = some_opens (has_room uri old.documents) uri (opened unit version (chars text)) (opened_fit unit version (chars text))
+  some_tells (Ready unit) (change_text uri version changes) = some_changes (get old.documents uri) uri version changes refl
+  some_tells (Ready unit) (close uri) = some_closes (get old.documents uri) uri
+  some_tells (Ready unit) (malformed unfit) = some_misses unfit
   some_tells Down initialized = (_, _, _, (refl, refl, refl))
   some_tells Down exit = (_, _, _, (refl, refl, refl))
   some_tells Down (open_text uri version text) = (_, _, _, (refl, refl, refl))

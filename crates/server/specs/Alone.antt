@@ -11,7 +11,7 @@
 use Rattle.std.specs.Prelude.{◌≡◌, ◌≢◌, ◌⊎◌, ℕ, Bool, List, [], ◌∷◌, ◌++◌, map, All, Option, Some, None, MatchOption}
 use Rattle.std.specs.FinMap.{get}
 use Rattle.docs.specs.Texts.{OpenDocument}
-use Rattle.grammar.specs.Grammars.{FileGrammar}
+use Rattle.docs.specs.Grammars.{FileGrammar}
 use Rattle.rpc.specs.declared.reply.Loss.TheVariants.{NoMemory}
 use Rattle.rpc.specs.Messages.{request, about, stats, notice, open_text, change_text, close, malformed, unfit_change, Heard, said}
 use Rattle.rpc.specs.Reading.{hearing}

@@ -1,18 +1,18 @@
 -- What is answered to a question about a document, and what is published of it.
 --     question_view question      a question of the server's code
 --     IsAnswer file id document question answer      this is the answer, by the language of a grammar file, and by the document's
---         version and text alone
+--         unit, version and text alone
 --     IsCount file id document answer      this is an answer to `lr/stats`
 --     but_nodes answer      the answer without the number of nodes in memory, which is left free
 --     IsPublished file uri document answer      these are the diagnostics of the document, with its version
 use Rattle.std.specs.Prelude.{◌≡◌, ℕ, List, Option, Some, None, option_map, encode_utf8_all}
-use Rattle.definitions.specs.declared.Range.{Range}
-use Rattle.definitions.specs.declared.Stats.{Stats}
-use Rattle.definitions.specs.Answers.{Diagnostic}
+use Rattle.rpc.specs.Range.{Range}
+use Rattle.rpc.specs.Stats.{Stats}
+use Rattle.docs.specs.Answers.{Diagnostic}
 use Rattle.docs.specs.Answers.{Reads, rows, tree_told, AreSelections}
 use Rattle.docs.specs.Edits.{AreStats, without_nodes}
 use Rattle.docs.specs.Texts.{OpenDocument}
-use Rattle.grammar.specs.Grammars.{FileGrammar}
+use Rattle.docs.specs.Grammars.{FileGrammar}
 use Rattle.rpc.specs.declared.reply.Refusal.TheVariants.{DocumentNotOpen, DocumentLost}
 use Rattle.rpc.specs.Messages.{Ident, Question, its_text, its_tokens, its_tree, its_folds, its_selections}
 use Rattle.rpc.specs.Replies.{Answer, told_null, told_text, told_tokens, told_tree, told_stats, told_folds, told_selections, told_error, told_diagnostics}
@@ -35,12 +35,12 @@ tree_answer id (Some text) = told_tree id text
 
 abbrev pub IsAnswerOf : FileGrammar → Ident → OpenDocument → Question → Answer → Type 0
 IsAnswerOf file id d its_text answer = answer ≡ told_text id d.version (encode_utf8_all d.text)
-IsAnswerOf file id d its_tokens answer = Reads file d.text (λ reading. answer ≡ told_tokens id (rows file d.text reading.tokens))
+IsAnswerOf file id d its_tokens answer = Reads file d.text (λ reading. answer ≡ told_tokens id (rows d.unit file d.text reading.tokens))
 IsAnswerOf file id d its_tree answer = Reads file d.text (λ reading. answer ≡ tree_answer id (tree_told file reading.verdict))
 IsAnswerOf file id d its_folds answer = Reads file d.text (λ reading.
     (pairs : List (ℕ × ℕ)) × AreFoldsOf file d.text reading.tokens reading.trees pairs × (answer ≡ told_folds id pairs))
 IsAnswerOf file id d (its_selections positions) answer = Reads file d.text (λ reading.
-    (selections : List (List Range)) × AreSelections file d.text reading positions selections
+    (selections : List (List Range)) × AreSelections d.unit file d.text reading positions selections
     × (answer ≡ told_selections id selections))
 
 abbrev pub IsAnswer : FileGrammar → Ident → Option DocumentState → Question → Answer → Type 0
@@ -63,5 +63,5 @@ told_of d = (d.range, encode_utf8_all d.message)
 
 abbrev pub IsPublished : FileGrammar → List ℕ → OpenDocument → Answer → Type 0
 IsPublished file uri d answer =
-    Reads file d.text (λ reading. (fault : Option Diagnostic) × IsDiagnosis file d.text reading.tokens reading.verdict fault
+    Reads file d.text (λ reading. (fault : Option Diagnostic) × IsDiagnosis d.unit file d.text reading.tokens reading.verdict fault
     × (answer ≡ told_diagnostics uri (Some d.version) (option_map told_of fault)))

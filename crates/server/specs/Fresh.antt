@@ -1,16 +1,17 @@
 -- Every answer is a fresh server's.
---     IsFresh file uri version text published state      the state of a server that was just initialized and then opened this text, and
---         the diagnostics that it published
+--     IsFresh file unit uri version text published state      the state of a server that was just initialized, with this unit of
+--         positions, and then opened this text, and the diagnostics that it published
 --     RepliesOnly state heard answer      on what was heard there is one reply, this one, and nothing changes
---     EveryAnswerIsFresh file      whatever was read before: a fresh server exists with the version and the text of an open document,
---         and to each question about the document it and the server have one answer, the same; and the diagnostics that it published
+--     EveryAnswerIsFresh file      whatever was read before: a fresh server exists with the unit of the session and the version
+--         and the text of an open document, and to each question about the document it and the server have one answer, the same; and the diagnostics that it published
 --         are those that the server published last
 --     EachTextIsItsEdits      a document's text after a change is its text before, edited, unless it is lost for want of memory; no other
 --         document changes
 use Rattle.std.specs.Prelude.{◌≡◌, ◌≢◌, ◌⊎◌, ℕ, ℤ, List, [], ◌∷◌, ◌++◌, All, Option, Some, None}
 use Rattle.std.specs.Str.{chars}
 use Rattle.std.specs.FinMap.{get}
-use Rattle.grammar.specs.Grammars.{FileGrammar}
+use Rattle.rpc.specs.Unit.{Unit as Encoding}
+use Rattle.docs.specs.Grammars.{FileGrammar}
 use Rattle.rpc.specs.Messages.{Ident, initialize, Question, about, open_text, change_text, request, notice, said, ChangeSaid, Heard}
 use Rattle.rpc.specs.Replies.{Answer, told_capabilities, told_diagnostics}
 use Rattle.docs.specs.Texts.{LastEdit, OpenDocument}
@@ -20,12 +21,12 @@ use Rattle.server.specs.declared.state.Phase.TheVariants.{Ready}
 use Rattle.server.specs.Steps.{State, first_state, Replies, Step}
 use Rattle.server.specs.Runs.{Run}
 
-pub record IsFresh (file : FileGrammar) (uri : List ℕ) (version : ℤ) (text : List ℕ) (published : Answer) (state : State) : Type 0 where
+pub record IsFresh (file : FileGrammar) (unit : Encoding) (uri : List ℕ) (version : ℤ) (text : List ℕ) (published : Answer) (state : State) : Type 0 where
   pub id : Ident
   pub bytes : List ℕ
   pub mid : State
   pub spelled : chars bytes ≡ text
-  pub initializes : Step (first_state file) (said (request id initialize)) (told_capabilities id ∷ []) None mid
+  pub initializes : Step (first_state file) (said (request id (initialize unit))) (told_capabilities id unit ∷ []) None mid
   pub opens : Step mid (said (notice (open_text uri version bytes))) (published ∷ []) None state
 
 pub record RepliesOnly (state : State) (heard : Heard) (answer : Answer) : Type 0 where
@@ -52,18 +53,19 @@ IsLastPublished uri answers published =
 
 abbrev pub EveryAnswerIsFresh : FileGrammar → Type 0
 EveryAnswerIsFresh file =
-    (contents : List (List ℕ)) (answers : List Answer) (state : State) (uri : List ℕ) (document : OpenDocument)
-    → Run (first_state file) contents answers None state → state.phase ≡ Ready → get state.documents uri ≡ Some (is_open document)
-    → ((fresh : State) × (published : Answer) × IsFresh file uri document.version document.text published fresh)
-    × ((fresh : State) (published : Answer) → IsFresh file uri document.version document.text published fresh
+    (contents : List (List ℕ)) (answers : List Answer) (state : State) (unit : Encoding) (uri : List ℕ) (document : OpenDocument)
+    → Run (first_state file) contents answers None state → state.phase ≡ Ready unit → get state.documents uri ≡ Some (is_open document)
+    → ((fresh : State) × (published : Answer) × IsFresh file unit uri document.version document.text published fresh)
+    × ((fresh : State) (published : Answer) → IsFresh file unit uri document.version document.text published fresh
     → AnswerAlike uri state fresh × IsLastPublished uri answers published)
 
 abbrev pub EachTextIsItsEdits : Type 0
 EachTextIsItsEdits =
-    (old new : State) (uri : List ℕ) (version : ℤ) (changes : List ChangeSaid) (document : OpenDocument) (text : List ℕ)
+    (old new : State) (unit : Encoding) (uri : List ℕ) (version : ℤ) (changes : List ChangeSaid) (document : OpenDocument) (text : List ℕ)
     (answers : List Answer) (stop : Option ℕ)
-    → old.phase ≡ Ready → get old.documents uri ≡ Some (is_open document) → edited document.text changes ≡ Some text
+    → old.phase ≡ Ready unit → get old.documents uri ≡ Some (is_open document) → edited document.unit document.text changes ≡ Some text
     → Step old (said (notice (change_text uri version changes))) answers stop new
-    → (((last : Option LastEdit) × (get new.documents uri ≡ Some (is_open (record { version = version; text = text; last = last }))))
+    → (((last : Option LastEdit)
+    × (get new.documents uri ≡ Some (is_open (record { unit = document.unit; version = version; text = text; last = last }))))
     ⊎ (get new.documents uri ≡ Some (is_lost NoMemory)))
     × ((other : List ℕ) → other ≢ uri → get new.documents other ≡ get old.documents other)

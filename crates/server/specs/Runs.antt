@@ -2,7 +2,7 @@
 --     Run old contents answers stop new      steps on the contents in turn, up to the first that stops the server
 --     bytes_of answers      the answers as JSON texts, each in a frame
 use Rattle.std.specs.Prelude.{◌≡◌, ℕ, List, [], ◌∷◌, ◌++◌, flat_map, Option, Some, MatchOption}
-use Rattle.serde_json.specs.Written.{compact_text}
+use Rattle.rpc.specs.Written.{compact_text}
 use Rattle.frames.specs.Write.{frame}
 use Rattle.rpc.specs.Reading.{hearing}
 use Rattle.rpc.specs.Replies.{Answer, reply_data}

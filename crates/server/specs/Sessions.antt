@@ -10,7 +10,7 @@ use Rattle.std.specs.Io.KnownBytes.{Consumes, Appends, IsAtEnd}
 use Rattle.frames.specs.Frames.{Tail, IsOpen, Splits, finish_of}
 use Rattle.frames.specs.declared.fault.FrameFault.{FrameFault}
 use Rattle.frames.specs.declared.fault.FrameFault.TheVariants as frame
-use Rattle.grammar.specs.Grammars.{FileGrammar}
+use Rattle.docs.specs.Grammars.{FileGrammar}
 use Rattle.rpc.specs.Replies.{Answer}
 use Rattle.server.specs.declared.serve.RunFault.{RunFault}
 use Rattle.server.specs.declared.serve.RunFault.TheVariants.{Frame, Read, Write, Memory}

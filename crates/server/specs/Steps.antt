@@ -1,5 +1,5 @@
 -- What the server does with a message (LSP 3.17, "Server lifecycle", "Text Document Synchronization"; JSON-RPC 2.0).
---     State      the grammar file of the session, its phase, and the documents by their URIs
+--     State      the grammar file of the session, its phase with the unit that positions count, and the documents by their URIs
 --     first_state file      the state in which a session begins
 --     Step old heard answers stop new      from old, on what was heard, the server may give these answers, stop with a status or go
 --         on, and be in the state new
@@ -7,8 +7,9 @@
 use Rattle.std.specs.Prelude.{◌≡◌, ℕ, ℤ, Bool, true, false, if◌then◌else◌, List, [], ◌∷◌, Option, Some, None}
 use Rattle.std.specs.Str.{chars}
 use Rattle.std.specs.FinMap.{empty, get, insert, remove}
+use Rattle.rpc.specs.Unit.{Unit as Encoding}
 use Rattle.docs.specs.Texts.{fits}
-use Rattle.grammar.specs.Grammars.{FileGrammar}
+use Rattle.docs.specs.Grammars.{FileGrammar}
 use Rattle.rpc.specs.declared.reply.Refusal.{Refusal}
 use Rattle.rpc.specs.declared.reply.Refusal.TheVariants.{ParseError, InvalidRequest, MethodNotFound, InvalidParams, NotInitialized}
 use Rattle.rpc.specs.declared.reply.Log.{Log}
@@ -81,22 +82,22 @@ Stops old status answers stop new = (answers ≡ []) × (stop ≡ Some status) �
 -- ---- requests
 
 abbrev pub Asks : Phase → State → Ident → Asked → List Answer → Option ℕ → State → Type 0
-Asks New old id initialize answers stop new = Enters old Ready (told_capabilities id) answers stop new
+Asks New old id (initialize unit) answers stop new = Enters old (Ready unit) (told_capabilities id unit) answers stop new
 Asks New old id _ answers stop new = Replies old (told_error (Some id) NotInitialized) answers stop new
-Asks Ready old id initialize answers stop new = Replies old (told_error (Some id) InvalidRequest) answers stop new
-Asks Ready old id shutdown answers stop new = Enters old Down (told_null id) answers stop new
-Asks Ready old id (about uri question) answers stop new =
+Asks (Ready unit) old id (initialize other) answers stop new = Replies old (told_error (Some id) InvalidRequest) answers stop new
+Asks (Ready unit) old id shutdown answers stop new = Enters old Down (told_null id) answers stop new
+Asks (Ready unit) old id (about uri question) answers stop new =
     RepliesSome old (IsAnswer old.file id (get old.documents uri) question) answers stop new
-Asks Ready old id (stats uri) answers stop new =
+Asks (Ready unit) old id (stats uri) answers stop new =
     RepliesSome old (IsCount old.file id (get old.documents uri)) answers stop new
 Asks Down old id _ answers stop new = Replies old (told_error (Some id) InvalidRequest) answers stop new
 
 -- ---- notifications
 
 -- a document with this text is open where the text fits, and else lost
-abbrev pub opened : ℤ → List ℕ → DocumentState
-opened version text =
-    if fits text then is_open (record { version = version; text = text; last = None }) else is_lost TooLarge
+abbrev pub opened : Encoding → ℤ → List ℕ → DocumentState
+opened unit version text =
+    if fits text then is_open (record { unit = unit; version = version; text = text; last = None }) else is_lost TooLarge
 
 -- where there is no room, nothing is opened
 abbrev pub Opens : Bool → State → List ℕ → DocumentState → List Answer → Option ℕ → State → Type 0
@@ -129,17 +130,17 @@ Misses old unfit_close answers stop new = Logs old CloseMalformed answers stop n
 
 abbrev pub exit_status : Phase → ℕ
 exit_status New = 1
-exit_status Ready = 1
+exit_status (Ready unit) = 1
 exit_status Down = 0
 
 abbrev pub Tells : Phase → State → Told → List Answer → Option ℕ → State → Type 0
 Tells phase old exit answers stop new = Stops old (exit_status phase) answers stop new
-Tells Ready old (open_text uri version text) answers stop new =
-    Opens (has_room uri old.documents) old uri (opened version (chars text)) answers stop new
-Tells Ready old (change_text uri version changes) answers stop new =
+Tells (Ready unit) old (open_text uri version text) answers stop new =
+    Opens (has_room uri old.documents) old uri (opened unit version (chars text)) answers stop new
+Tells (Ready unit) old (change_text uri version changes) answers stop new =
     Changes (get old.documents uri) old uri version changes answers stop new
-Tells Ready old (close uri) answers stop new = Closes (get old.documents uri) old uri answers stop new
-Tells Ready old (malformed unfit) answers stop new = Misses old unfit answers stop new
+Tells (Ready unit) old (close uri) answers stop new = Closes (get old.documents uri) old uri answers stop new
+Tells (Ready unit) old (malformed unfit) answers stop new = Misses old unfit answers stop new
 Tells _ old _ answers stop new = Ignores old answers stop new
 
 -- ---- steps
@@ -147,15 +148,15 @@ Tells _ old _ answers stop new = Ignores old answers stop new
 -- the refusal of an unknown method
 abbrev pub unknown_in : Phase → Refusal
 unknown_in New = NotInitialized
-unknown_in Ready = MethodNotFound
+unknown_in (Ready unit) = MethodNotFound
 unknown_in Down = InvalidRequest
 
 -- the refusal of parameters that don't fit, those of `initialize` or others
 abbrev pub params_in : Phase → Bool → Refusal
 params_in New true = InvalidParams
 params_in New false = NotInitialized
-params_in Ready true = InvalidRequest
-params_in Ready false = InvalidParams
+params_in (Ready unit) true = InvalidRequest
+params_in (Ready unit) false = InvalidParams
 params_in Down first = InvalidRequest
 
 abbrev pub Step : State → Heard → List Answer → Option ℕ → State → Type 0

@@ -70,7 +70,7 @@ fn rows(alloc: Global, language: &Language, doc: &Doc) -> Result<Vec<Row>, Alloc
     requires { IsCurrent language.now doc.now }
     ensures { let file = language.now.file in
         IfOk result (λ told. Reads file doc.now.text (λ reading.
-        map row_view told.items ≡ rows file doc.now.text reading.tokens)) }
+        map row_view told.items ≡ rows doc.now.unit file doc.now.text reading.tokens)) }
 {
     let found = doc.rows(alloc, language)?;
     let mut told = Vec::with_capacity(alloc, found.len())?;

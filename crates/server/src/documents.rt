@@ -32,7 +32,7 @@ pub struct Documents {
 
 impl Model for Documents {
     ghost use Rattle.std.specs.Coded.{codes};
-    ghost use Rattle.definitions.specs.contracts.expression.Expression as e;
+    ghost use Rattle.docs.specs.Expression as e;
     ghost use Rattle.server.specs.Documents.{Holding, held_code, documents_of, AreCurrent};
 
     ghost Value = { Holding };

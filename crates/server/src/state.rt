@@ -16,7 +16,7 @@ ghost use Rattle.server.specs.Steps.{state_view, first_state, opened, exit_statu
 use crate::answers::{Question, answer, cleared, published};
 use crate::documents::{Documents, Entry};
 use docs::{Doc, DocFault, Language};
-use rpc::{Call, Change, Id, Log, Loss, Malformed, Message, Note, Refusal, Reply, RpcFault};
+use rpc::{Call, Change, Id, Log, Loss, Malformed, Message, Note, Refusal, Reply, RpcFault, Unit};
 use std::alloc::{AllocError, Global};
 
 /// Where the session stands (LSP 3.17, "Server lifecycle").
@@ -24,7 +24,8 @@ use std::alloc::{AllocError, Global};
 pub enum Phase {
     /// Before the first accepted `initialize`.
     New,
-    Ready,
+    /// Positions count the unit that was chosen then.
+    Ready(Unit),
     /// After `shutdown`.
     Down,
 }
@@ -49,7 +50,7 @@ fn unknown_in(phase: Phase) -> Refusal
 {
     match phase {
         Phase::New => Refusal::NotInitialized,
-        Phase::Ready => Refusal::MethodNotFound,
+        Phase::Ready(_) => Refusal::MethodNotFound,
         Phase::Down => Refusal::InvalidRequest,
     }
 }
@@ -58,9 +59,9 @@ fn params_in(phase: Phase, is_initialize: bool) -> Refusal
     ensures { result ≡ params_in phase is_initialize }
 {
     match (phase, is_initialize) {
-        (Phase::New, true) | (Phase::Ready, false) => Refusal::InvalidParams,
+        (Phase::New, true) | (Phase::Ready(_), false) => Refusal::InvalidParams,
         (Phase::New, false) => Refusal::NotInitialized,
-        (Phase::Ready, true) | (Phase::Down, _) => Refusal::InvalidRequest,
+        (Phase::Ready(_), true) | (Phase::Down, _) => Refusal::InvalidRequest,
     }
 }
 
@@ -68,7 +69,7 @@ fn exit_status(phase: Phase) -> u8
     ensures { result ≡ exit_status phase }
 {
     match phase {
-        Phase::New | Phase::Ready => 1,
+        Phase::New | Phase::Ready(_) => 1,
         Phase::Down => 0,
     }
 }
@@ -217,26 +218,26 @@ impl Server {
             Asks self.old.phase old (id_view id) (call_view call) replies out.stop (state_view self.new)) }
     {
         let (uri, question) = match (self.phase, call) {
-            (Phase::New, Call::Initialize) => {
-                self.phase = Phase::Ready;
-                return one_reply(alloc, Reply::Capabilities { id });
+            (Phase::New, Call::Initialize { unit }) => {
+                self.phase = Phase::Ready(unit);
+                return one_reply(alloc, Reply::Capabilities { id, unit });
             }
-            (Phase::Ready, Call::Shutdown) => {
+            (Phase::Ready(_), Call::Shutdown) => {
                 self.phase = Phase::Down;
                 return one_reply(alloc, Reply::Null { id });
             }
             (Phase::New, _) => return refused(alloc, Some(id), Refusal::NotInitialized),
-            (Phase::Ready, Call::Initialize) | (Phase::Down, _) => {
+            (Phase::Ready(_), Call::Initialize { .. }) | (Phase::Down, _) => {
                 return refused(alloc, Some(id), Refusal::InvalidRequest);
             }
-            (Phase::Ready, Call::Text { uri }) => (uri, Question::Text),
-            (Phase::Ready, Call::Tokens { uri }) => (uri, Question::Tokens),
-            (Phase::Ready, Call::Tree { uri }) => (uri, Question::Tree),
-            (Phase::Ready, Call::Stats { uri }) => {
+            (Phase::Ready(_), Call::Text { uri }) => (uri, Question::Text),
+            (Phase::Ready(_), Call::Tokens { uri }) => (uri, Question::Tokens),
+            (Phase::Ready(_), Call::Tree { uri }) => (uri, Question::Tree),
+            (Phase::Ready(_), Call::Stats { uri }) => {
                 return one_reply(alloc, self.stats(id, uri.as_str()));
             }
-            (Phase::Ready, Call::FoldingRange { uri }) => (uri, Question::Folds),
-            (Phase::Ready, Call::SelectionRange { uri, positions }) => {
+            (Phase::Ready(_), Call::FoldingRange { uri }) => (uri, Question::Folds),
+            (Phase::Ready(_), Call::SelectionRange { uri, positions }) => {
                 (uri, Question::Selections(positions))
             }
         };
@@ -266,17 +267,18 @@ impl Server {
         Ok(out)
     }
 
-    /// `textDocument/didOpen`.
+    /// `textDocument/didOpen`, where positions count this unit.
     fn open(
         &mut self,
         alloc: Global,
+        unit: Unit,
         uri: String,
         version: i32,
         text: String,
     ) -> Result<Out, AllocError>
         ensures { let old = state_view self.old in
             let room = has_room (string_bytes uri) old.documents in
-            let state = opened version (chars (string_bytes text)) in
+            let state = opened unit version (chars (string_bytes text)) in
             IfOk result (λ out.
             let replies = map reply_view out.replies.items in
             Opens room old (string_bytes uri) state replies out.stop (state_view self.new)) }
@@ -284,7 +286,13 @@ impl Server {
         if !self.documents.has_room(uri.as_str()) {
             return logged(alloc, Log::TooManyDocuments);
         }
-        let entry = match Doc::open(alloc, self.documents.language(), version, text.as_str()) {
+        let entry = match Doc::open(
+            alloc,
+            self.documents.language(),
+            unit,
+            version,
+            text.as_str(),
+        ) {
             Ok(doc) => Entry::Open(doc),
             Err(DocFault::TooLarge) => Entry::Lost(Loss::TooLarge),
             Err(DocFault::NoMemory) => return Err(AllocError),
@@ -374,19 +382,19 @@ impl Server {
                 replies: Vec::new(alloc),
                 stop: Some(exit_status(phase)),
             }),
-            (Phase::Ready, Note::DidOpen { uri, version, text }) => {
-                self.open(alloc, uri, version, text)
+            (Phase::Ready(unit), Note::DidOpen { uri, version, text }) => {
+                self.open(alloc, unit, uri, version, text)
             }
             (
-                Phase::Ready,
+                Phase::Ready(_),
                 Note::DidChange {
                     uri,
                     version,
                     changes,
                 },
             ) => self.change(alloc, uri, version, changes),
-            (Phase::Ready, Note::DidClose { uri }) => self.close(alloc, uri),
-            (Phase::Ready, Note::Malformed(malformed)) => self.miss(alloc, malformed),
+            (Phase::Ready(_), Note::DidClose { uri }) => self.close(alloc, uri),
+            (Phase::Ready(_), Note::Malformed(malformed)) => self.miss(alloc, malformed),
             _ => Ok(nothing(alloc)),
         }
     }

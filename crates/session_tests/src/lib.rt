@@ -20,4 +20,6 @@ mod talks;
 #[cfg(test)]
 mod told_stats;
 #[cfg(test)]
+mod told_units;
+#[cfg(test)]
 mod told_views;

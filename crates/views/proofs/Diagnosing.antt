@@ -8,7 +8,7 @@ use Rattle.std.proofs.lemmas.Option.{slice_get_past}
 use Rattle.std.proofs.lemmas.Str.{chars-append}
 use Rattle.definitions.specs.declared.Kind.{Kind}
 use Rattle.definitions.specs.declared.Kind.TheVariants.{Rule}
-use Rattle.definitions.specs.declared.Unit.TheVariants.{Utf16}
+use Rattle.definitions.specs.declared.Unit.{Unit as Encoding}
 use Rattle.definitions.specs.Answers.{Diagnostic, end_of, fault_span, listed, message, name_or_end, range_of}
 use Rattle.definitions.specs.Sentences.{IsVerdict}
 use Rattle.definitions.specs.Text.{position}
@@ -87,7 +87,7 @@ looks-are [] true = refl
 looks-are [] false = refl
 looks-are (r ∷ rules) at_end = ap (λ ls. Some (Rule r) ∷ ls) (looks-are rules at_end)
 
-module _ (f : FileGrammar) (t : List ℕ) (items : List Token) (marked : All (IsMarked f.skips) items) (expected : List (Option ℕ)) where
+module _ (encoding : Encoding) (f : FileGrammar) (t : List ℕ) (items : List Token) (marked : All (IsMarked f.skips) items) (expected : List (Option ℕ)) where
   abbrev parts : List Placed
   parts = placed_parts f (map plain items)
 
@@ -96,12 +96,12 @@ module _ (f : FileGrammar) (t : List ℕ) (items : List Token) (marked : All (Is
 
   -- a diagnostic with this range and this message
   told : (x : List Kind) (d : Diagnostic) (found : Option Placed) → slice_get parts (length x) ≡ found → AreExpected f.grammar x expected
-      → d.range ≡ range_of Utf16 t (fault_span t found)
+      → d.range ≡ range_of encoding t (fault_span t found)
       → d.message ≡ message f.names (option_map (λ y. y.token.kind) found) (map (option_map Rule) expected)
-      → IsFaultBehind f t (map plain items) x (Some d)
+      → IsFaultBehind encoding f t (map plain items) x (Some d)
   told x d found at e range spelled =
       let same : map (option_map Rule) expected ≡ looks e.0 e.1 = ap (map (option_map Rule)) e.3 ∙ looks-are e.0 e.1 in
-      let place = range ∙ ap (λ o. range_of Utf16 t (fault_span t o)) (sym at) in
+      let place = range ∙ ap (λ o. range_of encoding t (fault_span t o)) (sym at) in
       let text = spelled ∙ ap (message f.names (option_map (λ y. y.token.kind) found)) same ∙ ap (λ o. message f.names (option_map (λ y. y.token.kind) o) (looks e.0 e.1)) (sym at) in
       (e.0, e.1, e.2, λ i. Some (record { range = place i; message = text i }))
 
@@ -109,50 +109,50 @@ module _ (f : FileGrammar) (t : List ℕ) (items : List Token) (marked : All (Is
   pub told_at : (k start end : ℕ) (kind : Kind) (d : Diagnostic) → k < length all
       → IsSomeAnd (slice_get parts k) (λ y. (start ≡ y.start) × (end ≡ end_of y) × (kind ≡ y.token.kind))
       → AreExpected f.grammar (take k all) expected
-      → d.range.start ≡ position Utf16 t start → d.range.end ≡ position Utf16 t end
+      → d.range.start ≡ position encoding t start → d.range.end ≡ position encoding t end
       → d.message ≡ message f.names (Some kind) (map (option_map Rule) expected)
-      → IsFaultBehind f t (map plain items) (take k (kinds f.skips (map plain items))) (Some d)
+      → IsFaultBehind encoding f t (map plain items) (take k (kinds f.skips (map plain items))) (Some d)
   told_at k start end kind d within there e from to spelled =
-      subst (λ x. IsFaultBehind f t (map plain items) (take k x) (Some d)) (sym (kinds_plain f.skips items marked)) (go (slice_get parts k) refl there)
+      subst (λ x. IsFaultBehind encoding f t (map plain items) (take k x) (Some d)) (sym (kinds_plain f.skips items marked)) (go (slice_get parts k) refl there)
     where
       long : length (take k all) ≡ k
       long = omega (arith, length-take k all, within)
 
-      go : (found : Option Placed) → slice_get parts k ≡ found → IsSomeAnd found (λ y. (start ≡ y.start) × (end ≡ end_of y) × (kind ≡ y.token.kind)) → IsFaultBehind f t (map plain items) (take k all) (Some d)
+      go : (found : Option Placed) → slice_get parts k ≡ found → IsSomeAnd found (λ y. (start ≡ y.start) × (end ≡ end_of y) × (kind ≡ y.token.kind)) → IsFaultBehind encoding f t (map plain items) (take k all) (Some d)
       go None at h = absurd h
       go (Some y) at h =
-          let first = from ∙ ap (position Utf16 t) h.0 in
-          let last = to ∙ ap (position Utf16 t) h.1 in
+          let first = from ∙ ap (position encoding t) h.0 in
+          let last = to ∙ ap (position encoding t) h.1 in
           told (take k all) d (Some y) (ap (slice_get parts) long ∙ at) e (λ i. record { start = first i; end = last i }) (spelled ∙ ap (λ j. message f.names (Some j) (map (option_map Rule) expected)) h.2)
 
   -- at the end
   pub told_at_end : (d : Diagnostic) → AreExpected f.grammar all expected
-      → d.range.start ≡ position Utf16 t (length t) → d.range.end ≡ position Utf16 t (length t)
+      → d.range.start ≡ position encoding t (length t) → d.range.end ≡ position encoding t (length t)
       → d.message ≡ message f.names None (map (option_map Rule) expected)
-      → IsFaultBehind f t (map plain items) (kinds f.skips (map plain items)) (Some d)
+      → IsFaultBehind encoding f t (map plain items) (kinds f.skips (map plain items)) (Some d)
   told_at_end d e from to spelled =
       let past : slice_get parts (length all) ≡ None = slice_get_past parts (length all) (omega (arith, count_of_parts f.skips items marked, length-kinds items)) in
-      subst (λ x. IsFaultBehind f t (map plain items) x (Some d)) (sym (kinds_plain f.skips items marked))
+      subst (λ x. IsFaultBehind encoding f t (map plain items) x (Some d)) (sym (kinds_plain f.skips items marked))
       (told all d None past e (λ i. record { start = from i; end = to i }) spelled)
 
   -- the parser's verdict tells the fault
   module _ (g : Grammar) (same : g ≡ f.grammar) (cells : List Cell) (v : Verdict) (e : AreExpectedAt g all (verdict_in cells v) expected) where
     pub diagnosis_at : (k start end : ℕ) (kind : Kind) (d : Diagnostic) → v ≡ StopsAt k → k < length all
         → IsSomeAnd (slice_get parts k) (λ y. (start ≡ y.start) × (end ≡ end_of y) × (kind ≡ y.token.kind))
-        → d.range.start ≡ position Utf16 t start → d.range.end ≡ position Utf16 t end
+        → d.range.start ≡ position encoding t start → d.range.end ≡ position encoding t end
         → d.message ≡ message f.names (Some kind) (map (option_map Rule) expected)
-        → IsDiagnosis f t (map plain items) (verdict_in cells v) (Some d)
+        → IsDiagnosis encoding f t (map plain items) (verdict_in cells v) (Some d)
     diagnosis_at k start end kind d is within there from to spelled =
         let may : AreExpected f.grammar (take k all) expected = subst (λ g. AreExpected g (take k all) expected) same (subst (λ w. AreExpectedAt g all (verdict_in cells w) expected) is e) in
-        subst (λ w. IsDiagnosis f t (map plain items) (verdict_in cells w) (Some d)) (sym is) (told_at k start end kind d within there may from to spelled)
+        subst (λ w. IsDiagnosis encoding f t (map plain items) (verdict_in cells w) (Some d)) (sym is) (told_at k start end kind d within there may from to spelled)
 
     pub diagnosis_at_end : (d : Diagnostic) → v ≡ StopsAtEnd
-        → d.range.start ≡ position Utf16 t (length t) → d.range.end ≡ position Utf16 t (length t)
+        → d.range.start ≡ position encoding t (length t) → d.range.end ≡ position encoding t (length t)
         → d.message ≡ message f.names None (map (option_map Rule) expected)
-        → IsDiagnosis f t (map plain items) (verdict_in cells v) (Some d)
+        → IsDiagnosis encoding f t (map plain items) (verdict_in cells v) (Some d)
     diagnosis_at_end d is from to spelled =
         let may : AreExpected f.grammar all expected = subst (λ g. AreExpected g all expected) same (subst (λ w. AreExpectedAt g all (verdict_in cells w) expected) is e) in
-        subst (λ w. IsDiagnosis f t (map plain items) (verdict_in cells w) (Some d)) (sym is) (told_at_end d may from to spelled)
+        subst (λ w. IsDiagnosis encoding f t (map plain items) (verdict_in cells w) (Some d)) (sym is) (told_at_end d may from to spelled)
 
 -- the fault lies before the end
 pub fault_within : (t : Sets) (kinds : List Kind) (cells : List Cell) (parse : Stop) (k : ℕ) → IsParseOf t kinds cells parse → parse.verdict ≡ StopsAt k → k < length kinds

@@ -1,16 +1,16 @@
--- What is told of a text by a grammar file, from its tokens, the verdict on their kinds, and its trees. Positions count UTF-16 units.
+-- What is told of a text by a grammar file, from its tokens, the verdict on their kinds, and its trees.
 --     placed_parts file tokens      the significant tokens at their places
 --     looks rules at_end      rules in the order given, and behind them the end where it may come
---     IsDiagnosis file t tokens verdict told      the fault that the verdict tells, if it tells one
+--     IsDiagnosis encoding file t tokens verdict told      the fault that the verdict tells, if it tells one
 --     AreFoldsOf file t tokens trees pairs      the lines that can be folded, in ascending order
---     IsSelectionOf file t tokens trees o ranges      what can be selected around an offset, from inner to outer
+--     IsSelectionOf encoding file t tokens trees o ranges      what can be selected around an offset, from inner to outer
 --     AreRootsOf file cells tokens roots      the roots are trees of the grammar, and cover some of the significant tokens, from the first one on
 use Rattle.std.specs.Prelude.{◌≡◌, ℕ, ◌≤◌, Bool, if◌then◌else◌, List, [], ◌∷◌, ◌++◌, length, map, take, reverse, Option, Some, None}
 use Rattle.definitions.specs.declared.Kind.{Kind}
 use Rattle.definitions.specs.declared.Kind.TheVariants.{Rule}
 use Rattle.definitions.specs.declared.Range.{Range}
 use Rattle.definitions.specs.declared.Symbol.{Symbol}
-use Rattle.definitions.specs.declared.Unit.TheVariants.{Utf16}
+use Rattle.definitions.specs.declared.Unit.{Unit as Encoding}
 use Rattle.definitions.specs.Answers.{AreFolds, Diagnostic, IsSelection, diagnostic, range_of}
 use Rattle.definitions.specs.DocumentNodes.{IsNodeOf}
 use Rattle.definitions.specs.Sentences.{IsExpected, Verdict, HasTree, FaultAt, FaultAtEnd}
@@ -28,23 +28,23 @@ abbrev pub looks : List ℕ → Bool → List (Option Kind)
 looks rules at_end = map (λ r. Some (Rule r)) rules ++ (if at_end then None ∷ [] else [])
 
 -- the fault right behind the kinds x
-abbrev pub IsFaultBehind : FileGrammar → List ℕ → List Token → List Kind → Option Diagnostic → Type 0
-IsFaultBehind file t tokens x told =
+abbrev pub IsFaultBehind : Encoding → FileGrammar → List ℕ → List Token → List Kind → Option Diagnostic → Type 0
+IsFaultBehind encoding file t tokens x told =
     (rules : List ℕ) × (at_end : Bool) × IsExpected file.grammar x rules at_end
-    × (told ≡ Some (diagnostic Utf16 file.names t (placed_parts file tokens) (length x) (looks rules at_end)))
+    × (told ≡ Some (diagnostic encoding file.names t (placed_parts file tokens) (length x) (looks rules at_end)))
 
-abbrev pub IsDiagnosis : FileGrammar → List ℕ → List Token → Verdict → Option Diagnostic → Type 0
-IsDiagnosis file t tokens (HasTree tree) told = told ≡ None
-IsDiagnosis file t tokens (FaultAt k) told = IsFaultBehind file t tokens (take k (kinds file.skips tokens)) told
-IsDiagnosis file t tokens FaultAtEnd told = IsFaultBehind file t tokens (kinds file.skips tokens) told
+abbrev pub IsDiagnosis : Encoding → FileGrammar → List ℕ → List Token → Verdict → Option Diagnostic → Type 0
+IsDiagnosis encoding file t tokens (HasTree tree) told = told ≡ None
+IsDiagnosis encoding file t tokens (FaultAt k) told = IsFaultBehind encoding file t tokens (take k (kinds file.skips tokens)) told
+IsDiagnosis encoding file t tokens FaultAtEnd told = IsFaultBehind encoding file t tokens (kinds file.skips tokens) told
 
 abbrev pub AreFoldsOf : FileGrammar → List ℕ → List Token → List Tree → List (ℕ × ℕ) → Type 0
 AreFoldsOf file t tokens trees pairs = AreFolds t (placed_parts file tokens) file.folds (IsNodeOf file.grammar trees) pairs
 
-abbrev pub IsSelectionOf : FileGrammar → List ℕ → List Token → List Tree → ℕ → List Range → Type 0
-IsSelectionOf file t tokens trees o ranges =
+abbrev pub IsSelectionOf : Encoding → FileGrammar → List ℕ → List Token → List Tree → ℕ → List Range → Type 0
+IsSelectionOf encoding file t tokens trees o ranges =
     (spans : List (ℕ × ℕ)) × IsSelection t (placed_parts file tokens) (IsNodeOf file.grammar trees) o spans
-    × (ranges ≡ reverse (map (range_of Utf16 t) spans))
+    × (ranges ≡ reverse (map (range_of encoding t) spans))
 
 -- the trees of the children
 abbrev pub trees_of_roots : List Cell → List Child → List Tree

@@ -2,7 +2,7 @@
 use Rattle.std.specs.Prelude.{◌≡◌, ℕ, ◌++◌, List, length, map, flat_map, codes, encode_utf8_all}
 use Rattle.std.specs.Str.{chars}
 use Rattle.definitions.specs.declared.Range.{Range}
-use Rattle.definitions.specs.declared.Unit.TheVariants.{Utf16}
+use Rattle.definitions.specs.declared.Unit.{Unit as Encoding}
 use Rattle.definitions.specs.Answers.{token_rows}
 use Rattle.definitions.specs.DocumentNodes.{tree_text}
 use Rattle.definitions.specs.Tokens.{placed}
@@ -30,12 +30,12 @@ abbrev pub in_utf8 : List ℕ × Range → List ℕ × Range
 in_utf8 r = (encode_utf8_all r.0, r.1)
 
 -- the rows of tokens, of which the first starts at offset o
-abbrev pub rows_from : FileGrammar → List ℕ → ℕ → List Token → List (List ℕ × Range)
-rows_from f t o items = token_rows Utf16 f.names t (placed o (map of.plain items))
+abbrev pub rows_from : Encoding → FileGrammar → List ℕ → ℕ → List Token → List (List ℕ × Range)
+rows_from encoding f t o items = token_rows encoding f.names t (placed o (map of.plain items))
 
 -- the rows of all tokens of a text
-abbrev pub rows_of : FileGrammar → List ℕ → List Token → List (List ℕ × Range)
-rows_of f t items = rows_from f t 0 items
+abbrev pub rows_of : Encoding → FileGrammar → List ℕ → List Token → List (List ℕ × Range)
+rows_of encoding f t items = rows_from encoding f t 0 items
 
 -- the text of a tree
 abbrev pub text_of : FileGrammar → Tree → List ℕ

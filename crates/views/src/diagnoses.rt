@@ -21,13 +21,14 @@ use tables::{Expected, Tables};
 use text::Text;
 
 /// What is told of the fault of a text: where it stands, and what could have stood there. `None` where the text has a
-/// tree. The tables are those of the grammar, and the parse is that of the tokens of the text.
+/// tree. Positions count this unit. The tables are those of the grammar, and the parse is that of the tokens of the text.
 ///
 /// Refuses for memory alone.
 pub fn diagnostic(
     alloc: Global,
     grammar: &Grammar,
     tables: &Tables,
+    unit: Unit,
     text: &Text,
     tokens: &Tokens,
     parse: &Parse,
@@ -39,7 +40,7 @@ pub fn diagnostic(
         × IsParseOf tables.now (significant_kinds tokens.now.items) cells parse.now }
     ensures told { IfOk result (λ told. (cells : List Cell)
         → IsParseOf tables.now (significant_kinds tokens.now.items) cells parse.now
-        → IsDiagnosis grammar.now text.now (map plain tokens.now.items)
+        → IsDiagnosis unit grammar.now text.now (map plain tokens.now.items)
         (verdict_in cells parse.now.verdict) (option_map told_of told)) }
     ensures bytes { IfOk result (λ told.
         option_map told_bytes told ≡ option_map in_utf8 (option_map told_of told)) }
@@ -51,14 +52,14 @@ pub fn diagnostic(
             let part = span_of(tokens, k);
             let message = message_of(alloc, grammar, Some(part.kind), expected)?;
             let range = Range {
-                start: text.position(Unit::Utf16, part.start),
-                end: text.position(Unit::Utf16, part.end),
+                start: text.position(unit, part.start),
+                end: text.position(unit, part.end),
             };
             Ok(Some(Diagnostic { range, message }))
         }
         Verdict::FaultAtEnd => {
             let message = message_of(alloc, grammar, None, expected)?;
-            let end = text.position(Unit::Utf16, text.len());
+            let end = text.position(unit, text.len());
             let range = Range { start: end, end };
             Ok(Some(Diagnostic { range, message }))
         }

@@ -3,6 +3,7 @@
 ghost use Rattle.std.specs.Prelude.{◌≡◌, ◌≤◌, ◌↔◌, ℕ, Bool, List, length, IsTrue};
 ghost use Rattle.definitions.specs.declared.Range.{Range};
 ghost use Rattle.definitions.specs.declared.Symbol.{Symbol};
+ghost use Rattle.definitions.specs.declared.Unit.{Unit as Encoding};
 ghost use Rattle.definitions.specs.Answers.{AreFolds};
 ghost use Rattle.definitions.specs.DocumentNodes.{IsNodeOf};
 ghost use Rattle.definitions.specs.Tokens.{AreTokens, Placed, Token, kinds};
@@ -27,9 +28,10 @@ pub fn trees_have_folds()
 
 /// Each offset has a selection, and `definitions` has it that it has no other.
 pub fn each_offset_has_a_selection()
-    ensures { (file : FileGrammar) (t : List ℕ) (tokens : List Token) (trees : List Tree)
-        (symbols : List Symbol) → AreTokens file.patterns t tokens
+    ensures { (encoding : Encoding) (file : FileGrammar) (t : List ℕ) (tokens : List Token)
+        (trees : List Tree) (symbols : List Symbol) → AreTokens file.patterns t tokens
         → HaveRoots file.grammar trees symbols
         → length (all_kinds trees) ≤ length (kinds file.skips tokens)
-        → (o : ℕ) → (ranges : List Range) × IsSelectionOf file t tokens trees o ranges }
+        → (o : ℕ) → (ranges : List Range)
+        × IsSelectionOf encoding file t tokens trees o ranges }
 {}

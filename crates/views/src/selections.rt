@@ -3,7 +3,6 @@
 ghost use Rattle.std.specs.Prelude.{◌≡◌, ◌+◌, ◌<◌, ◌≤◌, ◌^◌, ℕ, Bool, List, [], ◌∷◌, All, length, map, count_by, reverse, IfOk, MatchOption};
 ghost use Rattle.std.specs.List.{dedup};
 ghost use Rattle.definitions.specs.declared.expression.Expression.{Expression};
-ghost use Rattle.definitions.specs.declared.Unit.TheVariants.{Utf16};
 ghost use Rattle.definitions.specs.Answers.{range_of, shortened};
 ghost use Rattle.definitions.specs.Tokens.{is_skipped, placed, significant};
 ghost use Rattle.definitions.specs.Trees.{all_kinds};
@@ -42,10 +41,11 @@ struct Branch {
 }
 
 /// The ranges that can be selected around an offset (LSP 3.17, "Selection Range Request"), from inner to outer: those of
-/// the branches that cover it, each once, and that of the whole text. Of more than 32 they are the first 31 and the last.
+/// the branches that cover it, each once, and that of the whole text. Positions count this unit. Of more than 32 they are the first 31 and the last.
 /// Refuses for memory alone.
 pub fn selection(
     alloc: Global,
+    unit: Unit,
     text: &Text,
     tokens: &Tokens,
     store: &Store,
@@ -58,13 +58,13 @@ pub fn selection(
     ensures { (file : FileGrammar)
         → AreTokensOf file.patterns file.skips text.now tokens.now.items
         → AreRootsOf file store.now (map plain tokens.now.items) roots.now
-        → IfOk result (λ ranges. IsSelectionOf file text.now (map plain tokens.now.items)
+        → IfOk result (λ ranges. IsSelectionOf unit file text.now (map plain tokens.now.items)
         (trees_of_roots store.now roots.now) offset ranges.items) }
 {
     let whole = (0, text.len());
     let spans = spans_around(alloc, store, roots, point_of(tokens, offset))?;
     let offsets = offsets_told(alloc, tokens, whole, &spans)?;
-    ranges_of(alloc, text, &offsets)
+    ranges_of(alloc, unit, text, &offsets)
 }
 
 /// The two places of an offset.
@@ -196,17 +196,18 @@ fn offsets_of(tokens: &Tokens, span: (usize, usize)) -> (usize, usize)
 /// The ranges of these offsets, in the opposite order.
 fn ranges_of(
     alloc: Global,
+    unit: Unit,
     text: &Text,
     offsets: &[(usize, usize)],
 ) -> Result<Vec<Range>, AllocError>
     ensures { IfOk result (λ ranges.
-        ranges.items ≡ reverse (map (range_of Utf16 text.now) offsets.now)) }
+        ranges.items ≡ reverse (map (range_of unit text.now) offsets.now)) }
 {
     let mut ranges = Vec::with_capacity(alloc, offsets.len())?;
     for (start, end) in offsets.iter().rev() {
         ranges.push(Range {
-            start: text.position(Unit::Utf16, *start),
-            end: text.position(Unit::Utf16, *end),
+            start: text.position(unit, *start),
+            end: text.position(unit, *end),
         })?;
     }
     Ok(ranges)

@@ -3,7 +3,7 @@ use Rattle.rpc.specs.declared.reply.Reply.{Reply}
 use Rattle.std.specs.Io.KnownBytes.{Appends}
 use Rattle.std.proofs.lemmas.List.{take_more, map-append, take-append-drop}
 use Rattle.frames.specs.Write.{frame}
-use Rattle.serde_json.specs.Written.{compact_text}
+use Rattle.rpc.specs.Written.{compact_text}
 use Rattle.rpc.specs.Replies.{reply_view, reply_data}
 use Rattle.server.specs.Runs.{bytes_of}
 use Rattle.server.proofs.Runs.{appends_then, bytes_then}

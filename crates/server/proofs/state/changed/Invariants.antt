@@ -9,6 +9,7 @@ abbrev pub invariant-loop-change : goal.invariant-loop-change
 invariant-loop-change l =
     record {
       current : IsCurrent l.language l.doc;
-      edits : edited l.fn.doc.text (map change_view (take l.change-index l.changes)) ≡ Some l.doc.text;
-      last : IsLastAfter l.language.file l.fn.doc.text (map change_view (take l.change-index l.changes)) (last_edit l.fn.doc) (last_edit l.doc);
+      unit : l.doc.unit ≡ l.fn.doc.unit;
+      edits : edited l.fn.doc.unit l.fn.doc.text (map change_view (take l.change-index l.changes)) ≡ Some l.doc.text;
+      last : IsLastAfter l.fn.doc.unit l.language.file l.fn.doc.text (map change_view (take l.change-index l.changes)) (last_edit l.fn.doc) (last_edit l.doc);
     }

@@ -1,7 +1,6 @@
 use Rattle.std.proofs.Common.{◌≡◌, ◌∙◌, ◌<◌, Some, ap, arith, length, sym}
 use Rattle.std.specs.Prelude.{string_bytes}
 use Rattle.std.proofs.lemmas.Str.{IsUtf8-string_bytes}
-use Rattle.definitions.specs.declared.Unit.TheVariants.{Utf16}
 use Rattle.definitions.specs.Text.{position}
 use Rattle.definitions.proofs.Characters.{encodes-chars}
 use Rattle.lexer.specs.Rescans.{significant_kinds}
@@ -27,7 +26,7 @@ returns-in_ok-message-in-FaultAt-clause-told c cells h =
     let marked = c.requires.tokens.marked in
     let is : c.args.parse.now.verdict ≡ FaultAt c.in-FaultAt.k = sym c.verdict.ensures ∙ c.in-FaultAt.is in
     let within = fault_within c.args.tables.now (significant_kinds items) cells c.args.parse.now c.in-FaultAt.k h is in
-    diagnosis_at f t items marked c.expected-expected.result c.args.tables.now.grammar c.requires.tables cells c.args.parse.now.verdict (c.expected-expected.ensures (significant_kinds items) cells h)
+    diagnosis_at c.args.unit f t items marked c.expected-expected.result c.args.tables.now.grammar c.requires.tables cells c.args.parse.now.verdict (c.expected-expected.ensures (significant_kinds items) cells h)
     c.in-FaultAt.k part.start part.end part.kind (told_of (record { range = record { start = c.position.result; end = c.position-in-FaultAt.result }; message = c.in_ok-message-in-FaultAt.message }))
     is within (c.span_of-part.ensures f.skips marked) c.position.ensures c.position-in-FaultAt.ensures c.in_ok-message-in-FaultAt.ensures
 
@@ -43,8 +42,8 @@ returns-in_ok-message-in-FaultAtEnd-clause-told c cells h =
     let t = c.args.text.now in
     let items = c.args.tokens.now.items in
     let is : c.args.parse.now.verdict ≡ FaultAtEnd = sym c.verdict.ensures ∙ c.in-FaultAtEnd.is in
-    let end : c.position-end.result ≡ position Utf16 t (length t) = c.position-end.ensures ∙ ap (position Utf16 t) c.len.ensures.count in
-    diagnosis_at_end f t items c.requires.tokens.marked c.expected-expected.result c.args.tables.now.grammar c.requires.tables cells c.args.parse.now.verdict (c.expected-expected.ensures (significant_kinds items) cells h)
+    let end : c.position-end.result ≡ position c.args.unit t (length t) = c.position-end.ensures ∙ ap (position c.args.unit t) c.len.ensures.count in
+    diagnosis_at_end c.args.unit f t items c.requires.tokens.marked c.expected-expected.result c.args.tables.now.grammar c.requires.tables cells c.args.parse.now.verdict (c.expected-expected.ensures (significant_kinds items) cells h)
     (told_of (record { range = record { start = c.position-end.result; end = c.position-end.result }; message = c.in_ok-message-in-FaultAtEnd.message }))
     is end end c.in_ok-message-in-FaultAtEnd.ensures
 

@@ -3,7 +3,6 @@ use Rattle.std.specs.Prelude.{reverse}
 use Rattle.std.specs.List.{push}
 use Rattle.std.proofs.lemmas.List.{append-nil, map-append, nil_from_length, reverse-append}
 use Rattle.definitions.specs.declared.Range.{Range}
-use Rattle.definitions.specs.declared.Unit.TheVariants.{Utf16}
 use Rattle.definitions.specs.Answers.{range_of}
 use Rattle.views.proofs.selections.ranges_of.Goals as goal
 
@@ -14,13 +13,13 @@ one_more f told old rest x e =
 
 pub loop-start-init : goal.loop-start-init
 loop-start-init c =
-    let f = range_of Utf16 c.args.text.now in
+    let f = range_of c.args.unit c.args.text.now in
     let all = ap (λ (r : List (ℕ × ℕ)). reverse (map f r)) (ap (λ r. r.iter.rest.now) c.into_iter-start-iterator.ensures.into_iter_gives ∙ ap (λ r. r.rest.now) c.rev-start-items.ensures.source ∙ c.iter.ensures.rest) in
     ap (λ rs. rs ++ reverse (map f c.into_iter-start-iterator.result.iter.rest.now)) c.in_ok-ranges.ensures.items ∙ all
 
 pub loop-start-preserved : goal.loop-start-preserved
 loop-start-preserved c =
-    let f = range_of Utf16 c.args.text.now in
+    let f = range_of c.args.unit c.args.text.now in
     let x = c.in-Some.field-0.now in
     let range : f x ≡ record { start = c.position.result; end = c.position-in-loop-start.result } = λ i. record { start = sym c.position.ensures i; end = sym c.position-in-loop-start.ensures i } in
     ap (λ rs. rs ++ reverse (map f c.next.new.self.iter.rest.now)) (c.in_ok-push.ensures.items ∙ ap (λ r. c.loop-start.ranges.items ++ r ∷ []) (sym range))
@@ -29,6 +28,6 @@ loop-start-preserved c =
 
 pub returns : goal.returns
 returns c =
-    let f = range_of Utf16 c.args.text.now in
+    let f = range_of c.args.unit c.args.text.now in
     let none : c.loop-start.start-iterator.iter.rest.now ≡ [] = nil_from_length c.loop-start.start-iterator.iter.rest.now c.in-None.ensures.steps.0 in
     sym (append-nil c.loop-start.ranges.items) ∙ ap (λ xs. c.loop-start.ranges.items ++ reverse (map f xs)) (sym none) ∙ c.loop-start.invariant

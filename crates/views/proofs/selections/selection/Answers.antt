@@ -1,7 +1,6 @@
 use Rattle.std.proofs.Common.{ap, ◌≤◌, map, sym, ◌∙◌, subst, arith}
 use Rattle.std.specs.Prelude.{All, length, count_by, reverse}
 use Rattle.std.proofs.lemmas.Result.{IfOk-weaker}
-use Rattle.definitions.specs.declared.Unit.TheVariants.{Utf16}
 use Rattle.definitions.specs.Answers.{range_of}
 use Rattle.grammar.specs.Grammars.{FileGrammar}
 use Rattle.lexer.specs.Tokens.{is_significant, plain}
@@ -13,7 +12,7 @@ use Rattle.views.proofs.selections.selection.Goals as goal
 pub spans_around-requires-clause-fits : goal.spans_around-requires-clause-fits
 spans_around-requires-clause-fits c =
     let short : length c.args.text.now ≤ 1073741824 = omega (arith, c.len.ensures.count, c.len.ensures.few) in
-    roots_fit c.requires.0 c.args.text.now c.args.tokens.now.items c.args.store.now c.args.roots.now c.requires.1 c.requires.2 short
+    roots_fit c.args.unit c.requires.0 c.args.text.now c.args.tokens.now.items c.args.store.now c.args.roots.now c.requires.1 c.requires.2 short
 
 pub offsets_told-requires : goal.offsets_told-requires
 offsets_told-requires c =
@@ -21,7 +20,7 @@ offsets_told-requires c =
     let file : FileGrammar = c.requires.0 in
     let around : IsAround (placed_parts file (map plain c.args.tokens.now.items)) c.args.offset c.point_of.result.reached c.point_of.result.first = c.point_of.ensures.around file.patterns file.skips c.args.text.now c.requires.1 short in
     subst (All (IsSpanOf (count_by is_significant c.args.tokens.now.items))) (sym (c.deref.ensures.value ∙ c.in_ok-spans.ensures))
-    (spans_stand file c.args.text.now c.args.tokens.now.items c.args.store.now c.args.roots.now c.requires.1 c.requires.2 c.args.offset c.point_of.result.reached c.point_of.result.first around)
+    (spans_stand c.args.unit file c.args.text.now c.args.tokens.now.items c.args.store.now c.args.roots.now c.requires.1 c.requires.2 c.args.offset c.point_of.result.reached c.point_of.result.first around)
 
 pub returns : goal.returns
 returns c = λ file h r.
@@ -29,5 +28,5 @@ returns c = λ file h r.
     let around : IsAround (placed_parts file (map plain c.args.tokens.now.items)) c.args.offset c.point_of.result.reached c.point_of.result.first = c.point_of.ensures.around file.patterns file.skips c.args.text.now h short in
     let spans = c.deref.ensures.value ∙ c.in_ok-spans.ensures in
     IfOk-weaker c.ranges_of.result _ _
-    (λ ranges is. selected_roots file c.args.text.now c.args.tokens.now.items c.args.store.now c.args.roots.now h r c.args.offset c.point_of.result.reached c.point_of.result.first around c.len.result c.deref.result.now c.in_ok-offsets.offsets.items c.len.ensures.count spans (c.in_ok-offsets.ensures file.skips h.marked) ranges.items (is ∙ ap (λ ss. reverse (map (range_of Utf16 c.args.text.now) ss)) c.deref-2.ensures.value))
+    (λ ranges is. selected_roots c.args.unit file c.args.text.now c.args.tokens.now.items c.args.store.now c.args.roots.now h r c.args.offset c.point_of.result.reached c.point_of.result.first around c.len.result c.deref.result.now c.in_ok-offsets.offsets.items c.len.ensures.count spans (c.in_ok-offsets.ensures file.skips h.marked) ranges.items (is ∙ ap (λ ss. reverse (map (range_of c.args.unit c.args.text.now) ss)) c.deref-2.ensures.value))
     c.ranges_of.ensures

@@ -11,4 +11,4 @@ abbrev pub invariant-loop-position : goal.invariant-loop-position
 invariant-loop-position l =
     let reading = reading_of l.self (trees_of_roots l.self.store l.self.parse.stack) in
     (language : LanguageData) → IsCurrent language l.self
-    → AreSelections language.file l.self.text reading (take l.position-index l.positions) (map (λ s. s.items) l.selections.items)
+    → AreSelections l.self.unit language.file l.self.text reading (take l.position-index l.positions) (map (λ s. s.items) l.selections.items)

@@ -26,7 +26,7 @@ returns-clause-always c =
       settled = λ x viable. c.settled_unique.ensures.exists file.grammar x viable;
       expected = λ x viable. c.each_viable_list_has_expected.ensures file.grammar accepted decided x viable;
       folds = λ t tokens trees. c.trees_have_folds.ensures file.grammar trees t (placed_parts file tokens) file.folds;
-      selections = λ t tokens trees symbols is roots few. c.each_offset_has_a_selection.ensures file t tokens trees symbols is roots few;
+      selections = λ encoding t tokens trees symbols is roots few. c.each_offset_has_a_selection.ensures encoding file t tokens trees symbols is roots few;
     } in
     subst (λ (l : LanguageData). AlwaysAnswers l.file) c.self.view_is (always_answers file always)
 
