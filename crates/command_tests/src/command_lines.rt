@@ -67,11 +67,6 @@ fn faults_have_their_texts(rt: HostRuntime) -> Result<(), Fail> {
         (Fault::CommandLine, usage, 2),
         (Fault::TooManyStates, "lrls: over 4096 automaton states", 2),
         (Fault::TooManySets, "lrls: over 8192 table states", 2),
-        (
-            Fault::Conflict(String::from_str(alloc, "end")?),
-            "lrls: conflict on end",
-            2,
-        ),
         (Fault::NotUtf8, "lrls: grammar is not UTF-8", 2),
         (Fault::TextNotUtf8, "lrls: text is not UTF-8", 1),
         (Fault::TextTooLarge, "lrls: text too large", 1),

@@ -111,14 +111,35 @@ fn faults_of_names_are_printed(rt: HostRuntime) -> Result<(), Fail> {
             "lrgrammar 1\nskip W = [ ]+\nstart S\nS = W\n",
             "line 4: G10 skip token in a production: W",
         ),
-        (CHOICES, "conflict on ELSE"),
-        (TWO_AHEAD, "conflict on X"),
-        (LOOP, "conflict on end"),
     ];
     refuses(&rt, rt.alloc(), &rows)?;
     let no_text = b"lrgrammar 1\n\xFF";
     let err = "lrls: grammar is not UTF-8\n";
     prints(&rt, rt.alloc(), no_text, "", err, 2)
+}
+
+/// The lookahead, the symbols behind which two items call for different moves, and the items: one at its end first.
+#[test]
+fn conflicts_show_their_items(rt: HostRuntime) -> Result<(), Fail> {
+    let rows = [
+        (
+            CHOICES,
+            "conflict on ELSE\nafter: IF IF S\nitem: S = IF S ., ELSE\nitem: S = IF S . ELSE S, end",
+        ),
+        (
+            TWO_AHEAD,
+            "conflict on X\nafter: C\nitem: P = C ., X\nitem: Q = C ., X",
+        ),
+        (
+            LOOP,
+            "conflict on end\nafter: S\nitem: (start) = S ., end\nitem: S = S ., end",
+        ),
+        (
+            "lrgrammar 1\ntoken N = \"1\"\ntoken P = \"+\"\nstart S\nS = S P S\nS = N\n",
+            "conflict on P\nafter: S P S\nitem: S = S P S ., P\nitem: S = S . P S, end",
+        ),
+    ];
+    refuses(&rt, rt.alloc(), &rows)
 }
 
 #[test]

@@ -1,3 +1,4 @@
+pub mod Conflicts
 pub mod Parsing
 pub mod Reporting
 pub mod Status

@@ -1,11 +1,12 @@
 -- What `lrls parse` prints of a text.
 --     fault_line d      `L:C-L:C: MESSAGE` and the end of the line
 --     IsParsed file bytes printed      a file of these bytes comes to this: refused as no UTF-8 or as too large, or the text of its tree,
---         or its fault
+--         or its fault. Positions count UTF-16 units.
 use Rattle.std.specs.Prelude.{◌≡◌, ◌⊎◌, ℕ, ◌++◌, true, false, List, [], codes, decimal, string_bytes}
 use Rattle.std.specs.Str.{IsUtf8, chars}
 use Rattle.definitions.specs.declared.Diagnostic.{Diagnostic}
 use Rattle.definitions.specs.declared.Position.{Position}
+use Rattle.definitions.specs.declared.Unit.TheVariants.{Utf16}
 use Rattle.grammar.specs.Grammars.{FileGrammar}
 use Rattle.docs.specs.declared.doc.Outcome.{Outcome}
 use Rattle.docs.specs.declared.doc.Outcome.TheVariants.{Tree, Fault}
@@ -31,4 +32,4 @@ abbrev pub IsParsed : FileGrammar → List ℕ → Printed → Type 0
 IsParsed file bytes printed =
     (¬ IsUtf8 bytes × PrintsNothing printed)
     ⊎ (IsUtf8 bytes × (fits (chars bytes) ≡ false) × PrintsNothing printed)
-    ⊎ (IsUtf8 bytes × (fits (chars bytes) ≡ true) × ((outcome : Outcome) × IsOutcome file (chars bytes) outcome × Prints outcome printed))
+    ⊎ (IsUtf8 bytes × (fits (chars bytes) ≡ true) × ((outcome : Outcome) × IsOutcome Utf16 file (chars bytes) outcome × Prints outcome printed))

@@ -5,7 +5,7 @@ use Rattle.std.specs.Prelude.{ℕ}
 use Rattle.server.specs.declared.serve.RunFault.{RunFault}
 use Rattle.server.specs.declared.serve.RunFault.TheVariants as session
 use Rattle.commands.specs.declared.fault.Fault.{Fault}
-use Rattle.commands.specs.declared.fault.Fault.TheVariants.{CommandLine, Grammar, TooManyStates, TooManySets, Conflict, NotUtf8, TextNotUtf8, TextTooLarge, CannotRead, NoMemory, Frame, Read, Write}
+use Rattle.commands.specs.declared.fault.Fault.TheVariants.{CommandLine, Grammar, TooManyStates, TooManySets, NotUtf8, TextNotUtf8, TextTooLarge, CannotRead, NoMemory, Frame, Read, Write}
 
 -- 2 for a refused command line or grammar, 1 for what goes wrong outside of them
 abbrev pub status_of : Fault → ℕ
@@ -13,7 +13,6 @@ status_of CommandLine = 2
 status_of (Grammar fault) = 2
 status_of TooManyStates = 2
 status_of TooManySets = 2
-status_of (Conflict name) = 2
 status_of NotUtf8 = 2
 status_of TextNotUtf8 = 1
 status_of TextTooLarge = 1

@@ -22,9 +22,6 @@ pub enum Fault {
     TooManyStates,
     #[error("lrls: over 8192 table states")]
     TooManySets,
-    /// A conflict on the token of this name, or on the `end`.
-    #[error("lrls: conflict on {0}")]
-    Conflict(String),
     #[error("lrls: grammar is not UTF-8")]
     NotUtf8,
     #[error("lrls: text is not UTF-8")]
@@ -55,7 +52,6 @@ impl Fault {
             | Fault::Grammar(_)
             | Fault::TooManyStates
             | Fault::TooManySets
-            | Fault::Conflict(_)
             | Fault::NotUtf8 => 2,
             Fault::TextNotUtf8
             | Fault::TextTooLarge

@@ -2,6 +2,7 @@
 #![tactic(auto)]
 
 mod command_line;
+mod conflicts;
 mod fault;
 mod printed;
 

@@ -1,18 +1,18 @@
 //! What the commands do, over the bytes of files.
 
-ghost use Rattle.std.specs.Prelude.{◌≡◌, ◌++◌, [], IfOk, IfErr, OnOk, string_bytes};
+ghost use Rattle.std.specs.Prelude.{◌≡◌, ℕ, ◌++◌, List, [], IfOk, IfErr, OnOk, string_bytes};
 ghost use Rattle.std.specs.Str.{chars};
-ghost use Rattle.docs.specs.Languages.{IsLanguageOf};
+ghost use Rattle.docs.specs.Languages.{IsLanguageOf, IsLoadFault};
+ghost use Rattle.commands.specs.Conflicts.{IsRefused, TellsConflict};
 ghost use Rattle.commands.specs.Parsing.{IsParsed, Prints, fault_line, place_text};
 ghost use Rattle.commands.specs.Reporting.{IsChecked, note_line};
 ghost use Rattle.commands.specs.Status.{status_of};
 
+use crate::conflicts::conflict_text;
 use crate::fault::Fault;
-use definitions::{Diagnostic, Kind, Position};
-use grammar::Grammar;
+use definitions::{Diagnostic, Position, Unit};
 use server::{Doc, DocFault, Language, LoadFault, Outcome};
 use std::alloc::{AllocError, Global};
-use tables::Conflict;
 
 /// What a command prints on standard output and standard error, and the exit status.
 #[derive(Debug, Drop)]
@@ -34,45 +34,38 @@ fn refusal(alloc: Global, fault: &Fault) -> Result<Printed, AllocError>
     })
 }
 
-/// The name of the token, or `end`, at which two items call for different moves.
-fn look_of<'a>(grammar: &'a Grammar, conflict: &Conflict) -> &'a str {
-    match conflict.look {
-        Some(rule) => grammar.kind_name(Kind::Rule(rule)),
-        None => "end",
-    }
-}
-
-/// The fault that is printed where a grammar file defines no language.
-fn fault_of(alloc: Global, fault: LoadFault) -> Result<Fault, AllocError>
-    ensures { IfOk result (λ fault. status_of fault ≡ 2) }
+/// What is printed of the fault of a grammar file. Refuses for memory alone.
+fn refused(alloc: Global, fault: LoadFault) -> Result<Printed, AllocError>
+    requires { (text : List ℕ) × IsLoadFault text fault }
+    ensures out { IfOk result (λ printed. printed.out.items ≡ []) }
+    ensures status { IfOk result (λ printed. printed.status ≡ 2) }
+    ensures conflict { IfOk result (TellsConflict fault) }
 {
     match fault {
-        LoadFault::Grammar(fault) => Ok(Fault::Grammar(fault)),
-        LoadFault::TooManyStates => Ok(Fault::TooManyStates),
-        LoadFault::TooManySets => Ok(Fault::TooManySets),
-        LoadFault::Conflict(grammar, conflict) => {
-            let name = String::from_str(alloc, look_of(&grammar, &conflict))?;
-            Ok(Fault::Conflict(name))
-        }
+        LoadFault::Grammar(fault) => refusal(alloc, &Fault::Grammar(fault)),
+        LoadFault::TooManyStates => refusal(alloc, &Fault::TooManyStates),
+        LoadFault::TooManySets => refusal(alloc, &Fault::TooManySets),
+        LoadFault::Conflict(grammar, conflict) => Ok(Printed {
+            out: Vec::new(alloc),
+            err: conflict_text(alloc, &grammar, &conflict)?.into_bytes(),
+            status: 2,
+        }),
         LoadFault::NoMemory => Err(AllocError),
     }
 }
 
-/// The language of a grammar file of these bytes, or what is printed, with status 2, where it defines none. Refuses for
-/// memory alone.
+/// The language of a grammar file of these bytes, or what is printed, with status 2, where it defines none: of a conflict the four
+/// lines that show it. Refuses for memory alone.
 pub fn load(alloc: Global, bytes: &[u8]) -> Result<Result<Language, Printed>, AllocError>
     ensures language { IfOk result (λ loaded. IfOk loaded (λ l. IsLanguageOf bytes.now l.file)) }
-    ensures refused { IfOk result (λ loaded. IfErr loaded (λ printed. printed.status ≡ 2)) }
+    ensures refused { IfOk result (λ loaded. IfErr loaded (IsRefused bytes.now)) }
 {
     let Ok(text) = str::from_utf8(bytes) else {
         return Ok(Err(refusal(alloc, &Fault::NotUtf8)?));
     };
     match Language::load(alloc, text) {
         Ok(language) => Ok(Ok(language)),
-        Err(fault) => {
-            let fault = fault_of(alloc, fault)?;
-            Ok(Err(refusal(alloc, &fault)?))
-        }
+        Err(fault) => Ok(Err(refused(alloc, fault)?)),
     }
 }
 
@@ -138,7 +131,8 @@ fn outcome(alloc: Global, outcome: Outcome) -> Result<Printed, AllocError>
     })
 }
 
-/// What `lrls parse` prints of a text of these bytes: the text of its tree, or its fault, with status 1. A text that isn't
+/// What `lrls parse` prints of a text of these bytes: the text of its tree, or its fault, with status 1. Positions count
+/// UTF-16 units. A text that isn't
 /// UTF-8 or has more than 1,048,576 bytes is refused with status 1. Refuses for memory alone.
 pub fn parse(alloc: Global, language: &Language, bytes: &[u8]) -> Result<Printed, AllocError>
     ensures { IfOk result (IsParsed language.now.file bytes.now) }
@@ -146,7 +140,7 @@ pub fn parse(alloc: Global, language: &Language, bytes: &[u8]) -> Result<Printed
     let Ok(text) = str::from_utf8(bytes) else {
         return refusal(alloc, &Fault::TextNotUtf8);
     };
-    match Doc::open(alloc, language, 0, text) {
+    match Doc::open(alloc, language, Unit::Utf16, 0, text) {
         Ok(doc) => outcome(alloc, doc.outcome(alloc, language)?),
         Err(DocFault::TooLarge) => refusal(alloc, &Fault::TextTooLarge),
         Err(DocFault::NoMemory) => Err(AllocError),

@@ -1,5 +1,7 @@
 use Rattle.std.proofs.Common.{◌≡◌, ℕ, List, true, inr, subst, ap, ◌∙◌}
 use Rattle.std.specs.Str.{chars}
+use Rattle.definitions.specs.declared.Unit.{Unit as Encoding}
+use Rattle.definitions.specs.declared.Unit.TheVariants.{Utf16}
 use Rattle.docs.specs.declared.doc.Outcome.{Outcome}
 use Rattle.docs.specs.Answers.{IsOutcome}
 use Rattle.docs.specs.Texts.{OpenDocument, fits}
@@ -13,5 +15,7 @@ returns-in_ok-outcome-in-Ok-open c =
     let come : Outcome = c.in_ok-outcome-in-Ok-open.field-0 in
     let fit : fits (chars c.args.bytes.now) ≡ true = subst (λ (bytes : List ℕ). fits (chars bytes) ≡ true) same c.in-Ok-open.ensures.fits in
     let text = ap (λ (d : OpenDocument). d.text) c.in-Ok-open.ensures.is ∙ ap chars same in
-    let is : IsOutcome file (chars c.args.bytes.now) come = subst (λ (t : List ℕ). IsOutcome file t come) text c.in_ok-outcome-in-Ok-open.ensures in
+    let unit = ap (λ (d : OpenDocument). d.unit) c.in-Ok-open.ensures.is in
+    let here = subst (λ (e : Encoding). IsOutcome e file c.in-Ok-open.doc.text come) unit c.in_ok-outcome-in-Ok-open.ensures in
+    let is : IsOutcome Utf16 file (chars c.args.bytes.now) come = subst (λ (t : List ℕ). IsOutcome Utf16 file t come) text here in
     if_ok c.outcome-in-Ok-open.result (λ printed prints. inr (inr (c.in-Ok.ensures.cases.1, fit, (come, is, prints)))) c.outcome-in-Ok-open.ensures

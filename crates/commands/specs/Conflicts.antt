@@ -1,0 +1,61 @@
+-- What is printed of a grammar file that defines no language.
+--     spaced file symbols      the names of symbols, a space before each
+--     item_line file item      `item: LEFT = SYMBOLS . SYMBOLS, LOOKAHEAD`, the dot at the item's place
+--     conflict_text file conflict      four lines: the lookahead at which two items call for different moves, the symbols behind which they
+--         do, and the two items
+--     IsRefused bytes printed      the fault of a grammar file of these bytes is printed: of a conflict its text
+use Rattle.std.specs.Prelude.{◌≡◌, ℕ, ◌++◌, List, [], take, drop, flat_map, codes, encode_utf8_all, Option, Some, None}
+use Rattle.std.specs.Str.{IsUtf8}
+use Rattle.definitions.specs.declared.Symbol.{Symbol}
+use Rattle.definitions.specs.declared.Symbol.TheVariants.{Rule as Terminal, Nonterminal}
+use Rattle.docs.specs.Languages.{IsLoadFault}
+use Rattle.docs.specs.declared.language.LoadFault.{LoadFault}
+use Rattle.docs.specs.declared.language.LoadFault.TheVariants as load
+use Rattle.grammar.specs.Grammars.{FileGrammar, left_of}
+use Rattle.grammar.specs.Notes.{symbol_name}
+use Rattle.tables.specs.Sets.{side}
+use Rattle.tables.specs.declared.conflict.Conflict.{Conflict}
+use Rattle.tables.specs.Item.{Item}
+use Rattle.commands.specs.declared.printed.Printed.{Printed}
+
+-- in UTF-8
+abbrev pub name_bytes : FileGrammar → Symbol → List ℕ
+name_bytes file symbol = encode_utf8_all (symbol_name file symbol)
+
+abbrev pub spaced : FileGrammar → List Symbol → List ℕ
+spaced file symbols = flat_map (λ s. codes " " ++ name_bytes file s) symbols
+
+-- a token rule's name, or `end`
+abbrev pub look_name : FileGrammar → Option ℕ → List ℕ
+look_name file None = codes "end"
+look_name file (Some a) = name_bytes file (Terminal a)
+
+-- the name of a production's left side, or `(start)` for the production that is added to the grammar
+abbrev pub left_name : FileGrammar → Option ℕ → List ℕ
+left_name file None = codes "(start)"
+left_name file (Some p) = name_bytes file (Nonterminal (left_of file.grammar p))
+
+-- an item with these sides
+abbrev pub line : FileGrammar → List ℕ → List Symbol → Item → List ℕ
+line file left right i =
+    codes "item: " ++ (left ++ (codes " =" ++ (spaced file (take i.at right)
+    ++ (codes " ." ++ (spaced file (drop i.at right) ++ (codes ", " ++ (look_name file i.look ++ codes "\n")))))))
+
+abbrev pub item_line : FileGrammar → Item → List ℕ
+item_line file i = line file (left_name file i.production) (side file.grammar i.production) i
+
+abbrev pub conflict_text : FileGrammar → Conflict → List ℕ
+conflict_text file c =
+    codes "lrls: conflict on " ++ (look_name file c.look ++ (codes "\nafter:" ++ (spaced file c.prefix.items
+    ++ (codes "\n" ++ (item_line file c.first ++ item_line file c.second)))))
+
+abbrev pub TellsConflict : LoadFault → Printed → Type 0
+TellsConflict (load.Conflict file conflict) printed = printed.err.items ≡ conflict_text file conflict
+TellsConflict load.NoMemory printed = ⊥
+TellsConflict _ printed = Unit {0}
+
+-- nothing is printed on standard output, and the status is 2
+pub record IsRefused (bytes : List ℕ) (printed : Printed) : Type 0 where
+  pub out : printed.out.items ≡ []
+  pub status : printed.status ≡ 2
+  pub fault : IsUtf8 bytes → (fault : LoadFault) × IsLoadFault bytes fault × TellsConflict fault printed
