@@ -38,28 +38,6 @@ fn commands_name_their_grammar(rt: HostRuntime) -> Result<(), Fail> {
 }
 
 #[test]
-fn other_words_are_refused(rt: HostRuntime) -> Result<(), Fail> {
-    let alloc = rt.alloc();
-    let lines = [
-        "",
-        "serve",
-        "serve a b",
-        "serve --help",
-        "--help",
-        "help",
-        "check",
-        "check a b",
-        "parse",
-        "parse a",
-        "parse a b c",
-    ];
-    for line in lines {
-        assert!(rt; told(alloc, line)?.is_none(), "at {line}");
-    }
-    Ok(())
-}
-
-#[test]
 fn faults_have_their_texts(rt: HostRuntime) -> Result<(), Fail> {
     let alloc = rt.alloc();
     let usage = "usage: lrls check GRAMMAR | parse GRAMMAR TEXT | serve GRAMMAR";

@@ -1,4 +1,4 @@
-//! What `parse` prints of texts.
+//! What `parse` prints of texts: a tree and faults. `tests/program` has the texts that are refused.
 
 use crate::grammar_checks::sums;
 use commands::parse;
@@ -44,40 +44,4 @@ fn trees_and_faults_are_printed(rt: HostRuntime) -> Result<(), Fail> {
         status: 1,
     };
     prints(&rt, alloc, b"", end)
-}
-
-#[test]
-fn bytes_that_are_no_text_are_refused(rt: HostRuntime) -> Result<(), Fail> {
-    let refused = Row {
-        out: "",
-        err: "lrls: text is not UTF-8\n",
-        status: 1,
-    };
-    prints(&rt, rt.alloc(), b"1+\xFF", refused)?;
-    let mut long = Vec::from_elem(rt.alloc(), b'1', 1_048_577)?;
-    long.push(b'\xFF')?;
-    prints(&rt, rt.alloc(), &long, refused)
-}
-
-#[test]
-fn a_text_over_the_limit_is_refused(rt: HostRuntime) -> Result<(), Fail> {
-    let refused = Row {
-        out: "",
-        err: "lrls: text too large\n",
-        status: 1,
-    };
-    let text = Vec::from_elem(rt.alloc(), b'1', 1_048_577)?;
-    prints(&rt, rt.alloc(), &text, refused)
-}
-
-/// The longest text is one number.
-#[test]
-fn a_text_of_the_greatest_length_is_parsed(rt: HostRuntime) -> Result<(), Fail> {
-    let tree = Row {
-        out: "(Sum (Atom NUM))\n",
-        err: "",
-        status: 0,
-    };
-    let text = Vec::from_elem(rt.alloc(), b'1', 1_048_576)?;
-    prints(&rt, rt.alloc(), &text, tree)
 }

@@ -8,8 +8,6 @@ mod grammar_lines;
 #[cfg(test)]
 mod grammars;
 #[cfg(test)]
-mod marked_trees;
-#[cfg(test)]
 mod marked_words;
 #[cfg(test)]
 mod parses;
