@@ -132,8 +132,8 @@ fn outcome(alloc: Global, outcome: Outcome) -> Result<Printed, AllocError>
 }
 
 /// What `lrls parse` prints of a text of these bytes: the text of its tree, or its fault, with status 1. Positions count
-/// UTF-16 units. A text that isn't
-/// UTF-8 or has more than 1,048,576 bytes is refused with status 1. Refuses for memory alone.
+/// UTF-16 units. A text that isn't UTF-8 or has more than 1,048,576 bytes is refused with status 1. Refuses for memory
+/// alone.
 pub fn parse(alloc: Global, language: &Language, bytes: &[u8]) -> Result<Printed, AllocError>
     ensures { IfOk result (IsParsed language.now.file bytes.now) }
 {
