@@ -71,7 +71,8 @@ pub fn load(alloc: Global, bytes: &[u8]) -> Result<Result<Language, Printed>, Al
 
 /// Writes the line of a name that no derivation from the start uses.
 fn write_note(out: &mut String, name: &str) -> Result<(), AllocError>
-    ensures { OnOk result (string_bytes out.new ≡ string_bytes out.old ++ note_line (chars name.now)) }
+    ensures { OnOk result
+        (string_bytes out.new ≡ string_bytes out.old ++ note_line (chars name.now)) }
 {
     out.push_str("note: unreachable ")?;
     out.push_str(name)?;

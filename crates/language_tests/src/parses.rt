@@ -70,7 +70,8 @@ fn assert_node(
 
 /// Which of the five token rules, and whether the end, may stand at the fault.
 fn expected(alloc: Global, tables: &Tables, parse: &Parse) -> Result<Vec<Option<usize>>, AllocError>
-    requires { (kinds : List TokenKind) × (cells : List Cell) × IsParseOf tables.now kinds cells parse.now }
+    requires { (kinds : List TokenKind) × (cells : List Cell)
+        × IsParseOf tables.now kinds cells parse.now }
 {
     let mut looks = Vec::new(alloc);
     for look in parse.expected(tables) {

@@ -39,7 +39,8 @@ fn load(alloc: Global, text: &str) -> Result<Language, Fail>
 /// The tokens of a whole text.
 fn scan(alloc: Global, language: &Language, text: &Text) -> Result<Tokens, Fail>
     requires { IsAutomaton language.now.grammar.patterns language.now.automaton }
-    ensures { IfOk result (λ tokens. AreTokensOf language.now.grammar.patterns language.now.grammar.skips text.now tokens.items) }
+    ensures { let g = language.now.grammar in
+        IfOk result (λ tokens. AreTokensOf g.patterns g.skips text.now tokens.items) }
 {
     let _length = text.len();
     let tokens = Tokens::scan(alloc, &language.grammar, &language.automaton, &Whole(text))?;
@@ -100,9 +101,11 @@ fn change(
     step: &Step<'_>,
 ) -> Result<Rescan, Fail>
     requires sound { IsAutomaton language.now.grammar.patterns language.now.automaton }
-    requires tokens { AreTokensOf language.now.grammar.patterns language.now.grammar.skips text.old tokens.old.items }
+    requires tokens { let g = language.now.grammar in
+        AreTokensOf g.patterns g.skips text.old tokens.old.items }
     requires inside { step.now.at + step.now.removed ≤ length text.old }
-    ensures { OnOk result (AreTokensOf language.now.grammar.patterns language.now.grammar.skips text.new tokens.new.items) }
+    ensures { let g = language.now.grammar in
+        OnOk result (AreTokensOf g.patterns g.skips text.new tokens.new.items) }
 {
     let piece = Text::open(alloc, step.piece)?;
     let edit = Edit {
@@ -146,8 +149,10 @@ fn check_step(
     step: &Step<'_>,
 ) -> Result<usize, Fail>
     requires sound { IsAutomaton language.now.grammar.patterns language.now.automaton }
-    requires tokens { AreTokensOf language.now.grammar.patterns language.now.grammar.skips text.old tokens.old.items }
-    ensures { OnOk result (AreTokensOf language.now.grammar.patterns language.now.grammar.skips text.new tokens.new.items) }
+    requires tokens { let g = language.now.grammar in
+        AreTokensOf g.patterns g.skips text.old tokens.old.items }
+    ensures { let g = language.now.grammar in
+        OnOk result (AreTokensOf g.patterns g.skips text.new tokens.new.items) }
 {
     let length = text.len();
     assert!(rt; step.at <= length);

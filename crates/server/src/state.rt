@@ -86,7 +86,8 @@ fn nothing(alloc: Global) -> Out
 }
 
 fn one_reply(alloc: Global, reply: Reply) -> Result<Out, AllocError>
-    ensures replies { IfOk result (λ out. map reply_view out.replies.items ≡ reply_view reply ∷ []) }
+    ensures replies { IfOk result
+        (λ out. map reply_view out.replies.items ≡ reply_view reply ∷ []) }
     ensures stop { IfOk result (λ out. out.stop ≡ None) }
 {
     let mut replies = Vec::new(alloc);
