@@ -5,11 +5,12 @@ use Rattle.std.specs.Bool.{Decides}
 use Rattle.std.specs.Option.{option_eq}
 use Rattle.std.proofs.Math.Dec.{eqb}
 use Rattle.std.proofs.lemmas.Bool.Decides.{Decides-and, Decides-eqb}
-use Rattle.std.specs.List.{list_any}
+use Rattle.std.specs.List.{list_any, position}
 use Rattle.std.specs.Cmp.Lexicographic.{pointwise}
 use Rattle.std.proofs.lemmas.Slice.Eq.{slice_eq-Decides}
 use Rattle.std.proofs.lemmas.List.{get_or-map, map-append, length-map}
 use Rattle.std.proofs.lemmas.List.Folds.{list_any_at}
+use Rattle.std.proofs.lemmas.List.Quantifiers.{position-Some}
 use Rattle.std.proofs.lemmas.Option.{get_or_from_slice_get}
 use Rattle.std.proofs.Common.{Global}
 use Rattle.item_sets.specs.contracts.item.ItemPartialEq.TheImpl.{ghosts}
@@ -52,3 +53,13 @@ list_after ks v false e = inr (map-append items_of ks (v ∷ []), absent)
         let told : same_items v (slice_index_or ks s v) ≡ true = (slice_eq-Decides item_same v.items (slice_index_or ks s v).items (same_items v (slice_index_or ks s v)) refl).1 (sym f ∙ at) in
         let any : list_any (same_items v) ks ≡ true = list_any_at (same_items v) ks s v below told in
         cc (any, e)
+
+-- the place that is found of some items has them
+pub found_place : (ks : List (Vec Item Global)) (items : List Item) (s : ℕ) → position (λ k. pointwise ghosts.eq items k.items) ks ≡ Some s → (s < length (map items_of ks)) × (slice_index_or (map items_of ks) s [] ≡ items)
+found_place [] items s e = absurd (cc e)
+found_place (x ∷ ks) items s e =
+    let p = position-Some (λ k. pointwise ghosts.eq items k.items) (x ∷ ks) s x e in
+    let n = length-map (x ∷ ks) items_of in
+    let l = p.0 in
+    let here = slice_index_or (x ∷ ks) s x in
+    (omega (arith, l, n), get_or-map items_of (x ∷ ks) s x [] l ∙ sym ((slice_eq-Decides item_same items here.items (pointwise ghosts.eq items here.items) refl).0 p.1))

@@ -13,3 +13,6 @@ pub mod Collecting
 pub mod FromFile
 pub mod Follows
 pub mod Lefts
+pub mod Numbered
+pub mod Stepping
+pub mod Behind

@@ -1,5 +1,5 @@
 -- The canonical collection: the sets of items by their kernels, and where a symbol leads from each.
-use Rattle.std.specs.Prelude.{◌≡◌, ◌⊎◌, ◌<◌, ◌≤◌, ℕ, List, [], ◌∷◌, ◌++◌, Option, None, MatchOption, length, slice_index_or}
+use Rattle.std.specs.Prelude.{◌≡◌, ◌⊎◌, ◌<◌, ◌≤◌, ◌+◌, ℕ, List, [], ◌∷◌, ◌++◌, Option, None, MatchOption, length, slice_index_or}
 use Rattle.definitions.specs.declared.Symbol.{Symbol}
 use Rattle.definitions.specs.declared.Symbol.TheVariants.{Rule as Terminal}
 use Rattle.definitions.specs.Trees.{Grammar}
@@ -8,6 +8,7 @@ use Rattle.item_sets.specs.declared.collection.Origin.{Origin}
 use Rattle.item_sets.specs.declared.item.Item.{Item}
 use Rattle.item_sets.specs.Productions.{Shape, IsSound}
 use Rattle.item_sets.specs.Order.{IsOrdered}
+use Rattle.item_sets.specs.Symbols.{symbol_of}
 use Rattle.item_sets.specs.States.{HasKernel}
 
 abbrev pub kernel_at : List (List Item) → ℕ → List Item
@@ -60,3 +61,8 @@ IsStep g kernels s symbol to =
     MatchOption to
     ((prefix : List Symbol) → HasKernel g (kernel_at kernels s) prefix → HasItem g (prefix ++ symbol ∷ []) → ⊥)
     (λ t. (t < length kernels) × ((prefix : List Symbol) → HasKernel g (kernel_at kernels s) prefix → HasKernel g (kernel_at kernels t) (prefix ++ symbol ∷ [])))
+
+-- where each symbol leads from the state s
+pub record IsRow (g : Shape) (kernels : List (List Item)) (s : ℕ) (row : List (Option ℕ)) : Type 0 where
+  pub filled : length row ≡ g.grammar.rules + g.nonterminals
+  pub steps : (k : ℕ) → k < length row → IsStep g.grammar kernels s (symbol_of g.grammar k) (slice_index_or row k None)

@@ -2,6 +2,7 @@ pub mod First
 pub mod Productions
 pub mod Lookaheads
 pub mod Sets
+pub mod Symbols
 pub mod Wants
 pub mod States
 pub mod Order

@@ -1,12 +1,12 @@
 -- What the sets of items of the collection are: those of prefixes.
-use Rattle.std.specs.Prelude.{◌≡◌, ◌+◌, Some, List, All, Contains}
+use Rattle.std.specs.Prelude.{◌≡◌, ◌<◌, ◌+◌, ℕ, Some, List, [], ◌∷◌, ◌++◌, All, Contains, length, slice_index_or}
 use Rattle.definitions.specs.declared.Symbol.{Symbol}
 use Rattle.definitions.specs.Trees.{Grammar}
 use Rattle.definitions.specs.Derivations.{first}
 use Rattle.definitions.specs.Items.{Item as LrItem, IsValid}
 use Rattle.theory.specs.Closure.{IsKernel}
 use Rattle.item_sets.specs.declared.item.Item.{Item}
-use Rattle.item_sets.specs.Order.{IsRising}
+use Rattle.item_sets.specs.Order.{IsRising, IsOrdered}
 use Rattle.item_sets.specs.Productions.{Shape}
 use Rattle.item_sets.specs.Sets.{item_of, behind, IsItem}
 
@@ -23,13 +23,24 @@ pub record HasKernel (g : Grammar) (kernel : List Item) (prefix : List Symbol) :
 abbrev pub step : Item → Item
 step i = record { production = i.production; at = i.at + 1; look = i.look }
 
--- the items behind the symbol s
+-- the items that stand before the symbol s, with their places behind it
 pub record Shifted (g : Grammar) (items : List Item) (s : Symbol) (kernel : List Item) : Type 0 where
   pub each : (i : Item) → Contains kernel i → (j : Item) × Contains items j × (first (behind g j) ≡ Some s) × (step j ≡ i)
   pub all : (j : Item) → Contains items j → first (behind g j) ≡ Some s → Contains kernel (step j)
+
+-- the same of the items in front of a place, in order
+pub record ShiftsUpTo (g : Grammar) (items : List Item) (at : ℕ) (s : Symbol) (kernel : List Item) : Type 0 where
+  pub rising : IsRising kernel
+  pub each : (i : Item) → Contains kernel i → (k : ℕ) × (k < at) × (k < length items) × (first (behind g (slice_index_or items k i)) ≡ Some s) × (step (slice_index_or items k i) ≡ i)
+  pub all : (k : ℕ) (d : Item) → k < at → first (behind g (slice_index_or items k d)) ≡ Some s → Contains kernel (step (slice_index_or items k d))
 
 -- the items, in order, of the set of each prefix with this kernel
 pub record IsSetOf (g : Shape) (kernel items : List Item) : Type 0 where
   pub known : All (IsItem g) items
   pub rising : IsRising items
   pub set : (prefix : List Symbol) → HasKernel g.grammar kernel prefix → HasSet g.grammar items prefix
+
+-- the kernel of each prefix whose set these items are, with the symbol s behind it
+pub record IsKernelBehind (g : Shape) (items : List Item) (s : Symbol) (kernel : List Item) : Type 0 where
+  pub ordered : IsOrdered g kernel
+  pub leads : (prefix : List Symbol) → HasSet g.grammar items prefix → HasKernel g.grammar kernel (prefix ++ s ∷ [])

@@ -251,6 +251,9 @@ fn add_items(
         ⊎ IsBeginning wanted.now.rows (left_of grammar.now.grammar p) p i) }
 {
     let left = grammar.left(p);
+    if wanted.is_unwanted(grammar, left) {
+        return Ok(());
+    }
     for column in 0..grammar.lookaheads() {
         if wanted.has(grammar, left, column) {
             items.push(Item {

@@ -1,13 +1,15 @@
 //! The canonical collection: the sets of items, and where a symbol leads from each.
 ghost use Rattle.std.specs.Prelude.{◌≡◌, ◌<◌, ◌≤◌, ◌+◌, ◌∷◌, ◌++◌, List, [], None, All, IfOk, OnOk, length, slice_index_or};
 ghost use Rattle.definitions.specs.declared.Symbol.{Symbol};
-ghost use Rattle.item_sets.specs.Collection.{kernel_at, AreStates, Placed, GoesOn, IsStep};
+ghost use Rattle.item_sets.specs.Collection.{kernel_at, AreStates, Placed, GoesOn, IsStep, IsRow};
+ghost use Rattle.item_sets.specs.Order.{IsOrdered};
 ghost use Rattle.item_sets.specs.States.{HasKernel, IsSetOf};
 
 use crate::augmented::AugmentedGrammar;
-use crate::goto::shifted;
+use crate::goto::kernels_behind;
 use crate::item::Item;
 use crate::kernels::Kernels;
+use crate::symbols::symbol_at;
 use definitions::Symbol;
 use std::alloc::{AllocError, Global};
 use std::marker::Model;
@@ -50,7 +52,7 @@ impl States {
             at: 0,
             look: None,
         })?;
-        kernels.place(kernel)?;
+        kernels.place(alloc, &kernel)?;
         let mut origins = Vec::new(alloc);
         origins.push(Origin {
             from: 0,
@@ -75,41 +77,74 @@ impl States {
     }
 
     /// The state with this kernel, which is added where it is new.
-    fn place(&mut self, kernel: Vec<Item>, from: usize, symbol: Symbol) -> Result<usize, AllocError>
+    fn place(
+        &mut self,
+        alloc: Global,
+        kernel: &[Item],
+        from: usize,
+        symbol: Symbol,
+    ) -> Result<usize, AllocError>
         requires { length self.old.origins ≡ length self.old.kernels }
         ensures place { IfOk result (λ s. (s < length self.new.kernels)
-            × (kernel_at self.new.kernels s ≡ kernel.items)) }
-        ensures placed { OnOk result (Placed self.old self.new kernel.items from symbol) }
+            × (kernel_at self.new.kernels s ≡ kernel.now)) }
+        ensures placed { OnOk result (Placed self.old self.new kernel.now from symbol) }
     {
-        let state = self.kernels.place(kernel)?;
+        let state = self.kernels.place(alloc, kernel)?;
         if state == self.origins.len() {
             self.origins.push(Origin { from, symbol })?;
         }
         Ok(state)
     }
 
-    /// Where the symbol leads from the state with these items. A state that is met for the first time is added.
-    pub fn goto(
+    /// Where the symbol leads from a state, with this kernel behind it. A state that is met for the first time is added.
+    fn goto(
         &mut self,
         alloc: Global,
         grammar: &AugmentedGrammar,
-        items: &[Item],
+        kernel: &[Item],
         from: usize,
         symbol: Symbol,
     ) -> Result<Option<usize>, AllocError>
         requires states { AreStates grammar.now self.old }
         requires from { from < length self.old.kernels }
-        requires items { IsSetOf grammar.now (kernel_at self.old.kernels from) items.now }
+        requires ordered { IsOrdered grammar.now kernel.now }
+        requires leads { (prefix : List Symbol)
+            → HasKernel grammar.now.grammar (kernel_at self.old.kernels from) prefix
+            → HasKernel grammar.now.grammar kernel.now (prefix ++ symbol ∷ []) }
         ensures states { OnOk result (AreStates grammar.now self.new) }
         ensures goes_on { OnOk result (GoesOn self.old.kernels self.new.kernels) }
         ensures step { IfOk result (IsStep grammar.now.grammar self.new.kernels from symbol) }
     {
-        let kernel = shifted(alloc, grammar, items, symbol)?;
         if kernel.is_empty() {
             return Ok(None);
         }
-        let to = self.place(kernel, from, symbol)?;
+        let to = self.place(alloc, kernel, from, symbol)?;
         Ok(Some(to))
+    }
+
+    /// Where each symbol leads from the state with these items, by the symbol's number. States that are met for the first time
+    /// are added in the order of the symbols.
+    pub fn gotos(
+        &mut self,
+        alloc: Global,
+        grammar: &AugmentedGrammar,
+        items: &[Item],
+        from: usize,
+    ) -> Result<Vec<Option<usize>>, AllocError>
+        requires states { AreStates grammar.now self.old }
+        requires from { from < length self.old.kernels }
+        requires items { IsSetOf grammar.now (kernel_at self.old.kernels from) items.now }
+        ensures states { OnOk result (AreStates grammar.now self.new) }
+        ensures goes_on { OnOk result (GoesOn self.old.kernels self.new.kernels) }
+        ensures row { IfOk result (λ to. IsRow grammar.now self.new.kernels from to.items) }
+    {
+        let kernels = kernels_behind(alloc, grammar, items)?;
+        let mut to = Vec::new(alloc);
+        for kernel in &kernels {
+            let symbol = symbol_at(grammar, to.len());
+            to.push(self.goto(alloc, grammar, kernel.items(), from, symbol)?)?;
+        }
+        Ok(to)
     }
 
     /// The symbols by which the state was first reached. Where the states are taken in order to be followed, no fewer symbols

@@ -1,48 +1,94 @@
-//! Where a symbol leads from a set of items.
-ghost use Rattle.std.specs.Prelude.{◌≡◌, ◌<◌, ◌+◌, ◌^◌, ◌↔◌, ◌++◌, ◌∷◌, [], true, List, Some, IsTrue, All, IfOk};
-ghost use Rattle.definitions.specs.declared.Symbol.{Symbol};
-ghost use Rattle.definitions.specs.Derivations.{first};
-ghost use Rattle.item_sets.specs.Order.{IsRising, IsOrdered};
-ghost use Rattle.item_sets.specs.Sets.{IsItem, behind};
-ghost use Rattle.item_sets.specs.States.{HasKernel, HasSet};
+//! Where symbols lead from a set of items.
+ghost use Rattle.std.specs.Prelude.{◌≡◌, ◌<◌, ◌+◌, ◌∷◌, ◌++◌, ℕ, [], All, IfOk, OnOk, length, slice_index_or};
+ghost use Rattle.item_sets.specs.Order.{IsRising};
+ghost use Rattle.item_sets.specs.Sets.{IsItem};
+ghost use Rattle.item_sets.specs.States.{IsKernelBehind};
+ghost use Rattle.item_sets.specs.Symbols.{symbol_of};
 
 use crate::augmented::AugmentedGrammar;
 use crate::item::Item;
-use definitions::Symbol;
+use crate::symbols::number_of;
 use std::alloc::{AllocError, Global};
+use std::marker::Model;
 
-/// Whether the symbol stands behind the item's place.
-fn stands_before(grammar: &AugmentedGrammar, item: Item, symbol: Symbol) -> bool
-    requires { IsItem grammar.now item }
-    ensures is { IsTrue result ↔ (first (behind grammar.now.grammar item) ≡ Some symbol) }
-    ensures fits { result ≡ true → item.at + 1 < 2 ^ 64 }
-{
-    grammar.next(item) == Some(symbol)
+/// The items of a kernel, as they are found.
+#[derive(Drop)]
+pub struct Kernel {
+    /// The items in order.
+    items: Vec<Item>,
 }
 
-/// The kernel behind a symbol.
-pub fn shifted(
+impl Model for Kernel {
+    ghost use Rattle.std.specs.Prelude.{List};
+    ghost use Rattle.item_sets.specs.declared.item.Item.{Item};
+
+    ghost Value = { List Item };
+
+    ghost view = { λ a. a.items.items };
+}
+
+impl Kernel {
+    /// No item.
+    fn new(alloc: Global) -> Kernel
+        ensures { result ≡ [] }
+    {
+        Kernel {
+            items: Vec::new(alloc),
+        }
+    }
+
+    /// Adds an item.
+    fn add(&mut self, item: Item) -> Result<(), AllocError>
+        ensures { OnOk result (self.new ≡ self.old ++ item ∷ []) }
+    {
+        self.items.push(item)?;
+        Ok(())
+    }
+
+    /// The items.
+    pub fn items(&self) -> &[Item]
+        ensures { result.now ≡ self.now }
+    {
+        &self.items
+    }
+}
+
+/// So many kernels with no item.
+fn empty_kernels(alloc: Global, count: usize) -> Result<Vec<Kernel>, AllocError>
+    ensures count { IfOk result (λ kernels. length kernels.items ≡ count) }
+    ensures empty { IfOk result (λ kernels. (k : ℕ) → slice_index_or kernels.items k [] ≡ []) }
+{
+    let mut kernels = Vec::new(alloc);
+    for _k in 0..count {
+        kernels.push(Kernel::new(alloc))?;
+    }
+    Ok(kernels)
+}
+
+/// The kernels behind the symbols, by the numbers of these.
+pub fn kernels_behind(
     alloc: Global,
     grammar: &AugmentedGrammar,
     items: &[Item],
-    symbol: Symbol,
-) -> Result<Vec<Item>, AllocError>
+) -> Result<Vec<Kernel>, AllocError>
     requires known { All (IsItem grammar.now) items.now }
     requires rising { IsRising items.now }
-    ensures ordered { IfOk result (λ kernel. IsOrdered grammar.now kernel.items) }
-    ensures valid { IfOk result (λ kernel. (prefix : List Symbol)
-        → HasSet grammar.now.grammar items.now prefix
-        → HasKernel grammar.now.grammar kernel.items (prefix ++ symbol ∷ [])) }
+    ensures count { IfOk result (λ kernels. length kernels.items
+        ≡ grammar.now.grammar.rules + grammar.now.nonterminals) }
+    ensures each { IfOk result (λ kernels. (k : ℕ) → k < length kernels.items
+        → IsKernelBehind grammar.now items.now (symbol_of grammar.now.grammar k)
+        (slice_index_or kernels.items k [])) }
 {
-    let mut kernel = Vec::new(alloc);
+    let mut kernels = empty_kernels(alloc, grammar.symbols())?;
     for item in items {
-        if stands_before(grammar, *item, symbol) {
-            kernel.push(Item {
+        if let Some(symbol) = grammar.next(*item) {
+            let kernel = &mut kernels[number_of(grammar, symbol)];
+            kernel.add(Item {
                 production: item.production,
                 at: item.at + 1,
                 look: item.look,
             })?;
         }
     }
-    Ok(kernel)
+    Ok(kernels)
 }

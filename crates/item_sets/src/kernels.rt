@@ -49,7 +49,7 @@ impl Kernels {
     }
 
     /// The place of a kernel, which is added at the end where it is new.
-    pub fn place(&mut self, kernel: Vec<Item>) -> Result<usize, AllocError>
+    fn add(&mut self, kernel: Vec<Item>) -> Result<usize, AllocError>
         ensures place { IfOk result (λ s. (s < length self.new)
             × (slice_index_or self.new s [] ≡ kernel.items)) }
         ensures list { OnOk result ((self.new ≡ self.old)
@@ -59,5 +59,18 @@ impl Kernels {
             Ok((state, _)) => Ok(state),
             Err(_) => Err(AllocError),
         }
+    }
+
+    /// The place of a kernel, a copy of which is added at the end where it is new.
+    pub fn place(&mut self, alloc: Global, kernel: &[Item]) -> Result<usize, AllocError>
+        ensures place { IfOk result (λ s. (s < length self.new)
+            × (slice_index_or self.new s [] ≡ kernel.now)) }
+        ensures list { OnOk result ((self.new ≡ self.old)
+            ⊎ ((self.new ≡ self.old ++ kernel.now ∷ []) × IsAbsent self.old kernel.now)) }
+    {
+        if let Some(state) = self.set.get_index_of(kernel) {
+            return Ok(state);
+        }
+        self.add(Vec::from_slice(alloc, kernel)?)
     }
 }

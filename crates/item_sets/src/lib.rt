@@ -12,6 +12,7 @@ mod kernels;
 mod lookahead;
 mod marks;
 mod productions;
+mod symbols;
 mod wanted;
 
 pub use augmented::AugmentedGrammar;

@@ -9,14 +9,18 @@ use std::marker::Model;
 pub struct Marks {
     /// Whether each number is marked.
     bits: Vec<bool>,
+    /// Whether some number is marked.
+    some: bool,
 }
 
 impl Model for Marks {
-    ghost use Rattle.std.specs.Prelude.{List, Bool};
+    ghost use Rattle.std.specs.Prelude.{List, Bool, ℕ, false, ◌≡◌, slice_index_or};
 
     ghost Value = { List Bool };
 
     ghost view = { λ a. a.bits.items };
+
+    ghost invariant = { λ a. a.some ≡ false → (i : ℕ) → slice_index_or a.bits.items i false ≡ false };
 }
 
 impl Marks {
@@ -26,7 +30,14 @@ impl Marks {
         ensures blank { IfOk result (λ m. (i : ℕ) → slice_index_or m i false ≡ false) }
     {
         let bits = vec![in alloc; false; n]?;
-        Ok(Marks { bits })
+        Ok(Marks { bits, some: false })
+    }
+
+    /// Whether no number is marked.
+    pub fn is_blank(&self) -> bool
+        ensures { result ≡ true → (i : ℕ) → slice_index_or self.now i false ≡ false }
+    {
+        !self.some
     }
 
     /// Whether the number is marked.
@@ -43,5 +54,6 @@ impl Marks {
         ensures { self.new ≡ slice_set self.old i true }
     {
         self.bits[i] = true;
+        self.some = true;
     }
 }

@@ -67,6 +67,15 @@ impl Wanted {
         self.list[i]
     }
 
+    /// Whether the nonterminal is wanted with no lookahead.
+    pub fn is_unwanted(&self, grammar: &AugmentedGrammar, nonterminal: usize) -> bool
+        requires wants { AreWants grammar.now self.now }
+        requires nonterminal { nonterminal < grammar.now.nonterminals }
+        ensures { result ≡ true → (k : ℕ) → marked self.now.rows nonterminal k ≡ false }
+    {
+        self.rows[nonterminal].is_blank()
+    }
+
     /// Whether the nonterminal is wanted with the lookahead of this column.
     pub fn has(&self, grammar: &AugmentedGrammar, nonterminal: usize, column: usize) -> bool
         requires wants { AreWants grammar.now self.now }

@@ -22,7 +22,7 @@ use Rattle.item_sets.specs.States.{HasKernel}
 use Rattle.item_sets.proofs.Collected.{start_item, start_kernel}
 use Rattle.item_sets.proofs.Known.{in_known}
 use Rattle.item_sets.proofs.Columns.{lookahead_at-rule, lookahead_small, column_there}
-use Rattle.tables.proofs.Numbered.{behind_first_known}
+use Rattle.item_sets.proofs.Numbered.{behind_first_known}
 use Rattle.item_sets.proofs.Valid.{set_complete}
 
 module _ (g : Shape) (sound : IsSound g) (productive : AllProductive g.grammar) (kernels : List (List Item)) (known : (s : ℕ) → s < length kernels → All (IsItem g) (kernel_at kernels s)) where

@@ -1,8 +1,6 @@
 pub mod Decided
 pub mod Calling
-pub mod Numbered
 pub mod Marked
-pub mod Stepping
 pub mod Called
 pub mod Making
 pub mod Complete

@@ -19,20 +19,20 @@ use Rattle.tables.specs.declared.moves.Call.{Call}
 use Rattle.tables.specs.declared.moves.Call.TheVariants.{Shift as ToShift, Reduce as ToReduce, Accept as ToAccept}
 use Rattle.tables.specs.declared.progress.ClashAt.{ClashAt}
 use Rattle.tables.specs.Actions.{IsOnlyMove, IsMoveAt, AreMoves, IsClashAt, Made, AddsMoves, AreAllMoves, AreMade}
-use Rattle.item_sets.specs.Collection.{kernel_at, GoesOn, IsStep}
-use Rattle.tables.specs.Gotos.{IsRow, AreGotos, HasSteps}
+use Rattle.item_sets.specs.Collection.{kernel_at, GoesOn, IsStep, IsRow}
+use Rattle.tables.specs.Gotos.{AreGotos, HasSteps}
 use Rattle.item_sets.specs.Lookaheads.{lookahead_at}
 use Rattle.item_sets.specs.Productions.{Shape, IsKnown}
 use Rattle.tables.specs.Moves.{move_of}
 use Rattle.tables.specs.Rows.{chosen, AreChosen, IsClash, IsDecided}
 use Rattle.item_sets.specs.Sets.{IsItem}
 use Rattle.item_sets.specs.States.{HasKernel, HasSet}
-use Rattle.tables.specs.Symbols.{number}
+use Rattle.item_sets.specs.Symbols.{number}
 use Rattle.item_sets.proofs.Columns.{lookahead_small}
 use Rattle.tables.proofs.Calling.{no_move, the_move, is_conflict}
-use Rattle.tables.proofs.Numbered.{symbol_of-number}
+use Rattle.item_sets.proofs.Numbered.{symbol_of-number}
 use Rattle.item_sets.proofs.Numbers.{each_more}
-use Rattle.tables.proofs.Stepping.{step_goes_on}
+use Rattle.item_sets.proofs.Stepping.{step_goes_on}
 
 module _ (g : Grammar) where
   shift_item : (prefix : List Symbol) (a : ℕ) (i : LrItem) (rest : List Symbol) → IsValid g prefix i → i.after ≡ Terminal a ∷ rest → HasItem g (prefix ++ Terminal a ∷ [])

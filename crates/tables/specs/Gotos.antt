@@ -1,18 +1,12 @@
 -- Where symbols lead from a state.
-use Rattle.std.specs.Prelude.{◌≡◌, ◌+◌, ◌<◌, ℕ, List, Option, None, length, slice_index_or}
+use Rattle.std.specs.Prelude.{◌≡◌, ◌<◌, ℕ, List, Option, None, length, slice_index_or}
 use Rattle.definitions.specs.declared.Symbol.{Symbol}
 use Rattle.definitions.specs.declared.Symbol.TheVariants.{Nonterminal}
 use Rattle.item_sets.specs.declared.item.Item.{Item}
 use Rattle.item_sets.specs.Collection.{IsStep}
 use Rattle.item_sets.specs.Productions.{Shape, IsKnown}
-use Rattle.tables.specs.Symbols.{symbol_of}
 
--- where each symbol leads from the state s
-pub record IsRow (g : Shape) (kernels : List (List Item)) (s : ℕ) (row : List (Option ℕ)) : Type 0 where
-  pub filled : length row ≡ g.grammar.rules + g.nonterminals
-  pub steps : (k : ℕ) → k < length row → IsStep g.grammar kernels s (symbol_of g.grammar k) (slice_index_or row k None)
-
--- where each nonterminal leads from it
+-- where each nonterminal leads from the state s
 pub record AreGotos (g : Shape) (kernels : List (List Item)) (s : ℕ) (gotos : List (Option ℕ)) : Type 0 where
   pub filled : length gotos ≡ g.nonterminals
   pub steps : (n : ℕ) → n < length gotos → IsStep g.grammar kernels s (Nonterminal n) (slice_index_or gotos n None)

@@ -8,7 +8,6 @@ pub mod laws;
 mod moves;
 mod progress;
 mod rows;
-mod symbols;
 mod tables;
 
 pub use conflict::Conflict;

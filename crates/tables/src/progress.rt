@@ -4,7 +4,7 @@ ghost use Rattle.tables.specs.Actions.{AddsMoves, AreMade};
 ghost use Rattle.item_sets.specs.Collection.{AreStates};
 
 use crate::decisions::{Clash, Decided, Moves, moves_of};
-use crate::rows::{Row, row_of};
+use crate::rows::Row;
 use item_sets::{AugmentedGrammar, States, close};
 use std::alloc::{AllocError, Global};
 use std::marker::Model;
@@ -91,7 +91,8 @@ pub fn advance(
 {
     let state = made.len();
     let items = close(alloc, grammar, states.kernel(state))?;
-    let row = row_of(alloc, grammar, states, &items, state)?;
+    let to = states.gotos(alloc, grammar, &items, state)?;
+    let row = Row::new(to);
     let decided = moves_of(alloc, grammar, &items, &row)?;
     let gotos = row.gotos(alloc, grammar.rules())?;
     made.add(gotos, decided)?;

@@ -1,11 +1,6 @@
 //! Where the symbols lead from a state.
-ghost use Rattle.std.specs.Prelude.{◌≡◌, ◌<◌, ◌≤◌, None, drop, IfOk, OnOk, length, slice_index_or};
-ghost use Rattle.item_sets.specs.Collection.{kernel_at, AreStates, GoesOn};
-ghost use Rattle.item_sets.specs.States.{IsSetOf};
-ghost use Rattle.tables.specs.Gotos.{IsRow};
+ghost use Rattle.std.specs.Prelude.{◌≡◌, ◌<◌, ◌≤◌, None, drop, IfOk, length, slice_index_or};
 
-use crate::symbols::{symbol_at, symbols_behind};
-use item_sets::{AugmentedGrammar, Item, States};
 use std::alloc::{AllocError, Global};
 use std::marker::Model;
 
@@ -49,31 +44,4 @@ impl Row {
             to: Vec::from_slice(alloc, &self.to[rules..])?,
         })
     }
-}
-
-/// Where each symbol leads from the state with these items.
-pub fn row_of(
-    alloc: Global,
-    grammar: &AugmentedGrammar,
-    states: &mut States,
-    items: &[Item],
-    from: usize,
-) -> Result<Row, AllocError>
-    requires states { AreStates grammar.now states.old }
-    requires from { from < length states.old.kernels }
-    requires items { IsSetOf grammar.now (kernel_at states.old.kernels from) items.now }
-    ensures states { OnOk result (AreStates grammar.now states.new) }
-    ensures goes_on { OnOk result (GoesOn states.old.kernels states.new.kernels) }
-    ensures row { IfOk result (IsRow grammar.now states.new.kernels from) }
-{
-    let behind = symbols_behind(alloc, grammar, items)?;
-    let mut to = Vec::new(alloc);
-    for k in 0..grammar.symbols() {
-        if behind.has(k) {
-            to.push(states.goto(alloc, grammar, items, from, symbol_at(grammar, k))?)?;
-        } else {
-            to.push(None)?;
-        }
-    }
-    Ok(Row::new(to))
 }

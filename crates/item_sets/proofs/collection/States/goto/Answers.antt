@@ -1,7 +1,5 @@
-use Rattle.std.proofs.Common.{◌∷◌, ◌++◌, ◌<◌, List, [], length, sym, ◌∙◌, subst, ⊎_elim, arith}
+use Rattle.std.proofs.Common.{◌∷◌, ◌++◌, ◌<◌, [], length, sym, ◌∙◌, subst, ⊎_elim, arith}
 use Rattle.std.proofs.lemmas.Bool.{eqb-true, eqb-false, cases_lt}
-use Rattle.definitions.specs.declared.Symbol.{Symbol}
-use Rattle.item_sets.specs.Collection.{kernel_at}
 use Rattle.item_sets.specs.States.{HasKernel}
 use Rattle.item_sets.proofs.Collecting.{placed_goes_on, placed_states, no_item}
 use Rattle.item_sets.proofs.collection.States.goto.Goals as goal
@@ -11,22 +9,20 @@ returns c =
     let g = c.args.grammar.now in
     let old = c.args.self.now in
     let new = c.place.new.self in
-    let kernel = c.in_ok-kernel.kernel.items in
-    let e = c.in_ok-kernel.ensures in
+    let kernel = c.args.kernel.now in
+    let leads = c.requires.leads in
     let to = c.in_ok-to.ensures in
     let goes = placed_goes_on g old new kernel c.args.from c.args.symbol to.placed in
-    let leads : (prefix : List Symbol) → HasKernel g.grammar (kernel_at old.kernels c.args.from) prefix → HasKernel g.grammar kernel (prefix ++ c.args.symbol ∷ []) = λ p k. e.valid p (c.requires.items.set p k) in
-    let some = eqb-false c.in_ok-kernel.kernel.len 0 (sym c.is_empty.ensures ∙ c.if-is_empty.false) in
-    let ok = c.in_ok-kernel.kernel.ok in
-    let nonempty : 0 < length kernel = ⊎_elim (λ l. l) (λ m. absurd (some (omega (arith, m, ok)))) (cases_lt 0 (length kernel)) in
+    let some = eqb-false (length kernel) 0 (sym c.is_empty.ensures ∙ c.if-is_empty.false) in
+    let nonempty : 0 < length kernel = ⊎_elim (λ l. l) (λ m. absurd (some (omega (arith, m)))) (cases_lt 0 (length kernel)) in
     record {
-      states = placed_states g old c.requires.states kernel c.args.from c.args.symbol c.requires.from e.ordered leads nonempty new to.placed;
+      states = placed_states g old c.requires.states kernel c.args.from c.args.symbol c.requires.from c.requires.ordered leads nonempty new to.placed;
       goes_on = goes;
       step = (to.place.0, λ p k. subst (λ y. HasKernel g.grammar y (p ++ c.args.symbol ∷ [])) (sym to.place.1) (leads p (subst (λ y. HasKernel g.grammar y p) (goes.same c.args.from c.requires.from) k)));
     }
 
 pub returns-then-is_empty-clause-step : goal.returns-then-is_empty-clause-step
 returns-then-is_empty-clause-step c = λ p k.
-    let kernel = c.in_ok-kernel.kernel.items in
-    let none = eqb-true c.in_ok-kernel.kernel.len 0 (sym c.is_empty.ensures ∙ c.if-is_empty.true) in
-    no_item c.args.grammar.now.grammar kernel (p ++ c.args.symbol ∷ []) (let ok = c.in_ok-kernel.kernel.ok in omega (arith, none, ok)) (c.in_ok-kernel.ensures.valid p (c.requires.items.set p k))
+    let kernel = c.args.kernel.now in
+    let none = eqb-true (length kernel) 0 (sym c.is_empty.ensures ∙ c.if-is_empty.true) in
+    no_item c.args.grammar.now.grammar kernel (p ++ c.args.symbol ∷ []) (omega (arith, none)) (c.requires.leads p k)

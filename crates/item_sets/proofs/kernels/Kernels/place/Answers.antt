@@ -1,23 +1,6 @@
-use Rattle.std.proofs.Common.{refl}
-use Rattle.std.proofs.lemmas.List.{length-map}
-use Rattle.std.proofs.Common.{arith}
-use Rattle.item_sets.proofs.Filed.{items_of, found_items, list_after}
+use Rattle.std.proofs.Common.{sym}
+use Rattle.item_sets.proofs.Filed.{found_place}
 use Rattle.item_sets.proofs.kernels.Kernels.place.Goals as goal
-use Rattle.item_sets.proofs.kernels.Kernels.place.Goals.{in-Ok, in-Err}
 
-pub returns-clause-place : goal.returns-clause-place
-returns-clause-place c = elim c.match-insert_full.branch [
-  | in-Ok w ↦
-      let keys = c.insert_full.new.self.keys in
-      let k = w.in-Ok.ensures.stored in
-      let below = w.in-Ok.ensures.within in
-      let n = length-map keys items_of in
-      rw w.result-is (omega (arith, below, n), found_items keys c.args.kernel k.0 w.in-Ok.state below k.1 k.2)
-  | in-Err w ↦ rw w.result-is tt
-]
-
-pub returns-clause-list : goal.returns-clause-list
-returns-clause-list c = elim c.match-insert_full.branch [
-  | in-Ok w ↦ rw (w.result-is, w.in-Ok.ensures.keys, ← c.self.view_is) (list_after c.self.inside.set.keys c.args.kernel _ refl)
-  | in-Err w ↦ rw w.result-is tt
-]
+pub returns-in-Some-clause-place : goal.returns-in-Some-clause-place
+returns-in-Some-clause-place c = rw (← c.self.view_is) (found_place c.self.inside.set.keys c.args.kernel.now c.in-Some.state (sym c.in-Some.ensures.index))

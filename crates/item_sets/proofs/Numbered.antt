@@ -11,7 +11,7 @@ use Rattle.item_sets.specs.declared.item.Item.{Item}
 use Rattle.item_sets.specs.Sets.{IsItem, behind}
 use Rattle.item_sets.proofs.Known.{behind_known}
 use Rattle.item_sets.specs.Productions.{Shape, IsSound, IsKnown}
-use Rattle.tables.specs.Symbols.{number, symbol_of}
+use Rattle.item_sets.specs.Symbols.{number, symbol_of}
 
 pub number-symbol_of : (g : Grammar) (k : ℕ) → number g (symbol_of g k) ≡ k
 number-symbol_of g k = elim (cases_lt k g.rules) [

@@ -1,20 +1,12 @@
 -- Where symbols lead from a state, as more states come.
-use Rattle.std.proofs.Common.{◌≡◌, ◌<◌, ℕ, List, [], ◌∷◌, ◌++◌, Option, Some, None, Contains, length, slice_index_or, refl, sym, ap, ◌∙◌, subst, arith}
+use Rattle.std.proofs.Common.{◌<◌, ℕ, List, [], ◌∷◌, ◌++◌, Option, Some, None, length, slice_index_or, sym, ◌∙◌, subst, arith}
 use Rattle.definitions.specs.declared.Symbol.{Symbol}
 use Rattle.definitions.specs.Trees.{Grammar}
-use Rattle.definitions.specs.Derivations.{first}
-use Rattle.definitions.specs.Items.{HasItem}
-use Rattle.theory.proofs.Rules.{rules_valid, valid_rules}
-use Rattle.theory.proofs.Sets.{goto_from}
 use Rattle.item_sets.specs.declared.item.Item.{Item}
 use Rattle.item_sets.specs.Collection.{GoesOn, IsStep}
-use Rattle.item_sets.specs.Sets.{behind}
-use Rattle.item_sets.specs.States.{HasKernel, HasSet}
-use Rattle.tables.specs.Symbols.{symbol_of}
+use Rattle.item_sets.specs.States.{HasKernel}
+use Rattle.item_sets.specs.Symbols.{symbol_of}
 use Rattle.item_sets.proofs.Numbers.{each_more}
-
-pub goes_on_same : (a : List (List Item)) → GoesOn a a
-goes_on_same a = record { longer = omega arith; same = λ s l. refl }
 
 pub goes_on_trans : (a b c : List (List Item)) → GoesOn a b → GoesOn b c → GoesOn a c
 goes_on_trans a b c h k = record {
@@ -33,10 +25,3 @@ module _ (g : Grammar) where
   -- a row, and one step more
   pub steps_more : (old new : List (List Item)) (s : ℕ) (row : List (Option ℕ)) (to : Option ℕ) → GoesOn old new → s < length old → ((j : ℕ) → j < length row → IsStep g old s (symbol_of g j) (slice_index_or row j None)) → IsStep g new s (symbol_of g (length row)) to → (j : ℕ) → j < length (row ++ to ∷ []) → IsStep g new s (symbol_of g j) (slice_index_or (row ++ to ∷ []) j None)
   steps_more old new s row to e l each step = each_more (λ j o. IsStep g new s (symbol_of g j) o) row to None (λ j b. step_goes_on old new s (symbol_of g j) (slice_index_or row j None) e l (each j b)) step
-
-  -- a symbol that stands behind no place leads nowhere
-  pub no_step : (items : List Item) (prefix : List Symbol) (s : Symbol) → HasSet g items prefix → ((i : Item) → Contains items i → first (behind g i) ≡ Some s → ⊥) → HasItem g (prefix ++ s ∷ []) → ⊥
-  no_step items prefix s set none (k, v) =
-      let b = goto_from g (valid_rules g (prefix ++ s ∷ []) k v) prefix s refl in
-      let x = set.complete b.0 (rules_valid g b.1) in
-      none x.0 x.1 (ap (λ y. first y.after) x.2 ∙ ap first b.2.1)
