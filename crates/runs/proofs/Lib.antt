@@ -1,0 +1,5 @@
+mod Few
+mod Filled
+mod Flat
+mod Found
+mod Totals

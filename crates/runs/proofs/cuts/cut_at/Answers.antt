@@ -1,0 +1,73 @@
+use Rattle.std.proofs.Common.{arith, sym, ap, ◌∙◌, ◌≡◌, ◌+◌, ◌-◌, ◌≤◌, ◌++◌, length, take, drop}
+use Rattle.std.specs.Prelude.{Some, None, slice_get, option_copied}
+use Rattle.runs.specs.Counted.{most}
+use Rattle.runs.specs.Runs.{flattened}
+use Rattle.runs.proofs.Flat.{front, within_runs, inside, before_cut, behind_cut, past_run, before_end, behind_end}
+use Rattle.runs.proofs.Totals.{items_before, starts_before, ends_behind}
+use Rattle.runs.proofs.cuts.cut_at.Goals as goal
+
+pub overflow_sub-offset : goal.overflow_sub-offset
+overflow_sub-offset g c =
+    let m = g.T.Measured.measure in
+    let laws = g.met.T.Sum.Monoid.laws in
+    let runs = c.args.runs.now in
+    let place = c.locate-place.result.0 in
+    let few : length (flattened runs) ≤ most = omega (arith, c.requires.counted) in
+    let starts = starts_before m laws runs few c.args.offset place c.locate-place.ensures.not_before in
+    let count : c.locate-place.result.1.items ≡ length (front runs place) = ap (λ s. s.items) c.locate-place.ensures.before ∙ items_before m laws runs few c.args.offset place in
+    omega (arith, starts, count)
+
+pub split_at-requires : goal.split_at-requires
+split_at-requires g c =
+    let m = g.T.Measured.measure in
+    let laws = g.met.T.Sum.Monoid.laws in
+    let runs = c.args.runs.now in
+    let place = c.locate-place.result.0 in
+    let run = c.in-Some.run'.now in
+    let at : Some run ≡ slice_get runs place = ap option_copied (sym c.in-Some.is) ∙ c.get.ensures in
+    let few : length (flattened runs) ≤ most = omega (arith, c.requires.counted) in
+    let starts = starts_before m laws runs few c.args.offset place c.locate-place.ensures.not_before in
+    let ends = ends_behind m laws runs few c.args.offset place (c.locate-place.ensures.reached (within_runs runs place run at)) in
+    let count : c.locate-place.result.1.items ≡ length (front runs place) = ap (λ s. s.items) c.locate-place.ensures.before ∙ items_before m laws runs few c.args.offset place in
+    omega (arith, count, inside runs place run at c.args.offset starts ends, ap length c.items.ensures.same)
+
+pub returns : goal.returns
+returns g c =
+    let m = g.T.Measured.measure in
+    let laws = g.met.T.Sum.Monoid.laws in
+    let runs = c.args.runs.now in
+    let place = c.locate-place.result.0 in
+    let o = c.args.offset in
+    let run = c.in-Some.run'.now in
+    let at : Some run ≡ slice_get runs place = ap option_copied (sym c.in-Some.is) ∙ c.get.ensures in
+    let few : length (flattened runs) ≤ most = omega (arith, c.requires.counted) in
+    let starts = starts_before m laws runs few o place c.locate-place.ensures.not_before in
+    let ends = ends_behind m laws runs few o place (c.locate-place.ensures.reached (within_runs runs place run at)) in
+    let count : c.locate-place.result.1.items ≡ length (front runs place) = ap (λ s. s.items) c.locate-place.ensures.before ∙ items_before m laws runs few o place in
+    let same = c.items.ensures.same in
+    record {
+      within = c.locate-place.ensures.within;
+      before = before_cut runs place run at o starts ends ∙ ap (λ t. front runs place ++ t) (sym (c.split_at.ensures.front ∙ (λ i. take (o - count i) (same i))));
+      behind = behind_cut runs place run at o starts ends ∙ ap (λ t. t ++ flattened (drop (place + 1) runs)) (sym (c.split_at.ensures.back ∙ (λ i. drop (o - count i) (same i))));
+      starts = starts;
+      ends = λ _. ends;
+    }
+
+pub returns-in_default : goal.returns-in_default
+returns-in_default g c =
+    let m = g.T.Measured.measure in
+    let laws = g.met.T.Sum.Monoid.laws in
+    let runs = c.args.runs.now in
+    let place = c.locate-place.result.0 in
+    let o = c.args.offset in
+    let none : slice_get runs place ≡ None = sym c.get.ensures ∙ ap option_copied c.in_default.is in
+    let end : place ≡ length runs = past_run runs place none c.locate-place.ensures.within in
+    let few : length (flattened runs) ≤ most = omega (arith, c.requires.counted) in
+    let starts = starts_before m laws runs few o place c.locate-place.ensures.not_before in
+    record {
+      within = c.locate-place.ensures.within;
+      before = before_end runs o place end starts;
+      behind = behind_end runs o place end starts;
+      starts = starts;
+      ends = λ l. absurd (omega (arith, l, end));
+    }

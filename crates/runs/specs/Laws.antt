@@ -1,0 +1,21 @@
+-- Sums that are counted too are a monoid, and a number of items that is reached stays reached.
+use Rattle.std.specs.Prelude.{◌≡◌, ℕ, ◌≤◌, true, nat_lt}
+use Rattle.std.proofs.Common.{arith}
+use Rattle.std.proofs.lemmas.Bool.{ltb-true, lt-ltb}
+use Rattle.seqtree.specs.Monoid.{MonoidLaws}
+use Rattle.seqtree.specs.Saturated.{saturated, saturated-zero_left, saturated-zero_right, saturated-assoc}
+use Rattle.runs.specs.declared.counted.Counted.{Counted}
+use Rattle.runs.specs.Counted.{most, nothing, joined}
+
+pub counted_laws : {S : Type 0} (zero : S) (op : S → S → S) → MonoidLaws zero op → MonoidLaws (nothing zero) (joined op)
+counted_laws zero op laws = record {
+  left_unit = λ x i. record { items = saturated-zero_left most x.items i; sum = laws.left_unit x.sum i };
+  right_unit = λ x i. record { items = saturated-zero_right most x.items i; sum = laws.right_unit x.sum i };
+  assoc = λ x y z i. record { items = saturated-assoc most x.items y.items z.items i; sum = laws.assoc x.sum y.sum z.sum i };
+}
+
+saturated_ge : (a b : ℕ) → a ≤ saturated most a b
+saturated_ge a b = omega arith
+
+pub after_item_stays : {S : Type 0} (op : S → S → S) (offset : ℕ) (s r : Counted S) → nat_lt offset s.items ≡ true → nat_lt offset (joined op s r).items ≡ true
+after_item_stays op offset s r h = lt-ltb _ _ (let p = ltb-true offset s.items h in let q = saturated_ge s.items r.items in omega arith)

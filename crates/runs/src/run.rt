@@ -1,0 +1,124 @@
+//! Runs of items, and items cut into runs.
+
+ghost use Rattle.std.specs.Prelude.{◌≡◌, ◌+◌, ◌<◌, ◌≤◌, length, All, IfOk};
+ghost use Rattle.seqtree.specs.Monoid.{total};
+ghost use Rattle.runs.specs.Runs.{flattened, IsLarge, IsShort};
+
+use crate::counted::Counted;
+use seqtree::{Measured, Monoid};
+use std::alloc::{AllocError, Global};
+use std::marker::Model;
+
+/// The most items that a run may have.
+pub const LONGEST_RUN: usize = 32;
+
+/// The fewest items that a run has where items are cut into several.
+pub const SHORTEST_OF_SEVERAL: usize = 16;
+
+/// Some items of a list, at least one and at most [`LONGEST_RUN`], and their sum.
+#[derive(Drop)]
+pub struct Run<T: Measured> {
+    items: Vec<T>,
+    sum: T::Sum,
+}
+
+impl<T: Measured> Model for Run<T> {
+    ghost use Rattle.std.specs.Prelude.{List};
+    ghost use Rattle.runs.specs.Runs.{IsRun};
+
+    ghost Value = { List T };
+
+    ghost view = { λ r. r.items.items };
+
+    ghost invariant = { λ r. IsRun T.Sum.empty T.Sum.op T.measure r.items.items r.sum };
+}
+
+impl<T: Measured> Run<T> {
+    /// The items, in order.
+    pub fn items(&self) -> &[T]
+        ensures same { result.now ≡ self.now }
+        ensures some { 1 ≤ length result.now }
+        ensures few { length result.now ≤ LONGEST_RUN }
+    {
+        &self.items
+    }
+}
+
+impl<T: Measured + Copy> Run<T> {
+    /// The run of these items, of which there must be at least one and at most [`LONGEST_RUN`]. Takes memory once, and
+    /// refuses for memory alone.
+    pub fn new(alloc: Global, items: &[T]) -> Result<Run<T>, AllocError>
+        requires some { 1 ≤ length items.now }
+        requires few { length items.now ≤ LONGEST_RUN }
+        ensures { IfOk result (λ run. run ≡ items.now) }
+    {
+        let sum = sum_of(items);
+        let items = Vec::from_slice(alloc, items)?;
+        Ok(Run { items, sum })
+    }
+}
+
+impl<T: Measured> Measured for Run<T> {
+    ghost use Rattle.runs.specs.Counted.{counted};
+
+    type Sum = Counted<T::Sum>;
+
+    ghost measure = { counted T.Sum.empty T.Sum.op T.measure };
+
+    fn sum(&self) -> Counted<T::Sum> {
+        Counted {
+            items: self.items.len(),
+            sum: T::Sum::zero().join(&self.sum),
+        }
+    }
+}
+
+/// The sum of items.
+fn sum_of<T: Measured>(items: &[T]) -> T::Sum
+    ensures { result ≡ total T.Sum.empty T.Sum.op T.measure items.now }
+{
+    let mut sum = T::Sum::zero();
+    for item in items {
+        sum = sum.join(&item.sum());
+    }
+    sum
+}
+
+/// The runs of items, which joined in order are these; none where there is no item. They are few: each has at least
+/// [`SHORTEST_OF_SEVERAL`] items where there are so many, and items that fit into one run are one. Refuses for memory
+/// alone.
+pub fn runs_of<T: Measured + Copy>(alloc: Global, items: &[T]) -> Result<Vec<Run<T>>, AllocError>
+    ensures joined { IfOk result (λ runs. flattened runs.items ≡ items.now) }
+    ensures large { IfOk result (λ runs.
+        SHORTEST_OF_SEVERAL ≤ length items.now → All IsLarge runs.items) }
+    ensures short { IfOk result (λ runs. All IsShort runs.items) }
+    ensures one { IfOk result (λ runs.
+        length items.now ≤ LONGEST_RUN → length runs.items ≤ 1) }
+{
+    let mut runs = Vec::new(alloc);
+    let mut rest = items;
+    while rest.len() > LONGEST_RUN {
+        let (front, back) = rest.split_at(front_len(rest.len()));
+        runs.push(Run::new(alloc, front)?)?;
+        rest = back;
+    }
+    if rest.len() > 0 {
+        runs.push(Run::new(alloc, rest)?)?;
+    }
+    Ok(runs)
+}
+
+/// How many items the first run of `len` has, which are too many for one: as many as fit, or half of those that are left
+/// where the rest would be small.
+fn front_len(len: usize) -> usize
+    requires { LONGEST_RUN < len }
+    ensures few { result ≤ LONGEST_RUN }
+    ensures large { SHORTEST_OF_SEVERAL ≤ result }
+    ensures rest { result + SHORTEST_OF_SEVERAL ≤ len }
+{
+    if len >= LONGEST_RUN + SHORTEST_OF_SEVERAL {
+        LONGEST_RUN
+    } else {
+        len / 2
+    }
+}
