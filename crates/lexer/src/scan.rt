@@ -11,7 +11,7 @@ use crate::sums::Token;
 use definitions::Kind;
 use dfa::{Automaton, Source};
 use grammar::Grammar;
-use seqtree::{Seq, Slots};
+use runs::Runs;
 use std::alloc::{AllocError, Global};
 
 /// How many tokens are scanned before they are put into the list, so that they are still in the processor's cache then.
@@ -98,13 +98,12 @@ pub fn add_kinds(kinds: &mut Vec<Kind>, tokens: &[Token]) -> Result<(), AllocErr
 }
 
 /// Puts tokens behind those of a list.
-fn append(alloc: Global, list: &mut Seq<Token>, tokens: Vec<Token>) -> Result<(), AllocError>
-    requires { length list.old + length tokens.items < 2 ^ 64 }
-    ensures { OnOk result (list.new ≡ list.old ++ tokens.items) }
+fn append(alloc: Global, list: &mut Runs<Token>, tokens: &[Token]) -> Result<(), AllocError>
+    requires { length list.old + length tokens.now < 2 ^ 64 }
+    ensures { OnOk result (list.new ≡ list.old ++ tokens.now) }
 {
-    let slots = Slots::make(alloc, tokens)?;
     let end = list.len();
-    list.replace(end, end, slots);
+    list.replace(alloc, end, end, tokens)?;
     Ok(())
 }
 
@@ -114,7 +113,7 @@ pub fn scan_all<S: Source>(
     grammar: &Grammar,
     automaton: &Automaton,
     source: &S,
-) -> Result<(Seq<Token>, Vec<Kind>), AllocError>
+) -> Result<(Runs<Token>, Vec<Kind>), AllocError>
     requires sound { IsAutomaton grammar.now.patterns automaton.now }
     requires small { length (S.text source.now) ≤ 1048576 }
     requires window { (i : ℕ) → i < length (S.text source.now) → S.in_window source.now i }
@@ -123,13 +122,13 @@ pub fn scan_all<S: Source>(
         (length (S.text source.now))) }
     ensures kinds { IfOk result (λ r. r.1.items ≡ significant_kinds r.0) }
 {
-    let mut list = Seq::new();
+    let mut list = Runs::new();
     let mut kinds = Vec::new(alloc);
     let mut at = 0;
     while at < source.len() {
         let (piece, end) = scan_piece(alloc, grammar, automaton, source, at)?;
         add_kinds(&mut kinds, &piece)?;
-        append(alloc, &mut list, piece)?;
+        append(alloc, &mut list, &piece)?;
         at = end;
     }
     Ok((list, kinds))

@@ -16,7 +16,7 @@ use crate::walk::Walk;
 use definitions::{Edit, Kind, KindSplice};
 use dfa::{Automaton, Source};
 use grammar::Grammar;
-use seqtree::{Seq, Slots};
+use runs::Runs;
 use std::alloc::{AllocError, Global};
 use std::marker::Model;
 
@@ -24,7 +24,7 @@ use std::marker::Model;
 #[derive(Drop)]
 pub struct Tokens {
     /// The tokens, in order.
-    items: Seq<Token>,
+    items: Runs<Token>,
     /// How many of them the last scan or rescan made.
     scanned: usize,
 }
@@ -143,7 +143,7 @@ impl Tokens {
     }
 
     /// All tokens.
-    pub fn items(&self) -> &Seq<Token>
+    pub fn items(&self) -> &Runs<Token>
         ensures { result.now ≡ self.now.items }
     {
         &self.items
@@ -185,16 +185,15 @@ impl Tokens {
         let old = Walk::new(&self.items, front, end);
         let (made, to) = remake(alloc, grammar, automaton, source, edit, old)?;
         let kinds = kinds_of(alloc, &made)?;
-        let slots = Slots::make(alloc, made)?;
         let splice = splice_of(&self.items, front, to, kinds);
-        self.scanned = slots.len();
-        self.items.replace(front, to, slots);
+        self.items.replace(alloc, front, to, &made)?;
+        self.scanned = made.len();
         Ok(splice)
     }
 }
 
 /// How many tokens the edit keeps in front, and the offset behind them.
-fn kept_front(items: &Seq<Token>, edit: Edit) -> (usize, usize)
+fn kept_front(items: &Runs<Token>, edit: Edit) -> (usize, usize)
     requires { Fits items.now }
     ensures front { (rules : List Expression) (t : List ℕ) → AreTokens rules t (plain_all items.now)
         → result.0 ≡ front edit (plain_all items.now) }
@@ -265,7 +264,7 @@ fn kinds_of(alloc: Global, tokens: &[Token]) -> Result<Vec<Kind>, AllocError>
 }
 
 /// How many of the tokens before a place are significant.
-fn significant_before(items: &Seq<Token>, place: usize) -> usize
+fn significant_before(items: &Runs<Token>, place: usize) -> usize
     requires fits { Fits items.now }
     requires within { place ≤ length items.now }
     ensures { result ≡ count_by is_significant (take place items.now) }
@@ -297,7 +296,7 @@ fn without_kind<'a>(token: &Token, kinds: &'a [Kind]) -> Option<&'a [Kind]>
 }
 
 /// Whether the significant ones of the tokens from one place up to another have these kinds.
-fn have_kinds(items: &Seq<Token>, from: usize, to: usize, kinds: &[Kind]) -> bool
+fn have_kinds(items: &Runs<Token>, from: usize, to: usize, kinds: &[Kind]) -> bool
     requires within { to ≤ length items.now }
     ensures { result ≡ same_kinds (significant_kinds (slice_range items.now from to)) kinds.now }
 {
@@ -317,7 +316,7 @@ fn have_kinds(items: &Seq<Token>, from: usize, to: usize, kinds: &[Kind]) -> boo
 
 /// How the list of the significant kinds changes where the tokens from one place up to another give way to tokens of
 /// these kinds.
-fn splice_of(items: &Seq<Token>, front: usize, to: usize, mut kinds: Vec<Kind>) -> KindSplice
+fn splice_of(items: &Runs<Token>, front: usize, to: usize, mut kinds: Vec<Kind>) -> KindSplice
     requires fits { Fits items.now }
     requires ordered { front ≤ to }
     requires within { to ≤ length items.now }

@@ -5,13 +5,13 @@ ghost use Rattle.lexer.specs.Tokens.{characters, Fits};
 ghost use Rattle.lexer.specs.Walks.{Spot, IsPassed};
 
 use crate::sums::Token;
-use seqtree::{Iter, Seq};
+use runs::{Iter, Runs};
 use std::marker::Model;
 
 /// A place among tokens. A walk goes over each of them once, so that places of rising offsets are found without a search for each.
 #[derive(Drop)]
 pub struct Walk<'a> {
-    items: &'a Seq<Token>,
+    items: &'a Runs<Token>,
     /// The tokens from the place on.
     ahead: Iter<'a, Token>,
     place: usize,
@@ -31,7 +31,7 @@ impl<'a> Model for Walk<'a> {
 
 impl<'a> Walk<'a> {
     /// The walk that begins at a place. The token there starts at the offset `start`.
-    pub fn new(items: &'a Seq<Token>, place: usize, start: usize) -> Walk<'a>
+    pub fn new(items: &'a Runs<Token>, place: usize, start: usize) -> Walk<'a>
         requires fits { Fits items.now }
         requires within { place ≤ length items.now }
         requires start { start ≡ characters (take place items.now) }

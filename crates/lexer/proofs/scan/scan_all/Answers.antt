@@ -16,7 +16,7 @@ pub loop-at-preserved : goal.loop-at-preserved
 loop-at-preserved g c =
     let list = c.loop-at.list in
     let piece = c.in_ok-piece.piece.items in
-    rw c.in_ok-append.ensures (record {
+    rw (c.in_ok-append.ensures ∙ ap (λ (xs : List Token). list ++ xs) c.deref-in-loop-at.ensures.value) (record {
       next = next_join _ _ _ _ _ _ list piece c.loop-at.invariant.next c.in_ok-piece.ensures.next;
       kinds = c.in_ok-add_kinds.ensures ∙ ap (λ (xs : List Token). c.loop-at.kinds.items ++ significant_kinds xs) c.deref.ensures.value ∙ ap (λ (ks : List Kind). ks ++ significant_kinds piece) c.loop-at.invariant.kinds ∙ sym (kinds_append list piece);
     })

@@ -1,4 +1,4 @@
-use Rattle.std.proofs.Common.{arith, sym, ap, subst, ◌≡◌, ◌∙◌, ℕ, ◌≤◌, ◌^◌, List, ◌++◌, length, take, drop, length-append, length-drop}
+use Rattle.std.proofs.Common.{arith, rules, vec_len, sym, ap, subst, ◌≡◌, ◌∙◌, ℕ, ◌≤◌, ◌^◌, List, ◌++◌, length, take, drop, length-append, length-drop}
 use Rattle.std.proofs.lemmas.List.{length-take, append_assoc}
 use Rattle.definitions.specs.TokenEdits.{IsSpliced, front, splice, plain_splice, made as made_by}
 use Rattle.lexer.specs.declared.sums.Token.{Token}
@@ -9,9 +9,9 @@ use Rattle.lexer.proofs.Rescanned.{front_to, remade_tokens, remade_marked, remad
 use Rattle.lexer.proofs.SignificantKinds.{spliced_kinds}
 use Rattle.lexer.proofs.tokens.Tokens.rescan.Goals as goal
 
-listed : (xs slots made : List Token) (n m to : ℕ) (new : List Token) → new ≡ (take n xs ++ slots) ++ drop to xs → n ≡ m → slots ≡ made → new ≡ take m xs ++ (made ++ drop to xs)
-listed xs slots made n m to new e f s =
-    e ∙ ap (λ k. (take k xs ++ slots) ++ drop to xs) f ∙ ap (λ ys. (take m xs ++ ys) ++ drop to xs) s ∙ append_assoc (take m xs) made (drop to xs)
+listed : (xs items made : List Token) (n m to : ℕ) (new : List Token) → new ≡ (take n xs ++ items) ++ drop to xs → n ≡ m → items ≡ made → new ≡ take m xs ++ (made ++ drop to xs)
+listed xs items made n m to new e f s =
+    e ∙ ap (λ k. (take k xs ++ items) ++ drop to xs) f ∙ ap (λ ys. (take m xs ++ ys) ++ drop to xs) s ∙ append_assoc (take m xs) made (drop to xs)
 
 pub remake-requires-clause-front : goal.remake-requires-clause-front
 remake-requires-clause-front g c =
@@ -66,10 +66,14 @@ replace-requires-clause-fits g c =
     let r : IsRemade rules skips e xs u made to = subst (λ s. IsRemade rules skips e s.items u made to) c.new-old.ensures c.in_ok-made.ensures in
     let new = take (front e (plain_all xs)) xs ++ (made ++ drop to xs) in
     let n : length new ≤ 2 ^ 30 = few new (remade_fits rules skips e xs u h made to r c.self.invariant c.requires.small) in
-    omega (arith, n, place, front_to rules skips e xs u h made to r c.self.invariant, r.within, ap length c.in_ok-slots.ensures, length-append (take (front e (plain_all xs)) xs) (made ++ drop to xs), length-append made (drop to xs), length-take (front e (plain_all xs)) xs, length-drop to xs)
+    omega (arith, n, place, front_to rules skips e xs u h made to r c.self.invariant, r.within, ap length c.deref-2.ensures.value, length-append (take (front e (plain_all xs)) xs) (made ++ drop to xs), length-append made (drop to xs), length-take (front e (plain_all xs)) xs, length-drop to xs)
 
+-- where memory is refused
 pub invariant_of-self : goal.invariant_of-self
-invariant_of-self g c =
+invariant_of-self g c = subst Fits (sym c.in_err-replace.ensures.unchanged) c.self.invariant
+
+pub invariant_of-self-2 : goal.invariant_of-self-2
+invariant_of-self-2 g c =
     let xs = c.self.inside.items in
     let e = c.args.edit in
     let rules = c.args.grammar.now.patterns in
@@ -81,7 +85,7 @@ invariant_of-self g c =
     let to = c.in_ok-made.to in
     let r : IsRemade rules skips e xs u made to = subst (λ s. IsRemade rules skips e s.items u made to) c.new-old.ensures c.in_ok-made.ensures in
     let new = take (front e (plain_all xs)) xs ++ (made ++ drop to xs) in
-    let list : c.replace.new.self ≡ new = listed xs c.in_ok-slots.slots made c.kept_front-front.result.0 (front e (plain_all xs)) to c.replace.new.self c.replace.ensures.list place c.in_ok-slots.ensures in
+    let list : c.replace.new.self ≡ new = listed xs c.deref-2.result.now made c.kept_front-front.result.0 (front e (plain_all xs)) to c.replace.new.self c.in_ok-replace.ensures.list place c.deref-2.ensures.value in
     subst Fits (sym list) (remade_fits rules skips e xs u h made to r c.self.invariant c.requires.small)
 
 pub returns : goal.returns
@@ -97,8 +101,9 @@ returns g c =
     let to = c.in_ok-made.to in
     let r : IsRemade rules skips e xs u made to = subst (λ s. IsRemade rules skips e s.items u made to) c.new-old.ensures c.in_ok-made.ensures in
     let new = take (front e (plain_all xs)) xs ++ (made ++ drop to xs) in
-    let list : c.replace.new.self ≡ new = listed xs c.in_ok-slots.slots made c.kept_front-front.result.0 (front e (plain_all xs)) to c.replace.new.self c.replace.ensures.list place c.in_ok-slots.ensures in
+    let list : c.replace.new.self ≡ new = listed xs c.deref-2.result.now made c.kept_front-front.result.0 (front e (plain_all xs)) to c.replace.new.self c.in_ok-replace.ensures.list place c.deref-2.ensures.value in
     let kinds = c.in_ok-kinds.ensures ∙ ap significant_kinds c.deref.ensures.value in
+    let count : vec_len c.in_ok-made.made ≡ length made = search rules in
     let told = c.splice_of-splice.ensures ∙ ap (λ n. change xs n to c.in_ok-kinds.kinds.items) place ∙ ap (change xs (front e (plain_all xs)) to) kinds in
     record {
       tokens = subst (AreTokensOf rules skips u) (sym list) (record { tokens = remade_tokens rules skips e xs u h made to r; marked = remade_marked rules skips e xs u h made to r });
@@ -108,7 +113,7 @@ returns g c =
       kinds = subst (λ ys. IsSpliced (plain_splice c.splice_of-splice.result) (significant_kinds c.args.self.now.items) (significant_kinds ys)) (sym list)
           (subst (λ d. IsSpliced (plain_splice c.splice_of-splice.result) (significant_kinds d.items) (significant_kinds new)) c.self.view_is
           (subst (λ s. IsSpliced s (significant_kinds xs) (significant_kinds new)) (sym told) (spliced_kinds xs made (front e (plain_all xs)) to (front_to rules skips e xs u h made to r c.self.invariant))));
-      scanned = c.len-self-inside.ensures ∙ ap length c.in_ok-slots.ensures
+      scanned = c.len-self-inside.ensures ∙ count
           ∙ subst (λ ys. length made ≡ length (made_by e (plain_all c.args.self.now.items) (plain_all ys))) (sym list)
           (subst (λ d. length made ≡ length (made_by e (plain_all d.items) (plain_all new))) c.self.view_is (scanned_is rules skips e xs u h made to r));
       err = tt;
