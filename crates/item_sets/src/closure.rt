@@ -183,8 +183,8 @@ impl Wanted {
         requires item { IsItem grammar.now item }
         ensures wants { OnOk result (AreWants grammar.now self.new) }
         ensures grows { OnOk result (Grows self.old self.new) }
-        ensures asked { OnOk result (Asks grammar.now self.new.rows (behind grammar.now.grammar item)
-            item.look) }
+        ensures asked { OnOk result (Asks grammar.now self.new.rows
+            (behind grammar.now.grammar item) item.look) }
         ensures only { OnOk result ((n k : ℕ) → marked self.new.rows n k ≡ true
             → (marked self.old.rows n k ≡ true)
             ⊎ IsAsked grammar.now.grammar (behind grammar.now.grammar item) item.look n k) }

@@ -94,7 +94,8 @@ fn pass(
     requires held { AreTrue productions.now.grammar look marks.old }
     ensures marks { length marks.new ≡ productions.now.nonterminals }
     ensures held { AreTrue productions.now.grammar look marks.new }
-    ensures closed { result ≡ false → AreClosed productions.now.grammar look vanishing.now marks.new }
+    ensures closed { result ≡ false
+        → AreClosed productions.now.grammar look vanishing.now marks.new }
     ensures at_most { unmarked marks.new ≤ unmarked marks.old }
     ensures fewer { result ≡ true → unmarked marks.new < unmarked marks.old }
 {

@@ -112,7 +112,8 @@ impl<T: Measured + Copy> Runs<T> {
         requires ordered { from ≤ to }
         requires in_range { to ≤ length self.old }
         requires fits { length self.old - (to - from) + length items.now < 2 ^ 64 }
-        ensures list { OnOk result (self.new ≡ take from self.old ++ items.now ++ drop to self.old) }
+        ensures list { OnOk result (self.new
+            ≡ take from self.old ++ items.now ++ drop to self.old) }
         ensures unchanged { OnErr result (self.new ≡ self.old) }
     {
         let start = cut_at(&self.runs, from);

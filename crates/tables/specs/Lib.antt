@@ -1,4 +1,5 @@
 pub mod Moves
+pub mod Outlines
 pub mod Gotos
 pub mod Rows
 pub mod Actions

@@ -6,6 +6,7 @@ mod decisions;
 mod expected;
 pub mod laws;
 mod moves;
+mod outline;
 mod progress;
 mod rows;
 mod tables;

@@ -20,9 +20,11 @@ ghost use Rattle.tables.specs.Decidable.{AreMovesDecided};
 use crate::conflict::{Conflict, conflict_of};
 use crate::decisions::{Move, Moves};
 use crate::expected::Expected;
+use crate::outline::Outline;
 use crate::progress::{Progress, advance};
 use crate::rows::Row;
 use definitions::Kind;
+use erased::Erased;
 use grammar::Grammar;
 use item_sets::{AugmentedGrammar, Kernels, Productions, States};
 use std::alloc::Global;
@@ -45,10 +47,12 @@ pub enum TableFault {
 /// Canonical LR(1) tables of a grammar (Knuth 1965).
 #[derive(Drop)]
 pub struct Tables {
-    /// The productions of the grammar.
-    productions: Productions,
-    /// The kernel of the set of each state; the first is that of the empty prefix.
-    kernels: Kernels,
+    /// The productions of the grammar, for proofs alone.
+    productions: Erased<Productions>,
+    /// The kernel of the set of each state, for proofs alone; the first is that of the empty prefix.
+    kernels: Erased<Kernels>,
+    /// What is asked of the productions.
+    outline: Outline,
     /// Where the nonterminals lead from each state.
     gotos: Vec<Row>,
     /// What each state does at each kind that may come next.
@@ -56,13 +60,14 @@ pub struct Tables {
 }
 
 impl Model for Tables {
+    ghost use Rattle.tables.specs.Outlines.{IsOutline};
     ghost use Rattle.tables.specs.Tables.{Sets, AreTables};
 
     ghost Value = { Sets };
 
-    ghost view = { λ a. record { grammar = a.productions.grammar; kernels = a.kernels } };
+    ghost view = { λ a. record { grammar = a.productions.value.grammar; kernels = a.kernels.value } };
 
-    ghost invariant = { λ a. AreTables a.productions a.kernels a.gotos.items a.moves.items };
+    ghost invariant = { λ a. AreTables a.productions.value a.kernels.value a.gotos.items a.moves.items × IsOutline a.productions.value a.outline };
 }
 
 /// The tables of all states, or the conflict that was found.
@@ -87,12 +92,20 @@ fn finish(
         clash,
     } = made;
     match clash {
-        None => Ok(Tables {
-            productions: grammar.into_productions(),
-            kernels: states.into_kernels(),
-            gotos,
-            moves,
-        }),
+        None => {
+            let productions = grammar.into_productions();
+            let kernels = states.into_kernels();
+            let Ok(outline) = Outline::of(alloc, &productions) else {
+                return Err(TableFault::Memory);
+            };
+            Ok(Tables {
+                productions: Erased::of(&productions),
+                kernels: Erased::of(&kernels),
+                outline,
+                gotos,
+                moves,
+            })
+        }
         Some(at) => match conflict_of(alloc, &grammar, &states, at) {
             Ok(conflict) => Err(TableFault::Conflict(conflict)),
             Err(_) => Err(TableFault::Memory),
@@ -146,7 +159,7 @@ impl Tables {
         ensures accepted { IsAccepted self.now.grammar }
     {
         // The read opens the invariant.
-        let _kernels = &self.kernels;
+        let _moves = &self.moves;
         0
     }
 
@@ -165,7 +178,7 @@ impl Tables {
             Some(kind) => match kind {
                 Kind::Invalid => None,
                 Kind::Rule(a) => {
-                    if a < self.productions.rules() {
+                    if a < self.outline.rules() {
                         moves.at(a + 1)
                     } else {
                         None
@@ -184,7 +197,7 @@ impl Tables {
             MatchOption result (HasItem g next → ⊥)
             (λ to. HasItem g next × IsStateOf self.now next to) }
     {
-        if nonterminal < self.productions.nonterminals() {
+        if nonterminal < self.outline.nonterminals() {
             self.gotos[state].to(nonterminal)
         } else {
             None
@@ -217,6 +230,7 @@ impl Tables {
         ensures { (right : List Symbol) × HasProduction self.now.grammar p result.0 right
             × (length right ≡ result.1) }
     {
-        (self.productions.left(p), self.productions.right(p).len())
+        let side = self.outline.side(p);
+        (side.left, side.length)
     }
 }

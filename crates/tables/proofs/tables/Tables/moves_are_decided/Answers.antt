@@ -6,4 +6,4 @@ use Rattle.tables.proofs.tables.Tables.moves_are_decided.Goals as goal
 pub returns : goal.returns
 returns c =
     let inside = c.self.inside in
-    subst (λ t. AreMovesDecided t.grammar) c.self.view_is (moves_decided inside.productions inside.kernels inside.gotos.items inside.moves.items c.self.invariant)
+    subst (λ t. AreMovesDecided t.grammar) c.self.view_is (moves_decided inside.productions.value inside.kernels.value inside.gotos.items inside.moves.items c.self.invariant.0)
