@@ -9,6 +9,7 @@ ghost use Rattle.theory.specs.First.{MayFollow};
 
 use crate::first::First;
 use crate::item::Item;
+use crate::places::ProductionNumber;
 use crate::productions::Productions;
 use definitions::Symbol;
 use grammar::Grammar;
@@ -19,7 +20,7 @@ use std::marker::Model;
 #[derive(Drop)]
 pub struct Numbers {
     /// The numbers in ascending order.
-    list: Vec<usize>,
+    list: Vec<ProductionNumber>,
 }
 
 impl Model for Numbers {
@@ -64,7 +65,7 @@ impl Numbers {
     }
 
     /// Adds a number.
-    fn add(&mut self, p: usize) -> Result<(), AllocError>
+    fn add(&mut self, p: ProductionNumber) -> Result<(), AllocError>
         ensures { OnOk result (self.new ≡ self.old ++ p ∷ []) }
     {
         self.list.push(p)?;
@@ -72,7 +73,7 @@ impl Numbers {
     }
 
     /// The numbers.
-    fn list(&self) -> &[usize]
+    fn list(&self) -> &[ProductionNumber]
         ensures { result.now ≡ self.now }
     {
         &self.list
@@ -192,7 +193,7 @@ impl AugmentedGrammar {
     }
 
     /// The left side of a production.
-    pub fn left(&self, p: usize) -> usize
+    pub fn left(&self, p: ProductionNumber) -> usize
         requires { p < length self.now.grammar.productions }
         ensures left { result ≡ left_of self.now.grammar p }
         ensures known { result < self.now.nonterminals }
@@ -201,7 +202,7 @@ impl AugmentedGrammar {
     }
 
     /// The right side of a production.
-    pub fn right(&self, p: usize) -> &[Symbol]
+    pub fn right(&self, p: ProductionNumber) -> &[Symbol]
         requires { p < length self.now.grammar.productions }
         ensures right { result.now ≡ right_of self.now.grammar p }
         ensures known { All (IsKnown self.now) result.now }
@@ -210,7 +211,7 @@ impl AugmentedGrammar {
     }
 
     /// The numbers of the productions of a nonterminal.
-    pub fn of_left(&self, nonterminal: usize) -> &[usize]
+    pub fn of_left(&self, nonterminal: usize) -> &[ProductionNumber]
         requires { nonterminal < self.now.nonterminals }
         ensures theirs { All (λ p. (p < length self.now.grammar.productions)
             × (left_of self.now.grammar p ≡ nonterminal)) result.now }

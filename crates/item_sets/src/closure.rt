@@ -14,6 +14,7 @@ ghost use Rattle.theory.specs.First.{MayFollow};
 use crate::augmented::AugmentedGrammar;
 use crate::item::Item;
 use crate::lookahead::lookahead_at;
+use crate::places::ProductionNumber;
 use crate::wanted::{Want, Wanted};
 use definitions::Symbol;
 use std::alloc::{AllocError, Global};
@@ -233,7 +234,7 @@ impl Wanted {
 fn add_items(
     grammar: &AugmentedGrammar,
     wanted: &Wanted,
-    p: usize,
+    p: ProductionNumber,
     items: &mut Vec<Item>,
 ) -> Result<(), AllocError>
     requires wants { AreWants grammar.now wanted.now }

@@ -9,6 +9,7 @@ use crate::augmented::AugmentedGrammar;
 use crate::goto::kernels_behind;
 use crate::item::Item;
 use crate::kernels::Kernels;
+use crate::places::StateNumber;
 use crate::symbols::symbol_at;
 use definitions::Symbol;
 use std::alloc::{AllocError, Global};
@@ -18,7 +19,7 @@ use std::marker::Model;
 #[derive(Clone, Copy)]
 pub struct Origin {
     /// The earlier set.
-    from: usize,
+    from: StateNumber,
     /// The symbol that leads from it.
     symbol: Symbol,
 }
@@ -69,7 +70,7 @@ impl States {
     }
 
     /// The kernel of a set.
-    pub fn kernel(&self, state: usize) -> &[Item]
+    pub fn kernel(&self, state: StateNumber) -> &[Item]
         requires { state < length self.now.kernels }
         ensures { result.now ≡ kernel_at self.now.kernels state }
     {
@@ -81,9 +82,9 @@ impl States {
         &mut self,
         alloc: Global,
         kernel: &[Item],
-        from: usize,
+        from: StateNumber,
         symbol: Symbol,
-    ) -> Result<usize, AllocError>
+    ) -> Result<StateNumber, AllocError>
         requires { length self.old.origins ≡ length self.old.kernels }
         ensures place { IfOk result (λ s. (s < length self.new.kernels)
             × (kernel_at self.new.kernels s ≡ kernel.now)) }
@@ -102,9 +103,9 @@ impl States {
         alloc: Global,
         grammar: &AugmentedGrammar,
         kernel: &[Item],
-        from: usize,
+        from: StateNumber,
         symbol: Symbol,
-    ) -> Result<Option<usize>, AllocError>
+    ) -> Result<Option<StateNumber>, AllocError>
         requires states { AreStates grammar.now self.old }
         requires from { from < length self.old.kernels }
         requires ordered { IsOrdered grammar.now kernel.now }
@@ -129,8 +130,8 @@ impl States {
         alloc: Global,
         grammar: &AugmentedGrammar,
         items: &[Item],
-        from: usize,
-    ) -> Result<Vec<Option<usize>>, AllocError>
+        from: StateNumber,
+    ) -> Result<Vec<Option<StateNumber>>, AllocError>
         requires states { AreStates grammar.now self.old }
         requires from { from < length self.old.kernels }
         requires items { IsSetOf grammar.now (kernel_at self.old.kernels from) items.now }
@@ -153,7 +154,7 @@ impl States {
         &self,
         alloc: Global,
         grammar: &AugmentedGrammar,
-        state: usize,
+        state: StateNumber,
     ) -> Result<Vec<Symbol>, AllocError>
         requires states { AreStates grammar.now self.now }
         requires state { state < length self.now.kernels }

@@ -3,6 +3,7 @@ ghost use Rattle.std.specs.Prelude.{◌≡◌, ◌<◌, ◌⊎◌, ◌∷◌, �
 ghost use Rattle.item_sets.specs.Collection.{IsAbsent};
 
 use crate::item::Item;
+use crate::places::StateNumber;
 use indexmap::IndexSet;
 use std::alloc::{AllocError, Global};
 use std::marker::Model;
@@ -41,7 +42,7 @@ impl Kernels {
     }
 
     /// The kernel with this number.
-    pub fn kernel(&self, state: usize) -> &[Item]
+    pub fn kernel(&self, state: StateNumber) -> &[Item]
         requires { state < length self.now }
         ensures { result.now ≡ slice_index_or self.now state [] }
     {
@@ -49,7 +50,7 @@ impl Kernels {
     }
 
     /// The place of a kernel, which is added at the end where it is new.
-    fn add(&mut self, kernel: Vec<Item>) -> Result<usize, AllocError>
+    fn add(&mut self, kernel: Vec<Item>) -> Result<StateNumber, AllocError>
         ensures place { IfOk result (λ s. (s < length self.new)
             × (slice_index_or self.new s [] ≡ kernel.items)) }
         ensures list { OnOk result ((self.new ≡ self.old)
@@ -62,7 +63,7 @@ impl Kernels {
     }
 
     /// The place of a kernel, a copy of which is added at the end where it is new.
-    pub fn place(&mut self, alloc: Global, kernel: &[Item]) -> Result<usize, AllocError>
+    pub fn place(&mut self, alloc: Global, kernel: &[Item]) -> Result<StateNumber, AllocError>
         ensures place { IfOk result (λ s. (s < length self.new)
             × (slice_index_or self.new s [] ≡ kernel.now)) }
         ensures list { OnOk result ((self.new ≡ self.old)

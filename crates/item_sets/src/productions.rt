@@ -3,6 +3,7 @@ ghost use Rattle.std.specs.Prelude.{◌≡◌, ◌<◌, IfOk, length};
 ghost use Rattle.grammar.specs.Grammars.{left_of, right_of};
 ghost use Rattle.item_sets.specs.Productions.{IsSound};
 
+use crate::places::ProductionNumber;
 use definitions::Symbol;
 use grammar::Grammar;
 use std::alloc::{AllocError, Global};
@@ -105,7 +106,7 @@ impl Productions {
     }
 
     /// The left side of a production.
-    pub fn left(&self, p: usize) -> usize
+    pub fn left(&self, p: ProductionNumber) -> usize
         requires { p < length self.now.grammar.productions }
         ensures { result ≡ left_of self.now.grammar p }
     {
@@ -113,7 +114,7 @@ impl Productions {
     }
 
     /// The right side of a production.
-    pub fn right(&self, p: usize) -> &[Symbol]
+    pub fn right(&self, p: ProductionNumber) -> &[Symbol]
         requires { p < length self.now.grammar.productions }
         ensures { result.now ≡ right_of self.now.grammar p }
     {

@@ -5,7 +5,7 @@ ghost use Rattle.item_sets.specs.Sets.{IsItem};
 ghost use Rattle.tables.specs.Moves.{IsCall, IsDecision};
 
 use definitions::Symbol;
-use item_sets::{AugmentedGrammar, Item};
+use item_sets::{AugmentedGrammar, Item, ProductionNumber};
 
 /// What an item calls for.
 #[derive(Clone, Copy, Debug, PartialEq, Eq)]
@@ -13,7 +13,7 @@ pub enum Call {
     /// To take what is next.
     Shift,
     /// To reduce by the production with this number.
-    Reduce(usize),
+    Reduce(ProductionNumber),
     /// To accept.
     Accept,
 }

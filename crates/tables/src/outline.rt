@@ -2,7 +2,7 @@
 ghost use Rattle.std.specs.Prelude.{◌≡◌, ◌<◌, IfOk, length, slice_index_or};
 ghost use Rattle.tables.specs.Outlines.{IsOutline, no_side};
 
-use item_sets::Productions;
+use item_sets::{ProductionNumber, Productions};
 use std::alloc::{AllocError, Global};
 use std::marker::Model;
 
@@ -69,7 +69,7 @@ impl Outline {
     }
 
     /// What is kept of a production.
-    pub fn side(&self, p: usize) -> Side
+    pub fn side(&self, p: ProductionNumber) -> Side
         requires { p < length self.now.sides }
         ensures { result ≡ slice_index_or self.now.sides p no_side }
     {

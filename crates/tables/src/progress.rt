@@ -5,7 +5,7 @@ ghost use Rattle.item_sets.specs.Collection.{AreStates};
 
 use crate::decisions::{Clash, Decided, Moves, moves_of};
 use crate::rows::Row;
-use item_sets::{AugmentedGrammar, States, close};
+use item_sets::{AugmentedGrammar, StateNumber, States, close};
 use std::alloc::{AllocError, Global};
 use std::marker::Model;
 
@@ -13,7 +13,7 @@ use std::marker::Model;
 #[derive(Clone, Copy)]
 pub struct ClashAt {
     /// The number of the state.
-    pub state: usize,
+    pub state: StateNumber,
     /// The two items.
     pub clash: Clash,
 }

@@ -1,6 +1,7 @@
 //! Where the symbols lead from a state.
 ghost use Rattle.std.specs.Prelude.{◌≡◌, ◌<◌, ◌≤◌, None, drop, IfOk, length, slice_index_or};
 
+use item_sets::StateNumber;
 use std::alloc::{AllocError, Global};
 use std::marker::Model;
 
@@ -8,7 +9,7 @@ use std::marker::Model;
 #[derive(Drop)]
 pub struct Row {
     /// For each number of a symbol the state, if there is one.
-    to: Vec<Option<usize>>,
+    to: Vec<Option<StateNumber>>,
 }
 
 impl Model for Row {
@@ -21,14 +22,14 @@ impl Model for Row {
 
 impl Row {
     /// The row with these entries.
-    pub fn new(to: Vec<Option<usize>>) -> Row
+    pub fn new(to: Vec<Option<StateNumber>>) -> Row
         ensures { result ≡ to.items }
     {
         Row { to }
     }
 
     /// Where the symbol with this number leads.
-    pub fn to(&self, symbol: usize) -> Option<usize>
+    pub fn to(&self, symbol: usize) -> Option<StateNumber>
         requires { symbol < length self.now }
         ensures { result ≡ slice_index_or self.now symbol None }
     {
