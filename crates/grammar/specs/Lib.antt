@@ -6,3 +6,4 @@ pub mod Told
 pub mod Meaning
 pub mod Uses
 pub mod Notes
+pub mod Parts

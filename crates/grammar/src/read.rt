@@ -1,71 +1,151 @@
 //! A grammar file, read.
 
-ghost use Rattle.std.specs.Prelude.{◌≡◌, map, IfOk, IfErr};
+ghost use Rattle.std.specs.Prelude.{◌≡◌, ◌<◌, List, length, map, IfOk, IfErr};
 ghost use Rattle.std.specs.Str.{chars};
-ghost use Rattle.grammar.specs.Contents.{grammar_of};
-ghost use Rattle.grammar.specs.Faults.{IsFault};
-ghost use Rattle.grammar.specs.Grammars.{IsGrammar};
-ghost use Rattle.grammar.specs.Meaning.{grammar_with, IsGrammarOf};
+ghost use Rattle.definitions.specs.declared.Symbol.{Symbol};
+ghost use Rattle.definitions.specs.declared.expression.Expression.{Expression};
 ghost use Rattle.grammar_file.specs.Said.{rule_line, all_said, AreNames};
 ghost use Rattle.grammar_file.specs.Told.{Tells};
+ghost use Rattle.grammar.specs.Contents.{grammar_of};
+ghost use Rattle.grammar.specs.Faults.{IsFault};
+ghost use Rattle.grammar.specs.Grammars.{FileGrammar, IsGrammar};
+ghost use Rattle.grammar.specs.Meaning.{grammar_with, IsGrammarOf};
+ghost use Rattle.grammar.specs.Notes.{AreNotes};
+ghost use Rattle.grammar.specs.Parts.{AreParts, AreProductive, IsUnproductive};
+ghost use Rattle.grammar.specs.Uses.{AreWithin};
 
 use crate::grammar::{Grammar, Name, Production};
 use crate::notes::notes;
 use crate::numbers;
 use crate::unproductive::test_productive;
 use crate::used::used;
-use grammar_file::{File, Refusal, RuleName, read_file};
+use definitions::Symbol;
+use grammar_file::{File, Names, Numbered, Refusal, RuleName, read_file};
+use patterns::Pattern;
 use std::alloc::{AllocError, Global};
+
+/// What a grammar has of the names of its file.
+#[derive(Drop)]
+struct Parts {
+    /// The names of the rules, in file order.
+    names: Vec<Name>,
+    /// Whether each rule is a skip rule.
+    skips: Vec<bool>,
+    /// The names of the nonterminals, in file order.
+    nonterminals: Vec<Name>,
+    /// Whether each nonterminal folds.
+    folds: Vec<bool>,
+    /// The number of the start.
+    start: usize,
+}
 
 /// The grammar of a file, or the first fault.
 pub fn read<'a>(alloc: Global, text: &'a str) -> Result<Grammar, Refusal<'a>>
     ensures grammar { IfOk result (λ g. IsGrammarOf text.now g) }
     ensures fault { IfErr result (λ r. Tells r (λ n c. IsFault text.now n c)) }
 {
-    let file = read_file(alloc, text)?;
-    let productions = numbers::productions(alloc, &file.statements, &file.names)?;
-    let nonterminals = file.names.nonterminals.as_slice();
-    test_productive(alloc, nonterminals, &file.statements, &productions)?;
-    let grammar = grammar_of(alloc, file, productions)?;
-    Ok(grammar)
-}
-
-/// The grammar of the lines and the productions of their marked words, which have no fault.
-fn grammar_of(
-    alloc: Global,
-    file: File<'_>,
-    productions: Vec<Production>,
-) -> Result<Grammar, AllocError>
-    requires names { AreNames file.names (all_said file.statements.items) }
-    requires productions { productions.items
-        ≡ (grammar_of (all_said file.statements.items)).productions }
-    requires grammar { IsGrammar (grammar_with (all_said file.statements.items) file.patterns.items
-        file.defined.items) }
-    ensures { IfOk result (λ g.
-        g ≡ grammar_with (all_said file.entry.statements.items) file.entry.patterns.items
-        file.entry.defined.items) }
-{
     let File {
         statements,
         names,
         patterns,
         defined,
-    } = file;
-    let skips = skips(alloc, names.rules.as_slice())?;
-    let start = numbers::start(&statements, &names);
-    let marks = used(alloc, names.nonterminals.len(), start, &productions)?;
-    let notes = notes(alloc, &defined, &skips, &productions, &marks)?;
+    } = read_file(alloc, text)?;
+    grammar_of(alloc, &statements, &names, patterns, defined)
+}
+
+/// The grammar of the lines and of these patterns, or the first unproductive nonterminal.
+fn grammar_of<'a>(
+    alloc: Global,
+    statements: &[Numbered<'a>],
+    names: &Names<'a>,
+    patterns: Vec<Pattern>,
+    defined: Vec<Symbol>,
+) -> Result<Grammar, Refusal<'a>>
+    requires names { AreNames names.now (all_said statements.now) }
+    requires grammar { AreProductive (all_said statements.now) →
+        IsGrammar (grammar_with (all_said statements.now) patterns.items defined.items) }
+    ensures productive { IfOk result (λ _. AreProductive (all_said statements.now)) }
+    ensures grammar { IfOk result (λ g.
+        g ≡ grammar_with (all_said statements.now) patterns.items defined.items) }
+    ensures fault { IfErr result (λ r. Tells r (IsUnproductive (all_said statements.now))) }
+{
+    let productions = productions_of(alloc, statements, names)?;
+    let parts = parts_of(alloc, statements, names)?;
+    let notes = notes_of(alloc, &parts, &productions, &defined)?;
     Ok(Grammar {
-        names: rule_names(alloc, names.rules.as_slice())?,
+        names: parts.names,
         patterns,
-        skips,
-        nonterminals: numbers::owned(alloc, names.nonterminals.as_slice())?,
-        folds: numbers::folds(alloc, &statements, &names)?,
-        start,
+        skips: parts.skips,
+        nonterminals: parts.nonterminals,
+        folds: parts.folds,
+        start: parts.start,
         productions,
         defined,
         notes,
     })
+}
+
+/// The productions of the lines, or the first unproductive nonterminal.
+fn productions_of<'a>(
+    alloc: Global,
+    statements: &[Numbered<'a>],
+    names: &Names<'a>,
+) -> Result<Vec<Production>, Refusal<'a>>
+    requires { AreNames names.now (all_said statements.now) }
+    ensures productions { IfOk result (λ ps.
+        ps.items ≡ (grammar_of (all_said statements.now)).productions) }
+    ensures productive { IfOk result (λ _. AreProductive (all_said statements.now)) }
+    ensures fault { IfErr result (λ r. Tells r (IsUnproductive (all_said statements.now))) }
+{
+    let productions = numbers::productions(alloc, statements, names)?;
+    test_productive(
+        alloc,
+        names.nonterminals.as_slice(),
+        statements,
+        &productions,
+    )?;
+    Ok(productions)
+}
+
+/// The parts that the lines and their names give.
+fn parts_of(
+    alloc: Global,
+    statements: &[Numbered<'_>],
+    names: &Names<'_>,
+) -> Result<Parts, AllocError>
+    requires { AreNames names.now (all_said statements.now) }
+    ensures { IfOk result (λ parts. (es : List Expression) (symbols : List Symbol) →
+        AreParts parts (grammar_with (all_said statements.now) es symbols)) }
+{
+    let rules = names.rules.as_slice();
+    let rule_names = rule_names(alloc, rules)?;
+    let skips = skips(alloc, rules)?;
+    let nonterminals = numbers::owned(alloc, names.nonterminals.as_slice())?;
+    let folds = numbers::folds(alloc, statements, names)?;
+    let start = numbers::start(statements, names);
+    Ok(Parts {
+        names: rule_names,
+        skips,
+        nonterminals,
+        folds,
+        start,
+    })
+}
+
+/// Those of the symbols that are neither skipped nor used.
+fn notes_of(
+    alloc: Global,
+    parts: &Parts,
+    productions: &[Production],
+    symbols: &[Symbol],
+) -> Result<Vec<Symbol>, AllocError>
+    requires start { parts.now.start < length parts.now.nonterminals.items }
+    requires within { AreWithin productions.now (length parts.now.nonterminals.items) }
+    ensures { IfOk result (λ notes. (f : FileGrammar) → AreParts parts.now f →
+        f.grammar.productions ≡ productions.now → AreNotes f symbols.now notes.items) }
+{
+    let marks = used(alloc, parts.nonterminals.len(), parts.start, productions)?;
+    notes(alloc, symbols, &parts.skips, productions, &marks)
 }
 
 fn skips(alloc: Global, rules: &[RuleName<'_>]) -> Result<Vec<bool>, AllocError>
