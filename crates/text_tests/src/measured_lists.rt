@@ -1,7 +1,7 @@
 //! Lists of numbers with the greatest of each part, against plain vectors.
 
 ghost use Rattle.std.specs.Prelude.{max, nat_le};
-ghost use Rattle.layer_tests.specs.Maxima.{max_left_unit, max_right_unit, max_assoc, max_stays};
+ghost use Rattle.text_tests.specs.Maxima.{max_left_unit, max_right_unit, max_assoc, max_stays};
 
 use seqtree::{Goal, Measured, Monoid, Seq, Slots};
 use std::alloc::Global;

@@ -5,7 +5,7 @@ use Rattle.std.proofs.lemmas.List.{append-nil}
 use Rattle.definitions.specs.Text.{units}
 use Rattle.definitions.specs.declared.Unit.TheVariants.{Utf8}
 use Rattle.pieces.proofs.Joins.{units-append, units-chars}
-use Rattle.layer_tests.proofs.text_pieces.in_two.Goals as goal
+use Rattle.text_tests.proofs.text_pieces.in_two.Goals as goal
 
 -- what is put into an empty list is few where the parts are
 few_parts : (front back : List ℕ) (none one two slots list pieces : List (List ℕ)) → none ≡ [] → one ≡ none ++ front ∷ [] → two ≡ one ++ back ∷ [] → slots ≡ two → list ≡ [] → pieces ≡ slots ++ list

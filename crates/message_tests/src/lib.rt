@@ -1,0 +1,9 @@
+//! Tests of the public calls of frames and of messages. The crate has nothing else.
+#![tactic(auto)]
+
+#[cfg(test)]
+mod adapters;
+#[cfg(test)]
+mod framed_streams;
+#[cfg(test)]
+mod messages;

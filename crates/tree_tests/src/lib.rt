@@ -1,0 +1,5 @@
+//! Tests of the public calls of stores of trees. The crate has nothing else.
+#![tactic(auto)]
+
+#[cfg(test)]
+mod tree_stores;
