@@ -56,6 +56,21 @@ def long_sides(count):
     return ONE + rules(135, "T") + "start S\n" + sides
 
 
+def one_pattern(pattern):
+    """A file with this pattern, whose other lines are sound."""
+    return ONE + f"token X = {pattern}\nstart S\nS = X\n"
+
+
+def nested(depth):
+    return "(" * depth + '"a"' + ")" * depth
+
+
+def many_states(count):
+    """Patterns of 2,049 states and of so many more."""
+    letters = '"' + "c" * count + '"'
+    return ONE + f'token X = [ab]* "a"{" [ab]" * 10}\ntoken Y = {letters}\nstart S\nS = X\nS = Y\n'
+
+
 def filled(size):
     """A file of so many bytes."""
     head = ONE + "start S\nS =\n#"
@@ -77,6 +92,8 @@ SOUND = [
     nonterminals(256, "S0 = X\n"),
     nonterminals(254, "T = X*\n"),
     long_sides(537),
+    one_pattern(nested(64)),
+    many_states(2_047),
 ]
 
 READ = [
@@ -155,6 +172,7 @@ FAULTY = [
     (productions(TWO, 1020, "S = T0* T0*\nS = T0?\n"), "line 1057: G11 limit passed: productions"),
     # limits of what is made of a grammar
     (ONE + 'token X = [ab]* "a"' + " [ab]" * 11 + "\nstart S\nS = X\n", "over 4096 automaton states"),
+    (many_states(2_048), "over 4096 automaton states"),
     (long_sides(538), "over 8192 table states"),
 ]
 
@@ -165,7 +183,10 @@ PATTERNS = [
     ("[a-]", "3: P1"),
     ('"b" [a-]', "7: P1"),
     ('"\\u{D800}"', "1: P1"),
+    (nested(65), "64: P1"),
+    ("[]", "0: P2"),
     ('"a" []', "4: P2"),
+    ("[^\\u{0}-\\u{10FFFF}]", "0: P2"),
     ('"b"|[^\\u{0}-\\u{10FFFF}]', "4: P2"),
     ("[z-a]", "1: P3"),
     ('"a" [bz-a]', "6: P3"),

@@ -1,30 +1,20 @@
-//! Tables of worked grammar files: their moves, their conflicts and their limit.
+//! The moves of the tables of sums. `tests/program` has the files that have a conflict or too many sets.
 
 ghost use Rattle.std.specs.Prelude.{◌<◌, List, length};
 ghost use Rattle.definitions.specs.declared.Symbol.{Symbol as GrammarSymbol};
 ghost use Rattle.tables.specs.Tables.{IsStateOf};
 
-use definitions::{Kind, Symbol};
+use definitions::Kind;
 use grammar::Grammar;
 use std::alloc::{AllocError, Global};
 use std::process::Abort;
 use std::test::Fail;
-use tables::{Conflict, Item, Move, TableFault, Tables};
-use worked::{CHOICES, LOOP, NOT_LALR, SUMS, TWO_AHEAD, long_sides};
+use tables::{Move, Tables};
+use worked::SUMS;
 
 fn tables(alloc: Global, text: &str) -> Result<Tables, Fail> {
     let grammar = Grammar::read(alloc, text)?;
     Ok(Tables::build(alloc, &grammar)?)
-}
-
-/// The conflict of a grammar that has one.
-fn conflict(alloc: Global, text: &str) -> Result<Conflict, Fail> {
-    let grammar = Grammar::read(alloc, text)?;
-    match Tables::build(alloc, &grammar) {
-        Ok(_) => Err(Fail::new("no conflict")),
-        Err(TableFault::Conflict(conflict)) => Ok(conflict),
-        Err(fault) => Err(fault)?,
-    }
 }
 
 /// The state that a token rule which is shifted leads to.
@@ -109,75 +99,5 @@ fn moves_in_sums(rt: HostRuntime) -> Result<(), Fail> {
         (Some(Kind::Rule(3)), None),
     ];
     moves(&rt, &tables, number, &rows);
-    Ok(())
-}
-
-/// The conflict is behind this prefix, at this lookahead, and is that of items (production, place), which have its lookahead.
-fn is_conflict(
-    rt: &impl Abort,
-    conflict: &Conflict,
-    prefix: &[Symbol],
-    look: Option<usize>,
-    items: [(Option<usize>, usize); 2],
-) {
-    assert!(rt; conflict.prefix.as_slice() == prefix);
-    assert!(rt; conflict.look == look);
-    for ((production, at), item) in items.iter().zip([conflict.first, conflict.second]) {
-        let wanted = Item {
-            production: *production,
-            at: *at,
-            look,
-        };
-        assert!(rt; item == wanted);
-    }
-}
-
-#[test]
-fn tells_a_conflict_of_reductions(rt: HostRuntime) -> Result<(), Fail> {
-    let conflict = conflict(rt.alloc(), TWO_AHEAD)?;
-    let items = [(Some(2), 1), (Some(3), 1)];
-    is_conflict(&rt, &conflict, &[Symbol::Rule(3)], Some(0), items);
-    Ok(())
-}
-
-#[test]
-fn tells_the_conflict_of_choices(rt: HostRuntime) -> Result<(), Fail> {
-    let conflict = conflict(rt.alloc(), CHOICES)?;
-    let choice = [Symbol::Rule(0), Symbol::Nonterminal(0)];
-    assert!(rt; conflict.prefix.as_slice().ends_with(&choice));
-    assert!(rt; conflict.look == Some(1));
-    let first = Item {
-        production: Some(0),
-        at: 2,
-        look: Some(1),
-    };
-    assert!(rt; conflict.first == first);
-    assert!(rt; (conflict.second.production, conflict.second.at) == (Some(1), 2));
-    Ok(())
-}
-
-#[test]
-fn tells_the_added_start_first(rt: HostRuntime) -> Result<(), Fail> {
-    let conflict = conflict(rt.alloc(), LOOP)?;
-    let items = [(None, 1), (Some(0), 1)];
-    is_conflict(&rt, &conflict, &[Symbol::Nonterminal(0)], None, items);
-    Ok(())
-}
-
-#[test]
-fn accepts_what_lalr_refuses(rt: HostRuntime) -> Result<(), Fail> {
-    let tables = tables(rt.alloc(), NOT_LALR)?;
-    let start = tables.start();
-    assert!(rt; tables.goto(start, 0).is_some());
-    Ok(())
-}
-
-#[test]
-fn has_at_most_8192_sets(rt: HostRuntime) -> Result<(), Fail> {
-    let alloc = rt.alloc();
-    let most = Grammar::read(alloc, &long_sides(alloc, 537)?)?;
-    assert!(rt; Tables::build(alloc, &most).is_ok());
-    let more = Grammar::read(alloc, &long_sides(alloc, 538)?)?;
-    assert!(rt; matches!(&Tables::build(alloc, &more), Err(TableFault::TooManySets)));
     Ok(())
 }

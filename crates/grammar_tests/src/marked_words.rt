@@ -1,4 +1,4 @@
-//! What grammar files define in which words of right sides have marks. `tests/program` has those that are refused.
+//! What grammar files define in which words of right sides have marks. `tests/program` has those that are refused, and notes.
 
 use grammar::{Grammar, Symbol};
 use grammar_file::read_file;
@@ -65,20 +65,5 @@ fn keeps_the_lines_in_front(rt: HostRuntime) -> Result<(), Fail> {
     assert!(rt; counts == (8, 2, 3));
     let names = ["S", "A*", "B?"];
     assert!(rt; file.names.nonterminals.as_slice() == names.as_slice());
-    Ok(())
-}
-
-#[test]
-fn notes_names_of_the_file_alone(rt: HostRuntime) -> Result<(), Fail> {
-    let alloc = rt.alloc();
-    let unused = format!(in alloc; "{HEAD}S = A*\nT = B?\n")?;
-    let grammar = Grammar::read(alloc, &unused)?;
-    let mut notes = grammar.notes();
-    assert_eq!(rt; notes.next(), Some("B"));
-    assert_eq!(rt; notes.next(), Some("T"));
-    assert_eq!(rt; notes.next(), None);
-    let used = format!(in alloc; "{HEAD}S = A* T?\nT = B+\n")?;
-    let grammar = Grammar::read(alloc, &used)?;
-    assert_eq!(rt; grammar.notes().next(), None);
     Ok(())
 }

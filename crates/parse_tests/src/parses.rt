@@ -1,4 +1,4 @@
-//! Parses of worked kinds, of grammars of sums and of lists.
+//! Parses of worked kinds, of grammars of sums and of lists. `tests/program` has a deep one.
 
 ghost use Rattle.std.specs.Prelude.{◌<◌, List, length};
 ghost use Rattle.definitions.specs.declared.Kind.{Kind as TokenKind};
@@ -20,8 +20,6 @@ const NUM: Kind = Kind::Rule(0);
 const PLUS: Kind = Kind::Rule(1);
 
 const LP: Kind = Kind::Rule(2);
-
-const RP: Kind = Kind::Rule(3);
 
 #[derive(Drop)]
 struct Listed<'a> {
@@ -60,9 +58,9 @@ fn assert_node(
 ) {
     let id = NodeId { index };
     assert!(rt; index < store.len());
-    assert_eq!(rt; store.production(id), production);
-    assert_eq!(rt; store.born(id), 0);
-    assert_eq!(rt; store.child_count(id), children.len());
+    assert!(rt; store.production(id) == production);
+    assert!(rt; store.born(id) == 0);
+    assert!(rt; store.child_count(id) == children.len());
     for (k, child) in children.iter().enumerate() {
         assert!(rt; store.child(id, k) == Some(*child));
     }
@@ -81,27 +79,72 @@ fn expected(alloc: Global, tables: &Tables, parse: &Parse) -> Result<Vec<Option<
 }
 
 /// The parse of these kinds of sums stops so, and these are the rules that may follow.
-fn assert_stops(
+fn stops(
     rt: &impl Abort,
     alloc: Global,
+    tables: &Tables,
     kinds: &[Kind],
     verdict: Verdict,
     stack: &[Child],
     looks: &[Option<usize>],
 ) -> Result<(), Fail> {
-    let tables = tables(alloc, SUMS)?;
     let mut store = Store::new(alloc);
-    let parse = Parse::whole(alloc, &tables, &mut store, &Listed { kinds })?;
-    assert_eq!(rt; parse.verdict(), verdict);
+    let parse = Parse::whole(alloc, tables, &mut store, &Listed { kinds })?;
+    assert!(rt; parse.verdict() == verdict);
     assert!(rt; parse.stack() == stack);
-    assert!(rt; expected(alloc, &tables, &parse)?.as_slice() == looks);
+    assert!(rt; expected(alloc, tables, &parse)?.as_slice() == looks);
     Ok(())
 }
 
 #[test]
-fn one_tree_of_a_sum(rt: HostRuntime) -> Result<(), Fail> {
+fn parses_of_sums_stop_at_the_end(rt: HostRuntime) -> Result<(), Fail> {
+    let alloc = rt.alloc();
+    let tables = tables(alloc, SUMS)?;
     let tree = Verdict::Tree(NodeId { index: 3 });
-    assert_stops(&rt, rt.alloc(), &[NUM, PLUS, NUM], tree, &[node(3)], &[])
+    stops(
+        &rt,
+        alloc,
+        &tables,
+        &[NUM, PLUS, NUM],
+        tree,
+        &[node(3)],
+        &[],
+    )?;
+    let early = Verdict::FaultAtEnd;
+    let operand = [Some(0), Some(2)];
+    stops(&rt, alloc, &tables, &[], early, &[], &operand)?;
+    let open = [Child::Token(LP), Child::Token(NUM)];
+    let inner = [Some(1), Some(3)];
+    stops(&rt, alloc, &tables, &[LP, NUM], early, &open, &inner)
+}
+
+#[test]
+fn parses_of_sums_stop_at_the_first_fault(rt: HostRuntime) -> Result<(), Fail> {
+    let alloc = rt.alloc();
+    let tables = tables(alloc, SUMS)?;
+    let number = [Child::Token(NUM)];
+    let behind = [Some(1), None];
+    stops(
+        &rt,
+        alloc,
+        &tables,
+        &[NUM, NUM],
+        Verdict::FaultAt(1),
+        &number,
+        &behind,
+    )?;
+    let kinds = [NUM, PLUS, Kind::Invalid, PLUS];
+    let sum = [node(1), Child::Token(PLUS)];
+    let operand = [Some(0), Some(2)];
+    stops(
+        &rt,
+        alloc,
+        &tables,
+        &kinds,
+        Verdict::FaultAt(2),
+        &sum,
+        &operand,
+    )
 }
 
 #[test]
@@ -113,8 +156,8 @@ fn the_nodes_of_a_sum(rt: HostRuntime) -> Result<(), Fail> {
         kinds: &[NUM, PLUS, NUM],
     };
     let parse = Parse::whole(alloc, &tables, &mut store, &kinds)?;
-    assert_eq!(rt; parse.counts(), (4, 4));
-    assert_eq!(rt; parse.number(), 0);
+    assert!(rt; parse.counts() == (4, 4));
+    assert!(rt; parse.number() == 0);
     assert_node(&rt, &store, 0, 2, &[Child::Token(NUM)]);
     assert_node(&rt, &store, 1, 1, &[node(0)]);
     assert_node(&rt, &store, 2, 2, &[Child::Token(NUM)]);
@@ -129,54 +172,12 @@ fn older_nodes_stay(rt: HostRuntime) -> Result<(), Fail> {
     let mut store = Store::new(alloc);
     let older = store.branch(alloc, 7, &[], 9)?;
     let parse = Parse::whole(alloc, &tables, &mut store, &Listed { kinds: &[NUM] })?;
-    assert_eq!(rt; store.len(), 3);
-    assert_eq!(rt; parse.counts(), (2, 2));
-    assert_eq!(rt; parse.number(), 0);
+    assert!(rt; store.len() == 3);
+    assert!(rt; parse.counts() == (2, 2));
+    assert!(rt; parse.number() == 0);
     assert!(rt; older.index < store.len());
-    assert_eq!(rt; store.born(older), 9);
+    assert!(rt; store.born(older) == 9);
     Ok(())
-}
-
-#[test]
-fn a_fault_at_the_first_token_that_fits_no_sentence(rt: HostRuntime) -> Result<(), Fail> {
-    let stack = [Child::Token(NUM)];
-    let looks = [Some(1), None];
-    assert_stops(
-        &rt,
-        rt.alloc(),
-        &[NUM, NUM],
-        Verdict::FaultAt(1),
-        &stack,
-        &looks,
-    )
-}
-
-#[test]
-fn an_invalid_token_is_a_fault(rt: HostRuntime) -> Result<(), Fail> {
-    let kinds = [NUM, PLUS, Kind::Invalid, PLUS];
-    let stack = [node(1), Child::Token(PLUS)];
-    let looks = [Some(0), Some(2)];
-    assert_stops(&rt, rt.alloc(), &kinds, Verdict::FaultAt(2), &stack, &looks)
-}
-
-#[test]
-fn nothing_ends_too_early(rt: HostRuntime) -> Result<(), Fail> {
-    let looks = [Some(0), Some(2)];
-    assert_stops(&rt, rt.alloc(), &[], Verdict::FaultAtEnd, &[], &looks)
-}
-
-#[test]
-fn an_open_parenthesis_expects_no_end(rt: HostRuntime) -> Result<(), Fail> {
-    let stack = [Child::Token(LP), Child::Token(NUM)];
-    let looks = [Some(1), Some(3)];
-    assert_stops(
-        &rt,
-        rt.alloc(),
-        &[LP, NUM],
-        Verdict::FaultAtEnd,
-        &stack,
-        &looks,
-    )
 }
 
 #[test]
@@ -185,26 +186,7 @@ fn a_list_of_no_items_is_a_branch(rt: HostRuntime) -> Result<(), Fail> {
     let tables = tables(alloc, LISTS)?;
     let mut store = Store::new(alloc);
     let parse = Parse::whole(alloc, &tables, &mut store, &Listed { kinds: &[] })?;
-    assert_eq!(rt; parse.verdict(), Verdict::Tree(NodeId { index: 0 }));
+    assert!(rt; parse.verdict() == Verdict::Tree(NodeId { index: 0 }));
     assert_node(&rt, &store, 0, 0, &[]);
-    Ok(())
-}
-
-#[test]
-fn nests_without_recursion(rt: HostRuntime) -> Result<(), Fail> {
-    let alloc = rt.alloc();
-    let tables = tables(alloc, SUMS)?;
-    let mut store = Store::new(alloc);
-    let mut kinds = Vec::new(alloc);
-    for _ in 0..100_000 {
-        kinds.push(LP)?;
-    }
-    kinds.push(NUM)?;
-    for _ in 0..100_000 {
-        kinds.push(RP)?;
-    }
-    let parse = Parse::whole(alloc, &tables, &mut store, &Listed { kinds: &kinds })?;
-    assert!(rt; matches!(parse.verdict(), Verdict::Tree(_)));
-    assert_eq!(rt; store.len(), 200_002);
     Ok(())
 }

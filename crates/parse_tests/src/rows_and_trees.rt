@@ -1,4 +1,4 @@
-//! The rows of tokens, and the texts of trees.
+//! The rows of tokens, and the text of a tree. `tests/program` has long texts and deep trees.
 
 use dfa::Automaton;
 use grammar::Grammar;
@@ -57,34 +57,7 @@ fn rows_of_all_tokens(rt: HostRuntime) -> Result<(), Fail> {
         ),
     ];
     for (file, text, wanted) in cases {
-        assert_eq!(rt; rows(alloc, file, text)?.as_str(), wanted, "at {text}");
-    }
-    Ok(())
-}
-
-/// The first row and the last one of a text of a million tokens.
-#[test]
-fn rows_of_a_million_tokens(rt: HostRuntime) -> Result<(), Fail> {
-    let alloc = rt.alloc();
-    let grammar = Grammar::read(alloc, SUMS)?;
-    let automaton = Automaton::build(alloc, grammar.patterns())?;
-    let mut written = String::new(alloc);
-    for _ in 0..500_000 {
-        written.push_str("1+")?;
-    }
-    let text = Text::open(alloc, &written)?;
-    let count = text.len();
-    prove!(count <= LONGEST_TEXT);
-    let tokens = Tokens::scan(alloc, &grammar, &automaton, &Whole(&text))?;
-    let rows = token_rows(alloc, &grammar, Unit::Utf16, &text, &tokens)?;
-    assert_eq!(rt; rows.len(), 1_000_000);
-    for (i, (name, from)) in [(0, ("NUM", 0)), (999_999, ("PLUS", 999_999))] {
-        let Some(row) = rows.get(i) else {
-            panic!(rt; "no row {i}");
-        };
-        let told = line(alloc, row.name, row.range)?;
-        let wanted = format!(in alloc; "{name} 0:{from} 0:{};", i + 1)?;
-        assert!(rt; told.as_str() == wanted.as_str(), "at {i}");
+        assert!(rt; rows(alloc, file, text)?.as_str() == wanted, "at {text}");
     }
     Ok(())
 }
@@ -109,35 +82,6 @@ fn text_of_a_sum(rt: HostRuntime) -> Result<(), Fail> {
     let root = sum(alloc, &mut store)?;
     assert!(rt; root.index < store.len());
     let text = tree_text(alloc, &grammar, &store, root)?;
-    assert_eq!(rt; text.as_str(), "(Sum (Sum (Atom NUM)) PLUS (Atom NUM))");
-    Ok(())
-}
-
-#[test]
-fn text_of_an_empty_production(rt: HostRuntime) -> Result<(), Fail> {
-    let alloc = rt.alloc();
-    let grammar = Grammar::read(alloc, LISTS)?;
-    let mut store = Store::new(alloc);
-    let root = store.branch(alloc, 0, &[], 0)?;
-    assert!(rt; root.index < store.len());
-    assert_eq!(rt; tree_text(alloc, &grammar, &store, root)?.as_str(), "(L)");
-    Ok(())
-}
-
-#[test]
-fn text_of_a_deep_tree(rt: HostRuntime) -> Result<(), Fail> {
-    let alloc = rt.alloc();
-    let grammar = Grammar::read(alloc, SUMS)?;
-    let mut store = Store::new(alloc);
-    let mut root = store.branch(alloc, 2, &[NUMBER], 0)?;
-    for _ in 0..100_000 {
-        assert!(rt; root.index < store.len());
-        root = store.branch(alloc, 1, &[Child::Node(root)], 0)?;
-    }
-    assert!(rt; root.index < store.len());
-    let text = tree_text(alloc, &grammar, &store, root)?;
-    assert_eq!(rt; text.len(), 600_010);
-    assert!(rt; text.as_str().starts_with("(Sum (Sum "));
-    assert_eq!(rt; text.as_str().find("(Atom NUM)"), Some(500_000));
+    assert!(rt; text.as_str() == "(Sum (Sum (Atom NUM)) PLUS (Atom NUM))");
     Ok(())
 }

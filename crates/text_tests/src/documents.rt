@@ -74,22 +74,6 @@ fn a_walk_tells_each_position(rt: HostRuntime) -> Result<(), Fail> {
 }
 
 #[test]
-fn changes_follow_one_another(rt: HostRuntime) -> Result<(), Fail> {
-    let alloc = rt.alloc();
-    let mut text = Text::open(alloc, "")?;
-    text.change(alloc, Unit::Utf16, between(at(0, 0), at(0, 0)), "12")?;
-    text.change(alloc, Unit::Utf16, between(at(0, 0), at(0, 1)), "")?;
-    assert_eq!(rt; text.to_string(alloc)?.as_str(), "2");
-    text.change(alloc, Unit::Utf16, None, "1+2")?;
-    assert_eq!(rt; text.to_string(alloc)?.as_str(), "1+2");
-    text.change(alloc, Unit::Utf16, between(at(0, 3), at(0, 1)), "")?;
-    assert_eq!(rt; text.to_string(alloc)?.as_str(), "1");
-    text.change(alloc, Unit::Utf16, between(at(99, 0), at(99, 0)), "+3")?;
-    assert_eq!(rt; text.to_string(alloc)?.as_str(), "1+3");
-    Ok(())
-}
-
-#[test]
 fn a_text_may_have_so_many_bytes(rt: HostRuntime) -> Result<(), Fail> {
     let alloc = rt.alloc();
     let mut text = Text::open(alloc, filled(alloc, '1', 1_048_575)?.as_str())?;

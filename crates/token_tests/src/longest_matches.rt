@@ -1,12 +1,11 @@
-//! Longest matches, and how many states an automaton may have.
+//! Longest matches. `tests/program` shows how many states an automaton may have.
 
 ghost use Rattle.std.specs.Prelude.{◌<◌, length};
 ghost use Rattle.definitions.specs.Text.{IsText};
 
 use dfa::{Automaton, DfaFault, Match, Source};
 use patterns::Pattern;
-use std::alloc::{AllocError, Global};
-use std::string::String;
+use std::alloc::Global;
 use std::test::Fail;
 
 /// A text in memory, all of which may be asked for.
@@ -40,11 +39,6 @@ fn read(alloc: Global, texts: &[&str]) -> Result<Vec<Pattern>, DfaFault> {
         patterns.push(pattern)?;
     }
     Ok(patterns)
-}
-
-fn build(alloc: Global, texts: &[&str]) -> Result<Automaton, DfaFault> {
-    let patterns = read(alloc, texts)?;
-    Automaton::build(alloc, &patterns)
 }
 
 /// What the rules find at the start of a text.
@@ -83,46 +77,6 @@ fn finds_longest_matches(rt: HostRuntime) -> Result<(), Fail> {
     assert_eq!(rt;
         first(alloc, &words, &['i', 'f', 'f']),
         found(Some(1), 3, 4)
-    );
-    Ok(())
-}
-
-// `[ab]* "a"`, then `[ab]` k times: 2 ^ (k + 1) + 1 states.
-fn family(alloc: Global, k: usize) -> Result<String, AllocError> {
-    let mut text = String::from_str(alloc, "[ab]* \"a\"")?;
-    for _ in 0..k {
-        text.push_str(" [ab]")?;
-    }
-    Ok(text)
-}
-
-fn literal(alloc: Global, length: usize) -> Result<String, AllocError> {
-    let mut text = String::from_str(alloc, "\"")?;
-    for _ in 0..length {
-        text.push('c')?;
-    }
-    text.push('"')?;
-    Ok(text)
-}
-
-#[test]
-fn has_at_most_4096_states(rt: HostRuntime) -> Result<(), Fail> {
-    let ten = family(rt.alloc(), 10)?;
-    let eleven = family(rt.alloc(), 11)?;
-    let fits = literal(rt.alloc(), 2047)?;
-    let exceeds = literal(rt.alloc(), 2048)?;
-    assert!(rt; build(rt.alloc(), &[ten.as_str(), fits.as_str()]).is_ok());
-    assert!(rt;
-        matches!(
-            build(rt.alloc(), &[ten.as_str(), exceeds.as_str()]),
-            Err(DfaFault::TooManyStates)
-        )
-    );
-    assert!(rt;
-        matches!(
-            build(rt.alloc(), &[eleven.as_str()]),
-            Err(DfaFault::TooManyStates)
-        )
     );
     Ok(())
 }

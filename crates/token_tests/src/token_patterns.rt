@@ -1,7 +1,6 @@
-//! The texts of token patterns, and their faults.
+//! What token patterns mean. `tests/program` has those that are refused.
 
-use patterns::{Expression, Interval, Pattern, PatternCause, PatternFault};
-use std::alloc::{AllocError, Global};
+use patterns::{Expression, Interval, Pattern};
 use std::test::Fail;
 
 #[test]
@@ -20,62 +19,6 @@ fn reads_patterns(rt: HostRuntime) -> Result<(), Fail> {
         " \t\"a\" ",
     ] {
         assert!(rt; Pattern::read(rt.alloc(), text).is_ok());
-    }
-    Ok(())
-}
-
-#[test]
-fn tells_faults(rt: HostRuntime) -> Result<(), Fail> {
-    for (text, at, cause) in [
-        ("", 0, PatternCause::Syntax),
-        ("\"a", 2, PatternCause::Syntax),
-        ("\"a\"**", 4, PatternCause::Syntax),
-        ("[a-]", 3, PatternCause::Syntax),
-        ("\"\\u{D800}\"", 1, PatternCause::Syntax),
-        ("[]", 0, PatternCause::EmptyClass),
-        ("[^\\u{0}-\\u{10FFFF}]", 0, PatternCause::EmptyClass),
-        ("[z-a]", 1, PatternCause::ReversedRange),
-        ("\"a\" \"\"", 4, PatternCause::EmptyLiteral),
-        ("[0-9]*", 0, PatternCause::MatchesEmpty),
-    ] {
-        match Pattern::read(rt.alloc(), text) {
-            Ok(_) => assert!(rt; false),
-            Err(fault) => {
-                let wanted = PatternFault { at, cause };
-                assert!(rt; fault == wanted);
-            }
-        }
-    }
-    Ok(())
-}
-
-// `"a"` in so many parentheses.
-fn nested(alloc: Global, depth: usize) -> Result<String, AllocError> {
-    let mut text = String::new(alloc);
-    for _i in 0..depth {
-        text.push('(')?;
-    }
-    text.push_str("\"a\"")?;
-    for _i in 0..depth {
-        text.push(')')?;
-    }
-    Ok(text)
-}
-
-#[test]
-fn nests_64_deep(rt: HostRuntime) -> Result<(), Fail> {
-    let deep = nested(rt.alloc(), 64)?;
-    assert!(rt; Pattern::read(rt.alloc(), deep.as_str()).is_ok());
-    let deeper = nested(rt.alloc(), 65)?;
-    match Pattern::read(rt.alloc(), deeper.as_str()) {
-        Ok(_) => assert!(rt; false),
-        Err(fault) => {
-            let wanted = PatternFault {
-                at: 64,
-                cause: PatternCause::Syntax,
-            };
-            assert!(rt; fault == wanted);
-        }
     }
     Ok(())
 }

@@ -24,9 +24,9 @@ fn sum(alloc: Global, store: &mut Store) -> Result<[NodeId; 4], AllocError> {
 fn branches_over_tokens_and_nodes(rt: HostRuntime) -> Result<(), Fail> {
     let alloc = rt.alloc();
     let mut store = Store::new(alloc);
-    assert_eq!(rt; store.len(), 0);
+    assert!(rt; store.len() == 0);
     let [first, left, second, whole] = sum(alloc, &mut store)?;
-    assert_eq!(rt; store.len(), 4);
+    assert!(rt; store.len() == 4);
     let want = [
         (first, 2, 5, 1, 1, Some(NUMBER), None),
         (left, 1, 5, 1, 2, Some(Child::Node(first)), None),
@@ -35,10 +35,10 @@ fn branches_over_tokens_and_nodes(rt: HostRuntime) -> Result<(), Fail> {
     ];
     for (id, production, born, tokens, size, child, next) in want {
         assert!(rt; id.index < store.len());
-        assert_eq!(rt; store.production(id), production, "at {}", id.index);
-        assert_eq!(rt; store.born(id), born, "at {}", id.index);
-        assert_eq!(rt; store.tokens(id), tokens, "at {}", id.index);
-        assert_eq!(rt; store.size(id), size, "at {}", id.index);
+        assert!(rt; store.production(id) == production, "at {}", id.index);
+        assert!(rt; store.born(id) == born, "at {}", id.index);
+        assert!(rt; store.tokens(id) == tokens, "at {}", id.index);
+        assert!(rt; store.size(id) == size, "at {}", id.index);
         assert!(rt; store.child(id, 0) == child, "at {}", id.index);
         assert!(rt; store.child(id, 1) == next, "at {}", id.index);
     }
@@ -46,17 +46,17 @@ fn branches_over_tokens_and_nodes(rt: HostRuntime) -> Result<(), Fail> {
     assert!(rt; store.child(whole, 2) == Some(Child::Node(second)));
     assert!(rt; store.child(whole, 3) == None);
     assert!(rt; store.child(whole, 18_446_744_073_709_551_615) == None);
-    assert_eq!(rt; store.child_count(whole), 3);
-    assert_eq!(rt; store.children(whole).count(), 3);
+    assert!(rt; store.child_count(whole) == 3);
+    assert!(rt; store.children(whole).count() == 3);
     assert!(rt; store.children(whole).next_back() == Some(Child::Node(second)));
     assert!(rt; Children::of(&[PLUS, NUMBER]).next_back() == Some(NUMBER));
     for (k, child) in store.children(whole).enumerate() {
         assert!(rt; store.child(whole, k) == Some(child), "at {k}");
     }
-    assert_eq!(rt; store.tokens_of(PLUS), 1);
-    assert_eq!(rt; store.size_of(PLUS), 0);
-    assert_eq!(rt; store.tokens_of(Child::Node(whole)), 3);
-    assert_eq!(rt; store.size_of(Child::Node(whole)), 4);
+    assert!(rt; store.tokens_of(PLUS) == 1);
+    assert!(rt; store.size_of(PLUS) == 0);
+    assert!(rt; store.tokens_of(Child::Node(whole)) == 3);
+    assert!(rt; store.size_of(Child::Node(whole)) == 4);
     Ok(())
 }
 
@@ -66,8 +66,8 @@ fn an_empty_production_is_a_branch_of_no_token(rt: HostRuntime) -> Result<(), Fa
     let mut store = Store::new(alloc);
     let id = store.branch(alloc, 0, &[], 0)?;
     assert!(rt; id.index < store.len());
-    assert_eq!(rt; store.tokens(id), 0);
-    assert_eq!(rt; store.size(id), 1);
+    assert!(rt; store.tokens(id) == 0);
+    assert!(rt; store.size(id) == 1);
     assert!(rt; store.child(id, 0) == None);
     Ok(())
 }
@@ -78,19 +78,19 @@ fn a_cut_keeps_the_first_nodes(rt: HostRuntime) -> Result<(), Fail> {
     let mut store = Store::new(alloc);
     let [first, left, second, _] = sum(alloc, &mut store)?;
     store.truncate(4);
-    assert_eq!(rt; store.len(), 4);
+    assert!(rt; store.len() == 4);
     store.truncate(2);
-    assert_eq!(rt; store.len(), 2);
+    assert!(rt; store.len() == 2);
     assert!(rt; left.index < store.len());
     assert!(rt; store.child(left, 0) == Some(Child::Node(first)));
-    assert_eq!(rt; store.size(left), 2);
+    assert!(rt; store.size(left) == 2);
     let again = store.branch(alloc, 3, &[Child::Node(left), PLUS], 7)?;
     assert!(rt; again == second);
     assert!(rt; again.index < store.len());
-    assert_eq!(rt; store.born(again), 7);
-    assert_eq!(rt; store.tokens(again), 2);
+    assert!(rt; store.born(again) == 7);
+    assert!(rt; store.tokens(again) == 2);
     store.truncate(0);
-    assert_eq!(rt; store.len(), 0);
+    assert!(rt; store.len() == 0);
     Ok(())
 }
 
@@ -110,8 +110,8 @@ fn counts_stop_at_the_greatest_number(rt: HostRuntime) -> Result<(), Fail> {
             63.. => (GREATEST, GREATEST),
             _ => (store.tokens(last), store.size(last)),
         };
-        assert_eq!(rt; store.tokens(last), tokens, "at {k}");
-        assert_eq!(rt; store.size(last), size, "at {k}");
+        assert!(rt; store.tokens(last) == tokens, "at {k}");
+        assert!(rt; store.size(last) == size, "at {k}");
     }
     Ok(())
 }
@@ -124,8 +124,8 @@ fn more_children_than_stand_inline(rt: HostRuntime) -> Result<(), Fail> {
     children[39] = PLUS;
     let id = store.branch(alloc, 1, &children, 0)?;
     assert!(rt; id.index < store.len());
-    assert_eq!(rt; store.tokens(id), 40);
-    assert_eq!(rt; store.size(id), 1);
+    assert!(rt; store.tokens(id) == 40);
+    assert!(rt; store.size(id) == 1);
     assert!(rt; store.child(id, 4) == Some(NUMBER));
     assert!(rt; store.child(id, 38) == Some(NUMBER));
     assert!(rt; store.child(id, 39) == Some(PLUS));
@@ -147,20 +147,20 @@ fn kinds_and_productions_of_any_number(rt: HostRuntime) -> Result<(), Fail> {
     for kind in kinds {
         let id = store.branch(alloc, 1, &[NUMBER, Child::Token(kind)], 2)?;
         assert!(rt; id.index < store.len());
-        assert_eq!(rt; store.child_count(id), 2);
+        assert!(rt; store.child_count(id) == 2);
         assert!(rt; store.child(id, 0) == Some(NUMBER));
         assert!(rt; store.child(id, 1) == Some(Child::Token(kind)));
         assert!(rt; store.child(id, 2) == None);
         assert!(rt; store.children(id).last() == Some(Child::Token(kind)));
-        assert_eq!(rt; store.production(id), 1);
-        assert_eq!(rt; store.born(id), 2);
-        assert_eq!(rt; store.tokens(id), 2);
+        assert!(rt; store.production(id) == 1);
+        assert!(rt; store.born(id) == 2);
+        assert!(rt; store.tokens(id) == 2);
     }
     for number in [4_294_967_295, 4_294_967_296, GREATEST] {
         let id = store.branch(alloc, number as usize, &[PLUS], number)?;
         assert!(rt; id.index < store.len());
-        assert_eq!(rt; store.production(id), number as usize);
-        assert_eq!(rt; store.born(id), number);
+        assert!(rt; store.production(id) == number as usize);
+        assert!(rt; store.born(id) == number);
         assert!(rt; store.child(id, 0) == Some(PLUS));
     }
     Ok(())
@@ -176,13 +176,13 @@ fn a_refused_branch_leaves_the_store(rt: HostRuntime) -> Result<(), Fail> {
         let before = store.len();
         match store.branch(alloc, 1, &children, k) {
             Ok(id) => {
-                assert_eq!(rt; id.index, before);
-                assert_eq!(rt; store.len(), before + 1);
+                assert!(rt; id.index == before);
+                assert!(rt; store.len() == before + 1);
             }
-            Err(AllocError) => assert_eq!(rt; store.len(), before),
+            Err(AllocError) => assert!(rt; store.len() == before),
         }
         for index in 0..store.len() {
-            assert_eq!(rt; store.tokens(NodeId { index }), 6, "at {index}");
+            assert!(rt; store.tokens(NodeId { index }) == 6, "at {index}");
         }
     }
     assert!(rt; store.len() >= 19);
@@ -204,28 +204,28 @@ fn compacting_keeps_the_trees_of_the_roots(rt: HostRuntime) -> Result<(), Fail> 
     let mut roots = [other, left, other];
     store.compact(alloc, &mut roots)?;
     let [other, left, again] = roots;
-    assert_eq!(rt; store.len(), 4);
+    assert!(rt; store.len() == 4);
     assert!(rt; again == other);
     assert!(rt; other.index < store.len());
     assert!(rt; left.index < store.len());
-    assert_eq!(rt; store.production(other), 0);
-    assert_eq!(rt; store.born(other), 7);
-    assert_eq!(rt; store.tokens(other), 3);
-    assert_eq!(rt; store.size(other), 4);
+    assert!(rt; store.production(other) == 0);
+    assert!(rt; store.born(other) == 7);
+    assert!(rt; store.tokens(other) == 3);
+    assert!(rt; store.size(other) == 4);
     assert!(rt; store.child(other, 1) == Some(PLUS));
     assert!(rt; store.child(other, 2) == Some(Child::Node(left)));
-    assert_eq!(rt; store.born(left), 5);
-    assert_eq!(rt; store.size(left), 2);
+    assert!(rt; store.born(left) == 5);
+    assert!(rt; store.size(left) == 2);
     match store.child(other, 0) {
         Some(Child::Node(second)) => {
             assert!(rt; second.index < store.len());
-            assert_eq!(rt; store.born(second), 6);
+            assert!(rt; store.born(second) == 6);
             assert!(rt; store.child(second, 0) == Some(NUMBER));
         }
         _ => return Err("no node")?,
     }
     store.compact(alloc, &mut [])?;
-    assert_eq!(rt; store.len(), 0);
+    assert!(rt; store.len() == 0);
     Ok(())
 }
 
@@ -241,17 +241,17 @@ fn a_refused_compaction_changes_nothing(rt: HostRuntime) -> Result<(), Fail> {
     assert!(rt; last.index < store.len());
     let mut roots = [last];
     match store.compact(alloc, &mut roots) {
-        Ok(()) => assert_eq!(rt; store.len(), 5),
+        Ok(()) => assert!(rt; store.len() == 5),
         Err(AllocError) => {
-            assert_eq!(rt; store.len(), 6);
+            assert!(rt; store.len() == 6);
             assert!(rt; roots[0] == last);
         }
     }
     let [last] = roots;
     assert!(rt; last.index < store.len());
-    assert_eq!(rt; store.born(last), 8);
-    assert_eq!(rt; store.tokens(last), 27);
-    assert_eq!(rt; store.size(last), 37);
+    assert!(rt; store.born(last) == 8);
+    assert!(rt; store.tokens(last) == 27);
+    assert!(rt; store.size(last) == 37);
     Ok(())
 }
 
@@ -283,9 +283,9 @@ fn count_invalid<K: Kinds>(kinds: &K) -> usize {
 fn kinds_of_a_row(rt: HostRuntime) -> Result<(), Fail> {
     let kinds = vec![in rt.alloc(); Kind::Rule(2), Kind::Invalid, Kind::Rule(0)]?;
     let row = Row { kinds };
-    assert_eq!(rt; row.len(), 3);
+    assert!(rt; row.len() == 3);
     assert!(rt; row.kind(2) == Some(Kind::Rule(0)));
     assert!(rt; row.kind(3) == None);
-    assert_eq!(rt; count_invalid(&row), 1);
+    assert!(rt; count_invalid(&row) == 1);
     Ok(())
 }
