@@ -44,7 +44,7 @@ is_whole t ss f small headed same read some =
     let whole = subst (λ (xs : List Statement). IsRead f xs) same read in
     record { small = small; headed = headed; faultless = whole.faultless; started = sym whole.names.started ∙ some }
 
-pub reference_fault : (t : List ℕ) (ss : List Statement) (all : List Statement) (r : Refusal) → IsWhole t → ss ≡ statements t → all ≡ ss → Tells r (λ n c. IsFirstReferenceFault all n c) → Tells r (λ n c. IsFileFault t n c)
-reference_fault t ss all r whole same told tells =
-    tells_map r (λ n c. IsFirstReferenceFault all n c) (λ n c. IsFileFault t n c)
-    (λ n c h. reference n c whole (subst (λ (xs : List Statement). IsFirstReferenceFault xs n c) (told ∙ same) h)) tells
+pub reference_fault : (t : List ℕ) (ss : List Statement) (r : Refusal) → IsWhole t → ss ≡ statements t → Tells r (λ n c. IsFirstReferenceFault ss n c) → Tells r (λ n c. IsFileFault t n c)
+reference_fault t ss r whole same tells =
+    tells_map r (λ n c. IsFirstReferenceFault ss n c) (λ n c. IsFileFault t n c)
+    (λ n c h. reference n c whole (subst (λ (xs : List Statement). IsFirstReferenceFault xs n c) same h)) tells

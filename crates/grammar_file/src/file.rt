@@ -1,16 +1,16 @@
 //! A grammar file, line by line.
 
-ghost use Rattle.std.specs.Prelude.{◌≡◌, drop, IfOk, IfErr};
+ghost use Rattle.std.specs.Prelude.{◌≡◌, [], drop, IfOk, IfErr, OnOk};
 ghost use Rattle.std.specs.Str.Lines.{lines};
 ghost use Rattle.grammar_file.specs.Statements.{statements, version_told, version_of};
 ghost use Rattle.grammar_file.specs.Faults.{IsWhole, HaveReferents, IsFileFault};
-ghost use Rattle.grammar_file.specs.Said.{texts, IsWrittenOut};
+ghost use Rattle.grammar_file.specs.Said.{texts, IsRead, IsWrittenOut};
 ghost use Rattle.grammar_file.specs.Told.{Tells};
 
 use crate::fault::{Cause, Limit, Refusal};
 use crate::line::Version;
 use crate::references::test_references;
-use crate::statements::{File, read_statements};
+use crate::statements::File;
 use crate::written_out::write_out;
 use std::alloc::{AllocError, Global};
 
@@ -30,6 +30,32 @@ pub fn read_file<'a>(alloc: Global, text: &'a str) -> Result<File<'a>, Refusal<'
         HaveReferents (statements text.now) (statements text.now)) }
     ensures fault { IfErr result (λ r. Tells r (λ n c. IsFileFault text.now n c)) }
 {
+    let mut file = File::new(alloc);
+    fill(alloc, &mut file, text)?;
+    Ok(file)
+}
+
+/// Fills an empty file with what the text says.
+fn fill<'a>(alloc: Global, file: &mut File<'a>, text: &'a str) -> Result<(), Refusal<'a>>
+    requires { IsRead file.old [] }
+    ensures whole { OnOk result (IsWhole text.now) }
+    ensures written { OnOk result (IsWrittenOut file.new (statements text.now)) }
+    ensures referents { OnOk result (HaveReferents (statements text.now) (statements text.now)) }
+    ensures fault { IfErr result (λ r. Tells r (λ n c. IsFileFault text.now n c)) }
+{
+    read_lines(alloc, file, text)?;
+    test_references(&file.names, &file.statements)?;
+    write_out(alloc, &mut file.statements, &mut file.names)?;
+    Ok(())
+}
+
+/// Adds the lines of the text, which have a start, to an empty file.
+fn read_lines<'a>(alloc: Global, file: &mut File<'a>, text: &'a str) -> Result<(), Refusal<'a>>
+    requires { IsRead file.old [] }
+    ensures whole { OnOk result (IsWhole text.now) }
+    ensures read { OnOk result (IsRead file.new (statements text.now)) }
+    ensures fault { IfErr result (λ r. Tells r (λ n c. IsFileFault text.now n c)) }
+{
     if LARGEST_FILE < text.len() {
         return Err(Refusal::Fault(0, Cause::Passed(Limit::File)));
     }
@@ -37,13 +63,11 @@ pub fn read_file<'a>(alloc: Global, text: &'a str) -> Result<File<'a>, Refusal<'
     let Some(version) = version_of(&lines) else {
         return Err(Refusal::Fault(1, Cause::FirstLine));
     };
-    let file = read_statements(alloc, version, behind_first(&lines))?;
+    file.add_lines(alloc, version, behind_first(&lines))?;
     if !file.names.started {
         return Err(Refusal::Fault(0, Cause::NoStart));
     }
-    test_references(&file.names, &file.statements)?;
-    let written = write_out(alloc, file)?;
-    Ok(written)
+    Ok(())
 }
 
 fn lines_of(alloc: Global, text: &str) -> Result<Vec<&str>, AllocError>

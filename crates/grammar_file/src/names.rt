@@ -1,11 +1,11 @@
 //! The names that the lines of a file define.
 
-ghost use Rattle.std.specs.Prelude.{◌≡◌, ◌+◌, ◌<◌, ◌≤◌, ◌^◌, List, [], None, Some, if◌then◌else◌, length, map, OnOk, IfOk, nat_lt};
+ghost use Rattle.std.specs.Prelude.{◌≡◌, ◌+◌, ◌<◌, ◌≤◌, ◌^◌, ◌++◌, ◌∷◌, List, [], None, Some, if◌then◌else◌, length, map, OnOk, IfOk, nat_lt};
 ghost use Rattle.definitions.specs.declared.Symbol.TheVariants.{Nonterminal};
 ghost use Rattle.grammar_file.specs.Statements.{Statement};
-ghost use Rattle.grammar_file.specs.Contents.{defines, is_among};
+ghost use Rattle.grammar_file.specs.Contents.{defines, is_among, with_name};
 ghost use Rattle.grammar_file.specs.WrittenOut.{with_marked};
-ghost use Rattle.grammar_file.specs.Said.{said, rule_line, texts, AreNames, with_rule, with_skip, with_left, with_right, with_sides, with_production, with_start};
+ghost use Rattle.grammar_file.specs.Said.{said, rule_line, texts, AreNames, with_rule, with_skip, with_left, with_right, with_sides, with_names, with_production, with_start};
 
 use crate::line::Line;
 use crate::name_set::NameSet;
@@ -69,25 +69,55 @@ impl<'a> Names<'a> {
                 skip,
                 name,
                 pattern,
-            } => {
-                if *skip {
-                    self.skips.add(name)?;
-                }
-                self.rules.add(RuleName {
-                    skip: *skip,
-                    name,
-                    pattern,
-                })?;
+            } => self.note_rule(RuleName {
+                skip: *skip,
+                name,
+                pattern,
+            }),
+            Line::Production { left, right } => self.note_production(alloc, left, right),
+            Line::Start(_) => {
+                self.started = true;
+                Ok(())
             }
-            Line::Production { left, right } => {
-                self.nonterminals.add(left)?;
-                add_marked(&mut self.marked, right)?;
-                self.sides.add(alloc, left, right)?;
-                self.productions += 1;
-            }
-            Line::Start(_) => self.started = true,
-            Line::Fold(_) | Line::Nothing | Line::Bad => {}
+            Line::Fold(_) | Line::Nothing | Line::Bad => Ok(()),
         }
+    }
+
+    /// Adds a rule.
+    fn note_rule(&mut self, rule: RuleName<'a>) -> Result<(), AllocError>
+        ensures { OnOk result (self.new
+            ≡ record self.old {
+              rules = self.old.rules ++ rule_line rule.entry ∷ [];
+              skips = if rule.entry.skip then with_name self.old.skips rule.entry.name.now else
+                  self.old.skips;
+            }) }
+    {
+        if rule.skip {
+            self.skips.add(rule.name)?;
+        }
+        self.rules.add(rule)
+    }
+
+    /// Adds a production.
+    fn note_production(
+        &mut self,
+        alloc: Global,
+        left: &'a str,
+        right: &[&'a str],
+    ) -> Result<(), AllocError>
+        requires { self.old.productions < 2 ^ 32 }
+        ensures { OnOk result (self.new
+            ≡ record self.old {
+              nonterminals = with_name self.old.nonterminals left.now;
+              marked = with_marked self.old.marked (texts right.now);
+              sides = with_names self.old.sides (left.now ∷ texts right.now);
+              productions = self.old.productions + 1;
+            }) }
+    {
+        self.nonterminals.add(left)?;
+        add_marked(&mut self.marked, right)?;
+        self.sides.add(alloc, left, right)?;
+        self.productions += 1;
         Ok(())
     }
 

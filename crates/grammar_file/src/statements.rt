@@ -8,6 +8,7 @@ ghost use Rattle.definitions.specs.PatternFaults.{IsFault as IsPatternFault};
 ghost use Rattle.definitions.specs.Spelling.{IsPattern};
 ghost use Rattle.grammar_file.specs.Statements.{line_of, Statement, numbered, statements_in, Nothing, at};
 ghost use Rattle.grammar_file.specs.Statements;
+ghost use Rattle.grammar_file.specs.Contents.{defines};
 ghost use Rattle.grammar_file.specs.Words.{plain};
 ghost use Rattle.grammar_file.specs.Faults.{reserved, has_rule, has_production, early_fault, line_limit, limit_fault, IsLineFault, IsFirstLineFault, HasPatternFault, BadPattern, Passed};
 ghost use Rattle.grammar_file.specs.Said.{said, all_said, texts, AreNames, IsRead, IsPatternOf, with_pattern};
@@ -57,30 +58,38 @@ pub struct File<'a> {
     pub defined: Vec<Symbol>,
 }
 
-/// What the lines say, of which the first has number 2; or the first fault.
-pub fn read_statements<'a>(
-    alloc: Global,
-    version: Version,
-    lines: &[&'a str],
-) -> Result<File<'a>, Refusal<'a>>
-    ensures read { IfOk result (λ f. IsRead f (statements_in version (texts lines.now))) }
-    ensures fault { IfErr result (λ r.
-        Tells r (λ n c. IsFirstLineFault (statements_in version (texts lines.now)) n c)) }
-{
-    let mut file = File {
-        statements: Vec::new(alloc),
-        names: Names::new(alloc),
-        patterns: Vec::new(alloc),
-        defined: Vec::new(alloc),
-    };
-    for (index, text) in lines.iter().enumerate() {
-        let line = read_line(alloc, version, text)?;
-        file.add(alloc, index + 2, line)?;
-    }
-    Ok(file)
-}
-
 impl<'a> File<'a> {
+    /// Before any line.
+    pub(crate) fn new(alloc: Global) -> File<'a>
+        ensures { IsRead result [] }
+    {
+        File {
+            statements: Vec::new(alloc),
+            names: Names::new(alloc),
+            patterns: Vec::new(alloc),
+            defined: Vec::new(alloc),
+        }
+    }
+
+    /// Adds what the lines say, of which the first has number 2, up to the first fault.
+    pub(crate) fn add_lines(
+        &mut self,
+        alloc: Global,
+        version: Version,
+        lines: &[&'a str],
+    ) -> Result<(), Refusal<'a>>
+        requires { IsRead self.old [] }
+        ensures read { OnOk result (IsRead self.new (statements_in version (texts lines.now))) }
+        ensures fault { IfErr result (λ r.
+            Tells r (λ n c. IsFirstLineFault (statements_in version (texts lines.now)) n c)) }
+    {
+        for (index, text) in lines.iter().enumerate() {
+            let line = read_line(alloc, version, text)?;
+            self.add(alloc, index + 2, line)?;
+        }
+        Ok(())
+    }
+
     /// Adds a line with its number, unless it says nothing.
     fn add(&mut self, alloc: Global, number: usize, line: Line<'a>) -> Result<(), Refusal<'a>>
         requires { IsRead self.old (all_said self.old.statements.items) }
@@ -112,11 +121,33 @@ impl<'a> File<'a> {
             (n ≡ number) × IsLineFault (all_said self.old.statements.items) (said line.entry) c)) }
     {
         let pattern = self.tested(alloc, number, &line)?;
-        add_pattern(&mut self.patterns, pattern)?;
-        add_symbol(&mut self.defined, self.names.defined_by(&line))?;
-        self.names.note(alloc, &line)?;
+        self.note(alloc, &line, pattern)?;
         add_line(&mut self.statements, number, line)?;
         self.test_limits(number)
+    }
+
+    /// Notes what a line defines, but not the line.
+    fn note(
+        &mut self,
+        alloc: Global,
+        line: &Line<'a>,
+        pattern: Option<Pattern>,
+    ) -> Result<(), AllocError>
+        requires { IsRead self.old (all_said self.old.statements.items) }
+        ensures statements { OnOk result (self.new.statements.items ≡ self.old.statements.items) }
+        ensures names { OnOk result ((n : ℕ) → AreNames self.new.names
+            (all_said self.old.statements.items ++ at n (said line.now) ∷ [])) }
+        ensures few { OnOk result (self.new.names.productions ≤ 2 ^ 32) }
+        ensures patterns { OnOk result (self.new.patterns.items
+            ≡ with_pattern self.old.patterns.items pattern) }
+        ensures defined { OnOk result (self.new.defined.items
+            ≡ self.old.defined.items
+            ++ cons_option (defines (all_said self.old.statements.items) (said line.now)) []) }
+    {
+        add_pattern(&mut self.patterns, pattern)?;
+        add_symbol(&mut self.defined, self.names.defined_by(line))?;
+        self.names.note(alloc, line)?;
+        Ok(())
     }
 
     /// Tests a line but for the limits that all lines have to keep, and hands out the pattern of a rule.

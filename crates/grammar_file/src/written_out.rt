@@ -1,38 +1,35 @@
 //! What marked words mean: each is a nonterminal with two productions.
 
-ghost use Rattle.std.specs.Prelude.{◌≡◌, ◌+◌, ◌≤◌, ◌<◌, ◌^◌, ◌++◌, ◌∷◌, [], length, IfOk, OnOk};
+ghost use Rattle.std.specs.Prelude.{◌≡◌, ◌+◌, ◌≤◌, ◌<◌, ◌^◌, ◌++◌, ◌∷◌, [], length, OnOk};
 ghost use Rattle.grammar_file.specs.Statements.{at};
 ghost use Rattle.grammar_file.specs.Statements;
-ghost use Rattle.grammar_file.specs.WrittenOut.{added};
-ghost use Rattle.grammar_file.specs.Said.{all_said, texts, AreNames, IsRead, IsWrittenOut};
+ghost use Rattle.grammar_file.specs.Faults.{production_count};
+ghost use Rattle.grammar_file.specs.WrittenOut.{added, written_out};
+ghost use Rattle.grammar_file.specs.Said.{all_said, texts, AreNames};
 
 use crate::line::Line;
 use crate::names::Names;
 use crate::right_word::{Mark, RightWord};
-use crate::statements::{File, Numbered, add_line};
+use crate::statements::{Numbered, add_line};
 use std::alloc::{AllocError, Global};
 
-/// The file with the productions of its marked words behind its lines, in the order in which the words first stand.
-pub fn write_out<'a>(alloc: Global, file: File<'a>) -> Result<File<'a>, AllocError>
-    requires { IsRead file (all_said file.statements.items) }
-    ensures { IfOk result (λ f. IsWrittenOut f (all_said file.entry.statements.items)) }
+/// Adds the productions of the marked words behind the lines, in the order in which the words first stand.
+pub fn write_out<'a>(
+    alloc: Global,
+    statements: &mut Vec<Numbered<'a>>,
+    names: &mut Names<'a>,
+) -> Result<(), AllocError>
+    requires names { AreNames names.old (all_said statements.old.items) }
+    requires few { production_count (all_said statements.old.items) ≤ 1024 }
+    ensures statements { OnOk result (all_said statements.new.items
+        ≡ written_out (all_said statements.old.items)) }
+    ensures names { OnOk result (AreNames names.new (all_said statements.new.items)) }
 {
-    let File {
-        mut statements,
-        mut names,
-        patterns,
-        defined,
-    } = file;
     let words = names.marked.as_slice().to_vec(alloc)?;
     for word in &words {
-        add_productions(alloc, &mut statements, &mut names, word)?;
+        add_productions(alloc, statements, names, word)?;
     }
-    Ok(File {
-        statements,
-        names,
-        patterns,
-        defined,
-    })
+    Ok(())
 }
 
 /// Adds the productions of a marked word.

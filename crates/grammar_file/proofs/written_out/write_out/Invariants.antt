@@ -6,7 +6,7 @@ use Rattle.grammar_file.proofs.written_out.write_out.Given as goal
 
 abbrev pub invariant-loop-word : goal.invariant-loop-word
 invariant-loop-word l = record {
-  statements : all_said l.statements.items ≡ all_said l.fn.file.statements.items ++ flat_map added (texts (take l.word-index l.word-items));
+  statements : all_said l.statements.items ≡ all_said l.fn.statements.items ++ flat_map added (texts (take l.word-index l.word-items));
   names : AreNames l.names (all_said l.statements.items);
   few : l.names.productions ≤ 1024 + 2 * l.word-index;
 }

@@ -1,7 +1,7 @@
 use Rattle.std.proofs.Common.{take}
 use Rattle.grammar_file.specs.Statements.{statements_in}
 use Rattle.grammar_file.specs.Said.{texts, IsRead}
-use Rattle.grammar_file.proofs.statements.read_statements.Given as goal
+use Rattle.grammar_file.proofs.statements.File.add_lines.Given as goal
 
 abbrev pub invariant-loop-index : goal.invariant-loop-index
-invariant-loop-index l = IsRead l.file (statements_in l.version (texts (take l.index l.lines)))
+invariant-loop-index l = IsRead l.self (statements_in l.version (texts (take l.index l.lines)))
