@@ -2,38 +2,45 @@
 //! editor tells it, and prints what is told before and behind the edit.
 #![tactic(auto)]
 
+ghost use Rattle.docs.specs.Docs.{IsCurrent};
+
 use anyhow::{Result, bail};
 use definitions::Unit;
 use docs::{Doc, Language, Position, Range};
 
 /// Sums of numbers and of sums in parentheses.
-const SUMS: &str =
-    "lrgrammar 1\ntoken NUM = [0-9]+\ntoken PLUS = \"+\"\ntoken LP = \"(\"\ntoken RP = \")\"\nskip WS = [ \\t\\r\\n]+\nstart Sum\nSum = Sum PLUS Atom\nSum = Atom\nAtom = NUM\nAtom = LP Sum RP\n";
+const SUMS: &str = r#"lrgrammar 1
+token NUM = [0-9]+
+token PLUS = "+"
+token LP = "("
+token RP = ")"
+skip WS = [ \t\r\n]+
+start Sum
+Sum = Sum PLUS Atom
+Sum = Atom
+Atom = NUM
+Atom = LP Sum RP
+"#;
 
 /// A text that ends too early.
 const TEXT: &str = "1+(2";
 
-fn main(rt: HostRuntime) -> Result<()> {
-    let alloc = rt.alloc();
-    let Ok(language) = Language::load(alloc, SUMS) else {
-        bail!("the grammar has a fault, or memory was refused");
-    };
-    let Ok(doc) = Doc::open(alloc, &language, Unit::Utf16, 1, TEXT) else {
-        bail!("the text is too large, or memory was refused");
-    };
-    if let Some(fault) = doc.diagnostic(alloc, &language)? {
+/// Prints where a document has its fault, and which.
+fn print_fault(rt: &HostRuntime, language: &Language, doc: &Doc) -> Result<()>
+    requires { IsCurrent language.now doc.now }
+{
+    if let Some(fault) = doc.diagnostic(rt.alloc(), language)? {
         let Position { line, character } = fault.range.start;
         println!(rt; "{line}:{character}: {}", fault.message)?;
     }
-    let end = Position {
-        line: 0,
-        character: 4,
-    };
-    let range = Range { start: end, end };
-    let Ok(doc) = doc.change(alloc, &language, Some(range), ")") else {
-        bail!("the text would be too large, or memory was refused");
-    };
-    if let Some(tree) = doc.tree(alloc, &language)? {
+    Ok(())
+}
+
+/// Prints a document's tree, and what its last edit has made.
+fn print_tree(rt: &HostRuntime, language: &Language, doc: &Doc) -> Result<()>
+    requires { IsCurrent language.now doc.now }
+{
+    if let Some(tree) = doc.tree(rt.alloc(), language)? {
         println!(rt; "{tree}")?;
     }
     let stats = doc.stats();
@@ -42,4 +49,29 @@ fn main(rt: HostRuntime) -> Result<()> {
         stats.scanned, stats.tokens, stats.built, stats.branches
     )?;
     Ok(())
+}
+
+/// Opens the text, and mends it by a parenthesis behind it.
+fn mend(rt: &HostRuntime, language: &Language) -> Result<()> {
+    let alloc = rt.alloc();
+    let Ok(doc) = Doc::open(alloc, language, Unit::Utf16, 1, TEXT) else {
+        bail!("the text is too large, or memory was refused");
+    };
+    print_fault(rt, language, &doc)?;
+    let end = Position {
+        line: 0,
+        character: 4,
+    };
+    let range = Range { start: end, end };
+    match doc.change(alloc, language, Some(range), ")") {
+        Ok(doc) => print_tree(rt, language, &doc),
+        Err(_) => bail!("the text would be too large, or memory was refused"),
+    }
+}
+
+fn main(rt: HostRuntime) -> Result<()> {
+    match Language::load(rt.alloc(), SUMS) {
+        Ok(language) => mend(&rt, &language),
+        Err(_) => bail!("the grammar has a fault, or memory was refused"),
+    }
 }
