@@ -8,8 +8,8 @@ ghost use Rattle.item_sets.specs.Sets.{IsItem, behind};
 ghost use Rattle.theory.specs.First.{MayFollow};
 
 use crate::first::First;
+use crate::indices::ProductionNumber;
 use crate::item::Item;
-use crate::places::ProductionNumber;
 use crate::productions::Productions;
 use definitions::Symbol;
 use grammar::Grammar;
@@ -98,7 +98,8 @@ fn by_left(alloc: Global, productions: &Productions) -> Result<Vec<Numbers>, All
     ensures { IfOk result (λ rows. AreByLeft productions.now rows.items) }
 {
     let mut rows = no_numbers(alloc, productions.nonterminals())?;
-    for p in 0..productions.len() {
+    for index in 0..productions.len() {
+        let p = ProductionNumber::new(index);
         let row = &mut rows[productions.left(p)];
         row.add(p)?;
     }
@@ -237,7 +238,7 @@ impl AugmentedGrammar {
                 }
             }
             Some(p) => {
-                let right = self.right(p);
+                let right = self.right(ProductionNumber::new(p));
                 if item.at < right.len() {
                     Some(right[item.at])
                 } else {

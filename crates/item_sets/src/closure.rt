@@ -12,9 +12,9 @@ ghost use Rattle.item_sets.specs.Wants.{marked, AreWants, Grows, AreWanted, Asks
 ghost use Rattle.theory.specs.First.{MayFollow};
 
 use crate::augmented::AugmentedGrammar;
+use crate::indices::ProductionNumber;
 use crate::item::Item;
 use crate::lookahead::lookahead_at;
-use crate::places::ProductionNumber;
 use crate::wanted::{Want, Wanted};
 use definitions::Symbol;
 use std::alloc::{AllocError, Global};
@@ -198,7 +198,8 @@ impl Wanted {
                 Ok(())
             }
             Some(p) => {
-                self.ask(grammar, grammar.right(p).split_at(item.at).1, item.look)?;
+                let right = grammar.right(ProductionNumber::new(p));
+                self.ask(grammar, right.split_at(item.at).1, item.look)?;
                 Ok(())
             }
         }
@@ -258,7 +259,7 @@ fn add_items(
     for column in 0..grammar.lookaheads() {
         if wanted.has(grammar, left, column) {
             items.push(Item {
-                production: Some(p),
+                production: Some(p.index()),
                 at: 0,
                 look: lookahead_at(column),
             })?;
@@ -291,8 +292,8 @@ fn items_of(
 {
     let mut items = Vec::from_slice(alloc, kernel)?;
     let count = wanted_productions(grammar, wanted);
-    for p in 0..count {
-        add_items(grammar, wanted, p, &mut items)?;
+    for index in 0..count {
+        add_items(grammar, wanted, ProductionNumber::new(index), &mut items)?;
     }
     Ok(items)
 }

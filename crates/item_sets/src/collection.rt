@@ -7,9 +7,9 @@ ghost use Rattle.item_sets.specs.States.{HasKernel, IsSetOf};
 
 use crate::augmented::AugmentedGrammar;
 use crate::goto::kernels_behind;
+use crate::indices::StateNumber;
 use crate::item::Item;
 use crate::kernels::Kernels;
-use crate::places::StateNumber;
 use crate::symbols::symbol_at;
 use definitions::Symbol;
 use std::alloc::{AllocError, Global};
@@ -56,7 +56,7 @@ impl States {
         kernels.place(alloc, &kernel)?;
         let mut origins = Vec::new(alloc);
         origins.push(Origin {
-            from: 0,
+            from: StateNumber::new(0),
             symbol: Symbol::Nonterminal(grammar.start()),
         })?;
         Ok(States { kernels, origins })
@@ -91,7 +91,7 @@ impl States {
         ensures placed { OnOk result (Placed self.old self.new kernel.now from symbol) }
     {
         let state = self.kernels.place(alloc, kernel)?;
-        if state == self.origins.len() {
+        if state.index() == self.origins.len() {
             self.origins.push(Origin { from, symbol })?;
         }
         Ok(state)
@@ -162,11 +162,11 @@ impl States {
             state) prefix.items) }
     {
         let mut symbols = Vec::new(alloc);
-        let mut at = state;
+        let mut at = state.index();
         while at > 0 {
             let origin = self.origins[at];
             symbols.push(origin.symbol)?;
-            at = origin.from;
+            at = origin.from.index();
         }
         symbols.reverse();
         Ok(symbols)

@@ -7,6 +7,7 @@ ghost use Rattle.theory.specs.First.{MayFollow};
 ghost use Rattle.theory.specs.First.{Vanishes, Begins};
 ghost use Rattle.item_sets.specs.Productions.{IsSound, IsKnown};
 
+use crate::indices::ProductionNumber;
 use crate::marks::Marks;
 use crate::productions::Productions;
 use definitions::Symbol;
@@ -100,7 +101,8 @@ fn pass(
     ensures fewer { result ≡ true → unmarked marks.new < unmarked marks.old }
 {
     let mut changed = false;
-    for p in 0..productions.len() {
+    for index in 0..productions.len() {
+        let p = ProductionNumber::new(index);
         let left = productions.left(p);
         if !marks.has(left) {
             if holds(productions, look, vanishing, marks, productions.right(p)) {

@@ -2,8 +2,8 @@
 ghost use Rattle.std.specs.Prelude.{◌≡◌, ◌<◌, ◌⊎◌, ◌∷◌, ◌++◌, [], length, slice_index_or, IfOk, OnOk};
 ghost use Rattle.item_sets.specs.Collection.{IsAbsent};
 
+use crate::indices::StateNumber;
 use crate::item::Item;
-use crate::places::StateNumber;
 use indexmap::IndexSet;
 use std::alloc::{AllocError, Global};
 use std::marker::Model;
@@ -46,7 +46,7 @@ impl Kernels {
         requires { state < length self.now }
         ensures { result.now ≡ slice_index_or self.now state [] }
     {
-        self.set.as_slice()[state].as_slice()
+        self.set.as_slice()[state.index()].as_slice()
     }
 
     /// The place of a kernel, which is added at the end where it is new.
@@ -57,7 +57,7 @@ impl Kernels {
             ⊎ ((self.new ≡ self.old ++ kernel.items ∷ []) × IsAbsent self.old kernel.items)) }
     {
         match self.set.insert_full(kernel) {
-            Ok((state, _)) => Ok(state),
+            Ok((index, _)) => Ok(StateNumber::new(index)),
             Err(_) => Err(AllocError),
         }
     }
@@ -69,8 +69,8 @@ impl Kernels {
         ensures list { OnOk result ((self.new ≡ self.old)
             ⊎ ((self.new ≡ self.old ++ kernel.now ∷ []) × IsAbsent self.old kernel.now)) }
     {
-        if let Some(state) = self.set.get_index_of(kernel) {
-            return Ok(state);
+        if let Some(index) = self.set.get_index_of(kernel) {
+            return Ok(StateNumber::new(index));
         }
         self.add(Vec::from_slice(alloc, kernel)?)
     }

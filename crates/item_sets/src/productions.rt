@@ -3,7 +3,7 @@ ghost use Rattle.std.specs.Prelude.{◌≡◌, ◌<◌, IfOk, length};
 ghost use Rattle.grammar.specs.Grammars.{left_of, right_of};
 ghost use Rattle.item_sets.specs.Productions.{IsSound};
 
-use crate::places::ProductionNumber;
+use crate::indices::ProductionNumber;
 use definitions::Symbol;
 use grammar::Grammar;
 use std::alloc::{AllocError, Global};
@@ -110,7 +110,7 @@ impl Productions {
         requires { p < length self.now.grammar.productions }
         ensures { result ≡ left_of self.now.grammar p }
     {
-        self.productions[p].left
+        self.productions[p.index()].left
     }
 
     /// The right side of a production.
@@ -118,6 +118,6 @@ impl Productions {
         requires { p < length self.now.grammar.productions }
         ensures { result.now ≡ right_of self.now.grammar p }
     {
-        &self.productions[p].right
+        &self.productions[p.index()].right
     }
 }

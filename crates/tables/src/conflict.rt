@@ -8,7 +8,7 @@ ghost use Rattle.item_sets.specs.Sets.{IsItem, item_of};
 use crate::decisions::Clash;
 use crate::progress::ClashAt;
 use definitions::Symbol;
-use item_sets::{AugmentedGrammar, Item, ProductionNumber, States};
+use item_sets::{AugmentedGrammar, Item, States};
 use std::alloc::{AllocError, Global};
 
 /// Two items that are valid for a prefix and call for different moves at a lookahead. None is the end. The place of `first`
@@ -27,7 +27,7 @@ pub struct Conflict {
 }
 
 /// Whether a production comes before another, the added start production before all.
-fn is_earlier(one: Option<ProductionNumber>, two: Option<ProductionNumber>) -> bool
+fn is_earlier(one: Option<usize>, two: Option<usize>) -> bool
     requires { one ≢ two }
     ensures yes { result ≡ true → IsEarlier one two }
     ensures no { result ≡ false → IsEarlier two one }

@@ -11,7 +11,7 @@ use crate::expected::Expected;
 use crate::moves::{Call, Decision, call_of, decide};
 use crate::rows::Row;
 use definitions::Symbol;
-use item_sets::{AugmentedGrammar, Item, Marks, ProductionNumber, StateNumber, lookahead_at};
+use item_sets::{AugmentedGrammar, Item, Marks, lookahead_at};
 use std::alloc::{AllocError, Global};
 use std::marker::Model;
 
@@ -19,9 +19,9 @@ use std::marker::Model;
 #[derive(Clone, Copy, Debug, PartialEq, Eq)]
 pub enum Move {
     /// Take what is next, and go to this state.
-    Shift(StateNumber),
+    Shift(usize),
     /// Reduce by the production with this number.
-    Reduce(ProductionNumber),
+    Reduce(usize),
     /// All kinds are a sentence.
     Accept,
 }

@@ -14,5 +14,5 @@ mod tables;
 pub use conflict::Conflict;
 pub use decisions::Move;
 pub use expected::Expected;
-pub use item_sets::{Item, Place, ProductionNumber, StateNumber};
+pub use item_sets::{Item, Place};
 pub use tables::{MOST_SETS, TableFault, Tables};

@@ -5,7 +5,7 @@ ghost use Rattle.item_sets.specs.Sets.{IsItem};
 ghost use Rattle.tables.specs.Moves.{IsCall, IsDecision};
 
 use definitions::Symbol;
-use item_sets::{AugmentedGrammar, Item, ProductionNumber};
+use item_sets::{AugmentedGrammar, Item};
 
 /// What an item calls for.
 #[derive(Clone, Copy, Debug, PartialEq, Eq)]
@@ -13,7 +13,7 @@ pub enum Call {
     /// To take what is next.
     Shift,
     /// To reduce by the production with this number.
-    Reduce(ProductionNumber),
+    Reduce(usize),
     /// To accept.
     Accept,
 }

@@ -40,7 +40,8 @@ impl Outline {
         ensures { IfOk result (IsOutline productions.now) }
     {
         let mut sides = Vec::new(alloc);
-        for p in 0..productions.len() {
+        for index in 0..productions.len() {
+            let p = ProductionNumber::new(index);
             let length = productions.right(p).len();
             sides.push(Side {
                 left: productions.left(p),
@@ -73,6 +74,6 @@ impl Outline {
         requires { p < length self.now.sides }
         ensures { result ≡ slice_index_or self.now.sides p no_side }
     {
-        self.sides[p]
+        self.sides[p.index()]
     }
 }

@@ -28,12 +28,15 @@ impl Row {
         Row { to }
     }
 
-    /// Where the symbol with this number leads.
-    pub fn to(&self, symbol: usize) -> Option<StateNumber>
+    /// The number of the state that the symbol with this number leads to.
+    pub fn to(&self, symbol: usize) -> Option<usize>
         requires { symbol < length self.now }
         ensures { result ≡ slice_index_or self.now symbol None }
     {
-        self.to[symbol]
+        match self.to[symbol] {
+            Some(state) => Some(state.index()),
+            None => None,
+        }
     }
 
     /// Where the nonterminals lead: the entries behind those of so many token rules.

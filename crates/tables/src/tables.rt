@@ -26,7 +26,7 @@ use crate::rows::Row;
 use definitions::Kind;
 use erased::Erased;
 use grammar::Grammar;
-use item_sets::{AugmentedGrammar, Kernels, ProductionNumber, Productions, StateNumber, States};
+use item_sets::{AugmentedGrammar, Kernels, ProductionNumber, Productions, States};
 use std::alloc::Global;
 use std::marker::Model;
 
@@ -154,7 +154,7 @@ impl Tables {
     }
 
     /// The state of the empty prefix.
-    pub fn start(&self) -> StateNumber
+    pub fn start(&self) -> usize
         ensures start { IsStateOf self.now [] result }
         ensures accepted { IsAccepted self.now.grammar }
     {
@@ -164,7 +164,7 @@ impl Tables {
     }
 
     /// The move of a state where this kind, or the end, is next.
-    pub fn action(&self, state: StateNumber, look: Option<Kind>) -> Option<Move>
+    pub fn action(&self, state: usize, look: Option<Kind>) -> Option<Move>
         requires { state < length self.now.kernels }
         ensures is { (prefix : List Symbol) → IsStateOf self.now prefix state
             → IsAction self.now.grammar prefix look result }
@@ -189,7 +189,7 @@ impl Tables {
     }
 
     /// The state that a nonterminal leads to, if some item calls for it there.
-    pub fn goto(&self, state: StateNumber, nonterminal: usize) -> Option<StateNumber>
+    pub fn goto(&self, state: usize, nonterminal: usize) -> Option<usize>
         requires { state < length self.now.kernels }
         ensures { (prefix : List Symbol) → IsStateOf self.now prefix state
             → let g = self.now.grammar in
@@ -206,7 +206,7 @@ impl Tables {
 
     /// What may come next in a state: the token rules in file order, and then the end, with which some sentence goes on behind
     /// the kinds that were read. It takes no memory.
-    pub fn expects(&self, state: StateNumber) -> Expected<'_>
+    pub fn expects(&self, state: usize) -> Expected<'_>
         requires { state < length self.now.kernels }
         ensures { (x : List Kind) (stack : List Tree) (prefix : List Symbol)
             → IsStateOf self.now prefix state
@@ -225,12 +225,12 @@ impl Tables {
     }
 
     /// The left side of a production, and the length of its right side.
-    pub fn production(&self, p: ProductionNumber) -> (usize, usize)
+    pub fn production(&self, p: usize) -> (usize, usize)
         requires { p < length self.now.grammar.productions }
         ensures { (right : List Symbol) × HasProduction self.now.grammar p result.0 right
             × (length right ≡ result.1) }
     {
-        let side = self.outline.side(p);
+        let side = self.outline.side(ProductionNumber::new(p));
         (side.left, side.length)
     }
 }
