@@ -26,9 +26,8 @@ fn filled(alloc: Global, c: char, count: usize) -> Result<String, AllocError> {
 fn expect_positions(rt: &impl Abort, text: &Text, rows: &[(usize, u32, u32)]) {
     for row in rows {
         let (offset, line, character) = *row;
-        assert_eq!(rt;
-            text.position(Unit::Utf16, offset),
-            at(line, character),
+        assert!(rt;
+            text.position(Unit::Utf16, offset) == at(line, character),
             "at {offset}"
         );
     }
@@ -40,7 +39,7 @@ fn breaks_apart_are_two_and_together_one(rt: HostRuntime) -> Result<(), Fail> {
     let mut text = Text::open(alloc, "1\rX\n2")?;
     expect_positions(&rt, &text, &[(2, 1, 0), (3, 1, 1), (4, 2, 0), (5, 2, 1)]);
     text.change(alloc, Unit::Utf16, between(at(1, 0), at(1, 1)), "")?;
-    assert_eq!(rt; text.to_string(alloc)?.as_str(), "1\r\n2");
+    assert!(rt; text.to_string(alloc)?.as_str() == "1\r\n2");
     expect_positions(&rt, &text, &[(1, 0, 1), (2, 0, 1), (3, 1, 0), (4, 1, 1)]);
     Ok(())
 }
@@ -53,7 +52,7 @@ fn characters_past_the_first_plane_count_two(rt: HostRuntime) -> Result<(), Fail
         expect_positions(&rt, &text, &[(0, 0, 0), (1, 0, 2), (2, 0, 3)]);
         text.change(alloc, Unit::Utf16, between(at(0, 1), at(0, 1)), "5")?;
         let wanted = format!(in alloc; "5{c}1")?;
-        assert_eq!(rt; text.to_string(alloc)?.as_str(), wanted.as_str());
+        assert!(rt; text.to_string(alloc)?.as_str() == wanted.as_str());
         expect_positions(&rt, &text, &[(1, 0, 1), (2, 0, 3)]);
     }
     Ok(())
@@ -64,12 +63,12 @@ fn a_walk_tells_each_position(rt: HostRuntime) -> Result<(), Fail> {
     let text = Text::open(rt.alloc(), "1\r\n\u{1f600}2")?;
     let mut places = text.places(Unit::Utf16);
     for (line, character) in [(0, 0), (0, 1), (0, 1), (1, 0), (1, 2), (1, 3), (1, 3)] {
-        assert_eq!(rt; places.position(), at(line, character));
+        assert!(rt; places.position() == at(line, character));
         places.advance(1);
     }
     let mut places = text.places(Unit::Utf16);
     places.advance(4);
-    assert_eq!(rt; places.position(), at(1, 2));
+    assert!(rt; places.position() == at(1, 2));
     Ok(())
 }
 
@@ -78,21 +77,15 @@ fn a_text_may_have_so_many_bytes(rt: HostRuntime) -> Result<(), Fail> {
     let alloc = rt.alloc();
     let mut text = Text::open(alloc, filled(alloc, '1', 1_048_575)?.as_str())?;
     text.change(alloc, Unit::Utf16, between(at(0, 0), at(0, 0)), "1")?;
-    assert_eq!(rt; text.bytes(), 1_048_576);
+    assert!(rt; text.bytes() == 1_048_576);
     let more = text.change(alloc, Unit::Utf16, between(at(0, 0), at(0, 0)), "1");
-    assert_eq!(rt; more, Err(TextFault::TooLarge));
-    assert_eq!(rt; text.bytes(), 1_048_576);
+    assert!(rt; more == Err(TextFault::TooLarge));
+    assert!(rt; text.bytes() == 1_048_576);
     let long = filled(alloc, '1', 1_048_577)?;
-    assert_eq!(rt;
-        Text::open(alloc, long.as_str()).err(),
-        Some(TextFault::TooLarge)
-    );
+    assert!(rt; Text::open(alloc, long.as_str()).err() == Some(TextFault::TooLarge));
     text.change(alloc, Unit::Utf16, None, "1")?;
-    assert_eq!(rt; text.bytes(), 1);
-    assert_eq!(rt;
-        text.change(alloc, Unit::Utf16, None, long.as_str()),
-        Err(TextFault::TooLarge)
-    );
+    assert!(rt; text.bytes() == 1);
+    assert!(rt; text.change(alloc, Unit::Utf16, None, long.as_str()) == Err(TextFault::TooLarge));
     Ok(())
 }
 
@@ -100,19 +93,16 @@ fn a_text_may_have_so_many_bytes(rt: HostRuntime) -> Result<(), Fail> {
 fn the_limit_counts_bytes_and_not_characters(rt: HostRuntime) -> Result<(), Fail> {
     let alloc = rt.alloc();
     let mut text = Text::open(alloc, filled(alloc, '\u{1f600}', 262_144)?.as_str())?;
-    assert_eq!(rt; text.len(), 262_144);
-    assert_eq!(rt; text.bytes(), LONGEST_TEXT);
+    assert!(rt; text.len() == 262_144);
+    assert!(rt; text.bytes() == LONGEST_TEXT);
     let more = text.replace(alloc, 0, 1, "12345");
-    assert_eq!(rt; more, Err(TextFault::TooLarge));
-    assert_eq!(rt; text.len(), 262_144);
+    assert!(rt; more == Err(TextFault::TooLarge));
+    assert!(rt; text.len() == 262_144);
     text.replace(alloc, 0, 1, "\u{e9}12")?;
-    assert_eq!(rt; text.replace(alloc, 0, 0, "1"), Err(TextFault::TooLarge));
-    assert_eq!(rt; (text.len(), text.bytes()), (262_146, LONGEST_TEXT));
+    assert!(rt; text.replace(alloc, 0, 0, "1") == Err(TextFault::TooLarge));
+    assert!(rt; (text.len(), text.bytes()) == (262_146, LONGEST_TEXT));
     let two = filled(alloc, '\u{e9}', 524_289)?;
-    assert_eq!(rt;
-        Text::open(alloc, two.as_str()).err(),
-        Some(TextFault::TooLarge)
-    );
+    assert!(rt; Text::open(alloc, two.as_str()).err() == Some(TextFault::TooLarge));
     Ok(())
 }
 
@@ -146,9 +136,8 @@ fn offsets_and_positions_of_a_text(rt: HostRuntime) -> Result<(), Fail> {
         (1, 9, 6),
         (2, 0, 6),
     ] {
-        assert_eq!(rt;
-            text.offset(Unit::Utf16, at(line, character)),
-            offset,
+        assert!(rt;
+            text.offset(Unit::Utf16, at(line, character)) == offset,
             "at {line}:{character}"
         );
     }

@@ -36,8 +36,8 @@ fn texts_are_cut_at_borders_of_characters(rt: HostRuntime) -> Result<(), Fail> {
     }
     text.push_str("\r\n")?;
     let pieces = pieces_of(rt.alloc(), text.as_str())?;
-    assert_eq!(rt; pieces.len(), 2);
-    assert_eq!(rt; pieces[0].text().len(), 601);
+    assert!(rt; pieces.len() == 2);
+    assert!(rt; pieces[0].text().len() == 601);
     assert!(rt; pieces[1].sum() == ended(152, 602, 1));
     Ok(())
 }
@@ -95,7 +95,7 @@ fn positions_over_a_border(rt: HostRuntime) -> Result<(), Fail> {
             (Unit::Utf32, utf32),
         ] {
             let wanted = Position { line, character };
-            assert_eq!(rt; position(&pieces, unit, at), wanted, "at {at}");
+            assert!(rt; position(&pieces, unit, at) == wanted, "at {at}");
         }
     }
     Ok(())
@@ -120,7 +120,7 @@ fn offsets_over_a_border(rt: HostRuntime) -> Result<(), Fail> {
         (Unit::Utf16, 3, 0, 7),
     ] {
         let found = offset(&pieces, unit, Position { line, character });
-        assert_eq!(rt; found, wanted, "at {line}:{character}");
+        assert!(rt; found == wanted, "at {line}:{character}");
     }
     Ok(())
 }
