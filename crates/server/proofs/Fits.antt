@@ -15,8 +15,6 @@ use Rattle.server.specs.Documents.{DocumentState, is_open, is_lost, Held}
 use Rattle.server.specs.Runs.{Run}
 use Rattle.server.specs.Sessions.{AllFit, CanServe}
 use Rattle.server.specs.Steps.{State, first_state, Step}
-use Rattle.server.proofs.Edits.{IsFit}
-use Rattle.server.specs.declared.state.Phase.{Phase}
 use Rattle.server.specs.declared.state.Phase.TheVariants.{New}
 use Rattle.server.proofs.Effects.{AreOfPhase, IsOfPhase, Effect, stays, stands, goes, step_effect}
 

@@ -5,9 +5,8 @@ use Rattle.std.specs.FinMap.{get, insert, remove}
 use Rattle.docs.specs.Docs.{open_document}
 use Rattle.docs.specs.declared.doc.Doc.{Doc}
 use Rattle.docs.specs.Grammars.{FileGrammar}
-use Rattle.rpc.specs.Replies.{Answer, told_diagnostics, told_log}
-use Rattle.rpc.specs.declared.reply.Log.TheVariants.{CloseNotOpen, Lost}
-use Rattle.rpc.specs.declared.reply.Loss.{Loss}
+use Rattle.rpc.specs.Replies.{Answer, told_log}
+use Rattle.rpc.specs.declared.reply.Log.TheVariants.{CloseNotOpen}
 use Rattle.server.specs.declared.documents.Entry.{Entry}
 use Rattle.server.specs.declared.documents.Entry.TheVariants as entry
 use Rattle.server.specs.declared.state.Phase.{Phase}
@@ -28,12 +27,6 @@ pub holds_open : (old : State) (uri : List ℕ) (made : Entry) (d : Doc) → mad
 holds_open old uri made d e published answers stop new is told stays same =
     let here : new ≡ state_of old.file old.phase (insert old.documents uri (entry_view (entry.Open d))) = same ∙ ap (λ (x : Entry). state_of old.file old.phase (insert old.documents uri (entry_view x))) e in
     subst (λ (x : Entry). Holds old uri (entry_view x) answers stop new) (sym e) (published, is, told, (stays, here))
-
--- a lost one
-pub holds_lost : (old : State) (uri : List ℕ) (made : Entry) (loss : Loss) → made ≡ entry.Lost loss → (cleared : Answer) (answers : List Answer) (stop : Option ℕ) (new : State) → cleared ≡ told_diagnostics uri None None → answers ≡ cleared ∷ told_log (Lost loss) ∷ [] → stop ≡ None → new ≡ state_of old.file old.phase (insert old.documents uri (entry_view made)) → Holds old uri (entry_view made) answers stop new
-holds_lost old uri made loss e cleared answers stop new is told stays same =
-    let here : new ≡ state_of old.file old.phase (insert old.documents uri (is_lost loss)) = same ∙ ap (λ (x : Entry). state_of old.file old.phase (insert old.documents uri (entry_view x))) e in
-    subst (λ (x : Entry). Holds old uri (entry_view x) answers stop new) (sym e) (told ∙ ap (λ (a : Answer). a ∷ told_log (Lost loss) ∷ []) is, (stays, here))
 
 -- one that was taken out before
 pub holds_again : (old mid : State) (uri : List ℕ) (state : DocumentState) (answers : List Answer) (stop : Option ℕ) (new : State) → mid ≡ state_of old.file old.phase (remove old.documents uri) → Holds mid uri state answers stop new → Holds old uri state answers stop new

@@ -3,8 +3,10 @@
 ghost use Rattle.std.specs.Prelude.{◌≡◌, ◌↔◌, ◌∷◌, [], Err, map, IfOk, IfErr, OnOk, OnErr, IsErrOf};
 ghost use Rattle.std.specs.Io.KnownBytes.{Appends, Keeps};
 ghost use Rattle.frames.specs.Contents.{contents};
+ghost use Rattle.frames.specs.Frames.{Open};
+ghost use Rattle.docs.specs.Answers.{AlwaysAnswers};
 ghost use Rattle.rpc.specs.Replies.{reply_view};
-ghost use Rattle.server.specs.Steps.{state_view};
+ghost use Rattle.server.specs.Steps.{state_view, first_state};
 ghost use Rattle.server.specs.Runs.{bytes_of};
 ghost use Rattle.server.specs.Fresh.{EveryAnswerIsFresh, EachTextIsItsEdits};
 ghost use Rattle.server.specs.Sessions.{AppendsFront, CanServe, HasServed, Session, IsCutShort, EndsAt, run_fault};
@@ -138,6 +140,51 @@ fn run_fault(fault: FrameFault) -> RunFault
     }
 }
 
+/// Answers what comes in, from the first byte on.
+fn serve_input<R: Input, W: Output>(
+    alloc: Global,
+    decoder: &mut Decoder,
+    server: &mut Server,
+    input: &mut R,
+    output: &mut W,
+) -> Result<u8, RunFault>
+    requires always { AlwaysAnswers (state_view server.old).file }
+    requires decoder { decoder.old ≡ Open [] }
+    requires server { let state = state_view server.old in state ≡ first_state state.file }
+    requires input { R.failures input.old ≡ 0 }
+    requires output { W.failures output.old ≡ 0 }
+    ensures session { let old = W.contents output.old in
+        let new = W.contents output.new in
+        let file = (state_view server.old).file in
+        Session file (R.remaining input.old) (R.remaining input.new) old new result }
+    ensures read { IsErrOf result RunFault.Read ↔ R.failures input.new ≡ 1 }
+    ensures write { IsErrOf result RunFault.Write ↔ W.failures output.new ≡ 1 }
+{
+    let mut buffer = [0; BUFFER_LEN];
+    loop {
+        let count = match input.read(&mut buffer) {
+            Ok(count) => count,
+            Err(_) => return Err(RunFault::Read),
+        };
+        if count == 0 {
+            return end_of(decoder);
+        }
+        match decoder.feed(alloc, &buffer[..count]) {
+            Ok(frames) => {
+                let stop = serve_all(alloc, server, output, &frames)?;
+                flush(output)?;
+                if let Some(status) = stop {
+                    return Ok(status);
+                }
+                if let Some(fault) = decoder.fault() {
+                    return Err(RunFault::Frame(fault));
+                }
+            }
+            Err(fault) => return Err(run_fault(fault)),
+        }
+    }
+}
+
 /// A session from its first byte to `exit`, to the end of the input, or to a fault.
 pub fn run<R: Input, W: Output>(
     alloc: Global,
@@ -165,27 +212,5 @@ pub fn run<R: Input, W: Output>(
     each_text_is_its_edits();
     let mut decoder = Decoder::new(alloc);
     let mut server = Server::new(alloc, language);
-    let mut buffer = [0; BUFFER_LEN];
-    loop {
-        let count = match input.read(&mut buffer) {
-            Ok(count) => count,
-            Err(_) => return Err(RunFault::Read),
-        };
-        if count == 0 {
-            return end_of(&decoder);
-        }
-        match decoder.feed(alloc, &buffer[..count]) {
-            Ok(frames) => {
-                let stop = serve_all(alloc, &mut server, output, &frames)?;
-                flush(output)?;
-                if let Some(status) = stop {
-                    return Ok(status);
-                }
-                if let Some(fault) = decoder.fault() {
-                    return Err(RunFault::Frame(fault));
-                }
-            }
-            Err(fault) => return Err(run_fault(fault)),
-        }
-    }
+    serve_input(alloc, &mut decoder, &mut server, input, output)
 }

@@ -11,7 +11,7 @@ ghost use Rattle.rpc.specs.declared.reply.Loss.TheVariants.{TooLarge, NoMemory};
 ghost use Rattle.rpc.specs.Replies.{reply_view, told_error, told_log};
 ghost use Rattle.server.specs.Answers.{question_view, IsAnswer, IsCount};
 ghost use Rattle.server.specs.Documents.{entry_view, has_room, IsEntryOf, Becomes};
-ghost use Rattle.server.specs.Steps.{state_view, first_state, opened, exit_status, unknown_in, params_in, Asks, Changes, Closes, Holds, Misses, Opens, Spoils, Tells, StepOn};
+ghost use Rattle.server.specs.Steps.{State, state_view, first_state, opened, exit_status, unknown_in, params_in, Asks, Changes, Closes, Holds, Misses, Opens, Spoils, Tells, StepOn};
 
 use crate::answers::{Question, answer, cleared, published};
 use crate::documents::{Documents, Entry};
@@ -246,7 +246,26 @@ impl Server {
         one_reply(alloc, reply)
     }
 
-    /// Holds what a document became, and tells it: the diagnostics of an open one, or the loss.
+    /// What is sent of a document that comes to stand so: the diagnostics of an open one, or that it is lost.
+    fn announced(&self, alloc: Global, uri: &str, entry: &Entry) -> Result<Out, AllocError>
+        requires { IsEntryOf self.now.documents.language entry.now }
+        ensures { let old = state_view self.now in
+            let state = entry_view entry.now in
+            let held = insert old.documents uri.now state in
+            let new : State = record { file = old.file; phase = old.phase; documents = held } in
+            IfOk result (λ out.
+            Holds old uri.now state (map reply_view out.replies.items) out.stop new) }
+    {
+        match entry {
+            Entry::Open(doc) => {
+                let language = self.documents.language();
+                one_reply(alloc, published(alloc, language, doc, uri)?)
+            }
+            Entry::Lost(loss) => reply_and_log(alloc, cleared(alloc, uri)?, Log::Lost(*loss)),
+        }
+    }
+
+    /// Holds what a document became, and tells it.
     fn hold(&mut self, alloc: Global, uri: String, entry: Entry) -> Result<Out, AllocError>
         requires { IsEntryOf self.old.documents.language entry }
         ensures { let state = entry_view entry in
@@ -255,15 +274,7 @@ impl Server {
             let old = state_view self.old in
             Holds old (string_bytes uri) state replies out.stop (state_view self.new)) }
     {
-        let out = match &entry {
-            Entry::Open(doc) => {
-                let language = self.documents.language();
-                one_reply(alloc, published(alloc, language, doc, uri.as_str())?)?
-            }
-            Entry::Lost(loss) => {
-                reply_and_log(alloc, cleared(alloc, uri.as_str())?, Log::Lost(*loss))?
-            }
-        };
+        let out = self.announced(alloc, uri.as_str(), &entry)?;
         self.documents.insert(uri, entry)?;
         Ok(out)
     }

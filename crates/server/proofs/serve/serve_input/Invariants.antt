@@ -1,13 +1,13 @@
 use Rattle.server.specs.Steps.{state_view}
 use Rattle.server.proofs.Loop.{IsReady}
-use Rattle.server.proofs.serve.run.Given as goal
+use Rattle.server.proofs.serve.serve_input.Given as goal
 
 abbrev pub invariant-loop-count : goal.invariant-loop-count
 invariant-loop-count g l =
     let read = g.R.Input.remaining in
     let told = g.W.Output.contents in
     let works = g.R.Input.failures l.input in
-    IsReady l.fn.language.file (read l.fn.input) (read l.input) works (told l.fn.output) (told l.output) (g.W.Output.failures l.output) l.decoder (state_view l.server)
+    IsReady (state_view l.fn.server).file (read l.fn.input) (read l.input) works (told l.fn.output) (told l.output) (g.W.Output.failures l.output) l.decoder (state_view l.server)
 
 abbrev pub decreases-loop-count : goal.decreases-loop-count
 decreases-loop-count g l = g.R.Input.reads_left l.input
