@@ -21,13 +21,25 @@ fn with_grammar<'a>(alloc: Global, name: &'a str) -> Result<Command<'a>, AllocEr
     Command::new(alloc, name).arg(grammar)
 }
 
+/// The command `parse`, which takes a text's path too.
+fn parse_command<'a>(alloc: Global) -> Result<Command<'a>, AllocError> {
+    with_grammar(alloc, "parse")?.arg(Arg::new(alloc, "TEXT").required(true))
+}
+
+/// A command with another one below it, where there was memory for that.
+fn with_subcommand<'a>(
+    command: Command<'a>,
+    below: Result<Command<'a>, AllocError>,
+) -> Result<Command<'a>, AllocError> {
+    command.subcommand(below?)
+}
+
 /// `lrls check GRAMMAR`, `lrls parse GRAMMAR TEXT` and `lrls serve GRAMMAR`, as the words say them.
 fn command<'a>(alloc: Global) -> Result<Command<'a>, AllocError> {
-    Command::new(alloc, "lrls")
-        .subcommand_required(true)
-        .subcommand(with_grammar(alloc, "check")?)?
-        .subcommand(with_grammar(alloc, "parse")?.arg(Arg::new(alloc, "TEXT").required(true))?)?
-        .subcommand(with_grammar(alloc, "serve")?)
+    let lrls = Command::new(alloc, "lrls").subcommand_required(true);
+    let lrls = with_subcommand(lrls, with_grammar(alloc, "check"))?;
+    let lrls = with_subcommand(lrls, parse_command(alloc))?;
+    with_subcommand(lrls, with_grammar(alloc, "serve"))
 }
 
 /// The path that a command was given under this name.
@@ -59,6 +71,15 @@ fn parsing(alloc: Global, matches: &ArgMatches) -> Result<Option<Task>, AllocErr
     }
 }
 
+/// What a whole command line asks for, its first word the program's name.
+fn task_of(alloc: Global, line: &[&str]) -> Result<Option<Task>, AllocError> {
+    match command(alloc)?.try_get_matches_from(line) {
+        Ok(matches) => matched(alloc, &matches),
+        Err(error) if error.kind() == ErrorKind::OutOfMemory => Err(AllocError),
+        Err(_) => Ok(None),
+    }
+}
+
 /// Reads the words after the program's name: `None` where they are no command of the program, a
 /// request for help included. Refuses for memory alone.
 pub fn words(alloc: Global, given: &[String]) -> Result<Option<Task>, AllocError> {
@@ -67,9 +88,5 @@ pub fn words(alloc: Global, given: &[String]) -> Result<Option<Task>, AllocError
     for word in given {
         line.push(word.as_str())?;
     }
-    match command(alloc)?.try_get_matches_from(line.as_slice()) {
-        Ok(matches) => matched(alloc, &matches),
-        Err(error) if error.kind() == ErrorKind::OutOfMemory => Err(AllocError),
-        Err(_) => Ok(None),
-    }
+    task_of(alloc, &line)
 }

@@ -2,8 +2,12 @@
 
 ghost use Rattle.std.specs.Prelude.{◌≡◌, ℕ, ◌++◌, List, [], IfOk, IfErr, OnOk, string_bytes};
 ghost use Rattle.std.specs.Str.{chars};
+ghost use Rattle.docs.specs.Answers.{IsOutcome};
+ghost use Rattle.docs.specs.Docs.{IsCurrent};
 ghost use Rattle.docs.specs.Languages.{IsLanguageOf, IsLoadFault};
-ghost use Rattle.commands.specs.Conflicts.{IsRefused, TellsConflict};
+ghost use Rattle.docs.specs.declared.doc.Outcome.{Outcome};
+ghost use Rattle.tables.specs.Reports.{IsReport};
+ghost use Rattle.commands.specs.Conflicts.{IsRefused, TellsConflict, conflict_text};
 ghost use Rattle.commands.specs.Parsing.{IsParsed, Prints, fault_line, place_text};
 ghost use Rattle.commands.specs.Reporting.{IsChecked, note_line};
 ghost use Rattle.commands.specs.Status.{status_of};
@@ -11,8 +15,10 @@ ghost use Rattle.commands.specs.Status.{status_of};
 use crate::conflicts::conflict_text;
 use crate::fault::Fault;
 use definitions::{Diagnostic, Position, Unit};
+use grammar::Grammar;
 use server::{Doc, DocFault, Language, LoadFault, Outcome};
 use std::alloc::{AllocError, Global};
+use tables::Conflict;
 
 /// What a command prints on standard output and standard error, and the exit status.
 #[derive(Debug, Drop)]
@@ -34,6 +40,21 @@ fn refusal(alloc: Global, fault: &Fault) -> Result<Printed, AllocError>
     })
 }
 
+/// What is printed of a conflict of a grammar. Refuses for memory alone.
+fn shown(alloc: Global, grammar: &Grammar, conflict: &Conflict) -> Result<Printed, AllocError>
+    requires { IsReport grammar.now.grammar conflict.now }
+    ensures out { IfOk result (λ printed. printed.out.items ≡ []) }
+    ensures status { IfOk result (λ printed. printed.status ≡ 2) }
+    ensures conflict { IfOk result (λ printed.
+        printed.err.items ≡ conflict_text grammar.now conflict.now) }
+{
+    Ok(Printed {
+        out: Vec::new(alloc),
+        err: conflict_text(alloc, grammar, conflict)?.into_bytes(),
+        status: 2,
+    })
+}
+
 /// What is printed of the fault of a grammar file. Refuses for memory alone.
 fn refused(alloc: Global, fault: LoadFault) -> Result<Printed, AllocError>
     requires { (text : List ℕ) × IsLoadFault text fault }
@@ -45,11 +66,7 @@ fn refused(alloc: Global, fault: LoadFault) -> Result<Printed, AllocError>
         LoadFault::Grammar(fault) => refusal(alloc, &Fault::Grammar(fault)),
         LoadFault::TooManyStates => refusal(alloc, &Fault::TooManyStates),
         LoadFault::TooManySets => refusal(alloc, &Fault::TooManySets),
-        LoadFault::Conflict(grammar, conflict) => Ok(Printed {
-            out: Vec::new(alloc),
-            err: conflict_text(alloc, &grammar, &conflict)?.into_bytes(),
-            status: 2,
-        }),
+        LoadFault::Conflict(grammar, conflict) => shown(alloc, &grammar, &conflict),
         LoadFault::NoMemory => Err(AllocError),
     }
 }
@@ -132,6 +149,15 @@ fn outcome(alloc: Global, outcome: Outcome) -> Result<Printed, AllocError>
     })
 }
 
+/// What is printed of an open document. Refuses for memory alone.
+fn parsed(alloc: Global, language: &Language, doc: &Doc) -> Result<Printed, AllocError>
+    requires { IsCurrent language.now doc.now }
+    ensures { IfOk result (λ printed. (come : Outcome)
+        × IsOutcome doc.now.unit language.now.file doc.now.text come × Prints come printed) }
+{
+    outcome(alloc, doc.outcome(alloc, language)?)
+}
+
 /// What `lrls parse` prints of a text of these bytes: the text of its tree, or its fault, with status 1. Positions count
 /// UTF-16 units. A text that isn't UTF-8 or has more than 1,048,576 bytes is refused with status 1. Refuses for memory
 /// alone.
@@ -142,7 +168,7 @@ pub fn parse(alloc: Global, language: &Language, bytes: &[u8]) -> Result<Printed
         return refusal(alloc, &Fault::TextNotUtf8);
     };
     match Doc::open(alloc, language, Unit::Utf16, 0, text) {
-        Ok(doc) => outcome(alloc, doc.outcome(alloc, language)?),
+        Ok(doc) => parsed(alloc, language, &doc),
         Err(DocFault::TooLarge) => refusal(alloc, &Fault::TextTooLarge),
         Err(DocFault::NoMemory) => Err(AllocError),
     }

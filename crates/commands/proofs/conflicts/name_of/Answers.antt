@@ -1,4 +1,4 @@
-use Rattle.std.proofs.Common.{sym, ap, ◌∙◌, encode_utf8_all, subst, refl, ◌≡◌}
+use Rattle.std.proofs.Common.{sym, ap, ◌∙◌, encode_utf8_all}
 use Rattle.std.proofs.lemmas.Str.{encodes-chars}
 use Rattle.definitions.specs.declared.Symbol.{Symbol}
 use Rattle.commands.specs.Conflicts.{name_bytes}

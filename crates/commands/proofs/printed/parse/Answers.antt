@@ -8,14 +8,12 @@ use Rattle.docs.specs.Texts.{OpenDocument, fits}
 use Rattle.commands.proofs.Cases.{if_ok}
 use Rattle.commands.proofs.printed.parse.Goals as goal
 
-pub returns-in_ok-outcome-in-Ok-open : goal.returns-in_ok-outcome-in-Ok-open
-returns-in_ok-outcome-in-Ok-open c =
+pub returns-in-Ok-open : goal.returns-in-Ok-open
+returns-in-Ok-open c =
     let file = c.args.language.now.file in
     let same = c.in-Ok.ensures.cases.0 in
-    let come : Outcome = c.in_ok-outcome-in-Ok-open.field-0 in
     let fit : fits (chars c.args.bytes.now) ≡ true = subst (λ (bytes : List ℕ). fits (chars bytes) ≡ true) same c.in-Ok-open.ensures.fits in
     let text = ap (λ (d : OpenDocument). d.text) c.in-Ok-open.ensures.is ∙ ap chars same in
     let unit = ap (λ (d : OpenDocument). d.unit) c.in-Ok-open.ensures.is in
-    let here = subst (λ (e : Encoding). IsOutcome e file c.in-Ok-open.doc.text come) unit c.in_ok-outcome-in-Ok-open.ensures in
-    let is : IsOutcome Utf16 file (chars c.args.bytes.now) come = subst (λ (t : List ℕ). IsOutcome Utf16 file t come) text here in
-    if_ok c.outcome-in-Ok-open.result (λ printed prints. inr (inr (c.in-Ok.ensures.cases.1, fit, (come, is, prints)))) c.outcome-in-Ok-open.ensures
+    let is : (come : Outcome) → IsOutcome c.in-Ok-open.doc.unit file c.in-Ok-open.doc.text come → IsOutcome Utf16 file (chars c.args.bytes.now) come = λ come here. subst (λ (t : List ℕ). IsOutcome Utf16 file t come) text (subst (λ (e : Encoding). IsOutcome e file c.in-Ok-open.doc.text come) unit here) in
+    if_ok c.parsed.result (λ printed p. inr (inr (c.in-Ok.ensures.cases.1, fit, (p.0, is p.0 p.1, p.2)))) c.parsed.ensures
