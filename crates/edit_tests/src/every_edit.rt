@@ -327,6 +327,37 @@ struct Texts<'a> {
     facts: &'a [Facts],
 }
 
+/// Sees that edit 1 of an old text has come to what a whole scan and parse come to.
+fn check_edited(
+    rt: &impl Abort,
+    alloc: Global,
+    language: &Language,
+    all: &Texts<'_>,
+    document: &Document,
+    old: (&str, &Facts),
+    change: &Change<'_>,
+) -> Result<(), Fail>
+    requires { IsParseOf language.now.tables (significant_kinds document.now.tokens.items)
+        document.now.store document.now.parse }
+{
+    let (text, old) = old;
+    let after = document.text.characters(alloc)?;
+    let Some(new) = all.facts.get(number_of(all.letters, &after)) else {
+        panic!(rt; "no such text");
+    };
+    let (at, removed, piece) = (change.at, change.removed, change.piece);
+    let length = text.chars().count();
+    let inserted = after.len().saturating_add(removed).saturating_sub(length);
+    let cut = Cut {
+        at,
+        removed,
+        inserted,
+    };
+    let is_brought = is_brought(alloc, language, document, old, new, cut)?;
+    assert!(rt; is_brought, "'{piece}' for {removed} at {at} of '{text}'");
+    Ok(())
+}
+
 /// Makes an edit as edit 1 of a text, and sees that it comes to what a whole scan and parse come to.
 fn check_edit(
     rt: &impl Abort,
@@ -340,24 +371,8 @@ fn check_edit(
     requires { IsAutomaton language.now.grammar.patterns language.now.automaton }
 {
     let mut document = open(alloc, language, text)?;
-    let length = document.text.len();
     apply(rt, alloc, language, &mut document, change)?;
-    let after = document.text.characters(alloc)?;
-    let Some(new) = all.facts.get(number_of(all.letters, &after)) else {
-        panic!(rt; "no such text");
-    };
-    let cut = Cut {
-        at: change.at,
-        removed: change.removed,
-        inserted: after
-            .len()
-            .saturating_add(change.removed)
-            .saturating_sub(length),
-    };
-    let is_brought = is_brought(alloc, language, &document, old, new, cut)?;
-    let (at, removed, piece) = (change.at, change.removed, change.piece);
-    assert!(rt; is_brought, "'{piece}' for {removed} at {at} of '{text}'");
-    Ok(())
+    check_edited(rt, alloc, language, all, &document, (text, old), change)
 }
 
 /// Puts each of the first pieces in the place of some characters of a text.
@@ -435,8 +450,8 @@ fn check_texts(
     length: usize,
     inserted: usize,
 ) -> Result<(), Fail> {
-    let language = load(alloc, file)?;
     let texts = texts_up_to(alloc, letters, length.saturating_add(inserted))?;
+    let language = load(alloc, file)?;
     let facts = facts_of_texts(alloc, &language, &texts)?;
     let all = Texts {
         letters,

@@ -72,18 +72,30 @@ fn reads_at_end(alloc: Global, language: &Language, document: &mut Document) -> 
     Ok(kinds.reads.get())
 }
 
+/// Opens a text, and answers how many kinds the parser reads for `+1` at its end.
+fn reads_of(alloc: Global, language: &Language, text: &str) -> Result<usize, Fail>
+    requires { IsAutomaton language.now.grammar.patterns language.now.automaton }
+{
+    let mut document = open(alloc, language, text)?;
+    reads_at_end(alloc, language, &mut document)
+}
+
+/// `1` and so many times `+1`.
+fn sum_of(alloc: Global, count: usize) -> Result<String, Fail> {
+    let mut text = String::from_str(alloc, "1")?;
+    for _ in 0..count {
+        text.push_str("+1")?;
+    }
+    Ok(text)
+}
+
 /// What stands before a sum's end is taken over as one tree, and isn't read again.
 #[test]
 fn few_kinds_are_read(rt: HostRuntime) -> Result<(), Fail> {
     let alloc = rt.alloc();
+    let text = sum_of(alloc, 9_999)?;
     let sums = load(alloc, SUMS)?;
-    let mut text = String::new(alloc);
-    for _ in 0..9_999 {
-        text.push_str("1+")?;
-    }
-    text.push('1')?;
-    let mut document = open(alloc, &sums, text.as_str())?;
-    let reads = reads_at_end(alloc, &sums, &mut document)?;
+    let reads = reads_of(alloc, &sums, text.as_str())?;
     assert!(rt; reads < 1_000, "{reads}");
     Ok(())
 }

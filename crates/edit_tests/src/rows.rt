@@ -22,9 +22,10 @@ struct Outcome {
     told: Told,
 }
 
-/// An edit, and what is to come of it.
+/// The edit of a number, and what is to come of it.
 #[derive(Clone, Copy)]
 struct Row<'a> {
+    number: u64,
     edit: (usize, usize, &'a str),
     counts: (usize, usize, usize, usize),
     told: Told,
@@ -41,15 +42,13 @@ fn outcome_of(document: &Document) -> Outcome {
     }
 }
 
-/// Makes the edit of a row as the edit of a number. Its counts are those of the tokens, of those scanned, of the branches and of
-/// those built.
+/// Makes the edit of a row. Its counts are those of the tokens, of those scanned, of the branches and of those built.
 fn check_row(
     rt: &impl Abort,
     alloc: Global,
     language: &Language,
     document: &mut Document,
     row: &Row<'_>,
-    number: u64,
 ) -> Result<(), Fail>
     requires sound { IsAutomaton language.now.grammar.patterns language.now.automaton }
     requires tokens { AreTokensOf language.now.grammar.patterns language.now.grammar.skips
@@ -66,7 +65,7 @@ fn check_row(
         at,
         removed,
         piece,
-        number,
+        number: row.number,
     };
     apply(rt, alloc, language, document, &edit)?;
     let (tokens, scanned, branches, built) = row.counts;
@@ -77,11 +76,12 @@ fn check_row(
         built,
         told: row.told,
     };
+    let number = row.number;
     assert!(rt; outcome_of(document) == awaited, "edit {number}");
     Ok(())
 }
 
-/// Opens a text and makes the edits of the rows in turn, numbered from 1 on.
+/// Opens a text and makes the edits of the rows in turn.
 fn check(
     rt: &impl Abort,
     alloc: Global,
@@ -92,20 +92,24 @@ fn check(
     requires { IsAutomaton language.now.grammar.patterns language.now.automaton }
 {
     let mut document = open(alloc, language, text)?;
-    let mut number: u64 = 0;
     'rows: for row in rows {
-        number = number.saturating_add(1);
-        check_row(rt, alloc, language, &mut document, row, number)?;
+        check_row(rt, alloc, language, &mut document, row)?;
     }
     Ok(())
 }
 
 fn row_of<'a>(
+    number: u64,
     edit: (usize, usize, &'a str),
     counts: (usize, usize, usize, usize),
     told: Told,
 ) -> Row<'a> {
-    Row { edit, counts, told }
+    Row {
+        number,
+        edit,
+        counts,
+        told,
+    }
 }
 
 /// Each with the counts of tokens, of those scanned, of branches and of those built.
@@ -114,16 +118,19 @@ fn edits_of_sums(rt: HostRuntime) -> Result<(), Fail> {
     let alloc = rt.alloc();
     let sums = load(alloc, SUMS)?;
     let rows = [
-        ("1+2", row_of((1, 0, " "), (4, 2, 4, 0), Told::Tree)),
-        ("1+ 2", row_of((3, 0, "3+"), (6, 3, 6, 3), Told::Tree)),
-        ("(1", row_of((2, 0, ")"), (3, 2, 4, 4), Told::Tree)),
-        ("(1+2", row_of((4, 0, ")"), (5, 2, 6, 4), Told::Tree)),
-        ("(1)", row_of((2, 1, ""), (2, 1, 0, 0), Told::FaultAtEnd)),
-        ("1+2+3", row_of((5, 0, "4"), (5, 1, 6, 0), Told::Tree)),
-        ("1+2+3", row_of((5, 0, "+4"), (7, 3, 8, 4), Told::Tree)),
-        ("1+2+3", row_of((0, 0, "9"), (5, 1, 6, 0), Told::Tree)),
-        ("1+2+3", row_of((4, 1, ""), (4, 1, 4, 0), Told::FaultAtEnd)),
-        ("1+2", row_of((1, 0, ""), (3, 1, 4, 0), Told::Tree)),
+        ("1+2", row_of(1, (1, 0, " "), (4, 2, 4, 0), Told::Tree)),
+        ("1+ 2", row_of(1, (3, 0, "3+"), (6, 3, 6, 3), Told::Tree)),
+        ("(1", row_of(1, (2, 0, ")"), (3, 2, 4, 4), Told::Tree)),
+        ("(1+2", row_of(1, (4, 0, ")"), (5, 2, 6, 4), Told::Tree)),
+        ("(1)", row_of(1, (2, 1, ""), (2, 1, 0, 0), Told::FaultAtEnd)),
+        ("1+2+3", row_of(1, (5, 0, "4"), (5, 1, 6, 0), Told::Tree)),
+        ("1+2+3", row_of(1, (5, 0, "+4"), (7, 3, 8, 4), Told::Tree)),
+        ("1+2+3", row_of(1, (0, 0, "9"), (5, 1, 6, 0), Told::Tree)),
+        (
+            "1+2+3",
+            row_of(1, (4, 1, ""), (4, 1, 4, 0), Told::FaultAtEnd),
+        ),
+        ("1+2", row_of(1, (1, 0, ""), (3, 1, 4, 0), Told::Tree)),
     ];
     for (text, row) in rows {
         check(&rt, alloc, &sums, text, &[row])?;
@@ -136,9 +143,9 @@ fn edits_of_lists(rt: HostRuntime) -> Result<(), Fail> {
     let alloc = rt.alloc();
     let lists = load(alloc, LISTS)?;
     let rows = [
-        row_of((0, 0, "\""), (4, 1, 0, 0), Told::FaultAt(0)),
-        row_of((6, 0, "\""), (1, 1, 3, 3), Told::Tree),
-        row_of((6, 1, ""), (4, 4, 0, 0), Told::FaultAt(0)),
+        row_of(1, (0, 0, "\""), (4, 1, 0, 0), Told::FaultAt(0)),
+        row_of(2, (6, 0, "\""), (1, 1, 3, 3), Told::Tree),
+        row_of(3, (6, 1, ""), (4, 4, 0, 0), Told::FaultAt(0)),
     ];
     check(&rt, alloc, &lists, "ab cd", &rows)
 }
@@ -150,12 +157,12 @@ fn faulty_and_back(rt: HostRuntime) -> Result<(), Fail> {
     let alloc = rt.alloc();
     let sums = load(alloc, SUMS)?;
     let rows = [
-        row_of((0, 0, ")"), (6, 1, 0, 0), Told::FaultAt(0)),
-        row_of((0, 1, ""), (5, 0, 6, 6), Told::Tree),
-        row_of((4, 0, "+"), (6, 2, 4, 0), Told::FaultAt(4)),
-        row_of((6, 0, "+4"), (8, 3, 4, 0), Told::FaultAt(4)),
-        row_of((0, 0, "5+"), (10, 2, 6, 4), Told::FaultAt(6)),
-        row_of((6, 1, ""), (9, 1, 10, 4), Told::Tree),
+        row_of(1, (0, 0, ")"), (6, 1, 0, 0), Told::FaultAt(0)),
+        row_of(2, (0, 1, ""), (5, 0, 6, 6), Told::Tree),
+        row_of(3, (4, 0, "+"), (6, 2, 4, 0), Told::FaultAt(4)),
+        row_of(4, (6, 0, "+4"), (8, 3, 4, 0), Told::FaultAt(4)),
+        row_of(5, (0, 0, "5+"), (10, 2, 6, 4), Told::FaultAt(6)),
+        row_of(6, (6, 1, ""), (9, 1, 10, 4), Told::Tree),
     ];
     check(&rt, alloc, &sums, "1+2+3", &rows)
 }
@@ -165,29 +172,34 @@ fn faulty_and_back(rt: HostRuntime) -> Result<(), Fail> {
 fn numbers_that_are_no_new_ones(rt: HostRuntime) -> Result<(), Fail> {
     let alloc = rt.alloc();
     let sums = load(alloc, SUMS)?;
-    let mut document = open(alloc, &sums, "1+2")?;
     let space = (1, 0, " ");
-    let kept = row_of(space, (4, 2, 4, 0), Told::Tree);
-    check_row(&rt, alloc, &sums, &mut document, &kept, 7)?;
-    let anew = row_of(space, (4, 2, 4, 4), Told::Tree);
-    check_row(&rt, alloc, &sums, &mut document, &anew, 7)?;
-    check_row(&rt, alloc, &sums, &mut document, &anew, 3)?;
-    let kept = row_of(space, (4, 2, 4, 0), Told::Tree);
-    check_row(&rt, alloc, &sums, &mut document, &kept, 4)
+    let rows = [
+        row_of(7, space, (4, 2, 4, 0), Told::Tree),
+        row_of(7, space, (4, 2, 4, 4), Told::Tree),
+        row_of(3, space, (4, 2, 4, 4), Told::Tree),
+        row_of(4, space, (4, 2, 4, 0), Told::Tree),
+    ];
+    check(&rt, alloc, &sums, "1+2", &rows)
+}
+
+/// So many characters, all the same.
+fn repeated(alloc: Global, c: char, count: usize) -> Result<String, Fail> {
+    let mut text = String::new(alloc);
+    for _ in 0..count {
+        text.push(c)?;
+    }
+    Ok(text)
 }
 
 /// So deep a tree is built and gone over without recursion.
 #[test]
 fn deep_trees(rt: HostRuntime) -> Result<(), Fail> {
     let alloc = rt.alloc();
+    let opening = repeated(alloc, '(', 100_000)?;
+    let mut closing = repeated(alloc, ')', 100_000)?;
+    closing.insert(0, '1')?;
     let sums = load(alloc, SUMS)?;
-    let mut opening = String::new(alloc);
-    let mut closing = String::from_str(alloc, "1")?;
-    for _ in 0..100_000 {
-        opening.push('(')?;
-        closing.push(')')?;
-    }
     let edit = (100_000, 0, closing.as_str());
-    let mended = row_of(edit, (200_001, 100_002, 200_002, 200_002), Told::Tree);
+    let mended = row_of(1, edit, (200_001, 100_002, 200_002, 200_002), Told::Tree);
     check(&rt, alloc, &sums, &opening, &[mended])
 }

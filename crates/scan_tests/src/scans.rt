@@ -167,23 +167,44 @@ fn check_step(
     Ok(rescan.reads)
 }
 
-/// Opens a text and makes the edit of a step.
+/// Opens a text, makes the edits of the steps in turn, and answers how many characters were read for the last one.
 fn check(
     rt: &impl Abort,
     alloc: Global,
     language: &Language,
     open: &str,
-    step: &Step<'_>,
-) -> Result<(), Fail>
+    steps: &[Step<'_>],
+) -> Result<usize, Fail>
     requires { IsAutomaton language.now.grammar.patterns language.now.automaton }
 {
     let mut text = Text::open(alloc, open)?;
     let mut tokens = scan(alloc, language, &text)?;
-    check_step(rt, alloc, language, &mut text, &mut tokens, step)?;
-    Ok(())
+    let mut reads = 0;
+    'steps: for step in steps {
+        reads = check_step(rt, alloc, language, &mut text, &mut tokens, step)?;
+    }
+    Ok(reads)
 }
 
-/// Whether the tokens of a text have these names, lengths, reaches and starts, and stamp 0.
+/// Whether the tokens have these names, lengths, reaches and starts, and stamp 0.
+fn are_rows(grammar: &Grammar, tokens: &Tokens, rows: &[(&str, u32, u32, usize)]) -> bool {
+    if tokens.count() != rows.len() || tokens.scanned() != rows.len() {
+        return false;
+    }
+    for (i, row) in rows.iter().enumerate() {
+        let Some(token) = tokens.token(i) else {
+            return false;
+        };
+        let name = grammar.kind_name(token.kind);
+        let start = tokens.start_of(i);
+        if (name, token.length, token.reach, start) != *row || token.born != 0 {
+            return false;
+        }
+    }
+    true
+}
+
+/// Whether the tokens of a text are these.
 fn has_tokens(
     alloc: Global,
     language: &Language,
@@ -192,27 +213,36 @@ fn has_tokens(
 ) -> Result<bool, Fail>
     requires { IsAutomaton language.now.grammar.patterns language.now.automaton }
 {
-    let tokens = scan(alloc, language, &Text::open(alloc, text)?)?;
-    if tokens.count() != rows.len() || tokens.scanned() != rows.len() {
-        return Ok(false);
+    let text = Text::open(alloc, text)?;
+    let tokens = scan(alloc, language, &text)?;
+    Ok(are_rows(&language.grammar, &tokens, rows))
+}
+
+/// So many times the same characters.
+fn repeated(alloc: Global, piece: &str, count: usize) -> Result<String, Fail> {
+    let mut text = String::new(alloc);
+    for _ in 0..count {
+        text.push_str(piece)?;
     }
-    for (i, row) in rows.iter().enumerate() {
-        let Some(token) = tokens.token(i) else {
-            return Ok(false);
-        };
-        let name = language.grammar.kind_name(token.kind);
-        let start = tokens.start_of(i);
-        if (name, token.length, token.reach, start) != *row || token.born != 0 {
-            return Ok(false);
-        }
-    }
-    Ok(true)
+    Ok(text)
+}
+
+/// Checks the tokens of a text by the rules of a grammar file.
+fn check_tokens(
+    rt: &impl Abort,
+    alloc: Global,
+    file: &str,
+    text: &str,
+    rows: &[(&str, u32, u32, usize)],
+) -> Result<(), Fail> {
+    let language = load(alloc, file)?;
+    assert!(rt; has_tokens(alloc, &language, text, rows)?);
+    Ok(())
 }
 
 #[test]
 fn scans_whole_texts(rt: HostRuntime) -> Result<(), Fail> {
     let alloc = rt.alloc();
-    let sums = load(alloc, SUMS)?;
     let rows = [
         ("NUM", 1, 2, 0),
         ("WS", 1, 2, 1),
@@ -220,14 +250,42 @@ fn scans_whole_texts(rt: HostRuntime) -> Result<(), Fail> {
         ("WS", 2, 3, 3),
         ("NUM", 1, 2, 5),
     ];
-    assert!(rt; has_tokens(alloc, &sums, "1 +\r\n2", &rows)?);
-    assert!(rt; has_tokens(alloc, &sums, "", &[])?);
-    let lists = load(alloc, LISTS)?;
+    check_tokens(&rt, alloc, SUMS, "1 +\r\n2", &rows)?;
+    check_tokens(&rt, alloc, SUMS, "", &[])?;
     let rows = [("invalid", 1, 1, 0), ("invalid", 1, 1, 1)];
-    assert!(rt; has_tokens(alloc, &lists, "\r\n", &rows)?);
-    let letters = load(alloc, LETTERS)?;
+    check_tokens(&rt, alloc, LISTS, "\r\n", &rows)?;
     let rows = [("A", 1, 3, 0), ("B", 1, 2, 1), ("D", 1, 2, 2)];
-    assert!(rt; has_tokens(alloc, &letters, "abd", &rows)?);
+    check_tokens(&rt, alloc, LETTERS, "abd", &rows)
+}
+
+/// Scans 1,500 times `1 +`.
+fn check_with_kinds(
+    rt: &impl Abort,
+    alloc: Global,
+    language: &Language,
+    text: &str,
+) -> Result<(), Fail>
+    requires { IsAutomaton language.now.grammar.patterns language.now.automaton }
+{
+    let text = Text::open(alloc, text)?;
+    let _length = text.len();
+    let grammar = &language.grammar;
+    let (tokens, kinds) = Tokens::scan_with_kinds(
+        alloc,
+        grammar,
+        &language.automaton,
+        &Whole(&text),
+    )?;
+    assert!(rt; tokens.count() == 4500);
+    for (i, token) in tokens.items().iter_from(0).enumerate() {
+        let name = ["NUM", "WS", "PLUS"][i % 3];
+        assert!(rt; grammar.kind_name(token.kind) == name, "at {i}");
+    }
+    assert!(rt; kinds.len() == 3000);
+    for (i, kind) in kinds.iter().enumerate() {
+        let name = ["NUM", "PLUS"][i % 2];
+        assert!(rt; grammar.kind_name(*kind) == name, "at {i}");
+    }
     Ok(())
 }
 
@@ -235,30 +293,9 @@ fn scans_whole_texts(rt: HostRuntime) -> Result<(), Fail> {
 #[test]
 fn scans_a_long_text_with_its_kinds(rt: HostRuntime) -> Result<(), Fail> {
     let alloc = rt.alloc();
+    let text = repeated(alloc, "1 +", 1500)?;
     let sums = load(alloc, SUMS)?;
-    let mut written = String::new(alloc);
-    for _ in 0..1500 {
-        written.push_str("1 +")?;
-    }
-    let text = Text::open(alloc, written.as_str())?;
-    let _length = text.len();
-    let (tokens, kinds) = Tokens::scan_with_kinds(
-        alloc,
-        &sums.grammar,
-        &sums.automaton,
-        &Whole(&text),
-    )?;
-    assert!(rt; tokens.count() == 4500);
-    for (i, token) in tokens.items().iter_from(0).enumerate() {
-        let name = ["NUM", "WS", "PLUS"][i % 3];
-        assert!(rt; sums.grammar.kind_name(token.kind) == name, "at {i}");
-    }
-    assert!(rt; kinds.len() == 3000);
-    for (i, kind) in kinds.iter().enumerate() {
-        let name = ["NUM", "PLUS"][i % 2];
-        assert!(rt; sums.grammar.kind_name(*kind) == name, "at {i}");
-    }
-    Ok(())
+    check_with_kinds(&rt, alloc, &sums, &text)
 }
 
 #[test]
@@ -315,7 +352,7 @@ fn rescans_sums(rt: HostRuntime) -> Result<(), Fail> {
         ("1+2+3", step_by_7((4, 1, ""), (1, 4), (3, 5, &[PLUS]))),
     ];
     for (open, step) in rows {
-        check(&rt, alloc, &sums, open, &step)?;
+        check(&rt, alloc, &sums, open, &[step])?;
     }
     Ok(())
 }
@@ -325,57 +362,56 @@ fn rescans_by_reach(rt: HostRuntime) -> Result<(), Fail> {
     let alloc = rt.alloc();
     let letters = load(alloc, LETTERS)?;
     let edit = step_by_7((2, 1, "c"), (1, 1), (0, 3, &[Kind::Rule(0)]));
-    check(&rt, alloc, &letters, "abd", &edit)
+    check(&rt, alloc, &letters, "abd", &[edit])?;
+    Ok(())
 }
 
 #[test]
 fn rescans_what_was_rescanned(rt: HostRuntime) -> Result<(), Fail> {
     let alloc = rt.alloc();
     let lists = load(alloc, LISTS)?;
-    let mut text = Text::open(alloc, "ab cd")?;
-    let mut tokens = scan(alloc, &lists, &text)?;
     let words = [Kind::Invalid, Kind::Rule(1), Kind::Rule(1)];
     let first = step_by_7((0, 0, "\""), (1, 4), (0, 0, &[Kind::Invalid]));
-    check_step(&rt, alloc, &lists, &mut text, &mut tokens, &first)?;
     let mut second = step_by_7((6, 0, "\""), (1, 1), (0, 3, &[Kind::Rule(0)]));
     second.number = 8;
-    check_step(&rt, alloc, &lists, &mut text, &mut tokens, &second)?;
     let mut third = step_by_7((6, 1, ""), (4, 4), (0, 1, &words));
     third.number = 9;
-    check_step(&rt, alloc, &lists, &mut text, &mut tokens, &third)?;
+    check(&rt, alloc, &lists, "ab cd", &[first, second, third])?;
     Ok(())
 }
 
 #[test]
 fn reads_few_characters(rt: HostRuntime) -> Result<(), Fail> {
     let alloc = rt.alloc();
+    let open = repeated(alloc, "1+", 50_000)?;
     let sums = load(alloc, SUMS)?;
-    let mut open = String::new(alloc);
-    for _ in 0..50_000 {
-        open.push_str("1+")?;
-    }
-    let mut text = Text::open(alloc, &open)?;
-    let mut tokens = scan(alloc, &sums, &text)?;
     let edit = step_by_7((50_000, 0, "9"), (2, 100_000), (49_999, 49_999, &[]));
-    let reads = check_step(&rt, alloc, &sums, &mut text, &mut tokens, &edit)?;
+    let reads = check(&rt, alloc, &sums, &open, &[edit])?;
     assert!(rt; 0 < reads && reads < 100);
     Ok(())
+}
+
+/// So many words in quotes, and the kinds that they have once the quote behind them is taken away.
+fn quoted_words(alloc: Global, count: usize) -> Result<(String, Vec<Kind>), Fail> {
+    let mut text = String::from_str(alloc, "\"")?;
+    let mut kinds = vec![in alloc; Kind::Invalid]?;
+    for _ in 0..count {
+        text.push_str("a ")?;
+        kinds.push(Kind::Rule(1))?;
+    }
+    text.push('"')?;
+    Ok((text, kinds))
 }
 
 /// The quote behind the words is taken away, so that each of them is a token again.
 #[test]
 fn rescans_ten_thousand_tokens(rt: HostRuntime) -> Result<(), Fail> {
     let alloc = rt.alloc();
+    let (open, kinds) = quoted_words(alloc, 5_000)?;
     let lists = load(alloc, LISTS)?;
-    let mut open = String::from_str(alloc, "\"")?;
-    let mut kinds = vec![in alloc; Kind::Invalid]?;
-    for _ in 0..5_000 {
-        open.push_str("a ")?;
-        kinds.push(Kind::Rule(1))?;
-    }
-    open.push('"')?;
     let edit = step_by_7((10_001, 1, ""), (10_001, 10_001), (0, 1, &kinds));
-    check(&rt, alloc, &lists, &open, &edit)
+    check(&rt, alloc, &lists, &open, &[edit])?;
+    Ok(())
 }
 
 /// Faces are a rule's; other characters outside the first plane are no rule's.
@@ -383,7 +419,6 @@ fn rescans_ten_thousand_tokens(rt: HostRuntime) -> Result<(), Fail> {
 fn scans_characters_outside_the_first_plane(rt: HostRuntime) -> Result<(), Fail> {
     let alloc = rt.alloc();
     let file = "lrgrammar 1\ntoken FACE = [\\u{1F600}-\\u{1F64F}]+\nstart S\nS = FACE\n";
-    let faces = load(alloc, file)?;
     let rows = [
         ("FACE", 2, 3, 0),
         ("invalid", 1, 1, 2),
@@ -391,12 +426,8 @@ fn scans_characters_outside_the_first_plane(rt: HostRuntime) -> Result<(), Fail>
         ("invalid", 1, 1, 4),
     ];
     let text = "\u{1f600}\u{1f64f}\u{10000}\u{1f601}\u{10ffff}";
-    assert!(rt; has_tokens(alloc, &faces, text, &rows)?);
-    let mut long = String::new(alloc);
-    for _ in 0..262_144 {
-        long.push('\u{1f600}')?;
-    }
+    check_tokens(&rt, alloc, file, text, &rows)?;
+    let long = repeated(alloc, "\u{1f600}", 262_144)?;
     let rows = [("FACE", 262_144, 262_145, 0)];
-    assert!(rt; has_tokens(alloc, &faces, &long, &rows)?);
-    Ok(())
+    check_tokens(&rt, alloc, file, &long, &rows)
 }

@@ -44,16 +44,21 @@ fn breaks_apart_are_two_and_together_one(rt: HostRuntime) -> Result<(), Fail> {
     Ok(())
 }
 
+/// Opens a text of a character and `1`, and puts a `5` before them by a range within the character.
+fn check_two_units(rt: &impl Abort, alloc: Global, c: char) -> Result<(), Fail> {
+    let mut text = Text::open(alloc, format!(in alloc; "{c}1")?.as_str())?;
+    expect_positions(rt, &text, &[(0, 0, 0), (1, 0, 2), (2, 0, 3)]);
+    text.change(alloc, Unit::Utf16, between(at(0, 1), at(0, 1)), "5")?;
+    let wanted = format!(in alloc; "5{c}1")?;
+    assert!(rt; text.to_string(alloc)?.as_str() == wanted.as_str());
+    expect_positions(rt, &text, &[(1, 0, 1), (2, 0, 3)]);
+    Ok(())
+}
+
 #[test]
 fn characters_past_the_first_plane_count_two(rt: HostRuntime) -> Result<(), Fail> {
-    let alloc = rt.alloc();
     for c in ['\u{10000}', '\u{1f600}', '\u{10ffff}'] {
-        let mut text = Text::open(alloc, format!(in alloc; "{c}1")?.as_str())?;
-        expect_positions(&rt, &text, &[(0, 0, 0), (1, 0, 2), (2, 0, 3)]);
-        text.change(alloc, Unit::Utf16, between(at(0, 1), at(0, 1)), "5")?;
-        let wanted = format!(in alloc; "5{c}1")?;
-        assert!(rt; text.to_string(alloc)?.as_str() == wanted.as_str());
-        expect_positions(&rt, &text, &[(1, 0, 1), (2, 0, 3)]);
+        check_two_units(&rt, rt.alloc(), c)?;
     }
     Ok(())
 }
@@ -72,6 +77,12 @@ fn a_walk_tells_each_position(rt: HostRuntime) -> Result<(), Fail> {
     Ok(())
 }
 
+/// Whether a text of so many times the character is refused.
+fn is_too_large(alloc: Global, c: char, count: usize) -> Result<bool, AllocError> {
+    let text = filled(alloc, c, count)?;
+    Ok(Text::open(alloc, text.as_str()).err() == Some(TextFault::TooLarge))
+}
+
 #[test]
 fn a_text_may_have_so_many_bytes(rt: HostRuntime) -> Result<(), Fail> {
     let alloc = rt.alloc();
@@ -81,10 +92,10 @@ fn a_text_may_have_so_many_bytes(rt: HostRuntime) -> Result<(), Fail> {
     let more = text.change(alloc, Unit::Utf16, between(at(0, 0), at(0, 0)), "1");
     assert!(rt; more == Err(TextFault::TooLarge));
     assert!(rt; text.bytes() == 1_048_576);
-    let long = filled(alloc, '1', 1_048_577)?;
-    assert!(rt; Text::open(alloc, long.as_str()).err() == Some(TextFault::TooLarge));
     text.change(alloc, Unit::Utf16, None, "1")?;
     assert!(rt; text.bytes() == 1);
+    assert!(rt; is_too_large(alloc, '1', 1_048_577)?);
+    let long = filled(alloc, '1', 1_048_577)?;
     assert!(rt; text.change(alloc, Unit::Utf16, None, long.as_str()) == Err(TextFault::TooLarge));
     Ok(())
 }
@@ -101,8 +112,20 @@ fn the_limit_counts_bytes_and_not_characters(rt: HostRuntime) -> Result<(), Fail
     text.replace(alloc, 0, 1, "\u{e9}12")?;
     assert!(rt; text.replace(alloc, 0, 0, "1") == Err(TextFault::TooLarge));
     assert!(rt; (text.len(), text.bytes()) == (262_146, LONGEST_TEXT));
-    let two = filled(alloc, '\u{e9}', 524_289)?;
-    assert!(rt; Text::open(alloc, two.as_str()).err() == Some(TextFault::TooLarge));
+    assert!(rt; is_too_large(alloc, '\u{e9}', 524_289)?);
+    Ok(())
+}
+
+/// Checks the characters of `abc`, a line feed, a face and `z`.
+fn check_characters(rt: &impl Abort, alloc: Global, text: &Text) -> Result<(), AllocError> {
+    let characters = text.characters(alloc)?;
+    assert!(rt; characters.len() == 6);
+    assert!(rt; characters[4] == '\u{1f600}');
+    assert!(rt; 4 < text.len());
+    assert!(rt; text.at(4) == '\u{1f600}');
+    let mut rest = text.chars_from(4);
+    assert!(rt; (rest.next(), rest.next(), rest.next()) == (Some('\u{1f600}'), Some('z'), None));
+    assert!(rt; text.chars_from(7).next() == None);
     Ok(())
 }
 
@@ -114,14 +137,7 @@ fn each_call_answers(rt: HostRuntime) -> Result<(), Fail> {
     assert!(rt; text.bytes() == 10);
     text.replace(alloc, 1, 3, "bc")?;
     assert!(rt; text.to_string(alloc)?.as_str() == "abc\n\u{1f600}z");
-    let characters = text.characters(alloc)?;
-    assert!(rt; characters.len() == 6);
-    assert!(rt; characters[4] == '\u{1f600}');
-    assert!(rt; 4 < text.len());
-    assert!(rt; text.at(4) == '\u{1f600}');
-    let mut rest = text.chars_from(4);
-    assert!(rt; (rest.next(), rest.next(), rest.next()) == (Some('\u{1f600}'), Some('z'), None));
-    assert!(rt; text.chars_from(7).next() == None);
+    check_characters(&rt, alloc, &text)?;
     Ok(())
 }
 

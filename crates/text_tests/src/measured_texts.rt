@@ -3,6 +3,7 @@
 ghost use Rattle.std.specs.Prelude.{◌<◌};
 
 use std::alloc::{AllocError, Global};
+use std::process::Abort;
 use std::test::Fail;
 use text::{Position, Text, Unit};
 
@@ -40,18 +41,28 @@ fn breaks_behind(text: &Text, n: u32) -> bool {
         && text.offset(Unit::Utf16, at(1, 0)) == count + 2
 }
 
+fn check_whole_break(rt: &impl Abort, alloc: Global, line: &str, n: u32) -> Result<(), Fail> {
+    let whole = Text::open(alloc, format!(in alloc; "{line}\r\ny")?.as_str())?;
+    assert!(rt; breaks_behind(&whole, n), "a line of {n}");
+    Ok(())
+}
+
+fn check_joined_break(rt: &impl Abort, alloc: Global, line: &str, n: u32) -> Result<(), Fail> {
+    let mut joined = Text::open(alloc, format!(in alloc; "{line}\ry")?.as_str())?;
+    let behind = n as usize + 1;
+    assert!(rt; joined.len() == behind + 1);
+    joined.replace(alloc, behind, behind, "\n")?;
+    assert!(rt; breaks_behind(&joined, n), "joined behind a line of {n}");
+    Ok(())
+}
+
 #[test]
 fn a_break_over_the_border_of_pieces(rt: HostRuntime) -> Result<(), Fail> {
     let alloc = rt.alloc();
     let mut line = String::new(alloc);
     for n in 0u32..2_101 {
-        let whole = Text::open(alloc, format!(in alloc; "{line}\r\ny")?.as_str())?;
-        assert!(rt; breaks_behind(&whole, n), "a line of {n}");
-        let mut joined = Text::open(alloc, format!(in alloc; "{line}\ry")?.as_str())?;
-        let behind = n as usize + 1;
-        assert!(rt; joined.len() == behind + 1);
-        joined.replace(alloc, behind, behind, "\n")?;
-        assert!(rt; breaks_behind(&joined, n), "joined behind a line of {n}");
+        check_whole_break(&rt, alloc, &line, n)?;
+        check_joined_break(&rt, alloc, &line, n)?;
         line.push('x')?;
     }
     Ok(())
