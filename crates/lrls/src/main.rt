@@ -46,20 +46,28 @@ fn print(rt: &HostRuntime, printed: &Printed) -> Result<u8, Fault> {
 }
 
 /// Checks a grammar.
+fn check_language(rt: &HostRuntime, language: &Language) -> Result<u8, Fault> {
+    print(rt, &check(rt.alloc(), language)?)
+}
+
+/// Checks the grammar in a file.
 fn check_file(rt: &HostRuntime, path: &str) -> Result<u8, Fault> {
     match loaded(rt, path)? {
-        Ok(language) => print(rt, &check(rt.alloc(), &language)?),
+        Ok(language) => check_language(rt, &language),
         Err(printed) => print(rt, &printed),
     }
+}
+
+/// Parses the text in a file.
+fn parse_text(rt: &HostRuntime, language: &Language, path: &str) -> Result<u8, Fault> {
+    let bytes = bytes_of(rt, path)?;
+    print(rt, &parse(rt.alloc(), language, &bytes)?)
 }
 
 /// Parses by the grammar in the first file the text in the second one, which is read only where there is a language.
 fn parse_file(rt: &HostRuntime, grammar: &str, text: &str) -> Result<u8, Fault> {
     match loaded(rt, grammar)? {
-        Ok(language) => {
-            let bytes = bytes_of(rt, text)?;
-            print(rt, &parse(rt.alloc(), &language, &bytes)?)
-        }
+        Ok(language) => parse_text(rt, &language, text),
         Err(printed) => print(rt, &printed),
     }
 }
