@@ -83,7 +83,7 @@ impl Measured for Token {
 }
 
 /// Looks for the token behind this many.
-#[derive(Clone, Copy, Debug, PartialEq, Eq)]
+#[derive(Clone, Copy)]
 pub struct AfterCount {
     pub count: usize,
 }
@@ -102,7 +102,7 @@ impl Goal<Sums> for AfterCount {
 }
 
 /// Looks for the significant token behind this many significant ones.
-#[derive(Clone, Copy, Debug, PartialEq, Eq)]
+#[derive(Clone, Copy)]
 pub struct AfterSignificant {
     pub count: usize,
 }
@@ -121,7 +121,7 @@ impl Goal<Sums> for AfterSignificant {
 }
 
 /// Looks for the token that holds the character at this offset.
-#[derive(Clone, Copy, Debug, PartialEq, Eq)]
+#[derive(Clone, Copy)]
 pub struct AfterCharacter {
     pub offset: usize,
 }
@@ -140,7 +140,7 @@ impl Goal<Sums> for AfterCharacter {
 }
 
 /// Looks for the first token whose reach goes past this offset.
-#[derive(Clone, Copy, Debug, PartialEq, Eq)]
+#[derive(Clone, Copy)]
 pub struct ReachesPast {
     pub offset: usize,
 }

@@ -266,7 +266,7 @@ fn shown_units(c: char) -> Units
 }
 
 /// Looks for the part that holds the character at this offset.
-#[derive(Clone, Copy, Debug, PartialEq, Eq)]
+#[derive(Clone, Copy)]
 pub struct AfterCharacter {
     pub offset: usize,
 }
@@ -289,7 +289,7 @@ impl Goal<Sums> for AfterCharacter {
 
 /// Looks for the first part that goes on past this position: where a later line begins in it, or where its characters
 /// of the line have more units.
-#[derive(Clone, Copy, Debug, PartialEq, Eq)]
+#[derive(Clone, Copy)]
 pub struct AfterPosition {
     pub unit: Unit,
     pub position: Position,

@@ -24,7 +24,7 @@ use trees::{Child, Children, NodeId, Store};
 const MOST_RANGES: usize = 32;
 
 /// An offset, as two places among the significant tokens.
-#[derive(Clone, Copy, Debug, PartialEq, Eq)]
+#[derive(Clone, Copy)]
 struct Point {
     /// How many of them start at or before it.
     reached: usize,
@@ -33,7 +33,7 @@ struct Point {
 }
 
 /// A branch, and the places of its first significant token and of the one behind its last.
-#[derive(Clone, Copy, Debug, PartialEq, Eq)]
+#[derive(Clone, Copy)]
 struct Branch {
     id: NodeId,
     from: usize,
