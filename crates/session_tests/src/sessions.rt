@@ -1,4 +1,4 @@
-//! The stored session however its bytes come and go, and sessions at the limits.
+//! The stored session however its bytes come and go, and streams that end or fail.
 
 use crate::devices::{Drops, Pieces, Record, Taker};
 use crate::talks::{WHOLE, Way, framed, language, push_frame, run_by};
@@ -147,67 +147,6 @@ fn a_device_that_fails_leaves_a_front_of_the_answers(rt: HostRuntime) -> Result<
     Ok(())
 }
 
-fn push_opening(alloc: Global, input: &mut Vec<u8>, uri: &str, text: &str) -> Result<(), Fail> {
-    let content = format!(in alloc;
-        r#"{{"jsonrpc":"2.0","method":"textDocument/didOpen","params":{{"textDocument":{{"uri":"{uri}","version":1,"text":"{text}"}}}}}}"#
-    )?;
-    push_frame(alloc, input, content.as_str())
-}
-
-fn push_clean(alloc: Global, output: &mut Vec<u8>, uri: &str) -> Result<(), Fail> {
-    let content = format!(in alloc;
-        r#"{{"jsonrpc":"2.0","method":"textDocument/publishDiagnostics","params":{{"diagnostics":[],"uri":"{uri}","version":1}}}}"#
-    )?;
-    push_frame(alloc, output, content.as_str())
-}
-
-/// Sums are served on this input with this output.
-fn answers(rt: &impl Abort, alloc: Global, input: &[u8], output: &[u8]) -> Result<(), Fail> {
-    let (outcome, record) = run_by(alloc, language(alloc, SUMS)?, input, WHOLE, &[])?;
-    assert!(rt; outcome == Ok(1));
-    assert!(rt; record.taken.as_slice() == output);
-    Ok(())
-}
-
-/// The range on line 0 from one character to another, as an answer names it.
-fn range_text(alloc: Global, from: usize, to: usize) -> Result<String, Fail> {
-    Ok(format!(in alloc;
-        r#""range":{{"end":{{"character":{to},"line":0}},"start":{{"character":{from},"line":0}}}}"#
-    )?)
-}
-
-/// The 32 ranges that are told of the middle of a number in 40 pairs of parentheses: the 31 inner ones, and the whole.
-fn nested_ranges(alloc: Global) -> Result<String, Fail> {
-    let whole = range_text(alloc, 0, 81)?;
-    let mut told = format!(in alloc; "{{{whole}}}")?;
-    for inner in 10..41 {
-        let range = range_text(alloc, inner, 81 - inner)?;
-        told = format!(in alloc; r#"{{"parent":{told},{range}}}"#)?;
-    }
-    Ok(told)
-}
-
-const ASK_MIDDLE: &str =
-    r#"{"jsonrpc":"2.0","id":2,"method":"textDocument/selectionRange","params":{"textDocument":{"uri":"a:x"},"positions":[{"line":0,"character":40}]}}"#;
-
-#[test]
-fn no_33rd_range_is_told(rt: HostRuntime) -> Result<(), Fail> {
-    let alloc = rt.alloc();
-    let text = "((((((((((((((((((((((((((((((((((((((((1))))))))))))))))))))))))))))))))))))))))";
-    assert_eq!(rt; text.len(), 81);
-    let mut input = Vec::new(alloc);
-    push_frame(alloc, &mut input, INITIALIZE)?;
-    push_opening(alloc, &mut input, "a:x", text)?;
-    push_frame(alloc, &mut input, ASK_MIDDLE)?;
-    let mut output = Vec::new(alloc);
-    push_frame(alloc, &mut output, CAPABILITIES)?;
-    push_clean(alloc, &mut output, "a:x")?;
-    let told = nested_ranges(alloc)?;
-    let content = format!(in alloc; r#"{{"id":2,"jsonrpc":"2.0","result":[{told}]}}"#)?;
-    push_frame(alloc, &mut output, content.as_str())?;
-    answers(&rt, alloc, &input, &output)
-}
-
 /// A stream that comes in pieces of 1, 5 and 100 bytes ends so, with this output.
 fn ends(
     rt: &impl Abort,
@@ -310,15 +249,6 @@ fn padded(alloc: Global, len: usize) -> Result<Vec<u8>, Fail> {
         stream.push(b' ')?;
     }
     Ok(stream)
-}
-
-#[test]
-fn a_content_of_the_greatest_length_is_answered(rt: HostRuntime) -> Result<(), Fail> {
-    let alloc = rt.alloc();
-    let input = padded(alloc, 16_777_216)?;
-    let mut output = Vec::new(alloc);
-    push_frame(alloc, &mut output, CAPABILITIES)?;
-    answers(&rt, alloc, &input, &output)
 }
 
 /// By the adapters of readers and writers.

@@ -1,18 +1,11 @@
-//! Sessions told by transcripts: a line that begins with `> ` is a content that the server reads, one that begins with `< ` a
-//! content that it writes. Other lines say nothing.
+//! Sessions on these devices. A session is told by a transcript: a line that begins with `> ` is a content that the server reads,
+//! one that begins with `< ` a content that it writes. Other lines say nothing. `tests/program` runs more of them.
 
 use crate::devices::{Pieces, Record, Taker};
 use server::{Language, RunFault, run};
 use std::alloc::{AllocError, Global};
 use std::cell::RefCell;
-use std::process::Abort;
 use std::test::Fail;
-
-/// How each session begins that is served.
-const BEGINNING: &str = r#"
-> {"jsonrpc":"2.0","id":1,"method":"initialize","params":{}}
-< {"id":1,"jsonrpc":"2.0","result":{"capabilities":{"foldingRangeProvider":true,"positionEncoding":"utf-16","selectionRangeProvider":true,"textDocumentSync":{"change":2,"openClose":true}}}}
-"#;
 
 /// How the bytes come and go, and which call of a device fails.
 #[derive(Clone, Copy)]
@@ -86,40 +79,4 @@ pub fn framed(alloc: Global, talk: &str, mark: &str) -> Result<Vec<u8>, Fail> {
         }
     }
     Ok(bytes)
-}
-
-/// A session by the grammar of this file goes as the transcript says, and ends with this status.
-pub fn talks(
-    rt: &impl Abort,
-    alloc: Global,
-    file: &str,
-    talk: &str,
-    status: u8,
-) -> Result<(), Fail> {
-    let input = framed(alloc, talk, "> ")?;
-    let output = framed(alloc, talk, "< ")?;
-    let (outcome, record) = run_by(alloc, language(alloc, file)?, &input, WHOLE, &[])?;
-    assert!(rt; outcome == Ok(status), "in {talk}");
-    assert!(rt; record.taken.as_slice() == output.as_slice(), "in {talk}");
-    Ok(())
-}
-
-/// The same behind an accepted `initialize`, up to the end of the input.
-pub fn serves(rt: &impl Abort, alloc: Global, file: &str, talk: &str) -> Result<(), Fail> {
-    let mut whole = String::from_str(alloc, BEGINNING)?;
-    whole.push_str(talk)?;
-    talks(rt, alloc, file, whole.as_str(), 1)
-}
-
-/// The transcript with this text in the place of each `@`.
-pub fn with_text(alloc: Global, talk: &str, text: &str) -> Result<String, Fail> {
-    let mut whole = String::new(alloc);
-    for c in talk.chars() {
-        if c == '@' {
-            whole.push_str(text)?;
-        } else {
-            whole.push(c)?;
-        }
-    }
-    Ok(whole)
 }

@@ -1,13 +1,11 @@
-//! Documents that are lost, closed and opened anew, and the limits of a text and of the documents.
+"""Documents that are lost, closed and opened anew, and the limits of a text, of the documents and of a content."""
 
-use crate::talks::{serves, with_text};
-use std::alloc::Global;
-use std::process::Abort;
-use std::test::Fail;
-use worked::SUMS;
+from messages import INITIALIZE, capabilities
+from transcripts.talks import each, filled, served, talked
 
-/// One digit more fits, and a second one doesn't.
-const PAST_THE_LIMIT: &str = r#"
+# Each `@` stands for 1,048,575 digits, which leave room for one.
+ROOM_FOR_ONE = {
+    "one digit more fits, and a second one doesn't": r"""
 > {"jsonrpc":"2.0","method":"textDocument/didOpen","params":{"textDocument":{"uri":"a:x","languageId":"g","version":1,"text":"@"}}}
 < {"jsonrpc":"2.0","method":"textDocument/publishDiagnostics","params":{"diagnostics":[],"uri":"a:x","version":1}}
 > {"jsonrpc":"2.0","method":"textDocument/didChange","params":{"textDocument":{"uri":"a:x","version":2},"contentChanges":[{"range":{"start":{"line":0,"character":0},"end":{"line":0,"character":0}},"text":"1"}]}}
@@ -21,10 +19,19 @@ const PAST_THE_LIMIT: &str = r#"
 < {"jsonrpc":"2.0","method":"textDocument/publishDiagnostics","params":{"diagnostics":[],"uri":"a:x","version":4}}
 > {"jsonrpc":"2.0","id":2,"method":"lr/text","params":{"textDocument":{"uri":"a:x"}}}
 < {"id":2,"jsonrpc":"2.0","result":{"text":"1","version":4}}
-"#;
+""",
+    "the limit is one of bytes, and é has two": r"""
+> {"jsonrpc":"2.0","method":"textDocument/didOpen","params":{"textDocument":{"uri":"a:x","languageId":"g","version":1,"text":"@"}}}
+< {"jsonrpc":"2.0","method":"textDocument/publishDiagnostics","params":{"diagnostics":[],"uri":"a:x","version":1}}
+> {"jsonrpc":"2.0","method":"textDocument/didChange","params":{"textDocument":{"uri":"a:x","version":2},"contentChanges":[{"range":{"start":{"line":0,"character":0},"end":{"line":0,"character":0}},"text":"é"}]}}
+< {"jsonrpc":"2.0","method":"textDocument/publishDiagnostics","params":{"diagnostics":[],"uri":"a:x"}}
+< {"jsonrpc":"2.0","method":"window/logMessage","params":{"message":"document lost: too large","type":1}}
+""",
+}
 
-/// A text of the greatest length is held, and is no more behind a change that is refused.
-const AT_THE_LIMIT: &str = r#"
+# Each `@` stands for 1,048,576 digits, as many as a text may have.
+FULL = {
+    "a text of the greatest length is held, and is no more behind a change that is refused": r"""
 > {"jsonrpc":"2.0","method":"textDocument/didOpen","params":{"textDocument":{"uri":"a:x","languageId":"g","version":1,"text":"@"}}}
 < {"jsonrpc":"2.0","method":"textDocument/publishDiagnostics","params":{"diagnostics":[],"uri":"a:x","version":1}}
 > {"jsonrpc":"2.0","id":2,"method":"lr/text","params":{"textDocument":{"uri":"a:x"}}}
@@ -34,10 +41,12 @@ const AT_THE_LIMIT: &str = r#"
 < {"jsonrpc":"2.0","method":"window/logMessage","params":{"message":"document lost: too large","type":1}}
 > {"jsonrpc":"2.0","id":2,"method":"lr/text","params":{"textDocument":{"uri":"a:x"}}}
 < {"error":{"code":-32803,"message":"document lost: too large"},"id":2,"jsonrpc":"2.0"}
-"#;
+""",
+}
 
-/// A text that is too large to be opened.
-const TOO_LARGE: &str = r#"
+# Each `@` stands for 1,048,577 digits, one more than a text may have.
+TOO_LARGE = {
+    "one that is too large to be opened": r"""
 > {"jsonrpc":"2.0","method":"textDocument/didOpen","params":{"textDocument":{"uri":"a:x","languageId":"g","version":1,"text":"@"}}}
 < {"jsonrpc":"2.0","method":"textDocument/publishDiagnostics","params":{"diagnostics":[],"uri":"a:x"}}
 < {"jsonrpc":"2.0","method":"window/logMessage","params":{"message":"document lost: too large","type":1}}
@@ -47,10 +56,8 @@ const TOO_LARGE: &str = r#"
 < {"jsonrpc":"2.0","method":"textDocument/publishDiagnostics","params":{"diagnostics":[],"uri":"a:x","version":2}}
 > {"jsonrpc":"2.0","id":2,"method":"lr/text","params":{"textDocument":{"uri":"a:x"}}}
 < {"id":2,"jsonrpc":"2.0","result":{"text":"1","version":2}}
-"#;
-
-/// It doesn't leave the document that it was to replace.
-const REPLACED_BY_TOO_LARGE: &str = r#"
+""",
+    "one that is too large doesn't leave the document that it was to replace": r"""
 > {"jsonrpc":"2.0","method":"textDocument/didOpen","params":{"textDocument":{"uri":"a:x","languageId":"g","version":1,"text":"1"}}}
 < {"jsonrpc":"2.0","method":"textDocument/publishDiagnostics","params":{"diagnostics":[],"uri":"a:x","version":1}}
 > {"jsonrpc":"2.0","method":"textDocument/didOpen","params":{"textDocument":{"uri":"a:x","languageId":"g","version":2,"text":"@"}}}
@@ -58,50 +65,19 @@ const REPLACED_BY_TOO_LARGE: &str = r#"
 < {"jsonrpc":"2.0","method":"window/logMessage","params":{"message":"document lost: too large","type":1}}
 > {"jsonrpc":"2.0","id":2,"method":"lr/text","params":{"textDocument":{"uri":"a:x"}}}
 < {"error":{"code":-32803,"message":"document lost: too large"},"id":2,"jsonrpc":"2.0"}
-"#;
-
-/// The limit is one of bytes, and this character has two.
-const TWO_BYTES: &str = r#"
-> {"jsonrpc":"2.0","method":"textDocument/didOpen","params":{"textDocument":{"uri":"a:x","languageId":"g","version":1,"text":"@"}}}
-< {"jsonrpc":"2.0","method":"textDocument/publishDiagnostics","params":{"diagnostics":[],"uri":"a:x","version":1}}
-> {"jsonrpc":"2.0","method":"textDocument/didChange","params":{"textDocument":{"uri":"a:x","version":2},"contentChanges":[{"range":{"start":{"line":0,"character":0},"end":{"line":0,"character":0}},"text":"é"}]}}
-< {"jsonrpc":"2.0","method":"textDocument/publishDiagnostics","params":{"diagnostics":[],"uri":"a:x"}}
-< {"jsonrpc":"2.0","method":"window/logMessage","params":{"message":"document lost: too large","type":1}}
-"#;
-
-/// The transcript with so many digits in the place of each `@` is a session of sums.
-fn serves_digits(rt: &impl Abort, alloc: Global, talk: &str, count: usize) -> Result<(), Fail> {
-    let digits = Vec::from_elem(alloc, b'1', count)?;
-    let digits = String::from_utf8(digits).unwrap_or(String::new(alloc));
-    let talk = with_text(alloc, talk, digits.as_str())?;
-    serves(rt, alloc, SUMS, talk.as_str())
+""",
 }
 
-#[test]
-fn texts_that_are_too_large_are_lost(rt: HostRuntime) -> Result<(), Fail> {
-    for (talk, count) in [
-        (PAST_THE_LIMIT, 1_048_575),
-        (AT_THE_LIMIT, 1_048_576),
-        (TOO_LARGE, 1_048_577),
-        (REPLACED_BY_TOO_LARGE, 1_048_577),
-        (TWO_BYTES, 1_048_575),
-    ] {
-        serves_digits(&rt, rt.alloc(), talk, count)?;
-    }
-    Ok(())
-}
-
-/// The second of two changes is refused.
-const SECOND_TOO_LARGE: &str = r#"
+# Each `@` stands for 1,048,575 digits, which leave room for one.
+CHANGES_THAT_FIT = {
+    "the second of two changes is refused": r"""
 > {"jsonrpc":"2.0","method":"textDocument/didOpen","params":{"textDocument":{"uri":"a:x","languageId":"g","version":1,"text":"@"}}}
 < {"jsonrpc":"2.0","method":"textDocument/publishDiagnostics","params":{"diagnostics":[],"uri":"a:x","version":1}}
 > {"jsonrpc":"2.0","method":"textDocument/didChange","params":{"textDocument":{"uri":"a:x","version":2},"contentChanges":[{"range":{"start":{"line":0,"character":0},"end":{"line":0,"character":0}},"text":"1"},{"range":{"start":{"line":0,"character":0},"end":{"line":0,"character":0}},"text":"1"}]}}
 < {"jsonrpc":"2.0","method":"textDocument/publishDiagnostics","params":{"diagnostics":[],"uri":"a:x"}}
 < {"jsonrpc":"2.0","method":"window/logMessage","params":{"message":"document lost: too large","type":1}}
-"#;
-
-/// The first of two changes makes room for the second.
-const ROOM_MADE: &str = r#"
+""",
+    "the first of two changes makes room for the second": r"""
 > {"jsonrpc":"2.0","method":"textDocument/didOpen","params":{"textDocument":{"uri":"a:x","languageId":"g","version":1,"text":"@"}}}
 < {"jsonrpc":"2.0","method":"textDocument/publishDiagnostics","params":{"diagnostics":[],"uri":"a:x","version":1}}
 > {"jsonrpc":"2.0","method":"textDocument/didChange","params":{"textDocument":{"uri":"a:x","version":2},"contentChanges":[{"range":{"start":{"line":0,"character":0},"end":{"line":0,"character":1}},"text":""},{"range":{"start":{"line":0,"character":0},"end":{"line":0,"character":0}},"text":"11"}]}}
@@ -110,10 +86,8 @@ const ROOM_MADE: &str = r#"
 < {"jsonrpc":"2.0","method":"textDocument/publishDiagnostics","params":{"diagnostics":[],"uri":"a:x","version":3}}
 > {"jsonrpc":"2.0","id":2,"method":"lr/text","params":{"textDocument":{"uri":"a:x"}}}
 < {"id":2,"jsonrpc":"2.0","result":{"text":"1+2","version":3}}
-"#;
-
-/// The same changes in the other order.
-const NO_ROOM_YET: &str = r#"
+""",
+    "the same changes in the other order have no room": r"""
 > {"jsonrpc":"2.0","method":"textDocument/didOpen","params":{"textDocument":{"uri":"a:x","languageId":"g","version":1,"text":"@"}}}
 < {"jsonrpc":"2.0","method":"textDocument/publishDiagnostics","params":{"diagnostics":[],"uri":"a:x","version":1}}
 > {"jsonrpc":"2.0","method":"textDocument/didChange","params":{"textDocument":{"uri":"a:x","version":2},"contentChanges":[{"range":{"start":{"line":0,"character":0},"end":{"line":0,"character":0}},"text":"11"},{"range":{"start":{"line":0,"character":0},"end":{"line":0,"character":1}},"text":""}]}}
@@ -121,18 +95,11 @@ const NO_ROOM_YET: &str = r#"
 < {"jsonrpc":"2.0","method":"window/logMessage","params":{"message":"document lost: too large","type":1}}
 > {"jsonrpc":"2.0","id":2,"method":"lr/text","params":{"textDocument":{"uri":"a:x"}}}
 < {"error":{"code":-32803,"message":"document lost: too large"},"id":2,"jsonrpc":"2.0"}
-"#;
-
-#[test]
-fn each_change_has_to_fit(rt: HostRuntime) -> Result<(), Fail> {
-    for talk in [SECOND_TOO_LARGE, ROOM_MADE, NO_ROOM_YET] {
-        serves_digits(&rt, rt.alloc(), talk, 1_048_575)?;
-    }
-    Ok(())
+""",
 }
 
-/// A change of an open document whose parameters, for which `@` stands, don't fit.
-const SPOILED: &str = r#"
+# A change of an open document whose parameters, for which `@` stands, don't fit.
+SPOILED = r"""
 > {"jsonrpc":"2.0","method":"textDocument/didOpen","params":{"textDocument":{"uri":"a:x","languageId":"g","version":1,"text":"1"}}}
 < {"jsonrpc":"2.0","method":"textDocument/publishDiagnostics","params":{"diagnostics":[],"uri":"a:x","version":1}}
 > {"jsonrpc":"2.0","method":"textDocument/didChange","params":@}
@@ -140,43 +107,35 @@ const SPOILED: &str = r#"
 < {"jsonrpc":"2.0","method":"window/logMessage","params":{"message":"document lost: malformed change","type":1}}
 > {"jsonrpc":"2.0","id":2,"method":"lr/text","params":{"textDocument":{"uri":"a:x"}}}
 < {"error":{"code":-32803,"message":"document lost: malformed change"},"id":2,"jsonrpc":"2.0"}
-"#;
+"""
 
-#[test]
-fn malformed_changes_lose_a_document(rt: HostRuntime) -> Result<(), Fail> {
-    let alloc = rt.alloc();
-    for params in [
-        r#"{"textDocument":{"uri":"a:x","version":2},"contentChanges":5}"#,
-        r#"{"textDocument":{"uri":"a:x","version":2},"contentChanges":null}"#,
-        r#"{"textDocument":{"uri":"a:x","version":2},"contentChanges":{}}"#,
-        r#"{"textDocument":{"uri":"a:x","version":2},"contentChanges":[5]}"#,
-        r#"{"textDocument":{"uri":"a:x","version":2},"contentChanges":[[]]}"#,
-        r#"{"textDocument":{"uri":"a:x","version":2},"contentChanges":[{}]}"#,
-        r#"{"textDocument":{"uri":"a:x","version":2},"contentChanges":[{"text":5}]}"#,
-        r#"{"textDocument":{"uri":"a:x","version":2},"contentChanges":[{"range":null,"text":""}]}"#,
-        r#"{"textDocument":{"uri":"a:x","version":2},"contentChanges":[{"range":{"start":{"line":0,"character":0}},"text":""}]}"#,
-        r#"{"textDocument":{"uri":"a:x","version":2},"contentChanges":[{"range":{"end":{"line":0,"character":0}},"text":""}]}"#,
-        r#"{"textDocument":{"uri":"a:x","version":2},"contentChanges":[{"range":{"start":{"line":0},"end":{"line":0,"character":0}},"text":""}]}"#,
-        r#"{"textDocument":{"uri":"a:x","version":2},"contentChanges":[{"range":{"start":{"line":0,"character":0},"end":{"line":0,"character":-1}},"text":""}]}"#,
-        r#"{"textDocument":{"uri":"a:x","version":2},"contentChanges":[{"range":{"start":{"line":0,"character":0},"end":{"line":2147483648,"character":0}},"text":""}]}"#,
-        r#"{"textDocument":{"uri":"a:x","version":2},"contentChanges":[{"range":{"start":{"line":0.0,"character":0},"end":{"line":0,"character":0}},"text":""}]}"#,
-        r#"{"textDocument":{"uri":"a:x","version":2},"contentChanges":[{"text":"1"},{"text":null}]}"#,
-        r#"{"textDocument":{"uri":"a:x","version":2}}"#,
-        r#"{"textDocument":{"uri":"a:x"},"contentChanges":[]}"#,
-        r#"{"textDocument":{"uri":"a:x","version":null},"contentChanges":[]}"#,
-        r#"{"textDocument":{"uri":"a:x","version":"2"},"contentChanges":[]}"#,
-        r#"{"textDocument":{"uri":"a:x","version":2.0},"contentChanges":[]}"#,
-        r#"{"textDocument":{"uri":"a:x","version":2147483648},"contentChanges":[]}"#,
-        r#"{"textDocument":{"uri":"a:x","version":-2147483649},"contentChanges":[]}"#,
-    ] {
-        let talk = with_text(alloc, SPOILED, params)?;
-        serves(&rt, alloc, SUMS, talk.as_str())?;
-    }
-    Ok(())
-}
+MALFORMED_CHANGES = [
+    '{"textDocument":{"uri":"a:x","version":2},"contentChanges":5}',
+    '{"textDocument":{"uri":"a:x","version":2},"contentChanges":null}',
+    '{"textDocument":{"uri":"a:x","version":2},"contentChanges":{}}',
+    '{"textDocument":{"uri":"a:x","version":2},"contentChanges":[5]}',
+    '{"textDocument":{"uri":"a:x","version":2},"contentChanges":[[]]}',
+    '{"textDocument":{"uri":"a:x","version":2},"contentChanges":[{}]}',
+    '{"textDocument":{"uri":"a:x","version":2},"contentChanges":[{"text":5}]}',
+    '{"textDocument":{"uri":"a:x","version":2},"contentChanges":[{"range":null,"text":""}]}',
+    '{"textDocument":{"uri":"a:x","version":2},"contentChanges":[{"range":{"start":{"line":0,"character":0}},"text":""}]}',
+    '{"textDocument":{"uri":"a:x","version":2},"contentChanges":[{"range":{"end":{"line":0,"character":0}},"text":""}]}',
+    '{"textDocument":{"uri":"a:x","version":2},"contentChanges":[{"range":{"start":{"line":0},"end":{"line":0,"character":0}},"text":""}]}',
+    '{"textDocument":{"uri":"a:x","version":2},"contentChanges":[{"range":{"start":{"line":0,"character":0},"end":{"line":0,"character":-1}},"text":""}]}',
+    '{"textDocument":{"uri":"a:x","version":2},"contentChanges":[{"range":{"start":{"line":0,"character":0},"end":{"line":2147483648,"character":0}},"text":""}]}',
+    '{"textDocument":{"uri":"a:x","version":2},"contentChanges":[{"range":{"start":{"line":0.0,"character":0},"end":{"line":0,"character":0}},"text":""}]}',
+    '{"textDocument":{"uri":"a:x","version":2},"contentChanges":[{"text":"1"},{"text":null}]}',
+    '{"textDocument":{"uri":"a:x","version":2}}',
+    '{"textDocument":{"uri":"a:x"},"contentChanges":[]}',
+    '{"textDocument":{"uri":"a:x","version":null},"contentChanges":[]}',
+    '{"textDocument":{"uri":"a:x","version":"2"},"contentChanges":[]}',
+    '{"textDocument":{"uri":"a:x","version":2.0},"contentChanges":[]}',
+    '{"textDocument":{"uri":"a:x","version":2147483648},"contentChanges":[]}',
+    '{"textDocument":{"uri":"a:x","version":-2147483649},"contentChanges":[]}',
+]
 
-/// What is sent about a lost document, until it is closed.
-const LOST: &str = r#"
+LOSSES = {
+    "what is sent about a lost document, until it is closed": r"""
 > {"jsonrpc":"2.0","method":"textDocument/didOpen","params":{"textDocument":{"uri":"a:x","languageId":"g","version":1,"text":"1"}}}
 < {"jsonrpc":"2.0","method":"textDocument/publishDiagnostics","params":{"diagnostics":[],"uri":"a:x","version":1}}
 > {"jsonrpc":"2.0","method":"textDocument/didChange","params":{"textDocument":{"uri":"a:x","version":2},"contentChanges":5}}
@@ -207,10 +166,8 @@ const LOST: &str = r#"
 < {"error":{"code":-32602,"message":"document not open"},"id":2,"jsonrpc":"2.0"}
 > {"jsonrpc":"2.0","id":2,"method":"textDocument/selectionRange","params":{"textDocument":{"uri":"a:x"},"positions":[{"line":0,"character":0}]}}
 < {"error":{"code":-32602,"message":"document not open"},"id":2,"jsonrpc":"2.0"}
-"#;
-
-/// An open document is closed, and is opened anew.
-const CLOSED: &str = r#"
+""",
+    "an open document is closed, and is opened anew": r"""
 > {"jsonrpc":"2.0","method":"textDocument/didOpen","params":{"textDocument":{"uri":"a:x","languageId":"g","version":1,"text":"1+2"}}}
 < {"jsonrpc":"2.0","method":"textDocument/publishDiagnostics","params":{"diagnostics":[],"uri":"a:x","version":1}}
 > {"jsonrpc":"2.0","method":"textDocument/didClose","params":{"textDocument":{"uri":"a:x"}}}
@@ -229,10 +186,8 @@ const CLOSED: &str = r#"
 < {"jsonrpc":"2.0","method":"textDocument/publishDiagnostics","params":{"diagnostics":[],"uri":"a:x","version":1}}
 > {"jsonrpc":"2.0","id":2,"method":"lr/text","params":{"textDocument":{"uri":"a:x"}}}
 < {"id":2,"jsonrpc":"2.0","result":{"text":"3","version":1}}
-"#;
-
-/// An open document is opened once more.
-const REPLACED: &str = r#"
+""",
+    "an open document is opened once more": r"""
 > {"jsonrpc":"2.0","method":"textDocument/didOpen","params":{"textDocument":{"uri":"a:x","languageId":"g","version":5,"text":"1+2"}}}
 < {"jsonrpc":"2.0","method":"textDocument/publishDiagnostics","params":{"diagnostics":[],"uri":"a:x","version":5}}
 > {"jsonrpc":"2.0","method":"textDocument/didOpen","params":{"textDocument":{"uri":"a:x","languageId":"g","version":3,"text":"1 2"}}}
@@ -243,10 +198,9 @@ const REPLACED: &str = r#"
 < {"jsonrpc":"2.0","method":"textDocument/publishDiagnostics","params":{"diagnostics":[],"uri":"a:x","version":4}}
 > {"jsonrpc":"2.0","id":2,"method":"lr/text","params":{"textDocument":{"uri":"a:x"}}}
 < {"id":2,"jsonrpc":"2.0","result":{"text":"1+2","version":4}}
-"#;
-
-/// The loss of a document leaves another one. URIs are compared byte for byte.
-const OTHERS_LEFT: &str = r#"
+""",
+    # URIs are compared byte for byte.
+    "the loss of a document leaves another one": r"""
 > {"jsonrpc":"2.0","method":"textDocument/didOpen","params":{"textDocument":{"uri":"a:x","languageId":"g","version":1,"text":"1"}}}
 < {"jsonrpc":"2.0","method":"textDocument/publishDiagnostics","params":{"diagnostics":[],"uri":"a:x","version":1}}
 > {"jsonrpc":"2.0","method":"textDocument/didOpen","params":{"textDocument":{"uri":"a:y","languageId":"g","version":1,"text":"1+2"}}}
@@ -270,24 +224,17 @@ const OTHERS_LEFT: &str = r#"
 < {"error":{"code":-32602,"message":"document not open"},"id":2,"jsonrpc":"2.0"}
 > {"jsonrpc":"2.0","id":2,"method":"lr/text","params":{"textDocument":{"uri":"a:x"}}}
 < {"error":{"code":-32803,"message":"document lost: malformed change"},"id":2,"jsonrpc":"2.0"}
-"#;
-
-#[test]
-fn documents_are_lost_closed_and_replaced(rt: HostRuntime) -> Result<(), Fail> {
-    for talk in [LOST, CLOSED, REPLACED, OTHERS_LEFT] {
-        serves(&rt, rt.alloc(), SUMS, talk)?;
-    }
-    Ok(())
+""",
 }
 
-/// A document is opened under a URI with a number, for which `@` stands.
-const OPENED: &str = r#"
+# A document is opened under a URI with a number, for which `@` stands.
+OPENED = r"""
 > {"jsonrpc":"2.0","method":"textDocument/didOpen","params":{"textDocument":{"uri":"b:@","languageId":"g","version":1,"text":"1"}}}
 < {"jsonrpc":"2.0","method":"textDocument/publishDiagnostics","params":{"diagnostics":[],"uri":"b:@","version":1}}
-"#;
+"""
 
-/// Of 64 documents, one may be replaced, lost or closed. A 65th has no room until one is closed.
-const NO_65TH: &str = r#"
+BEHIND_64 = {
+    "of 64 documents, one may be replaced, lost or closed; a 65th has no room until one is closed": r"""
 > {"jsonrpc":"2.0","method":"textDocument/didOpen","params":{"textDocument":{"uri":"a:x","languageId":"g","version":1,"text":"2"}}}
 < {"jsonrpc":"2.0","method":"window/logMessage","params":{"message":"didOpen: too many documents","type":1}}
 > {"jsonrpc":"2.0","id":2,"method":"lr/text","params":{"textDocument":{"uri":"a:x"}}}
@@ -311,33 +258,41 @@ const NO_65TH: &str = r#"
 < {"jsonrpc":"2.0","method":"window/logMessage","params":{"message":"didOpen: too many documents","type":1}}
 > {"jsonrpc":"2.0","id":2,"method":"lr/text","params":{"textDocument":{"uri":"b:63"}}}
 < {"id":2,"jsonrpc":"2.0","result":{"text":"2","version":2}}
-"#;
+""",
+}
 
-/// That there is no room is told before the size of a text.
-const NO_LARGE_65TH: &str = r#"
+# The `@` stands for 1,048,577 digits, one more than a text may have.
+LARGE_BEHIND_64 = {
+    "that there is no room is told before the size of a text": r"""
 > {"jsonrpc":"2.0","method":"textDocument/didOpen","params":{"textDocument":{"uri":"a:x","languageId":"g","version":1,"text":"@"}}}
 < {"jsonrpc":"2.0","method":"window/logMessage","params":{"message":"didOpen: too many documents","type":1}}
 > {"jsonrpc":"2.0","id":2,"method":"lr/text","params":{"textDocument":{"uri":"a:x"}}}
 < {"error":{"code":-32602,"message":"document not open"},"id":2,"jsonrpc":"2.0"}
-"#;
-
-/// A transcript that opens 64 documents, and goes on so.
-fn behind_64(alloc: Global, talk: &str) -> Result<String, Fail> {
-    let mut whole = String::new(alloc);
-    for number in 0..64 {
-        let number = format!(in alloc; "{number}")?;
-        let opened = with_text(alloc, OPENED, number.as_str())?;
-        whole.push_str(opened.as_str())?;
-    }
-    whole.push_str(talk)?;
-    Ok(whole)
+""",
 }
 
-#[test]
-fn no_65th_document_is_held(rt: HostRuntime) -> Result<(), Fail> {
-    let alloc = rt.alloc();
-    let talk = behind_64(alloc, NO_65TH)?;
-    serves(&rt, alloc, SUMS, talk.as_str())?;
-    let talk = behind_64(alloc, NO_LARGE_65TH)?;
-    serves_digits(&rt, alloc, talk.as_str(), 1_048_577)
-}
+
+def digits(count):
+    return "1" * count
+
+
+def behind_64(talks):
+    """These transcripts behind one that opens 64 documents."""
+    opened = "".join(OPENED.replace("@", str(number)) for number in range(64))
+    return {name: opened + talk for name, talk in talks.items()}
+
+
+def greatest_content():
+    """`initialize` in a content of 16,777,216 bytes, with blanks behind it."""
+    return f"> {INITIALIZE.ljust(16_777_216)}\n< {capabilities(1, 'utf-16')}\n"
+
+
+def sessions():
+    for talks, count in [(ROOM_FOR_ONE, 1_048_575), (FULL, 1_048_576), (TOO_LARGE, 1_048_577)]:
+        yield from served("texts that are too large are lost", filled(talks, digits(count)))
+    yield from served("each change has to fit", filled(CHANGES_THAT_FIT, digits(1_048_575)))
+    yield from served("malformed changes lose a document", each(SPOILED, MALFORMED_CHANGES))
+    yield from served("documents are lost, closed and replaced", LOSSES)
+    yield from served("no 65th document is held", behind_64(BEHIND_64))
+    yield from served("no 65th document is held", behind_64(filled(LARGE_BEHIND_64, digits(1_048_577))))
+    yield from talked("a content of the greatest length is answered", {"initialize and blanks": greatest_content()}, 1)

@@ -1,12 +1,9 @@
-//! Two documents whose messages are mixed: what is sent about each is what is sent where the other isn't there.
+"""Two documents whose messages are mixed: what is sent about each is what is sent where the other isn't there."""
 
-use crate::talks::serves;
-use std::alloc::Global;
-use std::test::Fail;
-use worked::SUMS;
+from transcripts.talks import served
 
-/// A document with ten changes. Blank lines part what is read, each with what is written on it.
-const CHANGED: &str = r#"
+# A document with ten changes. Blank lines part what is read, each with what is written on it.
+CHANGED = r"""
 > {"jsonrpc":"2.0","method":"textDocument/didOpen","params":{"textDocument":{"uri":"a:x","languageId":"g","version":1,"text":""}}}
 < {"jsonrpc":"2.0","method":"textDocument/publishDiagnostics","params":{"diagnostics":[{"message":"unexpected end; expected NUM, LP","range":{"end":{"character":0,"line":0},"start":{"character":0,"line":0}},"severity":1,"source":"lrls"}],"uri":"a:x","version":1}}
 
@@ -45,10 +42,10 @@ const CHANGED: &str = r#"
 
 > {"jsonrpc":"2.0","id":4,"method":"lr/tree","params":{"textDocument":{"uri":"a:x"}}}
 < {"id":4,"jsonrpc":"2.0","result":"(Sum (Sum (Atom NUM)) PLUS (Atom NUM))"}
-"#;
+"""
 
-/// Another one with ten changes, the fourth of which loses it. It is opened anew, and closed.
-const LOST: &str = r#"
+# Another one with ten changes, the fourth of which loses it. It is opened anew, and closed.
+LOST = r"""
 > {"jsonrpc":"2.0","method":"textDocument/didOpen","params":{"textDocument":{"uri":"a:y","languageId":"g","version":1,"text":"1+2"}}}
 < {"jsonrpc":"2.0","method":"textDocument/publishDiagnostics","params":{"diagnostics":[],"uri":"a:y","version":1}}
 
@@ -93,41 +90,32 @@ const LOST: &str = r#"
 
 > {"jsonrpc":"2.0","id":6,"method":"lr/text","params":{"textDocument":{"uri":"a:y"}}}
 < {"error":{"code":-32602,"message":"document not open"},"id":6,"jsonrpc":"2.0"}
-"#;
+"""
 
-/// The turns of two transcripts, which blank lines part, in one transcript: each one's in their order, and which comes next by
-/// the bits of the choices.
-fn mixed(alloc: Global, one: &str, other: &str, mut choices: u64) -> Result<String, Fail> {
-    let ones = one.split("\n\n").collect::<Vec<&str>>(alloc)?;
-    let others = other.split("\n\n").collect::<Vec<&str>>(alloc)?;
-    let mut mixture = String::new(alloc);
-    let mut first = 0;
-    for turns in 0..ones.len().saturating_add(others.len()) {
-        let second = turns.saturating_sub(first);
-        mixture.push('\n')?;
-        if first < ones.len() && (choices % 2 == 0 || second >= others.len()) {
-            mixture.push_str(ones[first])?;
-            first += 1;
-        } else if let Some(turn) = others.get(second) {
-            mixture.push_str(turn)?;
-        }
-        choices /= 2;
-    }
-    Ok(mixture)
-}
 
-#[test]
-fn a_document_is_served_whatever_comes_of_others(rt: HostRuntime) -> Result<(), Fail> {
-    let alloc = rt.alloc();
-    serves(&rt, alloc, SUMS, CHANGED)?;
-    serves(&rt, alloc, SUMS, LOST)?;
-    let mut random = 1u64;
-    for _ in 0..200 {
-        random = random
-            .wrapping_mul(6_364_136_223_846_793_005)
-            .wrapping_add(1_442_695_040_888_963_407);
-        let talk = mixed(alloc, CHANGED, LOST, random / 4_294_967_296)?;
-        serves(&rt, alloc, SUMS, talk.as_str())?;
-    }
-    Ok(())
-}
+def mixed(one, other, choices):
+    """The turns of two transcripts, which blank lines part, in one transcript: each one's in their order, and which comes next
+    by the bits of the choices.
+    """
+    ones, others = one.split("\n\n"), other.split("\n\n")
+    mixture = ""
+    while ones or others:
+        is_first = ones and (choices % 2 == 0 or not others)
+        mixture += "\n" + (ones if is_first else others).pop(0)
+        choices //= 2
+    return mixture
+
+
+def random_choices():
+    """200 times 32 bits, the same ones each time."""
+    number = 1
+    for _ in range(200):
+        number = (number * 6_364_136_223_846_793_005 + 1_442_695_040_888_963_407) % 2**64
+        yield number // 2**32
+
+
+def sessions():
+    test = "a document is served whatever comes of others"
+    yield from served(test, {"a document with ten changes": CHANGED, "one that is lost by the fourth of them": LOST})
+    for choices in random_choices():
+        yield from served(test, {f"both, mixed by {choices:032b}": mixed(CHANGED, LOST, choices)})

@@ -1,74 +1,59 @@
-//! What is asked of open documents: their tokens, trees, folds and selections.
+"""What is asked of open documents: their tokens, trees, folds and selections."""
 
-use crate::talks::serves;
-use std::test::Fail;
-use worked::{LISTS, SUMS};
+from grammar_files import LISTS
+from messages import did_open, on_line, published, result, selected_at
+from transcripts.talks import served
 
-/// Tokens over two lines.
-const SUM_TOKENS: &str = r#"
+TOKENS = {
+    "tokens over two lines": r"""
 > {"jsonrpc":"2.0","method":"textDocument/didOpen","params":{"textDocument":{"uri":"a:x","languageId":"g","version":1,"text":"1 +\r\n2"}}}
 < {"jsonrpc":"2.0","method":"textDocument/publishDiagnostics","params":{"diagnostics":[],"uri":"a:x","version":1}}
 > {"jsonrpc":"2.0","id":2,"method":"lr/tokens","params":{"textDocument":{"uri":"a:x"}}}
 < {"id":2,"jsonrpc":"2.0","result":[["NUM",0,0,0,1],["WS",0,1,0,2],["PLUS",0,2,0,3],["WS",0,3,1,0],["NUM",1,0,1,1]]}
-"#;
-
-/// The empty text has none.
-const NO_TOKENS: &str = r#"
+""",
+    "the empty text has none": r"""
 > {"jsonrpc":"2.0","method":"textDocument/didOpen","params":{"textDocument":{"uri":"a:x","languageId":"g","version":1,"text":""}}}
 < {"jsonrpc":"2.0","method":"textDocument/publishDiagnostics","params":{"diagnostics":[{"message":"unexpected end; expected NUM, LP","range":{"end":{"character":0,"line":0},"start":{"character":0,"line":0}},"severity":1,"source":"lrls"}],"uri":"a:x","version":1}}
 > {"jsonrpc":"2.0","id":2,"method":"lr/tokens","params":{"textDocument":{"uri":"a:x"}}}
 < {"id":2,"jsonrpc":"2.0","result":[]}
-"#;
+""",
+}
 
-/// A token may end within a line end.
-const LINE_END: &str = r#"
+TOKENS_OF_LISTS = {
+    "a token may end within a line end": r"""
 > {"jsonrpc":"2.0","method":"textDocument/didOpen","params":{"textDocument":{"uri":"a:x","languageId":"g","version":1,"text":"\r\n"}}}
 < {"jsonrpc":"2.0","method":"textDocument/publishDiagnostics","params":{"diagnostics":[{"message":"unexpected invalid; expected STR, W, end","range":{"end":{"character":0,"line":0},"start":{"character":0,"line":0}},"severity":1,"source":"lrls"}],"uri":"a:x","version":1}}
 > {"jsonrpc":"2.0","id":2,"method":"lr/tokens","params":{"textDocument":{"uri":"a:x"}}}
 < {"id":2,"jsonrpc":"2.0","result":[["invalid",0,0,0,0],["invalid",0,0,1,0]]}
-"#;
-
-#[test]
-fn tokens_are_told(rt: HostRuntime) -> Result<(), Fail> {
-    let alloc = rt.alloc();
-    serves(&rt, alloc, SUMS, SUM_TOKENS)?;
-    serves(&rt, alloc, SUMS, NO_TOKENS)?;
-    serves(&rt, alloc, LISTS, LINE_END)
+""",
 }
 
-/// A text with a fault has no tree.
-const NO_TREE: &str = r#"
+TREES = {
+    "a text with a fault has no tree": r"""
 > {"jsonrpc":"2.0","method":"textDocument/didOpen","params":{"textDocument":{"uri":"a:x","languageId":"g","version":1,"text":"(1"}}}
 < {"jsonrpc":"2.0","method":"textDocument/publishDiagnostics","params":{"diagnostics":[{"message":"unexpected end; expected PLUS, RP","range":{"end":{"character":2,"line":0},"start":{"character":2,"line":0}},"severity":1,"source":"lrls"}],"uri":"a:x","version":1}}
 > {"jsonrpc":"2.0","id":2,"method":"lr/tree","params":{"textDocument":{"uri":"a:x"}}}
 < {"id":2,"jsonrpc":"2.0","result":null}
-"#;
+""",
+}
 
-/// A node of an empty production.
-const EMPTY_TREE: &str = r#"
+TREES_OF_LISTS = {
+    "a node of an empty production": r"""
 > {"jsonrpc":"2.0","method":"textDocument/didOpen","params":{"textDocument":{"uri":"a:x","languageId":"g","version":1,"text":""}}}
 < {"jsonrpc":"2.0","method":"textDocument/publishDiagnostics","params":{"diagnostics":[],"uri":"a:x","version":1}}
 > {"jsonrpc":"2.0","id":2,"method":"lr/tree","params":{"textDocument":{"uri":"a:x"}}}
 < {"id":2,"jsonrpc":"2.0","result":"(L)"}
-"#;
-
-#[test]
-fn trees_are_told(rt: HostRuntime) -> Result<(), Fail> {
-    let alloc = rt.alloc();
-    serves(&rt, alloc, SUMS, NO_TREE)?;
-    serves(&rt, alloc, LISTS, EMPTY_TREE)
+""",
 }
 
-/// Parentheses over three lines.
-const FOLDED: &str = r#"
+FOLDS = {
+    "parentheses over three lines": r"""
 > {"jsonrpc":"2.0","method":"textDocument/didOpen","params":{"textDocument":{"uri":"a:x","languageId":"g","version":1,"text":"(\n1\n)"}}}
 < {"jsonrpc":"2.0","method":"textDocument/publishDiagnostics","params":{"diagnostics":[],"uri":"a:x","version":1}}
 > {"jsonrpc":"2.0","id":2,"method":"textDocument/foldingRange","params":{"textDocument":{"uri":"a:x"}}}
 < {"id":2,"jsonrpc":"2.0","result":[{"endLine":2,"startLine":0}]}
-"#;
-
-/// A text with a fault has the folds of its settled nodes, as the edit leaves them.
-const SETTLED: &str = r#"
+""",
+    "a text with a fault has the folds of its settled nodes, as the edit leaves them": r"""
 > {"jsonrpc":"2.0","method":"textDocument/didOpen","params":{"textDocument":{"uri":"a:x","languageId":"g","version":1,"text":"((\n1\n)"}}}
 < {"jsonrpc":"2.0","method":"textDocument/publishDiagnostics","params":{"diagnostics":[{"message":"unexpected end; expected PLUS, RP","range":{"end":{"character":1,"line":2},"start":{"character":1,"line":2}},"severity":1,"source":"lrls"}],"uri":"a:x","version":1}}
 > {"jsonrpc":"2.0","id":2,"method":"textDocument/foldingRange","params":{"textDocument":{"uri":"a:x"}}}
@@ -77,82 +62,52 @@ const SETTLED: &str = r#"
 < {"jsonrpc":"2.0","method":"textDocument/publishDiagnostics","params":{"diagnostics":[{"message":"unexpected end; expected NUM, LP","range":{"end":{"character":2,"line":2},"start":{"character":2,"line":2}},"severity":1,"source":"lrls"}],"uri":"a:x","version":2}}
 > {"jsonrpc":"2.0","id":2,"method":"textDocument/foldingRange","params":{"textDocument":{"uri":"a:x"}}}
 < {"id":2,"jsonrpc":"2.0","result":[{"endLine":2,"startLine":0}]}
-"#;
-
-/// Nothing can be folded on one line.
-const FLAT: &str = r#"
+""",
+    "nothing can be folded on one line": r"""
 > {"jsonrpc":"2.0","method":"textDocument/didOpen","params":{"textDocument":{"uri":"a:x","languageId":"g","version":1,"text":"(1)"}}}
 < {"jsonrpc":"2.0","method":"textDocument/publishDiagnostics","params":{"diagnostics":[],"uri":"a:x","version":1}}
 > {"jsonrpc":"2.0","id":2,"method":"textDocument/foldingRange","params":{"textDocument":{"uri":"a:x"}}}
 < {"id":2,"jsonrpc":"2.0","result":[]}
-"#;
-
-#[test]
-fn folds_are_told(rt: HostRuntime) -> Result<(), Fail> {
-    for talk in [FOLDED, SETTLED, FLAT] {
-        serves(&rt, rt.alloc(), SUMS, talk)?;
-    }
-    Ok(())
+""",
 }
 
-/// A number in a sum.
-const NUMBER: &str = r#"
+SELECTIONS = {
+    "a number in a sum": r"""
 > {"jsonrpc":"2.0","method":"textDocument/didOpen","params":{"textDocument":{"uri":"a:x","languageId":"g","version":1,"text":"1+2"}}}
 < {"jsonrpc":"2.0","method":"textDocument/publishDiagnostics","params":{"diagnostics":[],"uri":"a:x","version":1}}
 > {"jsonrpc":"2.0","id":2,"method":"textDocument/selectionRange","params":{"textDocument":{"uri":"a:x"},"positions":[{"line":0,"character":0}]}}
 < {"id":2,"jsonrpc":"2.0","result":[{"parent":{"range":{"end":{"character":3,"line":0},"start":{"character":0,"line":0}}},"range":{"end":{"character":1,"line":0},"start":{"character":0,"line":0}}}]}
-"#;
-
-/// Behind the last token the whole text is selected.
-const WHOLE_SUM: &str = r#"
+""",
+    "behind the last token the whole text is selected": r"""
 > {"jsonrpc":"2.0","method":"textDocument/didOpen","params":{"textDocument":{"uri":"a:x","languageId":"g","version":1,"text":"1+2"}}}
 < {"jsonrpc":"2.0","method":"textDocument/publishDiagnostics","params":{"diagnostics":[],"uri":"a:x","version":1}}
 > {"jsonrpc":"2.0","id":2,"method":"textDocument/selectionRange","params":{"textDocument":{"uri":"a:x"},"positions":[{"line":0,"character":3}]}}
 < {"id":2,"jsonrpc":"2.0","result":[{"range":{"end":{"character":3,"line":0},"start":{"character":0,"line":0}}}]}
-"#;
-
-/// A number in parentheses.
-const IN_PARENTHESES: &str = r#"
+""",
+    "a number in parentheses": r"""
 > {"jsonrpc":"2.0","method":"textDocument/didOpen","params":{"textDocument":{"uri":"a:x","languageId":"g","version":1,"text":"(1)"}}}
 < {"jsonrpc":"2.0","method":"textDocument/publishDiagnostics","params":{"diagnostics":[],"uri":"a:x","version":1}}
 > {"jsonrpc":"2.0","id":2,"method":"textDocument/selectionRange","params":{"textDocument":{"uri":"a:x"},"positions":[{"line":0,"character":1}]}}
 < {"id":2,"jsonrpc":"2.0","result":[{"parent":{"range":{"end":{"character":3,"line":0},"start":{"character":0,"line":0}}},"range":{"end":{"character":2,"line":0},"start":{"character":1,"line":0}}}]}
-"#;
-
-/// A settled node, and then the whole text.
-const BEFORE_FAULT: &str = r#"
+""",
+    "a settled node, and then the whole text": r"""
 > {"jsonrpc":"2.0","method":"textDocument/didOpen","params":{"textDocument":{"uri":"a:x","languageId":"g","version":1,"text":"1+2+"}}}
 < {"jsonrpc":"2.0","method":"textDocument/publishDiagnostics","params":{"diagnostics":[{"message":"unexpected end; expected NUM, LP","range":{"end":{"character":4,"line":0},"start":{"character":4,"line":0}},"severity":1,"source":"lrls"}],"uri":"a:x","version":1}}
 > {"jsonrpc":"2.0","id":2,"method":"textDocument/selectionRange","params":{"textDocument":{"uri":"a:x"},"positions":[{"line":0,"character":2}]}}
 < {"id":2,"jsonrpc":"2.0","result":[{"parent":{"parent":{"range":{"end":{"character":4,"line":0},"start":{"character":0,"line":0}}},"range":{"end":{"character":3,"line":0},"start":{"character":0,"line":0}}},"range":{"end":{"character":3,"line":0},"start":{"character":2,"line":0}}}]}
-"#;
-
-/// An answer for each position, in their order, and none for none.
-const TWO_POSITIONS: &str = r#"
+""",
+    "an answer for each position, in their order, and none for none": r"""
 > {"jsonrpc":"2.0","method":"textDocument/didOpen","params":{"textDocument":{"uri":"a:x","languageId":"g","version":1,"text":"1+2"}}}
 < {"jsonrpc":"2.0","method":"textDocument/publishDiagnostics","params":{"diagnostics":[],"uri":"a:x","version":1}}
 > {"jsonrpc":"2.0","id":2,"method":"textDocument/selectionRange","params":{"textDocument":{"uri":"a:x"},"positions":[{"line":0,"character":3},{"line":0,"character":0}]}}
 < {"id":2,"jsonrpc":"2.0","result":[{"range":{"end":{"character":3,"line":0},"start":{"character":0,"line":0}}},{"parent":{"range":{"end":{"character":3,"line":0},"start":{"character":0,"line":0}}},"range":{"end":{"character":1,"line":0},"start":{"character":0,"line":0}}}]}
 > {"jsonrpc":"2.0","id":2,"method":"textDocument/selectionRange","params":{"textDocument":{"uri":"a:x"},"positions":[]}}
 < {"id":2,"jsonrpc":"2.0","result":[]}
-"#;
-
-#[test]
-fn selections_are_told(rt: HostRuntime) -> Result<(), Fail> {
-    for talk in [
-        NUMBER,
-        WHOLE_SUM,
-        IN_PARENTHESES,
-        BEFORE_FAULT,
-        TWO_POSITIONS,
-    ] {
-        serves(&rt, rt.alloc(), SUMS, talk)?;
-    }
-    Ok(())
+""",
 }
 
-/// Documents that were never opened.
-const UNKNOWN: &str = r#"
+REFUSALS = {
+    "documents that were never opened": r"""
 > {"jsonrpc":"2.0","id":2,"method":"lr/text","params":{"textDocument":{"uri":"a:x"}}}
 < {"error":{"code":-32602,"message":"document not open"},"id":2,"jsonrpc":"2.0"}
 > {"jsonrpc":"2.0","id":2,"method":"lr/tokens","params":{"textDocument":{"uri":"a:x"}}}
@@ -171,10 +126,8 @@ const UNKNOWN: &str = r#"
 < {"error":{"code":-32602,"message":"document not open"},"id":2,"jsonrpc":"2.0"}
 > {"jsonrpc":"2.0","id":2,"method":"textDocument/selectionRange","params":{"textDocument":{"uri":"a:x"},"positions":[{"line":0,"character":0}]}}
 < {"error":{"code":-32602,"message":"document not open"},"id":2,"jsonrpc":"2.0"}
-"#;
-
-/// Parameters that don't fit, of a document that is open.
-const MISFITS: &str = r#"
+""",
+    "parameters that don't fit, of a document that is open": r"""
 > {"jsonrpc":"2.0","method":"textDocument/didOpen","params":{"textDocument":{"uri":"a:x","languageId":"g","version":1,"text":"1"}}}
 < {"jsonrpc":"2.0","method":"textDocument/publishDiagnostics","params":{"diagnostics":[],"uri":"a:x","version":1}}
 > {"jsonrpc":"2.0","id":2,"method":"textDocument/selectionRange","params":{"textDocument":{"uri":"a:x"},"positions":[{"character":0}]}}
@@ -201,12 +154,32 @@ const MISFITS: &str = r#"
 < {"error":{"code":-32602,"message":"invalid params"},"id":2,"jsonrpc":"2.0"}
 > {"jsonrpc":"2.0","id":2,"method":"textDocument/selectionRange","params":{"textDocument":{"uri":"a:x"},"positions":[{"line":2147483647,"character":2147483647}]}}
 < {"id":2,"jsonrpc":"2.0","result":[{"range":{"end":{"character":1,"line":0},"start":{"character":0,"line":0}}}]}
-"#;
-
-#[test]
-fn requests_are_refused(rt: HostRuntime) -> Result<(), Fail> {
-    for talk in [UNKNOWN, MISFITS] {
-        serves(&rt, rt.alloc(), SUMS, talk)?;
-    }
-    Ok(())
+""",
 }
+
+
+def nested_ranges():
+    """The 32 ranges that are told of the middle of a number in 40 pairs of parentheses: the 31 inner ones, and the whole."""
+    told = '{"range":%s}' % on_line(0, 81)
+    for inner in range(10, 41):
+        told = '{"parent":%s,"range":%s}' % (told, on_line(inner, 81 - inner))
+    return told
+
+
+def nested():
+    """A transcript in which these ranges are asked for."""
+    text = "(" * 40 + "1" + ")" * 40
+    opening = did_open('{"textDocument":{"uri":"a:x","version":1,"text":"%s"}}' % text)
+    question = selected_at('[{"line":0,"character":40}]', 2)
+    return f"> {opening}\n< {published(1)}\n> {question}\n< {result(2, '[%s]' % nested_ranges())}\n"
+
+
+def sessions():
+    yield from served("tokens are told", TOKENS)
+    yield from served("tokens are told", TOKENS_OF_LISTS, LISTS)
+    yield from served("trees are told", TREES)
+    yield from served("trees are told", TREES_OF_LISTS, LISTS)
+    yield from served("folds are told", FOLDS)
+    yield from served("selections are told", SELECTIONS)
+    yield from served("no 33rd range is told", {"a number in 40 pairs of parentheses": nested()})
+    yield from served("requests are refused", REFUSALS)

@@ -1,11 +1,11 @@
-//! The unit that positions count, chosen by the client. U+1F600 counts four units in UTF-8, two in UTF-16, one in UTF-32.
+"""The unit that positions count, chosen by the client. U+1F600 counts four units in UTF-8, two in UTF-16, one in UTF-32."""
 
-use crate::talks::talks;
-use std::test::Fail;
-use worked::{LISTS, SUMS};
+from grammar_files import LISTS
+from transcripts.talks import talked
 
-/// UTF-8. A second `initialize` chooses nothing, and a document that is replaced keeps the unit.
-const BYTES: &str = r#"
+UNITS = {
+    # A second `initialize` chooses nothing, and a document that is replaced keeps the unit.
+    "UTF-8": r"""
 > {"jsonrpc":"2.0","id":1,"method":"initialize","params":{"capabilities":{"general":{"positionEncodings":["utf-8"]}}}}
 < {"id":1,"jsonrpc":"2.0","result":{"capabilities":{"foldingRangeProvider":true,"positionEncoding":"utf-8","selectionRangeProvider":true,"textDocumentSync":{"change":2,"openClose":true}}}}
 > {"jsonrpc":"2.0","method":"textDocument/didOpen","params":{"textDocument":{"uri":"a:x","languageId":"g","version":1,"text":"😀1"}}}
@@ -22,10 +22,8 @@ const BYTES: &str = r#"
 < {"jsonrpc":"2.0","method":"textDocument/publishDiagnostics","params":{"diagnostics":[{"message":"unexpected invalid; expected NUM, LP","range":{"end":{"character":4,"line":0},"start":{"character":0,"line":0}},"severity":1,"source":"lrls"}],"uri":"a:x","version":3}}
 > {"jsonrpc":"2.0","id":2,"method":"lr/tokens","params":{"textDocument":{"uri":"a:x"}}}
 < {"id":2,"jsonrpc":"2.0","result":[["invalid",0,0,0,4],["NUM",0,4,0,5]]}
-"#;
-
-/// UTF-32: the first unit that the client names and that there is.
-const CHARACTERS: &str = r#"
+""",
+    "UTF-32, the first unit that the client names and that there is": r"""
 > {"jsonrpc":"2.0","id":1,"method":"initialize","params":{"capabilities":{"general":{"positionEncodings":["utf-7","utf-32","utf-8"]}}}}
 < {"id":1,"jsonrpc":"2.0","result":{"capabilities":{"foldingRangeProvider":true,"positionEncoding":"utf-32","selectionRangeProvider":true,"textDocumentSync":{"change":2,"openClose":true}}}}
 > {"jsonrpc":"2.0","method":"textDocument/didOpen","params":{"textDocument":{"uri":"a:x","languageId":"g","version":1,"text":"😀1"}}}
@@ -34,10 +32,8 @@ const CHARACTERS: &str = r#"
 < {"id":2,"jsonrpc":"2.0","result":[["invalid",0,0,0,1],["NUM",0,1,0,2]]}
 > {"jsonrpc":"2.0","method":"textDocument/didChange","params":{"textDocument":{"uri":"a:x","version":2},"contentChanges":[{"range":{"start":{"line":0,"character":1},"end":{"line":0,"character":1}},"text":"5"}]}}
 < {"jsonrpc":"2.0","method":"textDocument/publishDiagnostics","params":{"diagnostics":[{"message":"unexpected invalid; expected NUM, LP","range":{"end":{"character":1,"line":0},"start":{"character":0,"line":0}},"severity":1,"source":"lrls"}],"uri":"a:x","version":2}}
-"#;
-
-/// UTF-16, where the client names none.
-const NONE_NAMED: &str = r#"
+""",
+    "UTF-16, where the client names none": r"""
 > {"jsonrpc":"2.0","id":1,"method":"initialize","params":{"capabilities":{"general":{"positionEncodings":[]}}}}
 < {"id":1,"jsonrpc":"2.0","result":{"capabilities":{"foldingRangeProvider":true,"positionEncoding":"utf-16","selectionRangeProvider":true,"textDocumentSync":{"change":2,"openClose":true}}}}
 > {"jsonrpc":"2.0","method":"textDocument/didOpen","params":{"textDocument":{"uri":"a:x","languageId":"g","version":1,"text":"😀1"}}}
@@ -46,27 +42,21 @@ const NONE_NAMED: &str = r#"
 < {"id":2,"jsonrpc":"2.0","result":[["invalid",0,0,0,2],["NUM",0,2,0,3]]}
 > {"jsonrpc":"2.0","method":"textDocument/didChange","params":{"textDocument":{"uri":"a:x","version":2},"contentChanges":[{"range":{"start":{"line":0,"character":1},"end":{"line":0,"character":1}},"text":"5"}]}}
 < {"jsonrpc":"2.0","method":"textDocument/publishDiagnostics","params":{"diagnostics":[{"message":"unexpected invalid; expected PLUS, end","range":{"end":{"character":3,"line":0},"start":{"character":1,"line":0}},"severity":1,"source":"lrls"}],"uri":"a:x","version":2}}
-"#;
-
-#[test]
-fn positions_count_the_unit_of_the_session(rt: HostRuntime) -> Result<(), Fail> {
-    for talk in [BYTES, CHARACTERS, NONE_NAMED] {
-        talks(&rt, rt.alloc(), SUMS, talk, 1)?;
-    }
-    Ok(())
+""",
 }
 
-/// Selections, around positions in UTF-8.
-const SELECTED: &str = r#"
+SELECTIONS = {
+    "selections, around positions in UTF-8": r"""
 > {"jsonrpc":"2.0","id":1,"method":"initialize","params":{"capabilities":{"general":{"positionEncodings":["utf-8","utf-16"]}}}}
 < {"id":1,"jsonrpc":"2.0","result":{"capabilities":{"foldingRangeProvider":true,"positionEncoding":"utf-8","selectionRangeProvider":true,"textDocumentSync":{"change":2,"openClose":true}}}}
 > {"jsonrpc":"2.0","method":"textDocument/didOpen","params":{"textDocument":{"uri":"a:x","languageId":"g","version":1,"text":"\"😀\" ab"}}}
 < {"jsonrpc":"2.0","method":"textDocument/publishDiagnostics","params":{"diagnostics":[],"uri":"a:x","version":1}}
 > {"jsonrpc":"2.0","id":2,"method":"textDocument/selectionRange","params":{"textDocument":{"uri":"a:x"},"positions":[{"line":0,"character":7},{"line":0,"character":2}]}}
 < {"id":2,"jsonrpc":"2.0","result":[{"parent":{"range":{"end":{"character":9,"line":0},"start":{"character":0,"line":0}}},"range":{"end":{"character":9,"line":0},"start":{"character":7,"line":0}}},{"parent":{"range":{"end":{"character":9,"line":0},"start":{"character":0,"line":0}}},"range":{"end":{"character":6,"line":0},"start":{"character":0,"line":0}}}]}
-"#;
-
-#[test]
-fn selections_count_the_unit_of_the_session(rt: HostRuntime) -> Result<(), Fail> {
-    talks(&rt, rt.alloc(), LISTS, SELECTED, 1)
+""",
 }
+
+
+def sessions():
+    yield from talked("positions count the unit of the session", UNITS, 1)
+    yield from talked("selections count the unit of the session", SELECTIONS, 1, LISTS)
