@@ -1,2 +1,4 @@
 mod Hearing
 mod Replies
+mod Each
+mod Methods

@@ -209,24 +209,16 @@ fn asked_selections(alloc: Global, id: Id, params: &Value) -> Result<Message, Rp
 fn request_of(alloc: Global, method: &str, id: Id, params: &Value) -> Result<Message, RpcFault>
     ensures { Gives result (request_of method.now (id_view id) (view params.now)) }
 {
-    if method == "initialize" {
-        asked_initialize(id, params)
-    } else if method == "shutdown" {
-        Ok(Message::Request(id, Call::Shutdown))
-    } else if method == "textDocument/foldingRange" {
-        asked_folds(alloc, id, params)
-    } else if method == "textDocument/selectionRange" {
-        asked_selections(alloc, id, params)
-    } else if method == "lr/text" {
-        asked_text(alloc, id, params)
-    } else if method == "lr/tokens" {
-        asked_tokens(alloc, id, params)
-    } else if method == "lr/tree" {
-        asked_tree(alloc, id, params)
-    } else if method == "lr/stats" {
-        asked_stats(alloc, id, params)
-    } else {
-        Err(RpcFault::Unknown { id })
+    match method {
+        "initialize" => asked_initialize(id, params),
+        "shutdown" => Ok(Message::Request(id, Call::Shutdown)),
+        "textDocument/foldingRange" => asked_folds(alloc, id, params),
+        "textDocument/selectionRange" => asked_selections(alloc, id, params),
+        "lr/text" => asked_text(alloc, id, params),
+        "lr/tokens" => asked_tokens(alloc, id, params),
+        "lr/tree" => asked_tree(alloc, id, params),
+        "lr/stats" => asked_stats(alloc, id, params),
+        _ => Err(RpcFault::Unknown { id }),
     }
 }
 
@@ -235,18 +227,13 @@ fn notice_of(alloc: Global, method: &str, params: &Value) -> Result<Message, All
     ensures { IfOk result (λ message.
         said (message_view message) ≡ notice_of method.now (view params.now)) }
 {
-    if method == "initialized" {
-        Ok(Message::Notice(Note::Initialized))
-    } else if method == "exit" {
-        Ok(Message::Notice(Note::Exit))
-    } else if method == "textDocument/didOpen" {
-        Ok(Message::Notice(opening(alloc, params)?))
-    } else if method == "textDocument/didChange" {
-        Ok(Message::Notice(changing(alloc, params)?))
-    } else if method == "textDocument/didClose" {
-        Ok(Message::Notice(closing(alloc, params)?))
-    } else {
-        Ok(Message::Ignored)
+    match method {
+        "initialized" => Ok(Message::Notice(Note::Initialized)),
+        "exit" => Ok(Message::Notice(Note::Exit)),
+        "textDocument/didOpen" => opening(alloc, params).map(Message::Notice),
+        "textDocument/didChange" => changing(alloc, params).map(Message::Notice),
+        "textDocument/didClose" => closing(alloc, params).map(Message::Notice),
+        _ => Ok(Message::Ignored),
     }
 }
 

@@ -1,11 +1,11 @@
 //! What is replied (JSON-RPC 2.0, "Response object").
 
-ghost use Rattle.std.specs.Prelude.{◌≡◌, codes, map, option_map, IfOk};
+ghost use Rattle.std.specs.Prelude.{◌≡◌, codes, map, option_map, IfOk, IsOkAnd};
 ghost use Rattle.serde_json.specs.Data.{string};
 ghost use Rattle.serde_json.specs.View.{view};
 ghost use Rattle.serde_json.specs.Written.{compact_text};
 ghost use Rattle.rpc.specs.Messages.{id_view};
-ghost use Rattle.rpc.specs.Replies.{id_data, maybe_id_data, code_of, loss_text, log_text, message_text, unit_name, capabilities, result_data, error_data, document_data, row_data, row_view, rows_data, stats_data, fold_data, folds_data, position_data, range_data, with_parent, selection_data, selections_data, diagnostic_data, diagnostic_view, diagnostic_list, published, log_data, notice_data, reply_data, reply_view};
+ghost use Rattle.rpc.specs.Replies.{id_data, maybe_id_data, code_of, loss_text, log_text, message_text, unit_name, capabilities, result_data, error_object, error_data, document_data, row_data, row_view, rows_data, stats_data, fold_data, folds_data, position_data, range_data, with_parent, selection_data, selections_data, diagnostic_data, diagnostic_view, diagnostic_list, published, log_data, notice_data, reply_data, reply_view};
 
 use crate::message::Id;
 use definitions::{Diagnostic, Position, Range, Stats, Unit};
@@ -124,7 +124,7 @@ fn id_value(alloc: Global, id: &Id) -> Result<Value, AllocError>
     ensures { IfOk result (λ v. view v ≡ id_data (id_view id.now)) }
 {
     match id {
-        Id::Text(text) => Ok(Value::String(String::from_str(alloc, text.as_str())?)),
+        Id::Text(text) => Value::try_from_str(alloc, text.as_str()),
         Id::Number(number) => Ok(Value::from(*number)),
     }
 }
@@ -291,19 +291,19 @@ fn position_value(alloc: Global, position: Position) -> Result<Value, AllocError
 fn range_value(alloc: Global, range: Range) -> Result<Value, AllocError>
     ensures { IfOk result (λ v. view v ≡ range_data range) }
 {
-    let end = position_value(alloc, range.end)?;
-    let start = position_value(alloc, range.start)?;
-    json!(in alloc; {"end": end, "start": start})
+    json!(in alloc; {
+        "end": position_value(alloc, range.end)?,
+        "start": position_value(alloc, range.start)?
+    })
 }
 
 /// A range, and those around it as its parent (LSP 3.17, "SelectionRange").
 fn with_parent(alloc: Global, range: Range, parent: Option<Value>) -> Result<Value, AllocError>
     ensures { IfOk result (λ v. view v ≡ with_parent (range_data range) (option_map view parent)) }
 {
-    let range = range_value(alloc, range)?;
     match parent {
-        Some(parent) => json!(in alloc; {"parent": parent, "range": range}),
-        None => json!(in alloc; {"range": range}),
+        Some(parent) => json!(in alloc; {"parent": parent, "range": range_value(alloc, range)?}),
+        None => json!(in alloc; {"range": range_value(alloc, range)?}),
     }
 }
 
@@ -334,9 +334,13 @@ fn selections_value(alloc: Global, selections: &[Vec<Range>]) -> Result<Value, A
 fn diagnostic_value(alloc: Global, diagnostic: &Diagnostic) -> Result<Value, AllocError>
     ensures { IfOk result (λ v. view v ≡ diagnostic_data (diagnostic_view diagnostic.now)) }
 {
-    let range = range_value(alloc, diagnostic.range)?;
     let message = diagnostic.message.as_str();
-    json!(in alloc; {"message": message, "range": range, "severity": 1, "source": "lrls"})
+    json!(in alloc; {
+        "message": message,
+        "range": range_value(alloc, diagnostic.range)?,
+        "severity": 1,
+        "source": "lrls"
+    })
 }
 
 /// The list of one diagnostic, or of none.
@@ -345,10 +349,7 @@ fn diagnostic_list(alloc: Global, diagnostic: &Option<Diagnostic>) -> Result<Val
         view v ≡ diagnostic_list (option_map diagnostic_view diagnostic.now)) }
 {
     match diagnostic {
-        Some(diagnostic) => {
-            let diagnostic = diagnostic_value(alloc, diagnostic)?;
-            json!(in alloc; [diagnostic])
-        }
+        Some(diagnostic) => json!(in alloc; [diagnostic_value(alloc, diagnostic)?]),
         None => json!(in alloc; []),
     }
 }
@@ -385,18 +386,39 @@ fn notice_value(alloc: Global, method: &str, params: Value) -> Result<Value, All
     json!(in alloc; {"jsonrpc": "2.0", "method": method, "params": params})
 }
 
-/// A reply with a result.
-fn result_value(alloc: Global, id: Value, outcome: Value) -> Result<Value, AllocError>
-    ensures { IfOk result (λ v. view v ≡ result_data (view id) (view outcome)) }
+/// A reply with a result, where memory was not refused for it.
+fn result_value(
+    alloc: Global,
+    id: &Id,
+    outcome: Result<Value, AllocError>,
+) -> Result<Value, AllocError>
+    ensures { IfOk result (λ v.
+        IsOkAnd outcome (λ o. view v ≡ result_data (id_data (id_view id.now)) (view o))) }
 {
-    json!(in alloc; {"id": id, "jsonrpc": "2.0", "result": outcome})
+    let outcome = outcome?;
+    json!(in alloc; {"id": id_value(alloc, id)?, "jsonrpc": "2.0", "result": outcome})
+}
+
+/// The number and the text of a refusal (JSON-RPC 2.0, "Error object").
+fn error_object(alloc: Global, refusal: Refusal) -> Result<Value, AllocError>
+    ensures { IfOk result (λ v. view v ≡ error_object (code_of refusal) (message_text refusal)) }
+{
+    let message = message_text(refusal);
+    json!(in alloc; {"code": code_of(refusal), "message": message})
 }
 
 /// A reply with an error.
-fn error_value(alloc: Global, id: Value, code: i32, message: &str) -> Result<Value, AllocError>
-    ensures { IfOk result (λ v. view v ≡ error_data (view id) code message.now) }
+fn error_value(alloc: Global, id: &Option<Id>, refusal: Refusal) -> Result<Value, AllocError>
+    ensures { IfOk result (λ v.
+        view v
+        ≡ error_data (maybe_id_data (option_map id_view id.now))
+        (code_of refusal) (message_text refusal)) }
 {
-    json!(in alloc; {"error": {"code": code, "message": message}, "id": id, "jsonrpc": "2.0"})
+    json!(in alloc; {
+        "error": error_object(alloc, refusal)?,
+        "id": maybe_id_value(alloc, id)?,
+        "jsonrpc": "2.0"
+    })
 }
 
 /// The JSON value of a reply.
@@ -404,33 +426,19 @@ fn reply_value(alloc: Global, reply: &Reply) -> Result<Value, AllocError>
     ensures { IfOk result (λ v. view v ≡ reply_data (reply_view reply.now)) }
 {
     match reply {
-        Reply::Capabilities { id, unit } => {
-            result_value(alloc, id_value(alloc, id)?, capabilities(alloc, *unit)?)
-        }
-        Reply::Null { id } => result_value(alloc, id_value(alloc, id)?, Value::Null),
+        Reply::Capabilities { id, unit } => result_value(alloc, id, capabilities(alloc, *unit)),
+        Reply::Null { id } => result_value(alloc, id, Ok(Value::Null)),
         Reply::Text { id, version, text } => {
-            let document = document_value(alloc, *version, text.as_str())?;
-            result_value(alloc, id_value(alloc, id)?, document)
+            result_value(alloc, id, document_value(alloc, *version, text.as_str()))
         }
-        Reply::Tokens { id, rows } => {
-            let rows = rows_value(alloc, rows)?;
-            result_value(alloc, id_value(alloc, id)?, rows)
-        }
+        Reply::Tokens { id, rows } => result_value(alloc, id, rows_value(alloc, rows)),
         Reply::Tree { id, text } => {
-            let text = Value::String(String::from_str(alloc, text.as_str())?);
-            result_value(alloc, id_value(alloc, id)?, text)
+            result_value(alloc, id, Value::try_from_str(alloc, text.as_str()))
         }
-        Reply::Stats { id, stats } => {
-            let stats = stats_value(alloc, *stats)?;
-            result_value(alloc, id_value(alloc, id)?, stats)
-        }
-        Reply::Folds { id, pairs } => {
-            let folds = folds_value(alloc, pairs)?;
-            result_value(alloc, id_value(alloc, id)?, folds)
-        }
+        Reply::Stats { id, stats } => result_value(alloc, id, stats_value(alloc, *stats)),
+        Reply::Folds { id, pairs } => result_value(alloc, id, folds_value(alloc, pairs)),
         Reply::Selections { id, selections } => {
-            let selections = selections_value(alloc, selections)?;
-            result_value(alloc, id_value(alloc, id)?, selections)
+            result_value(alloc, id, selections_value(alloc, selections))
         }
         Reply::Diagnostics {
             uri,
@@ -445,10 +453,7 @@ fn reply_value(alloc: Global, reply: &Reply) -> Result<Value, AllocError>
             let params = log_value(alloc, *log)?;
             notice_value(alloc, "window/logMessage", params)
         }
-        Reply::Error { id, refusal } => {
-            let id = maybe_id_value(alloc, id)?;
-            error_value(alloc, id, code_of(*refusal), message_text(*refusal))
-        }
+        Reply::Error { id, refusal } => error_value(alloc, id, *refusal),
     }
 }
 
