@@ -8,3 +8,4 @@ pub mod Lines
 pub mod Splits
 pub mod WritingOut
 pub mod Files
+pub mod Both

@@ -31,8 +31,7 @@ pub fn read_file<'a>(alloc: Global, text: &'a str) -> Result<File<'a>, Refusal<'
     ensures fault { IfErr result (λ r. Tells r (λ n c. IsFileFault text.now n c)) }
 {
     let mut file = File::new(alloc);
-    fill(alloc, &mut file, text)?;
-    Ok(file)
+    fill(alloc, &mut file, text).and(Ok(file))
 }
 
 /// Fills an empty file with what the text says.
