@@ -1,6 +1,6 @@
 -- The faults of header parts, and the lengths that they tell.
 use Rattle.std.proofs.Common.{◌≡◌, ◌≤◌, ◌-◌, ◌&&◌, ℕ, Bool, true, false, not, List, [], ◌∷◌, length, take, refl, sym, subst}
-use Rattle.std.specs.Prelude.{Option, Some, None, is_some, option_and_then, cond, Result, Ok, Err, IfSome, IfOk, nat_le}
+use Rattle.std.specs.Prelude.{Option, Some, None, is_some, option_and_then, cond, Result, Ok, Err, IfSome, IfOk, IfErr, nat_le}
 use Rattle.std.specs.Option.{ok_or, option_or, option_map_or}
 use Rattle.std.specs.Str.Parse.{digits_value}
 use Rattle.std.proofs.lemmas.Bool.{leb-true}
@@ -91,3 +91,7 @@ header_faults part fault h = subst IsTold h (header_told part)
 pub header_small : (part : List ℕ) (r : Result ℕ FrameFault) → r ≡ header_length part → IfOk r (λ n. n ≤ 16777216)
 header_small part (Ok n) h = subst IsTold (sym h) (header_told part)
 header_small part (Err fault) h = tt
+
+pub header_fails : (part : List ℕ) (r : Result ℕ FrameFault) → r ≡ header_length part → IfErr r IsStreamFault
+header_fails part (Ok n) h = tt
+header_fails part (Err fault) h = header_faults part fault (sym h)

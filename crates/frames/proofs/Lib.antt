@@ -6,6 +6,7 @@ mod Writing
 mod Faults
 mod Stable
 mod Trimmed
+mod Keeps
 mod Pieces
 mod HeaderPart
 mod Searched

@@ -1,9 +1,9 @@
 //! Frames out of a stream that comes in pieces (LSP 3.17, "Base Protocol").
 
-ghost use Rattle.std.specs.Prelude.{◌≡◌, ◌≢◌, ◌↔◌, [], ◌+◌, ◌<◌, ◌≤◌, length, take, drop, IfSome, IfNone, IfOk, IfErr, IsErrOf, Some, ℕ, List};
-ghost use Rattle.frames.specs.Frames.{Tail, Open, Faulty, tail_of, Splits, IsTail, IsReached, GoesOn, Continues, IsOpen, IsCut, IsStreamFault, fault_of, finish_of};
+ghost use Rattle.std.specs.Prelude.{◌≡◌, ◌≢◌, ◌↔◌, [], ◌++◌, ◌+◌, ◌<◌, ◌≤◌, length, take, drop, IfSome, IfNone, IfOk, IfErr, IsErrOf, Some, None, ℕ, List};
+ghost use Rattle.frames.specs.Frames.{Tail, Open, Faulty, tail_of, Splits, IsReached, GoesOn, Continues, IsOpen, IsCut, IsStreamFault, fault_of, finish_of};
 ghost use Rattle.frames.specs.Contents.{contents};
-ghost use Rattle.frames.specs.Kept.{Awaits};
+ghost use Rattle.frames.specs.Kept.{Awaits, HoldsNone, IsDecoder};
 
 use crate::fault::FrameFault;
 use crate::header::{Start, bytes_from, needs_more, start_of};
@@ -16,13 +16,15 @@ pub struct Frame {
     pub content: Vec<u8>,
 }
 
-/// What stands at the front of some bytes.
+/// What stands at the front of some bytes, and what is kept of the rest behind it.
 struct Found {
     frames: Vec<Frame>,
     /// How many bytes the frames take.
     used: usize,
     /// How many bytes the rest has to have before a frame of it can be whole.
     awaited: usize,
+    /// How many bytes of the rest hold no blank line.
+    searched: usize,
     fault: Option<FrameFault>,
 }
 
@@ -45,13 +47,11 @@ fn content_at(bytes: &[u8], size: usize, len: usize) -> Option<&[u8]>
 /// The whole frames at the front, how many bytes they take, and the fault behind them.
 fn split(alloc: Global, bytes: &[u8]) -> Result<Found, AllocError>
     ensures used { IfOk result (λ found. found.used ≤ length bytes.now) }
-    ensures fault { IfOk result (λ found. IfSome found.fault IsStreamFault) }
     ensures split { IfOk result (λ found.
         let rest = drop found.used bytes.now in
         Splits bytes.now (contents found.frames.items) (tail_of rest found.fault)) }
-    ensures tail { IfOk result (λ found.
-        let rest = drop found.used bytes.now in IsTail rest (tail_of rest found.fault)) }
-    ensures awaited { IfOk result (λ found. Awaits (drop found.used bytes.now) found.awaited) }
+    ensures kept { IfOk result (λ found. let rest = drop found.used bytes.now in
+        IsDecoder rest found.awaited found.searched found.fault) }
 {
     let mut frames = Vec::new(alloc);
     let mut used = 0;
@@ -68,6 +68,7 @@ fn split(alloc: Global, bytes: &[u8]) -> Result<Found, AllocError>
                     frames,
                     used,
                     awaited: size + len,
+                    searched: 0,
                     fault: None,
                 }),
             },
@@ -75,15 +76,104 @@ fn split(alloc: Global, bytes: &[u8]) -> Result<Found, AllocError>
                 frames,
                 used,
                 awaited: 0,
+                searched: 0,
                 fault: Some(fault),
             }),
             Start::NeedsMore => return Ok(Found {
                 frames,
                 used,
                 awaited: 0,
+                searched: 0,
                 fault: None,
             }),
         }
+    }
+}
+
+/// What stands at the front of bytes that begin with the ones of which this was kept.
+fn found_in(
+    alloc: Global,
+    bytes: &[u8],
+    awaited: usize,
+    searched: usize,
+) -> Result<Found, AllocError>
+    requires waits { Awaits bytes.now awaited }
+    requires within { searched ≤ length bytes.now }
+    requires holds { HoldsNone bytes.now searched }
+    ensures used { IfOk result (λ found. found.used ≤ length bytes.now) }
+    ensures split { IfOk result (λ found. let rest = drop found.used bytes.now in
+        Splits bytes.now (contents found.frames.items) (tail_of rest found.fault)) }
+    ensures kept { IfOk result (λ found. let rest = drop found.used bytes.now in
+        IsDecoder rest found.awaited found.searched found.fault) }
+{
+    if bytes.len() < awaited {
+        return Ok(Found {
+            frames: Vec::new(alloc),
+            used: 0,
+            awaited,
+            searched,
+            fault: None,
+        });
+    }
+    if needs_more(bytes, searched) {
+        return Ok(Found {
+            frames: Vec::new(alloc),
+            used: 0,
+            awaited,
+            searched: bytes.len(),
+            fault: None,
+        });
+    }
+    split(alloc, bytes)
+}
+
+/// Lets go of the bytes before a place.
+fn let_go(bytes: &mut Vec<u8>, until: usize)
+    requires { until ≤ length bytes.old.items }
+    ensures { bytes.new.items ≡ drop until bytes.old.items }
+{
+    bytes.drain(..until);
+}
+
+/// Puts a piece behind the rest, and takes the whole frames off its front.
+fn take_frames(
+    alloc: Global,
+    rest: &mut Vec<u8>,
+    piece: &[u8],
+    awaited: usize,
+    searched: usize,
+) -> Result<Found, AllocError>
+    requires { IsDecoder rest.old.items awaited searched None }
+    ensures split { IfOk result (λ found. Splits (rest.old.items ++ piece.now)
+        (contents found.frames.items) (tail_of rest.new.items found.fault)) }
+    ensures kept { IfOk result (λ found.
+        IsDecoder rest.new.items found.awaited found.searched found.fault) }
+    ensures refused { IfErr result (λ refused. rest.new.items ≡ rest.old.items) }
+{
+    let before = rest.len();
+    rest.extend_from_slice(piece)?;
+    match found_in(alloc, rest, awaited, searched) {
+        Ok(found) => {
+            let_go(rest, found.used);
+            Ok(found)
+        }
+        Err(refused) => {
+            rest.truncate(before);
+            Err(refused)
+        }
+    }
+}
+
+/// The frames; or the fault behind them, where there are none.
+fn answer(frames: Vec<Frame>, fault: Option<FrameFault>) -> Result<Vec<Frame>, FrameFault>
+    ensures ok { IfOk result (λ answered. answered.items ≡ frames.items) }
+    ensures none { IfOk result (λ answered. answered.items ≡ [] → fault ≡ None) }
+    ensures fault { IfErr result (λ answered.
+        (frames.items ≡ []) × (fault ≡ Some answered)) }
+{
+    match fault {
+        Some(fault) if frames.is_empty() => Err(fault),
+        _ => Ok(frames),
     }
 }
 
@@ -166,38 +256,19 @@ impl Decoder {
         if let Some(fault) = self.met {
             return Err(fault);
         }
-        let before = self.rest.len();
-        if self.rest.extend_from_slice(piece).is_err() {
-            return Err(FrameFault::Memory);
-        }
-        if self.rest.len() < self.awaited {
-            return Ok(Vec::new(alloc));
-        }
-        if needs_more(&self.rest, self.searched) {
-            self.searched = self.rest.len();
-            return Ok(Vec::new(alloc));
-        }
-        match split(alloc, &self.rest) {
+        match take_frames(alloc, &mut self.rest, piece, self.awaited, self.searched) {
             Ok(found) => {
                 let Found {
                     frames,
-                    used,
+                    used: _,
                     awaited,
+                    searched,
                     fault,
                 } = found;
-                self.rest.drain(..used);
-                self.awaited = awaited;
-                self.searched = 0;
-                self.met = fault;
-                match fault {
-                    Some(fault) if frames.is_empty() => Err(fault),
-                    _ => Ok(frames),
-                }
+                (self.awaited, self.searched, self.met) = (awaited, searched, fault);
+                answer(frames, fault)
             }
-            Err(_) => {
-                self.rest.truncate(before);
-                Err(FrameFault::Memory)
-            }
+            Err(_) => Err(FrameFault::Memory),
         }
     }
 

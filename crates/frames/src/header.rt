@@ -18,7 +18,7 @@ pub const LONGEST_HEADER: usize = 4096;
 pub const LONGEST_CONTENT: usize = 16_777_216;
 
 /// What the bytes of a stream begin with.
-#[derive(Clone, Copy, Debug, PartialEq, Eq)]
+#[derive(Clone, Copy)]
 pub enum Start {
     /// The header part isn't whole yet.
     NeedsMore,

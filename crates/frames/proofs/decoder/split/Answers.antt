@@ -1,10 +1,12 @@
-use Rattle.std.proofs.Common.{◌≡◌, ◌+◌, ◌<◌, ◌≤◌, ℕ, List, [], ◌∷◌, ◌++◌, length, drop, sym, subst, ap, ◌∙◌, arith, length-drop}
+use Rattle.std.proofs.Common.{◌≡◌, ◌+◌, ◌-◌, ◌<◌, ◌≤◌, ℕ, List, [], ◌∷◌, ◌++◌, length, drop, sym, subst, ap, ◌∙◌, arith, length-drop}
 use Rattle.std.proofs.lemmas.List.{map-append}
 use Rattle.frames.specs.declared.decoder.Frame.{Frame}
 use Rattle.frames.specs.declared.header.Start.TheVariants.{NeedsMore, Announces}
 use Rattle.frames.specs.Contents.{contents}
 use Rattle.frames.proofs.Splits.{one_more, IsSplitTo, ends, begun, faulty, begins}
+use Rattle.std.specs.Prelude.{Some, None}
 use Rattle.frames.specs.Kept.{Awaits}
+use Rattle.frames.proofs.Keeps.{kept_anew, awaits_none}
 use Rattle.frames.proofs.Stable.{awaits_frame}
 use Rattle.frames.proofs.decoder.split.Goals as goal
 
@@ -35,8 +37,45 @@ returns-in-Fails-clause-split c = ends _ _ c.loop-size.used _ c.loop-size.invari
 pub returns-in-NeedsMore-clause-split : goal.returns-in-NeedsMore-clause-split
 returns-in-NeedsMore-clause-split c = ends _ _ c.loop-size.used _ c.loop-size.invariant (begun _ _ NeedsMore c.bytes_from-rest.ensures c.in-NeedsMore.ensures.value tt)
 
-pub returns-in-None-clause-awaited : goal.returns-in-None-clause-awaited
-returns-in-None-clause-awaited c =
+pub returns-in-None-clause-kept : goal.returns-in-None-clause-kept
+returns-in-None-clause-kept c =
     let size = c.in-Announces.size in
     let len = c.in-Announces.len in
-    subst (λ (l : List ℕ). Awaits l (size + len)) c.bytes_from-rest.ensures (awaits_frame c.bytes_from-rest.result.now size len (sym c.in-Announces.ensures.value))
+    let bytes = drop c.loop-size.used c.args.bytes.now in
+    let few = subst (λ (l : List ℕ). length l < size + len) c.bytes_from-rest.ensures c.in-None.ensures.none in
+    let tail = begun bytes _ (Announces size len) c.bytes_from-rest.ensures c.in-Announces.ensures.value few in
+    let waits = subst (λ (l : List ℕ). Awaits l (size + len)) c.bytes_from-rest.ensures (awaits_frame c.bytes_from-rest.result.now size len (sym c.in-Announces.ensures.value)) in
+    kept_anew bytes (size + len) None tail waits
+
+pub returns-in-Fails-clause-kept : goal.returns-in-Fails-clause-kept
+returns-in-Fails-clause-kept c =
+    let bytes = drop c.loop-size.used c.args.bytes.now in
+    kept_anew bytes 0 (Some c.in-Fails.fault) (faulty bytes _ _ c.bytes_from-rest.ensures c.in-Fails.ensures.value) (awaits_none bytes)
+
+pub returns-in-NeedsMore-clause-kept : goal.returns-in-NeedsMore-clause-kept
+returns-in-NeedsMore-clause-kept c =
+    let bytes = drop c.loop-size.used c.args.bytes.now in
+    kept_anew bytes 0 None (begun bytes _ NeedsMore c.bytes_from-rest.ensures c.in-NeedsMore.ensures.value tt) (awaits_none bytes)
+
+pub loop-size-init : goal.loop-size-init
+loop-size-init c =
+    let none : IsSplitTo c.args.bytes.now [] 0 = record { within = omega arith; front = λ contents tail h. h } in
+    subst (λ (frames : List Frame). IsSplitTo c.args.bytes.now (contents frames) 0) (sym c.new-frames.ensures.items) none
+
+pub bytes_from-rest-requires : goal.bytes_from-rest-requires
+bytes_from-rest-requires c = c.loop-size.invariant.within
+
+pub content_at-requires : goal.content_at-requires
+content_at-requires c = c.in-Announces.ensures.within.2
+
+pub loop-size-smaller : goal.loop-size-smaller
+loop-size-smaller c =
+    let used = c.loop-size.used in
+    let bytes = c.args.bytes.now in
+    let more = c.in-Announces.size + c.in-Announces.len in
+    let low : 2 ≤ c.in-Announces.size = c.in-Announces.ensures.within.0 in
+    let room : more ≤ length c.bytes_from-rest.result.now = c.in-Some.ensures.some.0 in
+    let smaller : length bytes - (used + more) < length bytes - used =
+    omega (arith, low, room, ap length c.bytes_from-rest.ensures, length-drop used bytes)
+    in
+    smaller

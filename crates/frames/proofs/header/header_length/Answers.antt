@@ -1,14 +1,32 @@
-use Rattle.std.proofs.Common.{◌≡◌, ◌∙◌, sym}
+use Rattle.std.proofs.Common.{◌≡◌, ◌<◌, ◌∙◌, length, sym, ap, arith, length-drop}
+use Rattle.std.specs.Prelude.{Err}
 use Rattle.std.proofs.lemmas.Result.{err_from_is_err_and}
+use Rattle.frames.specs.declared.fault.FrameFault.{FrameFault}
 use Rattle.frames.specs.Header.{header_length}
-use Rattle.frames.proofs.Faults.{header_small}
+use Rattle.frames.proofs.Faults.{header_small, header_fails}
 use Rattle.frames.proofs.Lines.{line_passed, line_failed, lines_passed}
 use Rattle.frames.proofs.header.header_length.Goals as goal
 
-pub returns-in_err-told-clause-value : goal.returns-in_err-told-clause-value
-returns-in_err-told-clause-value c =
+failed : (c : goal.After-from_residual) → c.from_residual.result ≡ header_length c.args.part.now
+failed c =
     let p = err_from_is_err_and c.from_residual.result c.from_residual.ensures.1 in
-    rw (p.1, p.2) (sym (c.loop-size.invariant ∙ line_failed c.loop-size.rest.now c.in-Some.size c.loop-size.told (sym c.in-Some.ensures.value) c.in_err-told.field-0.0 c.in_err-told.ensures))
+    p.1 ∙ ap (λ (fault : FrameFault). Err fault) p.2 ∙ sym (c.loop-size.invariant ∙ line_failed c.loop-size.rest.now c.in-Some.size c.loop-size.told (sym c.in-Some.ensures.value) c.in_err-told.field-0.0 c.in_err-told.ensures)
+
+pub returns-in_err-told-clause-value : goal.returns-in_err-told-clause-value
+returns-in_err-told-clause-value c = failed c
+
+pub returns-in_err-told-clause-bound : goal.returns-in_err-told-clause-bound
+returns-in_err-told-clause-bound c = header_small c.args.part.now c.from_residual.result (failed c)
+
+pub returns-in_err-told-clause-fault : goal.returns-in_err-told-clause-fault
+returns-in_err-told-clause-fault c = header_fails c.args.part.now c.from_residual.result (failed c)
+
+pub loop-size-smaller : goal.loop-size-smaller
+loop-size-smaller c =
+    let smaller : length c.bytes_from-rest.result.now < length c.loop-size.rest.now =
+    omega (arith, c.in-Some.ensures.low, c.in-Some.ensures.high, ap length c.bytes_from-rest.ensures, length-drop c.in-Some.size c.loop-size.rest.now)
+    in
+    smaller
 
 pub loop-size-preserved : goal.loop-size-preserved
 loop-size-preserved c =
@@ -22,3 +40,6 @@ returns-clause-value c = told c
 
 pub returns-clause-bound : goal.returns-clause-bound
 returns-clause-bound c = header_small c.args.part.now c.ok_or.result (told c)
+
+pub returns-clause-fault : goal.returns-clause-fault
+returns-clause-fault c = header_fails c.args.part.now c.ok_or.result (told c)
