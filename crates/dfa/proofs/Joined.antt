@@ -6,9 +6,6 @@ use Rattle.definitions.specs.Spelling.{IsWellMade}
 use Rattle.dfa.specs.Marks.{mark, literal_end, unmarked}
 use Rattle.dfa.specs.Sets.{AllMade}
 
-pub joined : {A : Type 0} (f : ℕ → List A) (n m : ℕ) (old xs middle new : List A) → middle ≡ old ++ xs → n ≡ m → new ≡ middle ++ f n → new ≡ old ++ (xs ++ f m)
-joined f n m old xs middle new e k h = h ∙ ap (λ y. y ++ f n) e ∙ append_assoc old xs (f n) ∙ ap (λ y. old ++ (xs ++ f y)) k
-
 pub unmarked-add : (m n : ℕ) → unmarked m ++ unmarked n ≡ unmarked (m + n)
 unmarked-add zero n = ap unmarked (sym (zero-add n))
 unmarked-add (suc m) n = let e : suc (m + n) ≡ suc m + n = omega arith in ap (λ l. false ∷ l) (unmarked-add m n) ∙ ap unmarked e

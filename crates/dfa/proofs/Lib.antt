@@ -8,6 +8,7 @@ pub mod Fronts
 pub mod Grown
 pub mod Holding
 pub mod Joined
+mod Loops
 pub mod Numbered
 pub mod Numbers
 pub mod Sets

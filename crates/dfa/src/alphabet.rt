@@ -55,15 +55,14 @@ fn cuts(e: &Expression, out: &mut Vec<char>) -> Result<(), AllocError>
         → All IsCharacter out.new.items) }
 {
     match e {
-        Expression::Literal(characters) => literal_cuts(characters, out)?,
-        Expression::Class { intervals, .. } => class_cuts(intervals, out)?,
+        Expression::Literal(characters) => literal_cuts(characters, out),
+        Expression::Class { intervals, .. } => class_cuts(intervals, out),
         Expression::Sequence(a, b) | Expression::Choice(a, b) => {
             cuts(a, out)?;
-            cuts(b, out)?
+            cuts(b, out)
         }
-        Expression::Star(a) | Expression::Plus(a) | Expression::Optional(a) => cuts(a, out)?,
+        Expression::Star(a) | Expression::Plus(a) | Expression::Optional(a) => cuts(a, out),
     }
-    Ok(())
 }
 
 /// The cuts of all rules, in their order.

@@ -1,5 +1,8 @@
 //! The automaton of a list of rules.
-ghost use Rattle.std.specs.Prelude.{◌≡◌, ℕ, ◌<◌, length, slice_index_or, IfOk, IfErr};
+ghost use Rattle.std.specs.Prelude.{◌≡◌, ℕ, ◌<◌, ◌≤◌, length, slice_index_or, All, Contains, IfOk, IfErr};
+ghost use Rattle.definitions.specs.Text.{IsCharacter};
+ghost use Rattle.dfa.specs.Alphabet.{all_cuts};
+ghost use Rattle.dfa.specs.Built.{AreRows, members};
 ghost use Rattle.dfa.specs.Positions.{HasMoreStatesThan};
 ghost use Rattle.dfa.specs.Marks.{all_positions, unmarked};
 ghost use Rattle.dfa.specs.Sets.{AllMade};
@@ -67,6 +70,26 @@ fn blank_marks(alloc: Global, patterns: &[Pattern]) -> Result<Vec<bool>, AllocEr
     Ok(marks)
 }
 
+/// The states of the automaton, each with its row, where the parts of the alphabet begin at `starts`.
+fn states_of(alloc: Global, patterns: &[Pattern], starts: &[char]) -> Result<States, DfaFault>
+    requires ascending { IsAscending starts.now }
+    requires cuts { (x : ℕ) → Contains (all_cuts patterns.now) x → Contains starts.now x }
+    requires characters { All IsCharacter starts.now }
+    ensures made { IfOk result (λ _. AllMade patterns.now) }
+    ensures rows { IfOk result (λ s.
+        AreRows patterns.now starts.now (members s.sets.keys) s.next.items s.accepts.items) }
+    ensures all { IfOk result (λ s. length (members s.sets.keys) ≤ length s.accepts.items) }
+    ensures many { IfErr result (λ e. e ≡ TooManyStates → HasMoreStatesThan patterns.now 4096) }
+{
+    let blank = blank_marks(alloc, patterns)?;
+    let parts = part_holders(alloc, patterns, starts)?;
+    let mut states = States::new(alloc)?;
+    match states.add_rows(alloc, patterns, &blank, &parts) {
+        Ok(()) => Ok(states),
+        Err(e) => Err(e),
+    }
+}
+
 impl Automaton {
     /// The automaton of the rules that these patterns are, numbered from 0.
     ///
@@ -78,14 +101,10 @@ impl Automaton {
         ensures many { IfErr result (λ e. e ≡ TooManyStates → HasMoreStatesThan patterns.now 4096) }
     {
         let starts = starts(alloc, patterns)?;
-        let blank = blank_marks(alloc, patterns)?;
-        let parts = part_holders(alloc, patterns, &starts)?;
-        let mut states = States::new(alloc)?;
-        match states.add_rows(alloc, patterns, &blank, &parts) {
-            Ok(()) => {}
-            Err(e) => return Err(e),
-        }
         let ascii = ascii_parts(alloc, &starts)?;
-        Ok(Automaton::new(starts, ascii, states.next, states.accepts))
+        match states_of(alloc, patterns, &starts) {
+            Ok(states) => Ok(Automaton::new(starts, ascii, states.next, states.accepts)),
+            Err(e) => Err(e),
+        }
     }
 }

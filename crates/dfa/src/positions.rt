@@ -12,15 +12,17 @@ pub fn blank(e: &Expression, out: &mut Vec<bool>) -> Result<(), AllocError>
     ensures { IfOk result (λ _. out.new.items ≡ out.old.items ++ unmarked (positions e.now)) }
 {
     match e {
-        Expression::Literal(characters) => blank_literal(characters, out)?,
-        Expression::Class { .. } => out.push(false)?,
+        Expression::Literal(characters) => blank_literal(characters, out),
+        Expression::Class { .. } => {
+            out.push(false)?;
+            Ok(())
+        }
         Expression::Sequence(a, b) | Expression::Choice(a, b) => {
             blank(a, out)?;
-            blank(b, out)?
+            blank(b, out)
         }
-        Expression::Star(a) | Expression::Plus(a) | Expression::Optional(a) => blank(a, out)?,
+        Expression::Star(a) | Expression::Plus(a) | Expression::Optional(a) => blank(a, out),
     }
-    Ok(())
 }
 
 /// Adds a blank mark for each character of a literal.
@@ -64,7 +66,7 @@ pub fn ends(e: &Expression, marks: &[bool], at: &mut usize, start: bool) -> bool
         }
         Expression::Star(a) | Expression::Optional(a) => {
             let once = ends(a, marks, at, start);
-            once || start
+            once | start
         }
         Expression::Plus(a) => ends(a, marks, at, start),
     }
@@ -93,8 +95,7 @@ pub fn follow(
         }
         Expression::Sequence(a, b) => {
             let between = follow(a, marks, start, out)?;
-            let end = follow(b, marks, between, out)?;
-            Ok(end)
+            follow(b, marks, between, out)
         }
         Expression::Choice(a, b) => {
             let first = follow(a, marks, start, out)?;
@@ -102,18 +103,18 @@ pub fn follow(
             Ok(first | second)
         }
         Expression::Star(a) => {
-            let again = ends(a, marks, &mut out.len(), start) || start;
+            let again = ends(a, marks, &mut out.len(), start) | start;
             follow(a, marks, again, out)?;
             Ok(again)
         }
         Expression::Plus(a) => {
             let end = ends(a, marks, &mut out.len(), start);
-            follow(a, marks, end || start, out)?;
+            follow(a, marks, end | start, out)?;
             Ok(end)
         }
         Expression::Optional(a) => {
             let once = follow(a, marks, start, out)?;
-            Ok(once || start)
+            Ok(once | start)
         }
     }
 }
@@ -161,22 +162,22 @@ pub fn holders(
     ensures holders { IfOk result (λ _. out.new.items ≡ out.old.items ++ holders c at.old e.now) }
 {
     match e {
-        Expression::Literal(characters) => literal_holders(characters, c, at, out)?,
+        Expression::Literal(characters) => literal_holders(characters, c, at, out),
         Expression::Class { negated, intervals } => {
             if is_member(intervals, c) != *negated {
                 out.push(*at)?;
             }
             *at += 1;
+            Ok(())
         }
         Expression::Sequence(a, b) | Expression::Choice(a, b) => {
             holders(a, c, at, out)?;
-            holders(b, c, at, out)?
+            holders(b, c, at, out)
         }
         Expression::Star(a) | Expression::Plus(a) | Expression::Optional(a) => holders(
             a, c, at, out,
-        )?,
+        ),
     }
-    Ok(())
 }
 
 /// Does for a literal what `holders` does for an expression.

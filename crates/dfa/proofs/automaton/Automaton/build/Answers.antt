@@ -1,42 +1,51 @@
-use Rattle.std.proofs.Common.{length, sym, ap, ◌∙◌, subst, arith}
-use Rattle.dfa.specs.Marks.{all_positions}
-use Rattle.dfa.specs.Built.{members}
-use Rattle.dfa.specs.Table.{IsAutomaton, part}
+use Rattle.std.proofs.Common.{ℕ, List, sym, ap, ◌∙◌, subst, All, Contains}
+use Rattle.definitions.specs.Text.{IsCharacter}
+use Rattle.dfa.specs.Alphabet.{all_cuts}
+use Rattle.dfa.specs.Built.{AreRows, members}
+use Rattle.dfa.specs.Table.{IsAscending, IsAutomaton, part}
 use Rattle.dfa.proofs.Built.{automaton}
 use Rattle.dfa.proofs.Counted.{few}
-use Rattle.dfa.proofs.Filled.{length-unmarked, parts_are, rows_none, table_of_rows}
+use Rattle.dfa.proofs.Filled.{table_of_rows}
 use Rattle.dfa.proofs.automaton.Automaton.build.Goals as goal
 
-pub part_holders-requires : goal.part_holders-requires
-part_holders-requires c =
-    let many = ap length c.in_ok-blank.ensures.blank ∙ length-unmarked (all_positions c.args.patterns.now) in
-    omega (arith, many)
+pub states_of-requires-clause-ascending : goal.states_of-requires-clause-ascending
+states_of-requires-clause-ascending c = subst IsAscending (sym c.deref-2.ensures.value) c.in_ok-starts.ensures.ascending
 
-pub add_rows-requires-clause-parts : goal.add_rows-requires-clause-parts
-add_rows-requires-clause-parts c = (c.in_ok-starts.starts.items, parts_are c.args.patterns.now c.in_ok-starts.starts.items c.deref.result.now c.in_ok-parts.parts.items c.deref-2.result.now c.deref.ensures.value c.deref-2.ensures.value c.in_ok-parts.ensures.length c.in_ok-parts.ensures.each c.in_ok-starts.ensures.ascending c.in_ok-starts.ensures.cuts c.in_ok-starts.ensures.characters)
+pub states_of-requires-clause-cuts : goal.states_of-requires-clause-cuts
+states_of-requires-clause-cuts c =
+    subst (λ (l : List ℕ). (x : ℕ) → Contains (all_cuts c.args.patterns.now) x → Contains l x) (sym c.deref-2.ensures.value) c.in_ok-starts.ensures.cuts
 
-pub add_rows-requires-clause-rows : goal.add_rows-requires-clause-rows
-add_rows-requires-clause-rows c = λ starts a. rows_none c.args.patterns.now starts (members c.in_ok-states.states.sets.keys) c.in_ok-states.states.next.items c.in_ok-states.states.accepts.items (c.in_ok-states.ensures.states c.args.patterns.now) c.in_ok-states.ensures.sets c.in_ok-states.ensures.next c.in_ok-states.ensures.accepts
+pub states_of-requires-clause-characters : goal.states_of-requires-clause-characters
+states_of-requires-clause-characters c = subst (λ (l : List ℕ). All IsCharacter l) (sym c.deref-2.ensures.value) c.in_ok-starts.ensures.characters
 
-pub new-requires-2 : goal.new-requires-2
-new-requires-2 c =
-    let starts = c.in_ok-starts.starts.items in
-    let rows = c.in-Ok.ensures.rows starts (parts_are c.args.patterns.now c.in_ok-starts.starts.items c.deref.result.now c.in_ok-parts.parts.items c.deref-2.result.now c.deref.ensures.value c.deref-2.ensures.value c.in_ok-parts.ensures.length c.in_ok-parts.ensures.each c.in_ok-starts.ensures.ascending c.in_ok-starts.ensures.cuts c.in_ok-starts.ensures.characters) in
+pub new-requires : goal.new-requires
+new-requires c =
     let made = c.in_ok-ascii.ensures in
+    let starts = c.in_ok-starts.starts.items in
+    let sets = members c.in-Ok.states.sets.keys in
+    let next = c.in-Ok.states.next.items in
+    let accepts = c.in-Ok.states.accepts.items in
+    let all_rows = subst (λ (l : List ℕ). AreRows c.args.patterns.now l sets next accepts) c.deref-2.ensures.value c.in-Ok.ensures.rows in
     record {
-      table = table_of_rows c.args.patterns.now starts (members c.add_rows.new.self.sets.keys) c.add_rows.new.self.next.items c.add_rows.new.self.accepts.items c.in_ok-starts.ensures.ascending rows c.in-Ok.ensures.all;
+      table = table_of_rows c.args.patterns.now starts sets next accepts c.in_ok-starts.ensures.ascending all_rows c.in-Ok.ensures.all;
       full = made.0;
-      parts = λ i lt. made.1 i lt ∙ ap (λ s. part s i) c.deref-3.ensures.value;
+      parts = λ i lt. made.1 i lt ∙ ap (λ s. part s i) c.deref.ensures.value;
     }
 
-pub returns-clause-automaton : goal.returns-clause-automaton
-returns-clause-automaton c =
+pub returns-in-Ok-clause-automaton : goal.returns-in-Ok-clause-automaton
+returns-in-Ok-clause-automaton c =
     let starts = c.in_ok-starts.starts.items in
-    let rows = c.in-Ok.ensures.rows starts (parts_are c.args.patterns.now c.in_ok-starts.starts.items c.deref.result.now c.in_ok-parts.parts.items c.deref-2.result.now c.deref.ensures.value c.deref-2.ensures.value c.in_ok-parts.ensures.length c.in_ok-parts.ensures.each c.in_ok-starts.ensures.ascending c.in_ok-starts.ensures.cuts c.in_ok-starts.ensures.characters) in
-    subst (IsAutomaton c.args.patterns.now) (sym c.new-2.ensures) (automaton c.args.patterns.now starts (members c.add_rows.new.self.sets.keys) c.add_rows.new.self.next.items c.add_rows.new.self.accepts.items c.in_ok-blank.ensures.made rows c.in-Ok.ensures.all)
+    let sets = members c.in-Ok.states.sets.keys in
+    let next = c.in-Ok.states.next.items in
+    let accepts = c.in-Ok.states.accepts.items in
+    let all_rows = subst (λ (l : List ℕ). AreRows c.args.patterns.now l sets next accepts) c.deref-2.ensures.value c.in-Ok.ensures.rows in
+    subst (IsAutomaton c.args.patterns.now) (sym c.new.ensures) (automaton c.args.patterns.now starts sets next accepts c.in-Ok.ensures.made all_rows c.in-Ok.ensures.all)
 
-pub returns-clause-few : goal.returns-clause-few
-returns-clause-few c =
+pub returns-in-Ok-clause-few : goal.returns-in-Ok-clause-few
+returns-in-Ok-clause-few c =
     let starts = c.in_ok-starts.starts.items in
-    let rows = c.in-Ok.ensures.rows starts (parts_are c.args.patterns.now c.in_ok-starts.starts.items c.deref.result.now c.in_ok-parts.parts.items c.deref-2.result.now c.deref.ensures.value c.deref-2.ensures.value c.in_ok-parts.ensures.length c.in_ok-parts.ensures.each c.in_ok-starts.ensures.ascending c.in_ok-starts.ensures.cuts c.in_ok-starts.ensures.characters) in
-    few c.args.patterns.now starts (members c.add_rows.new.self.sets.keys) c.add_rows.new.self.next.items c.add_rows.new.self.accepts.items c.in_ok-blank.ensures.made rows c.in-Ok.ensures.all
+    let sets = members c.in-Ok.states.sets.keys in
+    let next = c.in-Ok.states.next.items in
+    let accepts = c.in-Ok.states.accepts.items in
+    let all_rows = subst (λ (l : List ℕ). AreRows c.args.patterns.now l sets next accepts) c.deref-2.ensures.value c.in-Ok.ensures.rows in
+    few c.args.patterns.now starts sets next accepts c.in-Ok.ensures.made all_rows c.in-Ok.ensures.all

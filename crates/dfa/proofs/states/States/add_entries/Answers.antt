@@ -1,7 +1,7 @@
-use Rattle.std.proofs.Common.{◌≡◌, ℕ, ◌<◌, List, [], length, slice_index_or, sym, ap, ◌∙◌, subst}
+use Rattle.std.proofs.Common.{◌≡◌, ℕ, ◌<◌, List, [], length, slice_index_or, refl, sym, ap, ◌∙◌, subst, arith}
 use Rattle.std.proofs.lemmas.List.{get_or_default}
-use Rattle.dfa.specs.Built.{IsNumber, IsReached, kept, members}
-use Rattle.dfa.proofs.Grown.{placed_states, placed_grows, grows_more, entries_more}
+use Rattle.dfa.specs.Built.{AreEntries, IsNumber, IsReached, kept, members}
+use Rattle.dfa.proofs.Grown.{placed_states, placed_grows, grows_none, grows_more, entries_none, entries_more}
 use Rattle.dfa.proofs.states.States.add_entries.Goals as goal
 
 pub kept-requires : goal.kept-requires
@@ -45,3 +45,41 @@ loop-holders-preserved c =
       bound = λ le. c.in-Ok.ensures.bound (old.bound le);
       entries = entries_more c.args.self.now.next.items c.loop-holders.self.next.items c.push.new.self.items sets new c.args.marks.now parts i c.in-Ok.to old.entries g c.in_ok-push.ensures.items n;
     }
+
+pub loop-holders-init : goal.loop-holders-init
+loop-holders-init c =
+    let sets = members c.args.self.now.sets.keys in
+    record {
+      accepts = refl;
+      states = λ rules s r. s;
+      grows = grows_none sets;
+      bound = λ le. le;
+      entries = entries_none c.args.self.now.next.items sets c.args.marks.now c.args.parts.now;
+    }
+
+pub returns-clause-entries : goal.returns-clause-entries
+returns-clause-entries c =
+    let parts = c.args.parts.now in
+    let all : c.loop-holders.holders-index ≡ length parts = omega arith in
+    subst (AreEntries c.args.self.now.next.items c.loop-holders.self.next.items (members c.loop-holders.self.sets.keys) c.args.marks.now parts) all c.loop-holders.invariant.entries
+
+pub returns-clause-states : goal.returns-clause-states
+returns-clause-states c = c.loop-holders.invariant.states
+
+pub returns-in_err-set-clause-states : goal.returns-in_err-set-clause-states
+returns-in_err-set-clause-states c = c.loop-holders.invariant.states
+
+pub returns-in_err-set-clause-grows : goal.returns-in_err-set-clause-grows
+returns-in_err-set-clause-grows c = c.loop-holders.invariant.grows
+
+pub returns-in-Err-clause-grows : goal.returns-in-Err-clause-grows
+returns-in-Err-clause-grows c =
+    let mid = members c.loop-holders.self.sets.keys in
+    let new = members c.number.new.sets.keys in
+    grows_more (members c.args.self.now.sets.keys) mid new c.loop-holders.invariant.grows (placed_grows mid new c.in_ok-set.set.items c.in-Err.ensures.placed)
+
+pub returns-in_err-push-clause-grows : goal.returns-in_err-push-clause-grows
+returns-in_err-push-clause-grows c =
+    let mid = members c.loop-holders.self.sets.keys in
+    let new = members c.number.new.sets.keys in
+    grows_more (members c.args.self.now.sets.keys) mid new c.loop-holders.invariant.grows (placed_grows mid new c.in_ok-set.set.items c.in-Ok.ensures.placed)

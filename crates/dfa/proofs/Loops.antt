@@ -1,0 +1,76 @@
+-- Steps of loops over the rules and over the characters of a literal.
+use Rattle.std.proofs.Common.{◌≡◌, ℕ, zero, suc, ◌+◌, ◌<◌, ◌≤◌, ◌==◌, Bool, true, false, List, [], ◌∷◌, ◌++◌, length, drop, get_or, sym, ap, ◌∙◌, arith, append-nil, append_assoc}
+use Rattle.std.proofs.lemmas.Bool.Decides.{nat_tests}
+use Rattle.std.proofs.lemmas.List.{at_drop_all}
+use Rattle.std.specs.Prelude.{cond}
+use Rattle.definitions.specs.declared.expression.Expression.{Expression}
+use Rattle.dfa.specs.Positions.{positions}
+use Rattle.dfa.specs.Marks.{all_positions, mark, literal_end, literal_holders, literal_next}
+use Rattle.dfa.proofs.Joined.{one_more}
+
+-- what is left of a list at an element of it
+pub at_index : {A : Type 0} (xs : List A) (i : ℕ) (x : A) → i < length xs → x ≡ get_or xs i x → drop i xs ≡ x ∷ drop (i + 1) xs
+at_index [] i x lt is = absurd (omega (arith, lt))
+at_index (y ∷ xs) zero x lt is = ap (λ z. z ∷ xs) (sym is)
+at_index (y ∷ xs) (suc i) x lt is =
+    let next : suc i + 1 ≡ suc (i + 1) = omega arith in
+    at_index xs i x (omega (arith, lt)) is ∙ ap (λ (n : ℕ). x ∷ drop n (y ∷ xs)) (sym next)
+
+-- the same of an element that has another name
+pub at_element : {A : Type 0} (xs : List A) (i : ℕ) (x y : A) → y ≡ x → i < length xs → x ≡ get_or xs i x → drop i xs ≡ y ∷ drop (i + 1) xs
+at_element xs i x y same lt is = at_index xs i x lt is ∙ ap (λ z. z ∷ drop (i + 1) xs) (sym same)
+
+-- a loop has made what there is to make
+pub all_done : {A B : Type 0} (f : List A → List B) (xs : List A) (i : ℕ) (made whole : List B) → f [] ≡ [] → length xs ≤ i → made ++ f (drop i xs) ≡ whole → made ≡ whole
+all_done f xs i made whole none le so_far = sym (append-nil made) ∙ ap (λ l. made ++ l) (sym (at_drop_all f xs i le ∙ none)) ∙ so_far
+
+-- the places of the rules that are left
+pub positions_more : (e : Expression) (rest later : List Expression) (old new whole : ℕ) → rest ≡ e ∷ later → new ≡ old + positions e → old + all_positions rest ≡ whole → new + all_positions later ≡ whole
+positions_more e rest later old new whole here past so_far =
+    let left : all_positions rest ≡ positions e + all_positions later = ap all_positions here in
+    omega (arith, left, past, so_far)
+
+pub positions_within : (e : Expression) (rest later : List Expression) (old whole : ℕ) → rest ≡ e ∷ later → old + all_positions rest ≡ whole → old + positions e ≤ whole
+positions_within e rest later old whole here so_far =
+    let left : all_positions rest ≡ positions e + all_positions later = ap all_positions here in
+    omega (arith, left, so_far)
+
+-- a loop adds what it makes of one more rule, whose positions begin at n
+pub rule_more : {A : Type 0} (f : ℕ → List Expression → List A) (e : Expression) (rest later : List Expression) (n m : ℕ) (old part new whole : List A) → rest ≡ e ∷ later → f n (e ∷ later) ≡ part ++ f (n + positions e) later → m ≡ n + positions e → new ≡ old ++ part → old ++ f n rest ≡ whole → new ++ f m later ≡ whole
+rule_more f e rest later n m old part new whole here step past is so_far =
+    ap (λ k. new ++ f k later) past ∙ one_more new old part (f n rest) (f (n + positions e) later) whole is (ap (f n) here ∙ step) so_far
+
+equals : (d c : ℕ) → d ≡ c → (d == c) ≡ true
+equals d c h = grind (arith, nat_tests)
+
+differs : (d c : ℕ) → (d ≡ c → ⊥) → (d == c) ≡ false
+differs d c h = grind (arith, nat_tests)
+
+-- a character of a literal is held, or isn't
+pub held_more : (c at d : ℕ) (rest later old new whole : List ℕ) → rest ≡ d ∷ later → d ≡ c → new ≡ old ++ at ∷ [] → old ++ literal_holders c at rest ≡ whole → new ++ literal_holders c (at + 1) later ≡ whole
+held_more c at d rest later old new whole here is_c is so_far =
+    let behind = literal_holders c (at + 1) later in
+    one_more new old (at ∷ []) (literal_holders c at rest) behind whole is (ap (literal_holders c at) here ∙ ap (λ b. cond b (at ∷ behind) behind) (equals d c is_c)) so_far
+
+pub other_more : (c at d : ℕ) (rest later old new whole : List ℕ) → rest ≡ d ∷ later → (d ≡ c → ⊥) → new ≡ old → old ++ literal_holders c at rest ≡ whole → new ++ literal_holders c (at + 1) later ≡ whole
+other_more c at d rest later old new whole here is_other is so_far =
+    let behind = literal_holders c (at + 1) later in
+    ap (λ l. l ++ behind) is ∙ ap (λ l. old ++ l) (sym (ap (literal_holders c at) here ∙ ap (λ b. cond b (at ∷ behind) behind) (differs d c is_other))) ∙ so_far
+
+-- a character of a literal follows
+pub next_more : (marks : List Bool) (before now : Bool) (d : ℕ) (rest later : List ℕ) (old new whole : List Bool) → rest ≡ d ∷ later → now ≡ mark marks (length old) → new ≡ old ++ before ∷ [] → length new ≡ length old + 1 → old ++ literal_next marks (length old) before rest ≡ whole → new ++ literal_next marks (length new) now later ≡ whole
+next_more marks before now d rest later old new whole here marked is long so_far =
+    ap (λ k. new ++ literal_next marks k now later) long ∙ ap (λ b. new ++ literal_next marks (length old + 1) b later) marked ∙ one_more new old (before ∷ []) (literal_next marks (length old) before rest) (literal_next marks (length old + 1) (mark marks (length old)) later) whole is (ap (literal_next marks (length old) before) here) so_far
+
+pub end_more : (marks : List Bool) (before now : Bool) (d : ℕ) (rest later : List ℕ) (old new : ℕ) (whole : Bool) → rest ≡ d ∷ later → now ≡ mark marks old → new ≡ old + 1 → literal_end marks old before rest ≡ whole → literal_end marks new now later ≡ whole
+end_more marks before now d rest later old new whole here marked long so_far =
+    ap (λ k. literal_end marks k now later) long ∙ ap (λ b. literal_end marks (old + 1) b later) marked ∙ sym (ap (literal_end marks old before) here) ∙ so_far
+
+-- what two expressions make, one behind the other, where the positions of the first begin at n
+pub joined_at : {A : Type 0} (f : Expression → List A) (g : ℕ → Expression → List A) (a b x y : Expression) (n m : ℕ) (old middle new whole : List A) → a ≡ x → b ≡ y → m ≡ n + positions a → middle ≡ old ++ f a → new ≡ middle ++ g m b → f x ++ g (n + positions x) y ≡ whole → new ≡ old ++ whole
+joined_at f g a b x y n m old middle new whole is_x is_y past first made whole_is =
+    let behind = g (n + positions a) b in
+    made ∙ ap (λ k. middle ++ g k b) past ∙ ap (λ l. l ++ behind) first ∙ append_assoc old (f a) behind ∙ (λ i. old ++ (f (is_x i) ++ g (n + positions (is_x i)) (is_y i))) ∙ ap (λ l. old ++ l) whole_is
+
+pub sum_at : (a b x y : Expression) (n m k whole : ℕ) → a ≡ x → b ≡ y → m ≡ n + positions a → k ≡ m + positions b → positions x + positions y ≡ whole → k ≡ n + whole
+sum_at a b x y n m k whole is_x is_y past long sum = let one = ap positions is_x in let two = ap positions is_y in omega (arith, past, long, sum)
