@@ -3,10 +3,27 @@
 
 use anyhow::{Result, bail};
 use std::alloc::{AllocError, Global};
+use std::env::Args;
 use text::{LONGEST_TEXT, Position, Text, TextFault, Unit};
 
 /// How many places beside one another are asked in turn.
 const PLACES: usize = 8;
+
+#[derive(Clone, Copy)]
+enum Call {
+    Replace,
+    Offset,
+    Position,
+}
+
+/// What the words behind the program's name ask for.
+#[derive(Clone, Copy)]
+struct Asked {
+    call: Call,
+    length: usize,
+    offset: usize,
+    count: usize,
+}
 
 /// Letters of the greatest length of a text, with a break in the place of each that is `length` behind the one before.
 fn lines(alloc: Global, length: usize) -> Result<String, AllocError> {
@@ -14,28 +31,37 @@ fn lines(alloc: Global, length: usize) -> Result<String, AllocError> {
     let mut behind = 0usize;
     for _ in 0..LONGEST_TEXT {
         behind = behind.saturating_add(1);
-        if behind < length {
-            text.push('x')?;
-        } else {
-            text.push('\n')?;
+        let ends = length <= behind;
+        text.push(if ends { '\n' } else { 'x' })?;
+        if ends {
             behind = 0;
         }
     }
     Ok(text)
 }
 
+/// A text of these lines.
+fn opened(alloc: Global, length: usize) -> Result<Text> {
+    match Text::open(alloc, lines(alloc, length)?.as_str()) {
+        Ok(text) => Ok(text),
+        Err(_) => bail!("a text was refused"),
+    }
+}
+
+/// Puts a letter in the place of the character at `place`, where there is one.
+fn replace(text: &mut Text, alloc: Global, place: usize) -> Result<(), TextFault> {
+    if place < text.len() {
+        text.replace(alloc, place, place + 1, "y")?;
+    }
+    Ok(())
+}
+
 /// Puts a letter in the place of the character at `offset` or at one beside it, `count` times.
-fn replaced(
-    text: &mut Text,
-    alloc: Global,
-    offset: usize,
-    count: usize,
-) -> Result<usize, TextFault> {
+fn replaced(text: &mut Text, alloc: Global, offset: usize, count: usize) -> Result<usize> {
     let mut sum = 0usize;
     for step in 0..count {
-        let place = offset.saturating_add(step % PLACES);
-        if place < text.len() {
-            text.replace(alloc, place, place + 1, "y")?;
+        if replace(text, alloc, offset.saturating_add(step % PLACES)).is_err() {
+            bail!("an edit was refused");
         }
         sum = sum.wrapping_add(text.len());
     }
@@ -66,6 +92,21 @@ fn positions(text: &Text, offset: usize, count: usize) -> usize {
     sum
 }
 
+/// The sum of the answers of the calls.
+fn sum(text: &mut Text, alloc: Global, asked: Asked) -> Result<usize> {
+    match asked.call {
+        Call::Replace => replaced(text, alloc, asked.offset, asked.count),
+        Call::Offset => Ok(offsets(text, asked.offset, asked.count)),
+        Call::Position => Ok(positions(text, asked.offset, asked.count)),
+    }
+}
+
+/// The sum of the answers of a new text.
+fn answered(alloc: Global, asked: Asked) -> Result<usize> {
+    let mut text = opened(alloc, asked.length)?;
+    sum(&mut text, alloc, asked)
+}
+
 /// The number that a word is.
 fn number(word: Option<String>) -> Result<usize> {
     match word {
@@ -74,39 +115,36 @@ fn number(word: Option<String>) -> Result<usize> {
     }
 }
 
-/// The sum of the answers of `count` calls of this name.
-fn answered(
-    call: &str,
-    text: &mut Text,
-    alloc: Global,
-    offset: usize,
-    count: usize,
-) -> Result<usize> {
+/// The call that a word names.
+fn call_of(word: Option<String>) -> Option<Call> {
+    match word?.as_str() {
+        "replace" => Some(Call::Replace),
+        "offset" => Some(Call::Offset),
+        "position" => Some(Call::Position),
+        _ => None,
+    }
+}
+
+/// Reads what the words ask for.
+fn read(words: &mut Args) -> Result<Asked> {
+    words.next();
+    let call = call_of(words.next());
+    let length = number(words.next())?;
+    let offset = number(words.next())?;
+    let count = number(words.next())?;
     match call {
-        "replace" => match replaced(text, alloc, offset, count) {
-            Ok(sum) => Ok(sum),
-            Err(_) => bail!("an edit was refused"),
-        },
-        "offset" => Ok(offsets(text, offset, count)),
-        "position" => Ok(positions(text, offset, count)),
-        _ => bail!("no such call"),
+        Some(call) => Ok(Asked {
+            call,
+            length,
+            offset,
+            count,
+        }),
+        None => bail!("no such call"),
     }
 }
 
 fn main(rt: HostRuntime) -> Result<()> {
-    let alloc = rt.alloc();
-    let mut words = std::env::args(&rt)?;
-    words.next();
-    let call = words.next().unwrap_or(String::new(alloc));
-    let length = number(words.next())?;
-    let offset = number(words.next())?;
-    let count = number(words.next())?;
-    match Text::open(alloc, lines(alloc, length)?.as_str()) {
-        Ok(mut text) => println!(rt;
-            "{}",
-            answered(call.as_str(), &mut text, alloc, offset, count)?
-        )?,
-        Err(_) => bail!("a text was refused"),
-    }
+    let asked = read(&mut std::env::args(&rt)?)?;
+    println!(rt; "{}", answered(rt.alloc(), asked)?)?;
     Ok(())
 }
