@@ -54,19 +54,16 @@ fn expects(
     Ok(())
 }
 
-#[test]
-fn expects_what_sums_go_on_with(rt: HostRuntime) -> Result<(), Fail> {
-    let alloc = rt.alloc();
-    let tables = tables(alloc, SUMS)?;
+fn check_expected(rt: &impl Abort, alloc: Global, tables: &Tables) -> Result<(), Fail> {
     let start = tables.start();
-    let number = shift(&rt, &tables, start, 0);
-    let open = shift(&rt, &tables, start, 2);
-    let inner = shift(&rt, &tables, open, 0);
+    let number = shift(rt, tables, start, 0);
+    let open = shift(rt, tables, start, 2);
+    let inner = shift(rt, tables, open, 0);
     let operand = [Some(0), Some(2)];
-    expects(&rt, alloc, &tables, start, &operand)?;
-    expects(&rt, alloc, &tables, open, &operand)?;
-    expects(&rt, alloc, &tables, number, &[Some(1), None])?;
-    expects(&rt, alloc, &tables, inner, &[Some(1), Some(3)])
+    expects(rt, alloc, tables, start, &operand)?;
+    expects(rt, alloc, tables, open, &operand)?;
+    expects(rt, alloc, tables, number, &[Some(1), None])?;
+    expects(rt, alloc, tables, inner, &[Some(1), Some(3)])
 }
 
 /// The moves of a state: each row is a lookahead and its move.
@@ -78,26 +75,30 @@ fn moves(rt: &impl Abort, tables: &Tables, state: usize, rows: &[(Option<Kind>, 
     }
 }
 
-#[test]
-fn moves_in_sums(rt: HostRuntime) -> Result<(), Fail> {
-    let tables = tables(rt.alloc(), SUMS)?;
+fn check_moves(rt: &impl Abort, tables: &Tables) {
     let start = tables.start();
     moves(
-        &rt,
-        &tables,
+        rt,
+        tables,
         start,
         &[(None, None), (Some(Kind::Invalid), None)],
     );
     for (nonterminal, is_there) in [(0, true), (1, true), (7, false)] {
         assert!(rt; tables.goto(start, nonterminal).is_some() == is_there);
     }
-    let number = shift(&rt, &tables, start, 0);
+    let number = shift(rt, tables, start, 0);
     let reduced = Some(Move::Reduce(2));
     let rows = [
         (None, reduced),
         (Some(Kind::Rule(1)), reduced),
         (Some(Kind::Rule(3)), None),
     ];
-    moves(&rt, &tables, number, &rows);
-    Ok(())
+    moves(rt, tables, number, &rows);
+}
+
+#[test]
+fn moves_in_sums_and_what_they_go_on_with(rt: HostRuntime) -> Result<(), Fail> {
+    let tables = tables(rt.alloc(), SUMS)?;
+    check_moves(&rt, &tables);
+    check_expected(&rt, rt.alloc(), &tables)
 }

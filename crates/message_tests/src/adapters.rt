@@ -76,37 +76,27 @@ impl Write for FailsFirst<'_> {
     }
 }
 
+/// A device that has not failed yet, whose calls are counted from 0 on.
+fn device<'a>(calls: &'a Cell<usize>, kind: ErrorKind) -> FailsFirst<'a> {
+    calls.set(0);
+    FailsFirst { calls, kind }
+}
+
 #[test]
 fn a_failed_call_is_not_tried_again(rt: HostRuntime) {
     let calls = Cell::new(0);
-    let kinds = [
+    for kind in [
         ErrorKind::Interrupted,
         ErrorKind::WouldBlock,
         ErrorKind::TimedOut,
         ErrorKind::UnexpectedEof,
         ErrorKind::Other,
-    ];
-    for kind in kinds {
-        calls.set(0);
-        let device = FailsFirst {
-            calls: &calls,
-            kind,
-        };
-        assert!(rt; ReadInput::new(device).read(&mut [0]) == Err(DeviceFault));
-        assert!(rt; calls.get() == 1);
-        calls.set(0);
-        let device = FailsFirst {
-            calls: &calls,
-            kind,
-        };
-        assert!(rt; WriteOutput::new(device).write(b"{}") == Err(DeviceFault));
-        assert!(rt; calls.get() == 1);
-        calls.set(0);
-        let device = FailsFirst {
-            calls: &calls,
-            kind,
-        };
-        assert!(rt; WriteOutput::new(device).flush() == Err(DeviceFault));
-        assert!(rt; calls.get() == 1);
+    ] {
+        let read = ReadInput::new(device(&calls, kind)).read(&mut [0]);
+        assert!(rt; (read, calls.get()) == (Err(DeviceFault), 1));
+        let written = WriteOutput::new(device(&calls, kind)).write(b"{}");
+        assert!(rt; (written, calls.get()) == (Err(DeviceFault), 1));
+        let flushed = WriteOutput::new(device(&calls, kind)).flush();
+        assert!(rt; (flushed, calls.get()) == (Err(DeviceFault), 1));
     }
 }

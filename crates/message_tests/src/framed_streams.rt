@@ -3,7 +3,7 @@
 ghost use Rattle.std.specs.Prelude.{None, ◌<◌, if◌then◌else◌};
 
 use frames::{Decoder, DeviceFault, Frame, FrameFault, Output, WriteOutput, write_frame};
-use std::alloc::Global;
+use std::alloc::{AllocError, Global};
 use std::process::Abort;
 use std::test::Fail;
 
@@ -41,6 +41,36 @@ fn feed_again(
     }
 }
 
+/// Feeds the stream in pieces of this size, and puts the frames that come of them behind the others.
+fn feed_pieces(
+    rt: &impl Abort,
+    alloc: Global,
+    decoder: &mut Decoder,
+    frames: &mut Vec<Frame>,
+    stream: &[u8],
+    size: usize,
+    wanted: Option<FrameFault>,
+) -> Result<(), AllocError>
+    requires { 0 < size }
+{
+    for piece in stream.chunks(size) {
+        match feed_again(decoder, alloc, piece) {
+            Ok(mut more) => frames.append(&mut more)?,
+            Err(fault) => assert!(rt; Some(fault) == wanted, "in pieces of {size}"),
+        }
+    }
+    Ok(())
+}
+
+/// What a decoder answers behind a stream: no frames, and the fault that it met.
+fn check_behind(rt: &impl Abort, alloc: Global, decoder: &mut Decoder, wanted: Option<FrameFault>) {
+    let told = match decoder.feed(alloc, b"") {
+        Ok(more) => (more.len(), None),
+        Err(fault) => (0, Some(fault)),
+    };
+    assert!(rt; told == (0, wanted));
+}
+
 /// Feeds the stream in pieces of this size, and compares its contents and what its end says.
 fn feed_in_pieces(
     rt: &impl Abort,
@@ -53,85 +83,73 @@ fn feed_in_pieces(
     requires { 0 < size }
 {
     let wanted = fault_of(end);
-    let mut decoder = Decoder::new(alloc);
     let mut frames = Vec::with_capacity(alloc, 3)?;
-    for piece in stream.chunks(size) {
-        match feed_again(&mut decoder, alloc, piece) {
-            Ok(more) => {
-                for frame in more {
-                    frames.push(frame)?;
-                }
-            }
-            Err(fault) => assert!(rt; Some(fault) == wanted, "in pieces of {size}"),
-        }
-    }
+    let mut decoder = Decoder::new(alloc);
+    feed_pieces(rt, alloc, &mut decoder, &mut frames, stream, size, wanted)?;
     compare(rt, &frames, contents, size);
-    assert!(rt; decoder.fault() == wanted, "in pieces of {size}");
-    assert!(rt; decoder.finish() == end, "in pieces of {size}");
-    for _ in 0..2 {
-        match decoder.feed(alloc, b"") {
-            Ok(more) => {
-                assert!(rt; more.len() == 0);
-                assert!(rt; wanted == None);
-            }
-            Err(fault) => assert!(rt; Some(fault) == wanted),
-        }
-    }
+    assert!(rt;
+        (decoder.fault(), decoder.finish()) == (wanted, end),
+        "in pieces of {size}"
+    );
+    check_behind(rt, alloc, &mut decoder, wanted);
+    check_behind(rt, alloc, &mut decoder, wanted);
     Ok(())
 }
+
+/// Streams, the contents of their frames, and what their ends say.
+const STREAMS: [(&str, &[&str], Result<(), FrameFault>); 26] = [
+    ("", &[], Ok(())),
+    ("Content-Length: 1\r\n\r\n{", &["{"], Ok(())),
+    ("Content-Length: 5\r\n\r\n{}", &[], CUT),
+    ("Content-Length: 1\r\n\r\n{X\r\n\r\n", &["{"], BAD),
+    ("Content-Length: 0\r\n\r\n", &[""], Ok(())),
+    ("Content-Length: 00000001\r\n\r\n{", &["{"], Ok(())),
+    ("Content-Length: 000000001\r\n\r\n{", &[], BAD_LENGTH),
+    ("Content-Length: 16777216\r\n\r\n{", &[], CUT),
+    ("Content-Length: 16777217\r\n\r\n{", &[], BAD_LENGTH),
+    ("Content-Length: \r\n\r\n", &[], BAD_LENGTH),
+    ("Content-Length: +1\r\n\r\n{", &[], BAD_LENGTH),
+    ("content-LENGTH: 2\r\n\r\n{}", &["{}"], Ok(())),
+    ("Content-Length:2\r\n\r\n{}", &["{}"], Ok(())),
+    ("Content-Length: \t 2 \t\r\n\r\n{}", &["{}"], Ok(())),
+    ("Content-Length : 2\r\n\r\n{}", &[], BAD),
+    ("Content-Length: 2\n\n{}", &[], CUT),
+    ("Content-Length: 2\r\n\r{}", &[], CUT),
+    ("\rContent-Length: 2\r\n\r\n{}", &[], BAD),
+    ("Content-Length: 2\x0b\r\n\r\n{}", &[], BAD),
+    ("Content-Length: 4\r\n\r\n\r\n\r\n", &["\r\n\r\n"], Ok(())),
+    ("\r\n", &[], Err(FrameFault::NoLength)),
+    (
+        "Content-Length: 2\r\nContent-Length: 2\r\n\r\n{}",
+        &[],
+        Err(FrameFault::SecondLength),
+    ),
+    (
+        "Content-Type: text/plain\r\nContent-Length: 2\r\n\r\n{}",
+        &[],
+        Err(FrameFault::BadCharset),
+    ),
+    (
+        "X-2:\r\nContent-Length: \t2 \r\nContent: Content-Length: x\r\n\r\n{}",
+        &["{}"],
+        Ok(()),
+    ),
+    (
+        "Content-Length: 2\r\n\r\n{}Content-Length: 0\r\n\r\nContent-Length: 3\r\n\r\n[1]",
+        &["{}", "", "[1]"],
+        Ok(()),
+    ),
+    (
+        "Content-Length: 2\r\n\r\n{}Content-Length: 2\r\n\r\n[]Content-Le",
+        &["{}", "[]"],
+        CUT,
+    ),
+];
 
 #[test]
 fn streams_are_split_whatever_the_pieces(rt: HostRuntime) -> Result<(), Fail> {
     let alloc = rt.alloc();
-    let streams: [(&str, &[&str], Result<(), FrameFault>); 26] = [
-        ("", &[], Ok(())),
-        ("Content-Length: 1\r\n\r\n{", &["{"], Ok(())),
-        ("Content-Length: 5\r\n\r\n{}", &[], CUT),
-        ("Content-Length: 1\r\n\r\n{X\r\n\r\n", &["{"], BAD),
-        ("Content-Length: 0\r\n\r\n", &[""], Ok(())),
-        ("Content-Length: 00000001\r\n\r\n{", &["{"], Ok(())),
-        ("Content-Length: 000000001\r\n\r\n{", &[], BAD_LENGTH),
-        ("Content-Length: 16777216\r\n\r\n{", &[], CUT),
-        ("Content-Length: 16777217\r\n\r\n{", &[], BAD_LENGTH),
-        ("Content-Length: \r\n\r\n", &[], BAD_LENGTH),
-        ("Content-Length: +1\r\n\r\n{", &[], BAD_LENGTH),
-        ("content-LENGTH: 2\r\n\r\n{}", &["{}"], Ok(())),
-        ("Content-Length:2\r\n\r\n{}", &["{}"], Ok(())),
-        ("Content-Length: \t 2 \t\r\n\r\n{}", &["{}"], Ok(())),
-        ("Content-Length : 2\r\n\r\n{}", &[], BAD),
-        ("Content-Length: 2\n\n{}", &[], CUT),
-        ("Content-Length: 2\r\n\r{}", &[], CUT),
-        ("\rContent-Length: 2\r\n\r\n{}", &[], BAD),
-        ("Content-Length: 2\x0b\r\n\r\n{}", &[], BAD),
-        ("Content-Length: 4\r\n\r\n\r\n\r\n", &["\r\n\r\n"], Ok(())),
-        ("\r\n", &[], Err(FrameFault::NoLength)),
-        (
-            "Content-Length: 2\r\nContent-Length: 2\r\n\r\n{}",
-            &[],
-            Err(FrameFault::SecondLength),
-        ),
-        (
-            "Content-Type: text/plain\r\nContent-Length: 2\r\n\r\n{}",
-            &[],
-            Err(FrameFault::BadCharset),
-        ),
-        (
-            "X-2:\r\nContent-Length: \t2 \r\nContent: Content-Length: x\r\n\r\n{}",
-            &["{}"],
-            Ok(()),
-        ),
-        (
-            "Content-Length: 2\r\n\r\n{}Content-Length: 0\r\n\r\nContent-Length: 3\r\n\r\n[1]",
-            &["{}", "", "[1]"],
-            Ok(()),
-        ),
-        (
-            "Content-Length: 2\r\n\r\n{}Content-Length: 2\r\n\r\n[]Content-Le",
-            &["{}", "[]"],
-            CUT,
-        ),
-    ];
-    for (stream, contents, end) in streams {
+    for (stream, contents, end) in STREAMS {
         for size in 1..80 {
             feed_in_pieces(&rt, alloc, stream.as_bytes(), size, contents, end)?;
         }
@@ -168,23 +186,36 @@ impl Output for Taker {
     }
 }
 
+/// Writes a frame to a device that takes so many bytes at most at each of so many writes.
+fn check_writes(
+    rt: &impl Abort,
+    alloc: Global,
+    content: &[u8],
+    wanted: &[u8],
+    most: usize,
+    writes_left: usize,
+) -> Result<(), AllocError> {
+    let mut taker = Taker {
+        taken: Vec::with_capacity(alloc, wanted.len())?,
+        most,
+        writes_left,
+        has_failed: false,
+    };
+    let outcome = write_frame(&mut taker, content);
+    let room = most.saturating_mul(writes_left);
+    assert!(rt; taker.taken.as_slice() == &wanted[..wanted.len().min(room)]);
+    assert!(rt; outcome.is_ok() == (wanted.len() <= room));
+    Ok(())
+}
+
 #[test]
 fn frames_are_written_whole_or_a_front_of_them(rt: HostRuntime) -> Result<(), Fail> {
-    let alloc = rt.alloc();
     let content =
         "{\"error\":{\"code\":-32700,\"message\":\"parse error\"},\"id\":null,\"jsonrpc\":\"2.0\"}";
-    let wanted = format!(in alloc; "Content-Length: 75\r\n\r\n{content}")?;
+    let wanted = format!(in rt.alloc(); "Content-Length: 75\r\n\r\n{content}")?;
     for writes_left in 0..200 {
-        let mut taker = Taker {
-            taken: Vec::with_capacity(alloc, 100)?,
-            most: 1,
-            writes_left,
-            has_failed: false,
-        };
-        let outcome = write_frame(&mut taker, content.as_bytes());
-        let count = wanted.len().min(writes_left);
-        assert!(rt; taker.taken.as_slice() == &wanted.as_bytes()[..count]);
-        assert!(rt; outcome.is_ok() == (wanted.len() <= writes_left));
+        let (content, wanted) = (content.as_bytes(), wanted.as_bytes());
+        check_writes(&rt, rt.alloc(), content, wanted, 1, writes_left)?;
     }
     Ok(())
 }
@@ -197,6 +228,14 @@ fn a_refusal_of_memory_has_a_name(rt: HostRuntime) -> Result<(), Fail> {
     Ok(())
 }
 
+/// Writes a frame to a vector.
+fn check_vector(rt: &impl Abort, alloc: Global, content: &[u8], wanted: &[u8]) {
+    let mut taken = Vec::new(alloc);
+    let outcome = write_frame(&mut WriteOutput::new(&mut taken), content);
+    assert!(rt; outcome.is_ok());
+    assert!(rt; taken.as_slice() == wanted);
+}
+
 #[test]
 fn a_frame_of_a_mebibyte_is_written(rt: HostRuntime) -> Result<(), Fail> {
     let alloc = rt.alloc();
@@ -204,18 +243,7 @@ fn a_frame_of_a_mebibyte_is_written(rt: HostRuntime) -> Result<(), Fail> {
     let mut wanted = Vec::new(alloc);
     wanted.extend_from_slice(b"Content-Length: 1048576\r\n\r\n")?;
     wanted.extend_from_slice(&content)?;
-    let mut taken = Vec::new(alloc);
-    let outcome = write_frame(&mut WriteOutput::new(&mut taken), &content);
-    assert!(rt; outcome.is_ok());
-    assert!(rt; taken == wanted);
-    let mut taker = Taker {
-        taken: Vec::new(alloc),
-        most: 1_000,
-        writes_left: usize::MAX,
-        has_failed: false,
-    };
-    let outcome = write_frame(&mut taker, &content);
-    assert!(rt; outcome.is_ok());
-    assert!(rt; taker.taken == wanted);
+    check_vector(&rt, alloc, &content, &wanted);
+    check_writes(&rt, alloc, &content, &wanted, 1_000, usize::MAX)?;
     Ok(())
 }

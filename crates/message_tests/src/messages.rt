@@ -5,7 +5,7 @@ use rpc::{
     Call, Diagnostic, Id, Log, Loss, Message, Note, Position, Range, Refusal, Reply, Stats,
     one_hearing, read, some_hearing, to_bytes,
 };
-use std::alloc::Global;
+use std::alloc::{AllocError, Global};
 use std::process::Abort;
 use std::test::Fail;
 
@@ -52,9 +52,13 @@ fn no_memory(alloc: Global) -> Result<Reply, Fail> {
     })
 }
 
+fn bytes_of(alloc: Global, reply: Reply) -> Result<Vec<u8>, AllocError> {
+    to_bytes(alloc, &reply)
+}
+
 /// The reply has these bytes.
 fn has_bytes(rt: &impl Abort, alloc: Global, reply: Reply, content: &str) -> Result<(), Fail> {
-    let bytes = to_bytes(alloc, &reply)?;
+    let bytes = bytes_of(alloc, reply)?;
     assert!(rt; bytes.as_slice() == content.as_bytes(), "at {content}");
     Ok(())
 }

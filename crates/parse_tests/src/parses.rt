@@ -58,9 +58,8 @@ fn assert_node(
 ) {
     let id = NodeId { index };
     assert!(rt; index < store.len());
-    assert!(rt; store.production(id) == production);
-    assert!(rt; store.born(id) == 0);
-    assert!(rt; store.child_count(id) == children.len());
+    let told = (store.production(id), store.born(id), store.child_count(id));
+    assert!(rt; told == (production, 0, children.len()));
     for (k, child) in children.iter().enumerate() {
         assert!(rt; store.child(id, k) == Some(*child));
     }
@@ -78,86 +77,121 @@ fn expected(alloc: Global, tables: &Tables, parse: &Parse) -> Result<Vec<Option<
     Ok(looks)
 }
 
-/// The parse of these kinds of sums stops so, and these are the rules that may follow.
+/// What a parse tells where it stops: the verdict, the stack, and the rules that may follow.
+#[derive(Clone, Copy)]
+struct Stop<'a> {
+    verdict: Verdict,
+    stack: &'a [Child],
+    looks: &'a [Option<usize>],
+}
+
+/// A parse stops so.
+fn assert_stop(
+    rt: &impl Abort,
+    alloc: Global,
+    tables: &Tables,
+    parse: &Parse,
+    stop: &Stop<'_>,
+) -> Result<(), AllocError>
+    requires { (kinds : List TokenKind) × (cells : List Cell)
+        × IsParseOf tables.now kinds cells parse.now }
+{
+    assert!(rt; (parse.verdict(), parse.stack()) == (stop.verdict, stop.stack));
+    let looks = expected(alloc, tables, parse)?;
+    assert!(rt; looks.as_slice() == stop.looks);
+    Ok(())
+}
+
+/// The parse of these kinds stops so.
 fn stops(
     rt: &impl Abort,
     alloc: Global,
     tables: &Tables,
     kinds: &[Kind],
-    verdict: Verdict,
-    stack: &[Child],
-    looks: &[Option<usize>],
+    stop: &Stop<'_>,
 ) -> Result<(), Fail> {
     let mut store = Store::new(alloc);
     let parse = Parse::whole(alloc, tables, &mut store, &Listed { kinds })?;
-    assert!(rt; parse.verdict() == verdict);
-    assert!(rt; parse.stack() == stack);
-    assert!(rt; expected(alloc, tables, &parse)?.as_slice() == looks);
+    assert_stop(rt, alloc, tables, &parse, stop)?;
     Ok(())
 }
 
+/// The parses of these kinds of sums stop so.
+fn sums_stop(rt: &impl Abort, alloc: Global, rows: &[(&[Kind], Stop<'_>)]) -> Result<(), Fail> {
+    let tables = tables(alloc, SUMS)?;
+    for (kinds, stop) in rows {
+        stops(rt, alloc, &tables, kinds, stop)?;
+    }
+    Ok(())
+}
+
+/// Numbers and parentheses.
+const OPERAND: &[Option<usize>] = &[Some(0), Some(2)];
+
 #[test]
 fn parses_of_sums_stop_at_the_end(rt: HostRuntime) -> Result<(), Fail> {
-    let alloc = rt.alloc();
-    let tables = tables(alloc, SUMS)?;
-    let tree = Verdict::Tree(NodeId { index: 3 });
-    stops(
-        &rt,
-        alloc,
-        &tables,
-        &[NUM, PLUS, NUM],
-        tree,
-        &[node(3)],
-        &[],
-    )?;
-    let early = Verdict::FaultAtEnd;
-    let operand = [Some(0), Some(2)];
-    stops(&rt, alloc, &tables, &[], early, &[], &operand)?;
-    let open = [Child::Token(LP), Child::Token(NUM)];
-    let inner = [Some(1), Some(3)];
-    stops(&rt, alloc, &tables, &[LP, NUM], early, &open, &inner)
+    let tree = Stop {
+        verdict: Verdict::Tree(NodeId { index: 3 }),
+        stack: &[node(3)],
+        looks: &[],
+    };
+    let nothing = Stop {
+        verdict: Verdict::FaultAtEnd,
+        stack: &[],
+        looks: OPERAND,
+    };
+    let open = Stop {
+        verdict: Verdict::FaultAtEnd,
+        stack: &[Child::Token(LP), Child::Token(NUM)],
+        looks: &[Some(1), Some(3)],
+    };
+    let rows: [(&[Kind], Stop<'_>); 3] = [
+        (&[NUM, PLUS, NUM], tree),
+        (&[], nothing),
+        (&[LP, NUM], open),
+    ];
+    sums_stop(&rt, rt.alloc(), &rows)
 }
 
 #[test]
 fn parses_of_sums_stop_at_the_first_fault(rt: HostRuntime) -> Result<(), Fail> {
-    let alloc = rt.alloc();
-    let tables = tables(alloc, SUMS)?;
-    let number = [Child::Token(NUM)];
-    let behind = [Some(1), None];
-    stops(
-        &rt,
-        alloc,
-        &tables,
-        &[NUM, NUM],
-        Verdict::FaultAt(1),
-        &number,
-        &behind,
-    )?;
-    let kinds = [NUM, PLUS, Kind::Invalid, PLUS];
-    let sum = [node(1), Child::Token(PLUS)];
-    let operand = [Some(0), Some(2)];
-    stops(
-        &rt,
-        alloc,
-        &tables,
-        &kinds,
-        Verdict::FaultAt(2),
-        &sum,
-        &operand,
-    )
+    let second = Stop {
+        verdict: Verdict::FaultAt(1),
+        stack: &[Child::Token(NUM)],
+        looks: &[Some(1), None],
+    };
+    let invalid = Stop {
+        verdict: Verdict::FaultAt(2),
+        stack: &[node(1), Child::Token(PLUS)],
+        looks: OPERAND,
+    };
+    let rows: [(&[Kind], Stop<'_>); 2] = [
+        (&[NUM, NUM], second),
+        (&[NUM, PLUS, Kind::Invalid, PLUS], invalid),
+    ];
+    sums_stop(&rt, rt.alloc(), &rows)
+}
+
+/// Parses these kinds as edit 0 behind the nodes that a store has, and compares how many branches there are and how many of them
+/// were built, which are all.
+fn parse_whole(
+    rt: &impl Abort,
+    alloc: Global,
+    file: &str,
+    store: &mut Store,
+    kinds: &[Kind],
+    branches: usize,
+) -> Result<Verdict, Fail> {
+    let tables = tables(alloc, file)?;
+    let parse = Parse::whole(alloc, &tables, store, &Listed { kinds })?;
+    assert!(rt; (parse.counts(), parse.number()) == ((branches, branches), 0));
+    Ok(parse.verdict())
 }
 
 #[test]
 fn the_nodes_of_a_sum(rt: HostRuntime) -> Result<(), Fail> {
-    let alloc = rt.alloc();
-    let tables = tables(alloc, SUMS)?;
-    let mut store = Store::new(alloc);
-    let kinds = Listed {
-        kinds: &[NUM, PLUS, NUM],
-    };
-    let parse = Parse::whole(alloc, &tables, &mut store, &kinds)?;
-    assert!(rt; parse.counts() == (4, 4));
-    assert!(rt; parse.number() == 0);
+    let mut store = Store::new(rt.alloc());
+    parse_whole(&rt, rt.alloc(), SUMS, &mut store, &[NUM, PLUS, NUM], 4)?;
     assert_node(&rt, &store, 0, 2, &[Child::Token(NUM)]);
     assert_node(&rt, &store, 1, 1, &[node(0)]);
     assert_node(&rt, &store, 2, 2, &[Child::Token(NUM)]);
@@ -167,14 +201,10 @@ fn the_nodes_of_a_sum(rt: HostRuntime) -> Result<(), Fail> {
 
 #[test]
 fn older_nodes_stay(rt: HostRuntime) -> Result<(), Fail> {
-    let alloc = rt.alloc();
-    let tables = tables(alloc, SUMS)?;
-    let mut store = Store::new(alloc);
-    let older = store.branch(alloc, 7, &[], 9)?;
-    let parse = Parse::whole(alloc, &tables, &mut store, &Listed { kinds: &[NUM] })?;
+    let mut store = Store::new(rt.alloc());
+    let older = store.branch(rt.alloc(), 7, &[], 9)?;
+    parse_whole(&rt, rt.alloc(), SUMS, &mut store, &[NUM], 2)?;
     assert!(rt; store.len() == 3);
-    assert!(rt; parse.counts() == (2, 2));
-    assert!(rt; parse.number() == 0);
     assert!(rt; older.index < store.len());
     assert!(rt; store.born(older) == 9);
     Ok(())
@@ -182,11 +212,9 @@ fn older_nodes_stay(rt: HostRuntime) -> Result<(), Fail> {
 
 #[test]
 fn a_list_of_no_items_is_a_branch(rt: HostRuntime) -> Result<(), Fail> {
-    let alloc = rt.alloc();
-    let tables = tables(alloc, LISTS)?;
-    let mut store = Store::new(alloc);
-    let parse = Parse::whole(alloc, &tables, &mut store, &Listed { kinds: &[] })?;
-    assert!(rt; parse.verdict() == Verdict::Tree(NodeId { index: 0 }));
+    let mut store = Store::new(rt.alloc());
+    let verdict = parse_whole(&rt, rt.alloc(), LISTS, &mut store, &[], 1)?;
+    assert!(rt; verdict == Verdict::Tree(NodeId { index: 0 }));
     assert_node(&rt, &store, 0, 0, &[]);
     Ok(())
 }

@@ -13,8 +13,8 @@ fn between(start: Position, end: Position) -> Option<Range> {
     Some(Range { start, end })
 }
 
-/// A text of `count` times the character.
-fn filled(alloc: Global, c: char, count: usize) -> Result<String, AllocError> {
+/// So many times the character.
+pub fn filled(alloc: Global, c: char, count: usize) -> Result<String, AllocError> {
     let mut text = String::new(alloc);
     for _ in 0..count {
         text.push(c)?;
@@ -33,32 +33,84 @@ fn expect_positions(rt: &impl Abort, text: &Text, rows: &[(usize, u32, u32)]) {
     }
 }
 
+/// A text, the edit that puts a piece between two characters of a line, and the text behind it, each with some positions.
+#[derive(Clone, Copy)]
+struct Case<'a> {
+    open: &'a str,
+    positions: &'a [(usize, u32, u32)],
+    line: u32,
+    from: u32,
+    to: u32,
+    piece: &'a str,
+    edited: &'a str,
+    positions_behind: &'a [(usize, u32, u32)],
+}
+
+/// The whole text is this.
+fn expect_text(
+    rt: &impl Abort,
+    alloc: Global,
+    text: &Text,
+    wanted: &str,
+) -> Result<(), AllocError> {
+    let whole = text.to_string(alloc)?;
+    assert!(rt; whole.as_str() == wanted);
+    Ok(())
+}
+
+fn check_edit(
+    rt: &impl Abort,
+    alloc: Global,
+    text: &mut Text,
+    case: &Case<'_>,
+) -> Result<(), Fail> {
+    expect_positions(rt, text, case.positions);
+    let range = between(at(case.line, case.from), at(case.line, case.to));
+    text.change(alloc, Unit::Utf16, range, case.piece)?;
+    expect_text(rt, alloc, text, case.edited)?;
+    expect_positions(rt, text, case.positions_behind);
+    Ok(())
+}
+
+fn check_case(rt: &impl Abort, alloc: Global, case: &Case<'_>) -> Result<(), Fail> {
+    let mut text = Text::open(alloc, case.open)?;
+    check_edit(rt, alloc, &mut text, case)
+}
+
 #[test]
 fn breaks_apart_are_two_and_together_one(rt: HostRuntime) -> Result<(), Fail> {
-    let alloc = rt.alloc();
-    let mut text = Text::open(alloc, "1\rX\n2")?;
-    expect_positions(&rt, &text, &[(2, 1, 0), (3, 1, 1), (4, 2, 0), (5, 2, 1)]);
-    text.change(alloc, Unit::Utf16, between(at(1, 0), at(1, 1)), "")?;
-    assert!(rt; text.to_string(alloc)?.as_str() == "1\r\n2");
-    expect_positions(&rt, &text, &[(1, 0, 1), (2, 0, 1), (3, 1, 0), (4, 1, 1)]);
-    Ok(())
+    let case = Case {
+        open: "1\rX\n2",
+        positions: &[(2, 1, 0), (3, 1, 1), (4, 2, 0), (5, 2, 1)],
+        line: 1,
+        from: 0,
+        to: 1,
+        piece: "",
+        edited: "1\r\n2",
+        positions_behind: &[(1, 0, 1), (2, 0, 1), (3, 1, 0), (4, 1, 1)],
+    };
+    check_case(&rt, rt.alloc(), &case)
 }
 
-/// Opens a text of a character and `1`, and puts a `5` before them by a range within the character.
-fn check_two_units(rt: &impl Abort, alloc: Global, c: char) -> Result<(), Fail> {
-    let mut text = Text::open(alloc, format!(in alloc; "{c}1")?.as_str())?;
-    expect_positions(rt, &text, &[(0, 0, 0), (1, 0, 2), (2, 0, 3)]);
-    text.change(alloc, Unit::Utf16, between(at(0, 1), at(0, 1)), "5")?;
-    let wanted = format!(in alloc; "5{c}1")?;
-    assert!(rt; text.to_string(alloc)?.as_str() == wanted.as_str());
-    expect_positions(rt, &text, &[(1, 0, 1), (2, 0, 3)]);
-    Ok(())
-}
-
+/// Each row is a text of a character and `1`, and the text with a `5` before them, put there by a range within the character.
 #[test]
 fn characters_past_the_first_plane_count_two(rt: HostRuntime) -> Result<(), Fail> {
-    for c in ['\u{10000}', '\u{1f600}', '\u{10ffff}'] {
-        check_two_units(&rt, rt.alloc(), c)?;
+    for (open, edited) in [
+        ("\u{10000}1", "5\u{10000}1"),
+        ("\u{1f600}1", "5\u{1f600}1"),
+        ("\u{10ffff}1", "5\u{10ffff}1"),
+    ] {
+        let case = Case {
+            open,
+            positions: &[(0, 0, 0), (1, 0, 2), (2, 0, 3)],
+            line: 0,
+            from: 1,
+            to: 1,
+            piece: "5",
+            edited,
+            positions_behind: &[(1, 0, 1), (2, 0, 3)],
+        };
+        check_case(&rt, rt.alloc(), &case)?;
     }
     Ok(())
 }
@@ -83,37 +135,77 @@ fn is_too_large(alloc: Global, c: char, count: usize) -> Result<bool, AllocError
     Ok(Text::open(alloc, text.as_str()).err() == Some(TextFault::TooLarge))
 }
 
+/// An open text of so many times the character.
+pub fn text_of(alloc: Global, c: char, count: usize) -> Result<Text, Fail> {
+    let text = filled(alloc, c, count)?;
+    Ok(Text::open(alloc, text.as_str())?)
+}
+
+/// Whether an edit is refused as too large. Any other refusal is handed on.
+fn is_refused(outcome: Result<(), TextFault>) -> Result<bool, TextFault> {
+    match outcome {
+        Ok(()) => Ok(false),
+        Err(TextFault::TooLarge) => Ok(true),
+        Err(fault) => Err(fault),
+    }
+}
+
+/// Whether the text with so many times `1` in the place of a range is refused.
+fn is_change_refused(
+    alloc: Global,
+    text: &mut Text,
+    range: Option<Range>,
+    count: usize,
+) -> Result<bool, Fail> {
+    let piece = filled(alloc, '1', count)?;
+    Ok(is_refused(text.change(alloc, Unit::Utf16, range, piece.as_str()))?)
+}
+
+/// Each row is a range, how many times `1` it gives way to, whether that is refused, and how many bytes there are behind it.
+fn check_bytes(rt: &impl Abort, alloc: Global, text: &mut Text) -> Result<(), Fail> {
+    let front = between(at(0, 0), at(0, 0));
+    for (range, count, wanted, bytes) in [
+        (front, 1, false, 1_048_576),
+        (front, 1, true, 1_048_576),
+        (None, 1, false, 1),
+        (None, 1_048_577, true, 1),
+    ] {
+        let is_refused = is_change_refused(alloc, text, range, count)?;
+        assert!(rt; (is_refused, text.bytes()) == (wanted, bytes));
+    }
+    Ok(())
+}
+
 #[test]
 fn a_text_may_have_so_many_bytes(rt: HostRuntime) -> Result<(), Fail> {
     let alloc = rt.alloc();
-    let mut text = Text::open(alloc, filled(alloc, '1', 1_048_575)?.as_str())?;
-    text.change(alloc, Unit::Utf16, between(at(0, 0), at(0, 0)), "1")?;
-    assert!(rt; text.bytes() == 1_048_576);
-    let more = text.change(alloc, Unit::Utf16, between(at(0, 0), at(0, 0)), "1");
-    assert!(rt; more == Err(TextFault::TooLarge));
-    assert!(rt; text.bytes() == 1_048_576);
-    text.change(alloc, Unit::Utf16, None, "1")?;
-    assert!(rt; text.bytes() == 1);
     assert!(rt; is_too_large(alloc, '1', 1_048_577)?);
-    let long = filled(alloc, '1', 1_048_577)?;
-    assert!(rt; text.change(alloc, Unit::Utf16, None, long.as_str()) == Err(TextFault::TooLarge));
+    let mut text = text_of(alloc, '1', 1_048_575)?;
+    check_bytes(&rt, alloc, &mut text)
+}
+
+/// Each row is how many of the first characters give way to a piece, whether that is refused, and how many characters there are
+/// behind it. There are as many bytes as may be throughout.
+fn check_full_text(rt: &impl Abort, alloc: Global, text: &mut Text) -> Result<(), Fail> {
+    assert!(rt; (text.len(), text.bytes()) == (262_144, LONGEST_TEXT));
+    for (removed, piece, wanted, count) in [
+        (1, "12345", true, 262_144),
+        (1, "\u{e9}12", false, 262_146),
+        (0, "1", true, 262_146),
+    ] {
+        assert!(rt; removed <= text.len());
+        let is_refused = is_refused(text.replace(alloc, 0, removed, piece))?;
+        assert!(rt; (is_refused, text.len(), text.bytes()) == (wanted, count, LONGEST_TEXT));
+    }
     Ok(())
 }
 
 #[test]
 fn the_limit_counts_bytes_and_not_characters(rt: HostRuntime) -> Result<(), Fail> {
     let alloc = rt.alloc();
-    let mut text = Text::open(alloc, filled(alloc, '\u{1f600}', 262_144)?.as_str())?;
-    assert!(rt; text.len() == 262_144);
-    assert!(rt; text.bytes() == LONGEST_TEXT);
-    let more = text.replace(alloc, 0, 1, "12345");
-    assert!(rt; more == Err(TextFault::TooLarge));
-    assert!(rt; text.len() == 262_144);
-    text.replace(alloc, 0, 1, "\u{e9}12")?;
-    assert!(rt; text.replace(alloc, 0, 0, "1") == Err(TextFault::TooLarge));
-    assert!(rt; (text.len(), text.bytes()) == (262_146, LONGEST_TEXT));
     assert!(rt; is_too_large(alloc, '\u{e9}', 524_289)?);
-    Ok(())
+    let mut text = text_of(alloc, '\u{1f600}', 262_144)?;
+    check_full_text(&rt, alloc, &mut text)
 }
 
 /// Checks the characters of `abc`, a line feed, a face and `z`.
@@ -129,15 +221,20 @@ fn check_characters(rt: &impl Abort, alloc: Global, text: &Text) -> Result<(), A
     Ok(())
 }
 
+/// Puts `bc` in the place of the second and the third of six characters.
+fn check_replaced(rt: &impl Abort, alloc: Global, text: &mut Text) -> Result<(), Fail> {
+    assert!(rt; text.len() == 6);
+    text.replace(alloc, 1, 3, "bc")?;
+    expect_text(rt, alloc, text, "abc\n\u{1f600}z")?;
+    Ok(())
+}
+
 #[test]
 fn each_call_answers(rt: HostRuntime) -> Result<(), Fail> {
-    let alloc = rt.alloc();
-    let mut text = Text::open(alloc, "a\u{e9}\r\n\u{1f600}z")?;
-    assert!(rt; text.len() == 6);
+    let mut text = Text::open(rt.alloc(), "a\u{e9}\r\n\u{1f600}z")?;
     assert!(rt; text.bytes() == 10);
-    text.replace(alloc, 1, 3, "bc")?;
-    assert!(rt; text.to_string(alloc)?.as_str() == "abc\n\u{1f600}z");
-    check_characters(&rt, alloc, &text)?;
+    check_replaced(&rt, rt.alloc(), &mut text)?;
+    check_characters(&rt, rt.alloc(), &text)?;
     Ok(())
 }
 

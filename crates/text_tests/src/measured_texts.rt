@@ -2,6 +2,7 @@
 
 ghost use Rattle.std.specs.Prelude.{◌<◌};
 
+use crate::documents::text_of;
 use std::alloc::{AllocError, Global};
 use std::process::Abort;
 use std::test::Fail;
@@ -127,13 +128,13 @@ fn has_characters(text: &Text, wanted: &Vec<char>) -> bool {
 #[test]
 fn random_edits_are_those_of_a_list(rt: HostRuntime) -> Result<(), Fail> {
     let alloc = rt.alloc();
-    let mut numbers = Numbers::new();
-    let mut text = Text::open(alloc, "")?;
-    let mut wanted = Vec::new(alloc);
     let mut line = String::new(alloc);
     for _ in 0..600 {
         line.push_str("\u{e9}z")?;
     }
+    let mut numbers = Numbers::new();
+    let mut text = Text::open(alloc, "")?;
+    let mut wanted = Vec::new(alloc);
     let texts = ["", "x", "\r", "\n", "\u{1f600}", line.as_str()];
     for step in 0..10_000 {
         let len = text.len();
@@ -151,16 +152,9 @@ fn random_edits_are_those_of_a_list(rt: HostRuntime) -> Result<(), Fail> {
     Ok(())
 }
 
-#[test]
-fn pieces_stay_few(rt: HostRuntime) -> Result<(), Fail> {
-    let alloc = rt.alloc();
+/// Makes edits of one character all over a text, and keeps its length.
+fn edit_all_over(alloc: Global, text: &mut Text) -> Result<(), Fail> {
     let mut numbers = Numbers::new();
-    let mut whole = String::with_capacity(alloc, 1_048_576)?;
-    for _ in 0..1_048_576 {
-        whole.push('x')?;
-    }
-    let mut text = Text::open(alloc, whole.as_str())?;
-    let opened = text.pieces().len();
     for _ in 0..100_000 {
         let len = text.len();
         if len > 1_048_000 {
@@ -171,7 +165,14 @@ fn pieces_stay_few(rt: HostRuntime) -> Result<(), Fail> {
             text.replace(alloc, a, a, "y")?;
         }
     }
-    assert!(rt; opened == 1_024);
-    assert!(rt; text.pieces().len() / 4 <= opened);
+    Ok(())
+}
+
+#[test]
+fn pieces_stay_few(rt: HostRuntime) -> Result<(), Fail> {
+    let mut text = text_of(rt.alloc(), 'x', 1_048_576)?;
+    assert!(rt; text.pieces().len() == 1_024);
+    edit_all_over(rt.alloc(), &mut text)?;
+    assert!(rt; text.pieces().len() / 4 <= 1_024);
     Ok(())
 }

@@ -1,5 +1,7 @@
 //! Stores of trees.
 
+ghost use Rattle.std.specs.Prelude.{◌<◌, length};
+
 use std::alloc::{AllocError, Global};
 use std::process::Abort;
 use std::test::Fail;
@@ -20,165 +22,196 @@ fn sum(alloc: Global, store: &mut Store) -> Result<[NodeId; 4], AllocError> {
     Ok([first, left, second, whole])
 }
 
-#[test]
-fn branches_over_tokens_and_nodes(rt: HostRuntime) -> Result<(), Fail> {
-    let alloc = rt.alloc();
-    let mut store = Store::new(alloc);
-    assert!(rt; store.len() == 0);
-    let [first, left, second, whole] = sum(alloc, &mut store)?;
-    assert!(rt; store.len() == 4);
-    let want = [
-        (first, 2, 5, 1, 1, Some(NUMBER), None),
-        (left, 1, 5, 1, 2, Some(Child::Node(first)), None),
-        (second, 2, 6, 1, 1, Some(NUMBER), None),
-        (whole, 0, 6, 3, 4, Some(Child::Node(left)), Some(PLUS)),
-    ];
-    for (id, production, born, tokens, size, child, next) in want {
-        assert!(rt; id.index < store.len());
-        assert!(rt; store.production(id) == production, "at {}", id.index);
-        assert!(rt; store.born(id) == born, "at {}", id.index);
-        assert!(rt; store.tokens(id) == tokens, "at {}", id.index);
-        assert!(rt; store.size(id) == size, "at {}", id.index);
-        assert!(rt; store.child(id, 0) == child, "at {}", id.index);
-        assert!(rt; store.child(id, 1) == next, "at {}", id.index);
+/// The production of a node, the edit that made it, its tokens and its size.
+fn label(rt: &impl Abort, store: &Store, id: NodeId) -> (usize, u64, u64, u64)
+    ensures { id.index < length store.now }
+{
+    assert!(rt; id.index < store.len());
+    (
+        store.production(id),
+        store.born(id),
+        store.tokens(id),
+        store.size(id),
+    )
+}
+
+/// The first two children of a node.
+fn first_two(store: &Store, id: NodeId) -> (Option<Child>, Option<Child>)
+    requires { id.index < length store.now }
+{
+    (store.child(id, 0), store.child(id, 1))
+}
+
+fn check_nodes(rt: &impl Abort, store: &Store, [first, left, second, whole]: [NodeId; 4]) {
+    for (id, wanted, children) in [
+        (first, (2, 5, 1, 1), (Some(NUMBER), None)),
+        (left, (1, 5, 1, 2), (Some(Child::Node(first)), None)),
+        (second, (2, 6, 1, 1), (Some(NUMBER), None)),
+        (whole, (0, 6, 3, 4), (Some(Child::Node(left)), Some(PLUS))),
+    ] {
+        assert!(rt; label(rt, store, id) == wanted, "at {}", id.index);
+        assert!(rt; first_two(store, id) == children, "at {}", id.index);
     }
+}
+
+/// What a store tells of the children of a whole sum, and of nodes and tokens as children.
+fn check_children(rt: &impl Abort, store: &Store, whole: NodeId, second: NodeId) {
+    let last = Some(Child::Node(second));
     assert!(rt; whole.index < store.len());
-    assert!(rt; store.child(whole, 2) == Some(Child::Node(second)));
-    assert!(rt; store.child(whole, 3) == None);
-    assert!(rt; store.child(whole, 18_446_744_073_709_551_615) == None);
-    assert!(rt; store.child_count(whole) == 3);
-    assert!(rt; store.children(whole).count() == 3);
-    assert!(rt; store.children(whole).next_back() == Some(Child::Node(second)));
-    assert!(rt; Children::of(&[PLUS, NUMBER]).next_back() == Some(NUMBER));
+    let behind = (
+        store.child(whole, 3),
+        store.child(whole, 18_446_744_073_709_551_615),
+    );
+    assert!(rt; (store.child(whole, 2), behind) == (last, (None, None)));
+    let counts = (store.child_count(whole), store.children(whole).count());
+    assert!(rt; (counts, store.children(whole).next_back()) == ((3, 3), last));
     for (k, child) in store.children(whole).enumerate() {
         assert!(rt; store.child(whole, k) == Some(child), "at {k}");
     }
-    assert!(rt; store.tokens_of(PLUS) == 1);
-    assert!(rt; store.size_of(PLUS) == 0);
-    assert!(rt; store.tokens_of(Child::Node(whole)) == 3);
-    assert!(rt; store.size_of(Child::Node(whole)) == 4);
+    for (child, tokens, size) in [(PLUS, 1, 0), (Child::Node(whole), 3, 4)] {
+        assert!(rt; (store.tokens_of(child), store.size_of(child)) == (tokens, size));
+    }
+}
+
+#[test]
+fn branches_over_tokens_and_nodes(rt: HostRuntime) -> Result<(), Fail> {
+    let mut store = Store::new(rt.alloc());
+    assert!(rt; store.len() == 0);
+    let nodes = sum(rt.alloc(), &mut store)?;
+    assert!(rt; store.len() == 4);
+    check_nodes(&rt, &store, nodes);
+    let [_, _, second, whole] = nodes;
+    check_children(&rt, &store, whole, second);
+    assert!(rt; Children::of(&[PLUS, NUMBER]).next_back() == Some(NUMBER));
     Ok(())
 }
 
 #[test]
 fn an_empty_production_is_a_branch_of_no_token(rt: HostRuntime) -> Result<(), Fail> {
-    let alloc = rt.alloc();
-    let mut store = Store::new(alloc);
-    let id = store.branch(alloc, 0, &[], 0)?;
-    assert!(rt; id.index < store.len());
-    assert!(rt; store.tokens(id) == 0);
-    assert!(rt; store.size(id) == 1);
+    let mut store = Store::new(rt.alloc());
+    let id = store.branch(rt.alloc(), 0, &[], 0)?;
+    assert!(rt; label(&rt, &store, id) == (0, 0, 0, 1));
     assert!(rt; store.child(id, 0) == None);
     Ok(())
 }
 
-#[test]
-fn a_cut_keeps_the_first_nodes(rt: HostRuntime) -> Result<(), Fail> {
-    let alloc = rt.alloc();
-    let mut store = Store::new(alloc);
-    let [first, left, second, _] = sum(alloc, &mut store)?;
+/// Cuts a store of a sum, and makes a node in the place of one that it lost.
+fn check_cuts(
+    rt: &impl Abort,
+    alloc: Global,
+    store: &mut Store,
+    [first, left, second, _]: [NodeId; 4],
+) -> Result<(), AllocError> {
     store.truncate(4);
     assert!(rt; store.len() == 4);
     store.truncate(2);
     assert!(rt; store.len() == 2);
-    assert!(rt; left.index < store.len());
+    assert!(rt; label(rt, store, left) == (1, 5, 1, 2));
     assert!(rt; store.child(left, 0) == Some(Child::Node(first)));
-    assert!(rt; store.size(left) == 2);
     let again = store.branch(alloc, 3, &[Child::Node(left), PLUS], 7)?;
-    assert!(rt; again == second);
-    assert!(rt; again.index < store.len());
-    assert!(rt; store.born(again) == 7);
-    assert!(rt; store.tokens(again) == 2);
+    assert!(rt; (again, label(rt, store, again)) == (second, (3, 7, 2, 3)));
     store.truncate(0);
     assert!(rt; store.len() == 0);
     Ok(())
 }
 
-/// Each node stands twice below the next one, so the numbers double.
 #[test]
-fn counts_stop_at_the_greatest_number(rt: HostRuntime) -> Result<(), Fail> {
-    let alloc = rt.alloc();
-    let mut store = Store::new(alloc);
+fn a_cut_keeps_the_first_nodes(rt: HostRuntime) -> Result<(), Fail> {
+    let mut store = Store::new(rt.alloc());
+    let nodes = sum(rt.alloc(), &mut store)?;
+    check_cuts(&rt, rt.alloc(), &mut store, nodes)?;
+    Ok(())
+}
+
+/// Makes nodes of which each stands twice below the next one, so that the numbers double.
+fn check_doubling(rt: &impl Abort, alloc: Global, store: &mut Store) -> Result<(), AllocError> {
     let mut last = store.branch(alloc, 0, &[NUMBER, NUMBER], 0)?;
     for k in 1..70u64 {
         assert!(rt; last.index < store.len());
         last = store.branch(alloc, 0, &[Child::Node(last), Child::Node(last)], k)?;
         assert!(rt; last.index < store.len());
-        let (tokens, size) = match k {
+        let counts = (store.tokens(last), store.size(last));
+        let wanted = match k {
             1 => (4, 3),
             62 => (9_223_372_036_854_775_808, 9_223_372_036_854_775_807),
             63.. => (GREATEST, GREATEST),
-            _ => (store.tokens(last), store.size(last)),
+            _ => counts,
         };
-        assert!(rt; store.tokens(last) == tokens, "at {k}");
-        assert!(rt; store.size(last) == size, "at {k}");
+        assert!(rt; counts == wanted, "at {k}");
     }
     Ok(())
 }
 
 #[test]
+fn counts_stop_at_the_greatest_number(rt: HostRuntime) -> Result<(), Fail> {
+    let mut store = Store::new(rt.alloc());
+    check_doubling(&rt, rt.alloc(), &mut store)?;
+    Ok(())
+}
+
+#[test]
 fn more_children_than_stand_inline(rt: HostRuntime) -> Result<(), Fail> {
-    let alloc = rt.alloc();
-    let mut store = Store::new(alloc);
+    let mut store = Store::new(rt.alloc());
     let mut children = [NUMBER; 40];
     children[39] = PLUS;
-    let id = store.branch(alloc, 1, &children, 0)?;
-    assert!(rt; id.index < store.len());
-    assert!(rt; store.tokens(id) == 40);
-    assert!(rt; store.size(id) == 1);
-    assert!(rt; store.child(id, 4) == Some(NUMBER));
-    assert!(rt; store.child(id, 38) == Some(NUMBER));
-    assert!(rt; store.child(id, 39) == Some(PLUS));
-    assert!(rt; store.child(id, 40) == None);
+    let id = store.branch(rt.alloc(), 1, &children, 0)?;
+    assert!(rt; label(&rt, &store, id) == (1, 0, 40, 1));
+    for (k, child) in [
+        (4, Some(NUMBER)),
+        (38, Some(NUMBER)),
+        (39, Some(PLUS)),
+        (40, None),
+    ] {
+        assert!(rt; store.child(id, k) == child, "at {k}");
+    }
+    Ok(())
+}
+
+/// Makes a branch over a number and a token of each kind.
+fn check_kinds(rt: &impl Abort, alloc: Global, store: &mut Store) -> Result<(), AllocError> {
+    for kind in [
+        Kind::Invalid,
+        Kind::Rule(2_147_483_646),
+        Kind::Rule(2_147_483_647),
+        Kind::Rule(18_446_744_073_709_551_615),
+    ] {
+        let last = Child::Token(kind);
+        let id = store.branch(alloc, 1, &[NUMBER, last], 2)?;
+        assert!(rt; label(rt, store, id) == (1, 2, 2, 1));
+        assert!(rt; first_two(store, id) == (Some(NUMBER), Some(last)));
+        let behind = (store.child_count(id), store.child(id, 2));
+        assert!(rt; (behind, store.children(id).last()) == ((2, None), Some(last)));
+    }
+    Ok(())
+}
+
+/// Makes branches whose production and whose edit have this number.
+fn check_numbers(rt: &impl Abort, alloc: Global, store: &mut Store) -> Result<(), AllocError> {
+    for number in [4_294_967_295, 4_294_967_296, GREATEST] {
+        let id = store.branch(alloc, number as usize, &[PLUS], number)?;
+        assert!(rt; label(rt, store, id) == (number as usize, number, 1, 1));
+        assert!(rt; store.child(id, 0) == Some(PLUS));
+    }
     Ok(())
 }
 
 /// Numbers on both sides of what 32 bits hold.
 #[test]
 fn kinds_and_productions_of_any_number(rt: HostRuntime) -> Result<(), Fail> {
-    let alloc = rt.alloc();
-    let mut store = Store::new(alloc);
-    let kinds = [
-        Kind::Invalid,
-        Kind::Rule(2_147_483_646),
-        Kind::Rule(2_147_483_647),
-        Kind::Rule(18_446_744_073_709_551_615),
-    ];
-    for kind in kinds {
-        let id = store.branch(alloc, 1, &[NUMBER, Child::Token(kind)], 2)?;
-        assert!(rt; id.index < store.len());
-        assert!(rt; store.child_count(id) == 2);
-        assert!(rt; store.child(id, 0) == Some(NUMBER));
-        assert!(rt; store.child(id, 1) == Some(Child::Token(kind)));
-        assert!(rt; store.child(id, 2) == None);
-        assert!(rt; store.children(id).last() == Some(Child::Token(kind)));
-        assert!(rt; store.production(id) == 1);
-        assert!(rt; store.born(id) == 2);
-        assert!(rt; store.tokens(id) == 2);
-    }
-    for number in [4_294_967_295, 4_294_967_296, GREATEST] {
-        let id = store.branch(alloc, number as usize, &[PLUS], number)?;
-        assert!(rt; id.index < store.len());
-        assert!(rt; store.production(id) == number as usize);
-        assert!(rt; store.born(id) == number);
-        assert!(rt; store.child(id, 0) == Some(PLUS));
-    }
+    let mut store = Store::new(rt.alloc());
+    check_kinds(&rt, rt.alloc(), &mut store)?;
+    check_numbers(&rt, rt.alloc(), &mut store)?;
     Ok(())
 }
 
 /// Passes whichever allocation fails.
 #[test]
 fn a_refused_branch_leaves_the_store(rt: HostRuntime) -> Result<(), Fail> {
-    let alloc = rt.alloc();
-    let mut store = Store::new(alloc);
-    let children = [NUMBER; 6];
+    let mut store = Store::new(rt.alloc());
     for k in 0..20u64 {
         let before = store.len();
-        match store.branch(alloc, 1, &children, k) {
-            Ok(id) => {
-                assert!(rt; id.index == before);
-                assert!(rt; store.len() == before + 1);
-            }
+        match store.branch(rt.alloc(), 1, &[NUMBER; 6], k) {
+            Ok(id) => assert!(rt; (id.index, store.len()) == (before, before + 1)),
             Err(AllocError) => assert!(rt; store.len() == before),
         }
         for index in 0..store.len() {
@@ -189,12 +222,26 @@ fn a_refused_branch_leaves_the_store(rt: HostRuntime) -> Result<(), Fail> {
     Ok(())
 }
 
-/// The roots share a node, and one of them stands twice. The node over both is below none.
-#[test]
-fn compacting_keeps_the_trees_of_the_roots(rt: HostRuntime) -> Result<(), Fail> {
-    let alloc = rt.alloc();
-    let mut store = Store::new(alloc);
-    let [_, left, second, _] = sum(alloc, &mut store)?;
+/// Checks two roots, of which the first one is over the second number, a plus and the second root.
+fn check_roots(rt: &impl Abort, store: &Store, other: NodeId, left: NodeId) {
+    assert!(rt; label(rt, store, other) == (0, 7, 3, 4));
+    assert!(rt; label(rt, store, left) == (1, 5, 1, 2));
+    let behind = (store.child(other, 1), store.child(other, 2));
+    assert!(rt; behind == (Some(PLUS), Some(Child::Node(left))));
+    let Some(Child::Node(second)) = store.child(other, 0) else {
+        panic!(rt; "no node");
+    };
+    assert!(rt; label(rt, store, second) == (2, 6, 1, 1));
+    assert!(rt; store.child(second, 0) == Some(NUMBER));
+}
+
+/// Compacts a store of a sum to roots that share a node, of which one stands twice. The node over both is below none.
+fn check_compaction(
+    rt: &impl Abort,
+    alloc: Global,
+    store: &mut Store,
+    [_, left, second, _]: [NodeId; 4],
+) -> Result<(), AllocError> {
     assert!(rt; left.index < store.len());
     assert!(rt; second.index < store.len());
     let children = [Child::Node(second), PLUS, Child::Node(left)];
@@ -204,37 +251,28 @@ fn compacting_keeps_the_trees_of_the_roots(rt: HostRuntime) -> Result<(), Fail> 
     let mut roots = [other, left, other];
     store.compact(alloc, &mut roots)?;
     let [other, left, again] = roots;
-    assert!(rt; store.len() == 4);
-    assert!(rt; again == other);
-    assert!(rt; other.index < store.len());
-    assert!(rt; left.index < store.len());
-    assert!(rt; store.production(other) == 0);
-    assert!(rt; store.born(other) == 7);
-    assert!(rt; store.tokens(other) == 3);
-    assert!(rt; store.size(other) == 4);
-    assert!(rt; store.child(other, 1) == Some(PLUS));
-    assert!(rt; store.child(other, 2) == Some(Child::Node(left)));
-    assert!(rt; store.born(left) == 5);
-    assert!(rt; store.size(left) == 2);
-    match store.child(other, 0) {
-        Some(Child::Node(second)) => {
-            assert!(rt; second.index < store.len());
-            assert!(rt; store.born(second) == 6);
-            assert!(rt; store.child(second, 0) == Some(NUMBER));
-        }
-        _ => return Err("no node")?,
-    }
+    assert!(rt; (store.len(), again) == (4, other));
+    check_roots(rt, store, other, left);
     store.compact(alloc, &mut [])?;
     assert!(rt; store.len() == 0);
     Ok(())
 }
 
-/// Passes whichever allocation of the compaction fails.
 #[test]
-fn a_refused_compaction_changes_nothing(rt: HostRuntime) -> Result<(), Fail> {
-    let alloc = rt.alloc();
-    let mut store = Store::new(alloc);
-    let [_, _, _, whole] = sum(alloc, &mut store)?;
+fn compacting_keeps_the_trees_of_the_roots(rt: HostRuntime) -> Result<(), Fail> {
+    let mut store = Store::new(rt.alloc());
+    let nodes = sum(rt.alloc(), &mut store)?;
+    check_compaction(&rt, rt.alloc(), &mut store, nodes)?;
+    Ok(())
+}
+
+/// Compacts a store to a node over nine times the same, or fails to and leaves all as it was.
+fn check_refused_compaction(
+    rt: &impl Abort,
+    alloc: Global,
+    store: &mut Store,
+    whole: NodeId,
+) -> Result<(), AllocError> {
     assert!(rt; whole.index < store.len());
     let last = store.branch(alloc, 3, &[Child::Node(whole); 9], 8)?;
     let _dropped = store.branch(alloc, 2, &[NUMBER], 9)?;
@@ -242,16 +280,18 @@ fn a_refused_compaction_changes_nothing(rt: HostRuntime) -> Result<(), Fail> {
     let mut roots = [last];
     match store.compact(alloc, &mut roots) {
         Ok(()) => assert!(rt; store.len() == 5),
-        Err(AllocError) => {
-            assert!(rt; store.len() == 6);
-            assert!(rt; roots[0] == last);
-        }
+        Err(AllocError) => assert!(rt; (store.len(), roots[0]) == (6, last)),
     }
-    let [last] = roots;
-    assert!(rt; last.index < store.len());
-    assert!(rt; store.born(last) == 8);
-    assert!(rt; store.tokens(last) == 27);
-    assert!(rt; store.size(last) == 37);
+    assert!(rt; label(rt, store, roots[0]) == (3, 8, 27, 37));
+    Ok(())
+}
+
+/// Passes whichever allocation of the compaction fails.
+#[test]
+fn a_refused_compaction_changes_nothing(rt: HostRuntime) -> Result<(), Fail> {
+    let mut store = Store::new(rt.alloc());
+    let [_, _, _, whole] = sum(rt.alloc(), &mut store)?;
+    check_refused_compaction(&rt, rt.alloc(), &mut store, whole)?;
     Ok(())
 }
 
@@ -283,9 +323,8 @@ fn count_invalid<K: Kinds>(kinds: &K) -> usize {
 fn kinds_of_a_row(rt: HostRuntime) -> Result<(), Fail> {
     let kinds = vec![in rt.alloc(); Kind::Rule(2), Kind::Invalid, Kind::Rule(0)]?;
     let row = Row { kinds };
-    assert!(rt; row.len() == 3);
-    assert!(rt; row.kind(2) == Some(Kind::Rule(0)));
-    assert!(rt; row.kind(3) == None);
+    let told = (row.len(), row.kind(2), row.kind(3));
+    assert!(rt; told == (3, Some(Kind::Rule(0)), None));
     assert!(rt; count_invalid(&row) == 1);
     Ok(())
 }
