@@ -90,7 +90,7 @@ fn split(alloc: Global, bytes: &[u8]) -> Result<Found, AllocError>
     }
 }
 
-/// What stands at the front of bytes that begin with the ones of which this was kept.
+/// What stands at the front of some bytes, of a front of which `awaited` and `searched` were kept.
 fn found_in(
     alloc: Global,
     bytes: &[u8],
