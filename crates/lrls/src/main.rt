@@ -45,31 +45,10 @@ fn print(rt: &HostRuntime, printed: &Printed) -> Result<u8, Fault> {
     }
 }
 
-/// Checks a grammar.
-fn check_language(rt: &HostRuntime, language: &Language) -> Result<u8, Fault> {
-    print(rt, &check(rt.alloc(), language)?)
-}
-
-/// Checks the grammar in a file.
-fn check_file(rt: &HostRuntime, path: &str) -> Result<u8, Fault> {
-    match loaded(rt, path)? {
-        Ok(language) => check_language(rt, &language),
-        Err(printed) => print(rt, &printed),
-    }
-}
-
 /// Parses the text in a file.
 fn parse_text(rt: &HostRuntime, language: &Language, path: &str) -> Result<u8, Fault> {
     let bytes = bytes_of(rt, path)?;
     print(rt, &parse(rt.alloc(), language, &bytes)?)
-}
-
-/// Parses by the grammar in the first file the text in the second one, which is read only where there is a language.
-fn parse_file(rt: &HostRuntime, grammar: &str, text: &str) -> Result<u8, Fault> {
-    match loaded(rt, grammar)? {
-        Ok(language) => parse_text(rt, &language, text),
-        Err(printed) => print(rt, &printed),
-    }
 }
 
 /// Serves an editor until it leaves.
@@ -79,10 +58,26 @@ fn serve(rt: &HostRuntime, alloc: Global, language: Language) -> Result<u8, Faul
     Ok(run(alloc, language, &mut input, &mut output)?)
 }
 
-/// Serves an editor by the grammar in a file.
-fn serve_file(rt: &HostRuntime, path: &str) -> Result<u8, Fault> {
-    match loaded(rt, path)? {
-        Ok(language) => serve(rt, rt.alloc(), language),
+/// The path of the grammar's file.
+fn grammar_of(task: &Task) -> &str {
+    match task {
+        Task::Check(grammar) | Task::Parse(grammar, _) | Task::Serve(grammar) => grammar.as_str(),
+    }
+}
+
+/// Does a task by the language of its grammar.
+fn perform_in(rt: &HostRuntime, task: &Task, language: Language) -> Result<u8, Fault> {
+    match task {
+        Task::Check(_) => print(rt, &check(rt.alloc(), &language)?),
+        Task::Parse(_, text) => parse_text(rt, &language, text.as_str()),
+        Task::Serve(_) => serve(rt, rt.alloc(), language),
+    }
+}
+
+/// Does a task, or prints why its grammar gives no language. No other file is read before the grammar's.
+fn perform(rt: &HostRuntime, task: &Task) -> Result<u8, Fault> {
+    match loaded(rt, grammar_of(task))? {
+        Ok(language) => perform_in(rt, task, language),
         Err(printed) => print(rt, &printed),
     }
 }
@@ -91,9 +86,7 @@ fn serve_file(rt: &HostRuntime, path: &str) -> Result<u8, Fault> {
 fn started(rt: &HostRuntime) -> Result<u8, Fault> {
     let given = given_words(rt)?;
     match words(rt.alloc(), &given)? {
-        Some(Task::Check(path)) => check_file(rt, path.as_str()),
-        Some(Task::Parse(grammar, text)) => parse_file(rt, grammar.as_str(), text.as_str()),
-        Some(Task::Serve(path)) => serve_file(rt, path.as_str()),
+        Some(task) => perform(rt, &task),
         None => Err(Fault::CommandLine),
     }
 }
