@@ -8,9 +8,8 @@ ghost use Rattle.parser.specs.Parses.{IsParseOf};
 use definitions::Kind;
 use grammar::Grammar;
 use parser::{Parse, Verdict};
-use std::alloc::{AllocError, Global};
+use std::alloc::Global;
 use std::process::Abort;
-use std::test::Fail;
 use tables::Tables;
 use trees::{Child, Kinds, NodeId, Store};
 use worked::{LISTS, SUMS};
@@ -38,9 +37,9 @@ impl<'a> Kinds for Listed<'a> {
     }
 }
 
-fn tables(alloc: Global, text: &str) -> Result<Tables, Fail> {
-    let grammar = Grammar::read(alloc, text)?;
-    Ok(Tables::build(alloc, &grammar)?)
+fn tables(rt: &impl Abort, alloc: Global, text: &str) -> Tables {
+    let grammar = Grammar::read(alloc, text).expect(rt, "a grammar");
+    Tables::build(alloc, &grammar).expect(rt, "tables")
 }
 
 /// The first nodes of a store, by their numbers.
@@ -66,15 +65,15 @@ fn assert_node(
 }
 
 /// Which of the five token rules, and whether the end, may stand at the fault.
-fn expected(alloc: Global, tables: &Tables, parse: &Parse) -> Result<Vec<Option<usize>>, AllocError>
+fn expected(rt: &impl Abort, alloc: Global, tables: &Tables, parse: &Parse) -> Vec<Option<usize>>
     requires { (kinds : List TokenKind) × (cells : List Cell)
         × IsParseOf tables.now kinds cells parse.now }
 {
     let mut looks = Vec::new(alloc);
     for look in parse.expected(tables) {
-        looks.push(look)?;
+        looks.push(look).expect(rt, "memory");
     }
-    Ok(looks)
+    looks
 }
 
 /// What a parse tells where it stops: the verdict, the stack, and the rules that may follow.
@@ -86,50 +85,35 @@ struct Stop<'a> {
 }
 
 /// A parse stops so.
-fn assert_stop(
-    rt: &impl Abort,
-    alloc: Global,
-    tables: &Tables,
-    parse: &Parse,
-    stop: &Stop<'_>,
-) -> Result<(), AllocError>
+fn assert_stop(rt: &impl Abort, alloc: Global, tables: &Tables, parse: &Parse, stop: &Stop<'_>)
     requires { (kinds : List TokenKind) × (cells : List Cell)
         × IsParseOf tables.now kinds cells parse.now }
 {
     assert!(rt; (parse.verdict(), parse.stack()) == (stop.verdict, stop.stack));
-    let looks = expected(alloc, tables, parse)?;
+    let looks = expected(rt, alloc, tables, parse);
     assert!(rt; looks.as_slice() == stop.looks);
-    Ok(())
 }
 
 /// The parse of these kinds stops so.
-fn stops(
-    rt: &impl Abort,
-    alloc: Global,
-    tables: &Tables,
-    kinds: &[Kind],
-    stop: &Stop<'_>,
-) -> Result<(), Fail> {
+fn stops(rt: &impl Abort, alloc: Global, tables: &Tables, kinds: &[Kind], stop: &Stop<'_>) {
     let mut store = Store::new(alloc);
-    let parse = Parse::whole(alloc, tables, &mut store, &Listed { kinds })?;
-    assert_stop(rt, alloc, tables, &parse, stop)?;
-    Ok(())
+    let parse = Parse::whole(alloc, tables, &mut store, &Listed { kinds }).expect(rt, "a parse");
+    assert_stop(rt, alloc, tables, &parse, stop);
 }
 
 /// The parses of these kinds of sums stop so.
-fn sums_stop(rt: &impl Abort, alloc: Global, rows: &[(&[Kind], Stop<'_>)]) -> Result<(), Fail> {
-    let tables = tables(alloc, SUMS)?;
+fn sums_stop(rt: &impl Abort, alloc: Global, rows: &[(&[Kind], Stop<'_>)]) {
+    let tables = tables(rt, alloc, SUMS);
     for (kinds, stop) in rows {
-        stops(rt, alloc, &tables, kinds, stop)?;
+        stops(rt, alloc, &tables, kinds, stop);
     }
-    Ok(())
 }
 
 /// Numbers and parentheses.
 const OPERAND: &[Option<usize>] = &[Some(0), Some(2)];
 
 #[test]
-fn parses_of_sums_stop_at_the_end(rt: HostRuntime) -> Result<(), Fail> {
+fn parses_of_sums_stop_at_the_end(rt: HostRuntime) {
     let tree = Stop {
         verdict: Verdict::Tree(NodeId { index: 3 }),
         stack: &[node(3)],
@@ -150,11 +134,11 @@ fn parses_of_sums_stop_at_the_end(rt: HostRuntime) -> Result<(), Fail> {
         (&[], nothing),
         (&[LP, NUM], open),
     ];
-    sums_stop(&rt, rt.alloc(), &rows)
+    sums_stop(&rt, rt.alloc(), &rows);
 }
 
 #[test]
-fn parses_of_sums_stop_at_the_first_fault(rt: HostRuntime) -> Result<(), Fail> {
+fn parses_of_sums_stop_at_the_first_fault(rt: HostRuntime) {
     let second = Stop {
         verdict: Verdict::FaultAt(1),
         stack: &[Child::Token(NUM)],
@@ -169,7 +153,7 @@ fn parses_of_sums_stop_at_the_first_fault(rt: HostRuntime) -> Result<(), Fail> {
         (&[NUM, NUM], second),
         (&[NUM, PLUS, Kind::Invalid, PLUS], invalid),
     ];
-    sums_stop(&rt, rt.alloc(), &rows)
+    sums_stop(&rt, rt.alloc(), &rows);
 }
 
 /// Parses these kinds as edit 0 behind the nodes that a store has, and compares how many branches there are and how many of them
@@ -181,40 +165,37 @@ fn parse_whole(
     store: &mut Store,
     kinds: &[Kind],
     branches: usize,
-) -> Result<Verdict, Fail> {
-    let tables = tables(alloc, file)?;
-    let parse = Parse::whole(alloc, &tables, store, &Listed { kinds })?;
+) -> Verdict {
+    let tables = tables(rt, alloc, file);
+    let parse = Parse::whole(alloc, &tables, store, &Listed { kinds }).expect(rt, "a parse");
     assert!(rt; (parse.counts(), parse.number()) == ((branches, branches), 0));
-    Ok(parse.verdict())
+    parse.verdict()
 }
 
 #[test]
-fn the_nodes_of_a_sum(rt: HostRuntime) -> Result<(), Fail> {
+fn the_nodes_of_a_sum(rt: HostRuntime) {
     let mut store = Store::new(rt.alloc());
-    parse_whole(&rt, rt.alloc(), SUMS, &mut store, &[NUM, PLUS, NUM], 4)?;
+    parse_whole(&rt, rt.alloc(), SUMS, &mut store, &[NUM, PLUS, NUM], 4);
     assert_node(&rt, &store, 0, 2, &[Child::Token(NUM)]);
     assert_node(&rt, &store, 1, 1, &[node(0)]);
     assert_node(&rt, &store, 2, 2, &[Child::Token(NUM)]);
     assert_node(&rt, &store, 3, 0, &[node(1), Child::Token(PLUS), node(2)]);
-    Ok(())
 }
 
 #[test]
-fn older_nodes_stay(rt: HostRuntime) -> Result<(), Fail> {
+fn older_nodes_stay(rt: HostRuntime) {
     let mut store = Store::new(rt.alloc());
-    let older = store.branch(rt.alloc(), 7, &[], 9)?;
-    parse_whole(&rt, rt.alloc(), SUMS, &mut store, &[NUM], 2)?;
+    let older = store.branch(rt.alloc(), 7, &[], 9).expect(&rt, "memory");
+    parse_whole(&rt, rt.alloc(), SUMS, &mut store, &[NUM], 2);
     assert!(rt; store.len() == 3);
     assert!(rt; older.index < store.len());
     assert!(rt; store.born(older) == 9);
-    Ok(())
 }
 
 #[test]
-fn a_list_of_no_items_is_a_branch(rt: HostRuntime) -> Result<(), Fail> {
+fn a_list_of_no_items_is_a_branch(rt: HostRuntime) {
     let mut store = Store::new(rt.alloc());
-    let verdict = parse_whole(&rt, rt.alloc(), LISTS, &mut store, &[], 1)?;
+    let verdict = parse_whole(&rt, rt.alloc(), LISTS, &mut store, &[], 1);
     assert!(rt; verdict == Verdict::Tree(NodeId { index: 0 }));
     assert_node(&rt, &store, 0, 0, &[]);
-    Ok(())
 }

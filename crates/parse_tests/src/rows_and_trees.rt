@@ -4,26 +4,27 @@ use dfa::Automaton;
 use grammar::Grammar;
 use lexer::{Kind, Tokens, Whole};
 use std::alloc::{AllocError, Global};
-use std::test::Fail;
+use std::process::Abort;
 use text::{LONGEST_TEXT, Text, Unit};
 use trees::{Child, NodeId, Store};
 use views::{Range, token_rows, tree_text};
 use worked::{LISTS, SUMS};
 
 /// The rows of a text's tokens, a line for each.
-fn rows(alloc: Global, file: &str, text: &str) -> Result<String, Fail> {
-    let grammar = Grammar::read(alloc, file)?;
-    let automaton = Automaton::build(alloc, grammar.patterns())?;
-    let text = Text::open(alloc, text)?;
+fn rows(rt: &impl Abort, alloc: Global, file: &str, text: &str) -> String {
+    let grammar = Grammar::read(alloc, file).expect(rt, "a grammar");
+    let automaton = Automaton::build(alloc, grammar.patterns()).expect(rt, "an automaton");
+    let text = Text::open(alloc, text).expect(rt, "a text");
     let count = text.len();
     prove!(count <= LONGEST_TEXT);
-    let tokens = Tokens::scan(alloc, &grammar, &automaton, &Whole(&text))?;
-    let rows = token_rows(alloc, &grammar, Unit::Utf16, &text, &tokens)?;
+    let tokens = Tokens::scan(alloc, &grammar, &automaton, &Whole(&text)).expect(rt, "tokens");
+    let rows = token_rows(alloc, &grammar, Unit::Utf16, &text, &tokens).expect(rt, "rows");
     let mut lines = String::new(alloc);
     for row in &rows {
-        lines.push_str(line(alloc, row.name, row.range)?.as_str())?;
+        let line = line(alloc, row.name, row.range).expect(rt, "memory");
+        lines.push_str(line.as_str()).expect(rt, "memory");
     }
-    Ok(lines)
+    lines
 }
 
 fn line(alloc: Global, name: &str, range: Range) -> Result<String, AllocError> {
@@ -34,7 +35,7 @@ fn line(alloc: Global, name: &str, range: Range) -> Result<String, AllocError> {
 }
 
 #[test]
-fn rows_of_all_tokens(rt: HostRuntime) -> Result<(), Fail> {
+fn rows_of_all_tokens(rt: HostRuntime) {
     let alloc = rt.alloc();
     let cases = [
         (
@@ -57,9 +58,11 @@ fn rows_of_all_tokens(rt: HostRuntime) -> Result<(), Fail> {
         ),
     ];
     for (file, text, wanted) in cases {
-        assert!(rt; rows(alloc, file, text)?.as_str() == wanted, "at {text}");
+        assert!(rt;
+            rows(&rt, alloc, file, text).as_str() == wanted,
+            "at {text}"
+        );
     }
-    Ok(())
 }
 
 const NUMBER: Child = Child::Token(Kind::Rule(0));
@@ -75,13 +78,12 @@ fn sum(alloc: Global, store: &mut Store) -> Result<NodeId, AllocError> {
 }
 
 #[test]
-fn text_of_a_sum(rt: HostRuntime) -> Result<(), Fail> {
+fn text_of_a_sum(rt: HostRuntime) {
     let alloc = rt.alloc();
-    let grammar = Grammar::read(alloc, SUMS)?;
+    let grammar = Grammar::read(alloc, SUMS).expect(&rt, "a grammar");
     let mut store = Store::new(alloc);
-    let root = sum(alloc, &mut store)?;
+    let root = sum(alloc, &mut store).expect(&rt, "memory");
     assert!(rt; root.index < store.len());
-    let text = tree_text(alloc, &grammar, &store, root)?;
+    let text = tree_text(alloc, &grammar, &store, root).expect(&rt, "a text");
     assert!(rt; text.as_str() == "(Sum (Sum (Atom NUM)) PLUS (Atom NUM))");
-    Ok(())
 }
