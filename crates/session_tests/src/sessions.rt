@@ -7,7 +7,6 @@ use server::{RunFault, run};
 use std::alloc::Global;
 use std::cell::RefCell;
 use std::process::Abort;
-use std::test::Fail;
 use worked::SUMS;
 
 /// A session from its beginning to a clean end.
@@ -43,60 +42,54 @@ struct Stored {
 
 /// How many bytes of the output are due once so many of the input are given: each line that is written answers the one before
 /// it.
-fn due(alloc: Global) -> Result<Vec<(usize, usize)>, Fail> {
+fn due(rt: &impl Abort, alloc: Global) -> Vec<(usize, usize)> {
     let mut due = Vec::new(alloc);
     let mut read = Vec::new(alloc);
     let mut written = Vec::new(alloc);
     for line in SESSION.lines() {
         if let Some(content) = line.strip_prefix("> ") {
-            push_frame(alloc, &mut read, content)?;
+            push_frame(rt, alloc, &mut read, content);
         }
         if let Some(content) = line.strip_prefix("< ") {
-            push_frame(alloc, &mut written, content)?;
-            due.push((read.len(), written.len()))?;
+            push_frame(rt, alloc, &mut written, content);
+            due.push((read.len(), written.len())).expect(rt, "memory");
         }
     }
-    Ok(due)
+    due
 }
 
-fn stored_session(alloc: Global) -> Result<Stored, Fail> {
-    Ok(Stored {
-        input: framed(alloc, SESSION, "> ")?,
-        output: framed(alloc, SESSION, "< ")?,
-        due: due(alloc)?,
-    })
+fn stored_session(rt: &impl Abort, alloc: Global) -> Stored {
+    Stored {
+        input: framed(rt, alloc, SESSION, "> "),
+        output: framed(rt, alloc, SESSION, "< "),
+        due: due(rt, alloc),
+    }
 }
 
 /// The stored session passes in this way, and each reply is out before the next read.
-fn passes(rt: &impl Abort, alloc: Global, stored: &Stored, way: Way) -> Result<(), Fail> {
-    let (outcome, record) = run_by(
-        alloc,
-        language(alloc, SUMS)?,
-        &stored.input,
-        way,
-        &stored.due,
-    )?;
+fn passes(rt: &impl Abort, alloc: Global, stored: &Stored, way: Way) {
+    let language = language(rt, alloc, SUMS);
+    let (outcome, record) = run_by(alloc, language, &stored.input, way, &stored.due);
     assert!(rt; outcome == Ok(0));
     assert!(rt; record.taken.as_slice() == stored.output.as_slice());
     assert!(rt; record.is_prompt);
-    Ok(())
 }
 
 #[test]
-fn the_session_passes_however_it_is_cut(rt: HostRuntime) -> Result<(), Fail> {
+fn the_session_passes_however_it_is_cut(rt: HostRuntime) {
     let alloc = rt.alloc();
-    let stored = stored_session(alloc)?;
-    assert_eq!(rt; stored.due.len(), 5);
+    let stored = stored_session(&rt, alloc);
+    assert!(rt; stored.due.len() == 5);
     for first in 1..stored.input.len() {
-        passes(&rt, alloc, &stored, Way { first, ..WHOLE })?;
+        passes(&rt, alloc, &stored, Way { first, ..WHOLE });
     }
-    passes(&rt, alloc, &stored, WHOLE)
+    passes(&rt, alloc, &stored, WHOLE);
 }
 
 #[test]
-fn the_session_passes_in_pieces(rt: HostRuntime) -> Result<(), Fail> {
+fn the_session_passes_in_pieces(rt: HostRuntime) {
     let alloc = rt.alloc();
-    let stored = stored_session(alloc)?;
+    let stored = stored_session(&rt, alloc);
     for (piece, written) in [(1, 1), (7, 3), (4096, 4096)] {
         let way = Way {
             first: piece,
@@ -104,47 +97,34 @@ fn the_session_passes_in_pieces(rt: HostRuntime) -> Result<(), Fail> {
             written,
             ..WHOLE
         };
-        passes(&rt, alloc, &stored, way)?;
+        passes(&rt, alloc, &stored, way);
     }
-    Ok(())
 }
 
 /// The stored session in this way ends with this fault, and a front of its output is written.
-fn fails(
-    rt: &impl Abort,
-    alloc: Global,
-    stored: &Stored,
-    way: Way,
-    fault: RunFault,
-) -> Result<(), Fail> {
-    let (outcome, record) = run_by(alloc, language(alloc, SUMS)?, &stored.input, way, &[])?;
+fn fails(rt: &impl Abort, alloc: Global, stored: &Stored, way: Way, fault: RunFault) {
+    let (outcome, record) = run_by(alloc, language(rt, alloc, SUMS), &stored.input, way, &[]);
     assert!(rt; outcome == Err(fault));
     assert!(rt; stored.output.starts_with(&record.taken));
-    Ok(())
 }
 
 #[test]
-fn a_device_that_fails_leaves_a_front_of_the_answers(rt: HostRuntime) -> Result<(), Fail> {
+fn a_device_that_fails_leaves_a_front_of_the_answers(rt: HostRuntime) {
     let alloc = rt.alloc();
-    let stored = stored_session(alloc)?;
+    let stored = stored_session(&rt, alloc);
     let pieces = Way {
         first: 100,
         piece: 100,
         ..WHOLE
     };
     for calls in 0..25 {
-        fails(
-            &rt,
-            alloc,
-            &stored,
-            Way { calls, ..pieces },
-            RunFault::Write,
-        )?;
+        let way = Way { calls, ..pieces };
+        fails(&rt, alloc, &stored, way, RunFault::Write);
     }
     for reads in 0..7 {
-        fails(&rt, alloc, &stored, Way { reads, ..pieces }, RunFault::Read)?;
+        let way = Way { reads, ..pieces };
+        fails(&rt, alloc, &stored, way, RunFault::Read);
     }
-    Ok(())
 }
 
 /// A stream that comes in pieces of 1, 5 and 100 bytes ends so, with this output.
@@ -154,40 +134,34 @@ fn ends(
     stream: &[u8],
     wanted: Result<u8, RunFault>,
     output: &[u8],
-) -> Result<(), Fail> {
+) {
     for piece in [1, 5, 100] {
         let way = Way {
             first: piece,
             piece,
             ..WHOLE
         };
-        let (outcome, record) = run_by(alloc, language(alloc, SUMS)?, stream, way, &[])?;
+        let (outcome, record) = run_by(alloc, language(rt, alloc, SUMS), stream, way, &[]);
         assert!(rt; outcome == wanted);
         assert!(rt; record.taken.as_slice() == output);
     }
-    Ok(())
 }
 
 #[test]
-fn streams_end_and_fail(rt: HostRuntime) -> Result<(), Fail> {
+fn streams_end_and_fail(rt: HostRuntime) {
     let alloc = rt.alloc();
     let mut parse_error = Vec::new(alloc);
-    push_frame(alloc, &mut parse_error, PARSE_ERROR)?;
+    push_frame(&rt, alloc, &mut parse_error, PARSE_ERROR);
     let truncated = Err(RunFault::Frame(FrameFault::Truncated));
     let bad_field = Err(RunFault::Frame(FrameFault::BadField));
     let second_length = Err(RunFault::Frame(FrameFault::SecondLength));
-    ends(
-        &rt,
-        alloc,
-        b"Content-Length: 1\r\n\r\n{",
-        Ok(1),
-        &parse_error,
-    )?;
-    ends(&rt, alloc, b"Content-Length: 5\r\n\r\n{}", truncated, &[])?;
+    let stream = b"Content-Length: 1\r\n\r\n{";
+    ends(&rt, alloc, stream, Ok(1), &parse_error);
+    ends(&rt, alloc, b"Content-Length: 5\r\n\r\n{}", truncated, &[]);
     let stream = b"Content-Length: 2\r\nContent-Length: 2\r\n\r\n{}";
-    ends(&rt, alloc, stream, second_length, &[])?;
+    ends(&rt, alloc, stream, second_length, &[]);
     let stream = b"Content-Length: 1\r\n\r\n{X\r\n\r\n";
-    ends(&rt, alloc, stream, bad_field, &parse_error)
+    ends(&rt, alloc, stream, bad_field, &parse_error);
 }
 
 /// A stream that comes in pieces, of which the last one that may be read has this frame fault: the read behind it would fail, so
@@ -199,7 +173,7 @@ fn stops(
     piece: usize,
     reads: u64,
     fault: FrameFault,
-) -> Result<(), Fail> {
+) {
     let record = RefCell::new(Record::new(alloc));
     let mut pieces = Pieces {
         rest: stream,
@@ -217,53 +191,54 @@ fn stops(
         calls: u64::MAX,
         has_failed: false,
     };
-    let outcome = run(alloc, language(alloc, SUMS)?, &mut pieces, &mut taker);
+    let outcome = run(alloc, language(rt, alloc, SUMS), &mut pieces, &mut taker);
     assert!(rt; outcome == Err(RunFault::Frame(fault)));
     assert!(rt; !pieces.has_failed);
-    Ok(())
 }
 
 #[test]
-fn nothing_is_read_behind_a_frame_fault(rt: HostRuntime) -> Result<(), Fail> {
+fn nothing_is_read_behind_a_frame_fault(rt: HostRuntime) {
     let alloc = rt.alloc();
     let behind_a_frame = b"Content-Length: 1\r\n\r\n{X\r\n\r\n";
     let too_long = b"Content-Length: 16777217\r\n\r\n";
     let bad_field = FrameFault::BadField;
     let bad_length = FrameFault::BadLength;
-    stops(&rt, alloc, b"X\r\n\r\n", 100, 1, bad_field)?;
-    stops(&rt, alloc, b"X\r\n\r\n", 1, 5, bad_field)?;
-    stops(&rt, alloc, behind_a_frame, 100, 1, bad_field)?;
-    stops(&rt, alloc, behind_a_frame, 1, 27, bad_field)?;
-    stops(&rt, alloc, too_long, 100, 1, bad_length)?;
-    stops(&rt, alloc, too_long, 1, 28, bad_length)?;
-    stops(&rt, alloc, b"\r\n", 100, 1, FrameFault::NoLength)?;
-    stops(&rt, alloc, b"\r\n", 1, 2, FrameFault::NoLength)
+    stops(&rt, alloc, b"X\r\n\r\n", 100, 1, bad_field);
+    stops(&rt, alloc, b"X\r\n\r\n", 1, 5, bad_field);
+    stops(&rt, alloc, behind_a_frame, 100, 1, bad_field);
+    stops(&rt, alloc, behind_a_frame, 1, 27, bad_field);
+    stops(&rt, alloc, too_long, 100, 1, bad_length);
+    stops(&rt, alloc, too_long, 1, 28, bad_length);
+    stops(&rt, alloc, b"\r\n", 100, 1, FrameFault::NoLength);
+    stops(&rt, alloc, b"\r\n", 1, 2, FrameFault::NoLength);
 }
 
 /// `initialize` in a content of so many bytes, with blanks behind it.
-fn padded(alloc: Global, len: usize) -> Result<Vec<u8>, Fail> {
-    let mut stream = Vec::new(alloc);
-    let header = format!(in alloc; "Content-Length: {len}\r\n\r\n{INITIALIZE}")?;
-    stream.extend_from_slice(header.as_bytes())?;
+fn padded(rt: &impl Abort, alloc: Global, len: usize) -> String {
+    let stream = format!(in alloc; "Content-Length: {len}\r\n\r\n{INITIALIZE}");
+    let mut stream = stream.expect(rt, "memory");
     for _ in INITIALIZE.len()..len {
-        stream.push(b' ')?;
+        stream.push(' ').expect(rt, "memory");
     }
-    Ok(stream)
+    stream
 }
 
-/// By the adapters of readers and writers.
-#[test]
-fn a_hundred_thousand_reads_of_one_byte(rt: HostRuntime) -> Result<(), Fail> {
-    let alloc = rt.alloc();
-    let stream = padded(alloc, 99_974)?;
-    assert_eq!(rt; stream.len(), 99_999);
-    let mut input = ReadInput::new(Drops { rest: &stream });
+/// By the adapters of readers and writers, the stream is answered so, and ends with status 1.
+fn answers(rt: &impl Abort, alloc: Global, stream: &[u8], wanted: &[u8]) {
+    let mut input = ReadInput::new(Drops { rest: stream });
     let mut taken = Vec::new(alloc);
     let mut output = WriteOutput::new(&mut taken);
-    let outcome = run(alloc, language(alloc, SUMS)?, &mut input, &mut output);
-    assert_eq!(rt; outcome, Ok(1));
+    let outcome = run(alloc, language(rt, alloc, SUMS), &mut input, &mut output);
+    assert!(rt; outcome == Ok(1));
+    assert!(rt; taken.as_slice() == wanted);
+}
+
+#[test]
+fn a_hundred_thousand_reads_of_one_byte(rt: HostRuntime) {
+    let alloc = rt.alloc();
+    let stream = padded(&rt, alloc, 99_974);
+    assert!(rt; stream.len() == 99_999);
     let mut wanted = Vec::new(alloc);
-    push_frame(alloc, &mut wanted, CAPABILITIES)?;
-    assert!(rt; taken.as_slice() == wanted.as_slice());
-    Ok(())
+    push_frame(&rt, alloc, &mut wanted, CAPABILITIES);
+    answers(&rt, alloc, stream.as_bytes(), &wanted);
 }

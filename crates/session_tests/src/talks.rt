@@ -3,9 +3,9 @@
 
 use crate::devices::{Pieces, Record, Taker};
 use server::{Language, RunFault, run};
-use std::alloc::{AllocError, Global};
+use std::alloc::Global;
 use std::cell::RefCell;
-use std::test::Fail;
+use std::process::Abort;
 
 /// How the bytes come and go, and which call of a device fails.
 #[derive(Clone, Copy)]
@@ -26,11 +26,11 @@ pub const WHOLE: Way = Way {
 };
 
 /// The language of a grammar file.
-pub fn language(alloc: Global, file: &str) -> Result<Language, Fail> {
-    match Language::load(alloc, file) {
-        Ok(language) => Ok(language),
-        Err(_) => Err(AllocError.into()),
-    }
+pub fn language(rt: &impl Abort, alloc: Global, file: &str) -> Language {
+    let Ok(language) = Language::load(alloc, file) else {
+        panic!(rt; "no language");
+    };
+    language
 }
 
 /// Runs a session, and answers its outcome and its record.
@@ -40,7 +40,7 @@ pub fn run_by(
     input: &[u8],
     way: Way,
     due: &[(usize, usize)],
-) -> Result<(Result<u8, RunFault>, Record), Fail> {
+) -> (Result<u8, RunFault>, Record) {
     let record = RefCell::new(Record::new(alloc));
     let mut pieces = Pieces {
         rest: input,
@@ -59,24 +59,25 @@ pub fn run_by(
         has_failed: false,
     };
     let outcome = run(alloc, language, &mut pieces, &mut taker);
-    Ok((outcome, record.into_inner()))
+    (outcome, record.into_inner())
 }
 
 /// Puts a frame of this content behind the bytes.
-pub fn push_frame(alloc: Global, bytes: &mut Vec<u8>, content: &str) -> Result<(), Fail> {
-    let header = format!(in alloc; "Content-Length: {}\r\n\r\n", content.len())?;
-    bytes.extend_from_slice(header.as_bytes())?;
-    bytes.extend_from_slice(content.as_bytes())?;
-    Ok(())
+pub fn push_frame(rt: &impl Abort, alloc: Global, bytes: &mut Vec<u8>, content: &str) {
+    let len = content.len();
+    let frame = format!(in alloc; "Content-Length: {len}\r\n\r\n{content}").expect(rt, "memory");
+    bytes
+        .extend_from_slice(frame.as_bytes())
+        .expect(rt, "memory");
 }
 
 /// The frames of what stands behind this mark in a transcript.
-pub fn framed(alloc: Global, talk: &str, mark: &str) -> Result<Vec<u8>, Fail> {
+pub fn framed(rt: &impl Abort, alloc: Global, talk: &str, mark: &str) -> Vec<u8> {
     let mut bytes = Vec::new(alloc);
     for line in talk.lines() {
         if let Some(content) = line.strip_prefix(mark) {
-            push_frame(alloc, &mut bytes, content)?;
+            push_frame(rt, alloc, &mut bytes, content);
         }
     }
-    Ok(bytes)
+    bytes
 }
