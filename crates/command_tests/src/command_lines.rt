@@ -2,69 +2,82 @@
 
 use commands::{Fault, Task, words};
 use frames::FrameFault;
-use std::alloc::Global;
-use std::test::Fail;
+use std::alloc::{AllocError, Global};
+use std::process::Abort;
 
-/// What the words of the line ask for: the command, and the path that it names.
-fn told(alloc: Global, line: &str) -> Result<Option<String>, Fail> {
+/// The words of a line.
+fn split(rt: &impl Abort, alloc: Global, line: &str) -> Vec<String> {
     let mut given = Vec::new(alloc);
     for word in line.split_whitespace() {
-        given.push(String::from_str(alloc, word)?)?;
+        let word = String::from_str(alloc, word).expect(rt, "memory");
+        given.push(word).expect(rt, "memory");
     }
-    match words(alloc, &given)? {
-        Some(Task::Check(path)) => Ok(Some(format!(in alloc; "check of {path}")?)),
-        Some(Task::Parse(grammar, text)) => Ok(Some(format!(in alloc;
-            "parse by {grammar} of {text}"
-        )?)),
-        Some(Task::Serve(path)) => Ok(Some(format!(in alloc; "serve by {path}")?)),
-        None => Ok(None),
+    given
+}
+
+/// What is asked for: the command, and the paths that it names.
+fn told(alloc: Global, task: &Task) -> Result<String, AllocError> {
+    match task {
+        Task::Check(path) => format!(in alloc; "check of {path}"),
+        Task::Parse(grammar, text) => format!(in alloc; "parse by {grammar} of {text}"),
+        Task::Serve(path) => format!(in alloc; "serve by {path}"),
     }
 }
 
+/// The words of the line ask for this.
+fn asks(rt: &impl Abort, alloc: Global, line: &str, wanted: &str) {
+    let given = split(rt, alloc, line);
+    let task = words(alloc, &given)
+        .expect(rt, "words")
+        .expect(rt, "a task");
+    let told = told(alloc, &task).expect(rt, "memory");
+    assert!(rt; told.as_str() == wanted);
+}
+
 #[test]
-fn commands_name_their_grammar(rt: HostRuntime) -> Result<(), Fail> {
-    let alloc = rt.alloc();
+fn commands_name_their_grammar(rt: HostRuntime) {
     for (line, wanted) in [
         ("serve grammars/g0.lr", "serve by grammars/g0.lr"),
         ("check grammars/g0.lr", "check of grammars/g0.lr"),
         ("parse g0.lr a/sum.txt", "parse by g0.lr of a/sum.txt"),
     ] {
-        match told(alloc, line)? {
-            Some(task) => assert_eq!(rt; task.as_str(), wanted),
-            None => assert!(rt; false),
-        }
+        asks(&rt, rt.alloc(), line, wanted);
     }
-    Ok(())
+}
+
+/// The fault is printed so, and ends the program with this status.
+fn prints(rt: &impl Abort, alloc: Global, fault: Fault, text: &str, status: u8) {
+    let printed = format!(in alloc; "{fault}").expect(rt, "memory");
+    assert!(rt; printed.as_str() == text, "{text}");
+    assert!(rt; fault.status() == status, "{text}");
 }
 
 #[test]
-fn faults_have_their_texts(rt: HostRuntime) -> Result<(), Fail> {
+fn faults_of_words_and_files_have_their_texts(rt: HostRuntime) {
     let alloc = rt.alloc();
     let usage = "usage: lrls check GRAMMAR | parse GRAMMAR TEXT | serve GRAMMAR";
-    let cases = [
-        (Fault::CommandLine, usage, 2),
-        (Fault::TooManyStates, "lrls: over 4096 automaton states", 2),
-        (Fault::TooManySets, "lrls: over 8192 table states", 2),
-        (Fault::NotUtf8, "lrls: grammar is not UTF-8", 2),
-        (Fault::TextNotUtf8, "lrls: text is not UTF-8", 1),
-        (Fault::TextTooLarge, "lrls: text too large", 1),
-        (
-            Fault::CannotRead(String::from_str(alloc, "a/b")?),
-            "lrls: cannot read a/b",
-            1,
-        ),
-        (Fault::NoMemory, "lrls: no memory", 1),
-        (
-            Fault::Frame(FrameFault::SecondLength),
-            "lrls: frame fault F3",
-            1,
-        ),
-        (Fault::Read, "lrls: read fault", 1),
-        (Fault::Write, "lrls: write fault", 1),
-    ];
-    for (fault, text, status) in cases {
-        assert_eq!(rt; format!(in alloc; "{fault}")?.as_str(), text);
-        assert_eq!(rt; fault.status(), status);
-    }
-    Ok(())
+    prints(&rt, alloc, Fault::CommandLine, usage, 2);
+    let states = "lrls: over 4096 automaton states";
+    prints(&rt, alloc, Fault::TooManyStates, states, 2);
+    let sets = "lrls: over 8192 table states";
+    prints(&rt, alloc, Fault::TooManySets, sets, 2);
+    let grammar = "lrls: grammar is not UTF-8";
+    prints(&rt, alloc, Fault::NotUtf8, grammar, 2);
+    let text = "lrls: text is not UTF-8";
+    prints(&rt, alloc, Fault::TextNotUtf8, text, 1);
+    let large = "lrls: text too large";
+    prints(&rt, alloc, Fault::TextTooLarge, large, 1);
+    let path = String::from_str(alloc, "a/b").expect(&rt, "memory");
+    let fault = Fault::CannotRead(path);
+    prints(&rt, alloc, fault, "lrls: cannot read a/b", 1);
+}
+
+#[test]
+fn faults_of_devices_have_their_texts(rt: HostRuntime) {
+    let alloc = rt.alloc();
+    prints(&rt, alloc, Fault::NoMemory, "lrls: no memory", 1);
+    let frame = Fault::Frame(FrameFault::SecondLength);
+    prints(&rt, alloc, frame, "lrls: frame fault F3", 1);
+    prints(&rt, alloc, Fault::Read, "lrls: read fault", 1);
+    prints(&rt, alloc, Fault::Write, "lrls: write fault", 1);
 }

@@ -1,47 +1,24 @@
 //! What `parse` prints of texts: a tree and faults. `tests/program` has the texts that are refused.
 
-use crate::grammar_checks::sums;
+use crate::grammar_checks::{assert_printed, sums};
 use commands::parse;
 use std::alloc::Global;
 use std::process::Abort;
-use std::test::Fail;
 
-/// What is wanted of a text: what stands on standard output and on standard error, and the status.
-#[derive(Clone, Copy)]
-struct Row<'a> {
-    out: &'a str,
-    err: &'a str,
-    status: u8,
-}
-
-/// The text of these bytes is a sum, or not, as the row says.
-fn prints(rt: &impl Abort, alloc: Global, text: &[u8], row: Row) -> Result<(), Fail> {
-    let printed = parse(alloc, &sums(alloc)?, text)?;
-    assert!(rt; printed.out.as_slice() == row.out.as_bytes());
-    assert!(rt; printed.err.as_slice() == row.err.as_bytes());
-    assert_eq!(rt; printed.status, row.status);
-    Ok(())
+/// The text of these bytes is a sum, or not: this is printed of it.
+fn prints(rt: &impl Abort, alloc: Global, text: &[u8], out: &str, err: &str, status: u8) {
+    let language = sums(rt, alloc);
+    let printed = parse(alloc, &language, text).expect(rt, "memory");
+    assert_printed(rt, &printed, out, err, status);
 }
 
 #[test]
-fn trees_and_faults_are_printed(rt: HostRuntime) -> Result<(), Fail> {
+fn trees_and_faults_are_printed(rt: HostRuntime) {
     let alloc = rt.alloc();
-    let tree = Row {
-        out: "(Sum (Sum (Atom NUM)) PLUS (Atom NUM))\n",
-        err: "",
-        status: 0,
-    };
-    prints(&rt, alloc, b"1+2", tree)?;
-    let fault = Row {
-        out: "0:2-0:3: unexpected NUM; expected PLUS, end\n",
-        err: "",
-        status: 1,
-    };
-    prints(&rt, alloc, b"1 2", fault)?;
-    let end = Row {
-        out: "0:0-0:0: unexpected end; expected NUM, LP\n",
-        err: "",
-        status: 1,
-    };
-    prints(&rt, alloc, b"", end)
+    let tree = "(Sum (Sum (Atom NUM)) PLUS (Atom NUM))\n";
+    prints(&rt, alloc, b"1+2", tree, "", 0);
+    let fault = "0:2-0:3: unexpected NUM; expected PLUS, end\n";
+    prints(&rt, alloc, b"1 2", fault, "", 1);
+    let end = "0:0-0:0: unexpected end; expected NUM, LP\n";
+    prints(&rt, alloc, b"", end, "", 1);
 }
