@@ -3,7 +3,6 @@
 use frames::{DeviceFault, Input, Output, ReadInput, WriteOutput, write_frame};
 use std::cell::Cell;
 use std::io::{self, ErrorKind, Read, Write};
-use std::test::Fail;
 
 #[test]
 fn readers_are_inputs(rt: HostRuntime) {
@@ -21,14 +20,12 @@ fn readers_are_inputs(rt: HostRuntime) {
 }
 
 #[test]
-fn writers_are_outputs(rt: HostRuntime) -> Result<(), Fail> {
-    let alloc = rt.alloc();
-    let mut taken = Vec::with_capacity(alloc, 30)?;
+fn writers_are_outputs(rt: HostRuntime) {
+    let mut taken = Vec::with_capacity(rt.alloc(), 30).expect(&rt, "memory");
     let mut output = WriteOutput::new(&mut taken);
     let outcome = write_frame(&mut output, b"{}");
     assert!(rt; outcome.is_ok());
     assert!(rt; taken.as_slice() == b"Content-Length: 2\r\n\r\n{}".as_slice());
-    Ok(())
 }
 
 #[test]

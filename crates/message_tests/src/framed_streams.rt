@@ -3,9 +3,8 @@
 ghost use Rattle.std.specs.Prelude.{None, ◌<◌, if◌then◌else◌};
 
 use frames::{Decoder, DeviceFault, Frame, FrameFault, Output, WriteOutput, write_frame};
-use std::alloc::{AllocError, Global};
+use std::alloc::Global;
 use std::process::Abort;
-use std::test::Fail;
 
 const CUT: Result<(), FrameFault> = Err(FrameFault::Truncated);
 
@@ -50,16 +49,15 @@ fn feed_pieces(
     stream: &[u8],
     size: usize,
     wanted: Option<FrameFault>,
-) -> Result<(), AllocError>
+)
     requires { 0 < size }
 {
     for piece in stream.chunks(size) {
         match feed_again(decoder, alloc, piece) {
-            Ok(mut more) => frames.append(&mut more)?,
+            Ok(mut more) => frames.append(&mut more).expect(rt, "memory"),
             Err(fault) => assert!(rt; Some(fault) == wanted, "in pieces of {size}"),
         }
     }
-    Ok(())
 }
 
 /// What a decoder answers behind a stream: no frames, and the fault that it met.
@@ -79,13 +77,13 @@ fn feed_in_pieces(
     size: usize,
     contents: &[&str],
     end: Result<(), FrameFault>,
-) -> Result<(), Fail>
+)
     requires { 0 < size }
 {
     let wanted = fault_of(end);
-    let mut frames = Vec::with_capacity(alloc, 3)?;
+    let mut frames = Vec::with_capacity(alloc, 3).expect(rt, "memory");
     let mut decoder = Decoder::new(alloc);
-    feed_pieces(rt, alloc, &mut decoder, &mut frames, stream, size, wanted)?;
+    feed_pieces(rt, alloc, &mut decoder, &mut frames, stream, size, wanted);
     compare(rt, &frames, contents, size);
     assert!(rt;
         (decoder.fault(), decoder.finish()) == (wanted, end),
@@ -93,7 +91,6 @@ fn feed_in_pieces(
     );
     check_behind(rt, alloc, &mut decoder, wanted);
     check_behind(rt, alloc, &mut decoder, wanted);
-    Ok(())
 }
 
 /// Streams, the contents of their frames, and what their ends say.
@@ -147,14 +144,13 @@ const STREAMS: [(&str, &[&str], Result<(), FrameFault>); 26] = [
 ];
 
 #[test]
-fn streams_are_split_whatever_the_pieces(rt: HostRuntime) -> Result<(), Fail> {
+fn streams_are_split_whatever_the_pieces(rt: HostRuntime) {
     let alloc = rt.alloc();
     for (stream, contents, end) in STREAMS {
         for size in 1..80 {
-            feed_in_pieces(&rt, alloc, stream.as_bytes(), size, contents, end)?;
+            feed_in_pieces(&rt, alloc, stream.as_bytes(), size, contents, end);
         }
     }
-    Ok(())
 }
 
 /// Takes a few bytes at each write, and fails once its writes are used up.
@@ -194,9 +190,9 @@ fn check_writes(
     wanted: &[u8],
     most: usize,
     writes_left: usize,
-) -> Result<(), AllocError> {
+) {
     let mut taker = Taker {
-        taken: Vec::with_capacity(alloc, wanted.len())?,
+        taken: Vec::with_capacity(alloc, wanted.len()).expect(rt, "memory"),
         most,
         writes_left,
         has_failed: false,
@@ -205,27 +201,25 @@ fn check_writes(
     let room = most.saturating_mul(writes_left);
     assert!(rt; taker.taken.as_slice() == &wanted[..wanted.len().min(room)]);
     assert!(rt; outcome.is_ok() == (wanted.len() <= room));
-    Ok(())
 }
 
 #[test]
-fn frames_are_written_whole_or_a_front_of_them(rt: HostRuntime) -> Result<(), Fail> {
+fn frames_are_written_whole_or_a_front_of_them(rt: HostRuntime) {
     let content =
         "{\"error\":{\"code\":-32700,\"message\":\"parse error\"},\"id\":null,\"jsonrpc\":\"2.0\"}";
-    let wanted = format!(in rt.alloc(); "Content-Length: 75\r\n\r\n{content}")?;
+    let wanted = format!(in rt.alloc(); "Content-Length: 75\r\n\r\n{content}");
+    let wanted = wanted.expect(&rt, "memory");
     for writes_left in 0..200 {
         let (content, wanted) = (content.as_bytes(), wanted.as_bytes());
-        check_writes(&rt, rt.alloc(), content, wanted, 1, writes_left)?;
+        check_writes(&rt, rt.alloc(), content, wanted, 1, writes_left);
     }
-    Ok(())
 }
 
 /// The program prints the names of all others.
 #[test]
-fn a_refusal_of_memory_has_a_name(rt: HostRuntime) -> Result<(), Fail> {
-    let name = format!(in rt.alloc(); "{}", FrameFault::Memory)?;
+fn a_refusal_of_memory_has_a_name(rt: HostRuntime) {
+    let name = format!(in rt.alloc(); "{}", FrameFault::Memory).expect(&rt, "memory");
     assert!(rt; name.as_str() == "F7");
-    Ok(())
 }
 
 /// Writes a frame to a vector.
@@ -237,13 +231,13 @@ fn check_vector(rt: &impl Abort, alloc: Global, content: &[u8], wanted: &[u8]) {
 }
 
 #[test]
-fn a_frame_of_a_mebibyte_is_written(rt: HostRuntime) -> Result<(), Fail> {
+fn a_frame_of_a_mebibyte_is_written(rt: HostRuntime) {
     let alloc = rt.alloc();
-    let content = Vec::from_elem(alloc, b'x', 1_048_576)?;
+    let header = b"Content-Length: 1048576\r\n\r\n";
+    let content = Vec::from_elem(alloc, b'x', 1_048_576).expect(&rt, "memory");
     let mut wanted = Vec::new(alloc);
-    wanted.extend_from_slice(b"Content-Length: 1048576\r\n\r\n")?;
-    wanted.extend_from_slice(&content)?;
+    wanted.extend_from_slice(header).expect(&rt, "memory");
+    wanted.extend_from_slice(&content).expect(&rt, "memory");
     check_vector(&rt, alloc, &content, &wanted);
-    check_writes(&rt, alloc, &content, &wanted, 1_000, usize::MAX)?;
-    Ok(())
+    check_writes(&rt, alloc, &content, &wanted, 1_000, usize::MAX);
 }

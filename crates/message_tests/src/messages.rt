@@ -5,9 +5,8 @@ use rpc::{
     Call, Diagnostic, Id, Log, Loss, Message, Note, Position, Range, Refusal, Reply, Stats,
     one_hearing, read, some_hearing, to_bytes,
 };
-use std::alloc::{AllocError, Global};
+use std::alloc::Global;
 use std::process::Abort;
-use std::test::Fail;
 
 /// The place on line 0 before a character.
 fn before(character: u32) -> Position {
@@ -15,17 +14,18 @@ fn before(character: u32) -> Position {
 }
 
 /// A fault without the version of its document. No session publishes one.
-fn fault_without_version(alloc: Global) -> Result<Reply, Fail> {
+fn fault_without_version(rt: &impl Abort, alloc: Global) -> Reply {
     let range = Range {
         start: before(0),
         end: before(0),
     };
-    let message = String::from_str(alloc, "unexpected end; expected NUM, LP")?;
-    Ok(Reply::Diagnostics {
-        uri: String::from_str(alloc, "a:x")?,
+    let message = String::from_str(alloc, "unexpected end; expected NUM, LP");
+    let message = message.expect(rt, "memory");
+    Reply::Diagnostics {
+        uri: String::from_str(alloc, "a:x").expect(rt, "memory"),
         version: None,
         diagnostic: Some(Diagnostic { range, message }),
-    })
+    }
 }
 
 /// The counts behind more edits than are counted.
@@ -45,46 +45,42 @@ fn greatest_count() -> Reply {
 }
 
 /// That a document is lost for want of memory.
-fn no_memory(alloc: Global) -> Result<Reply, Fail> {
-    Ok(Reply::Error {
-        id: Some(Id::Text(String::from_str(alloc, r#"a""#)?)),
+fn no_memory(rt: &impl Abort, alloc: Global) -> Reply {
+    let id = String::from_str(alloc, r#"a""#).expect(rt, "memory");
+    Reply::Error {
+        id: Some(Id::Text(id)),
         refusal: Refusal::DocumentLost(Loss::NoMemory),
-    })
-}
-
-fn bytes_of(alloc: Global, reply: Reply) -> Result<Vec<u8>, AllocError> {
-    to_bytes(alloc, &reply)
+    }
 }
 
 /// The reply has these bytes.
-fn has_bytes(rt: &impl Abort, alloc: Global, reply: Reply, content: &str) -> Result<(), Fail> {
-    let bytes = bytes_of(alloc, reply)?;
+fn has_bytes(rt: &impl Abort, alloc: Global, reply: &Reply, content: &str) {
+    let bytes = to_bytes(alloc, reply).expect(rt, "memory");
     assert!(rt; bytes.as_slice() == content.as_bytes(), "at {content}");
-    Ok(())
 }
 
 #[test]
-fn replies_have_their_bytes(rt: HostRuntime) -> Result<(), Fail> {
+fn replies_have_their_bytes(rt: HostRuntime) {
     let alloc = rt.alloc();
     let content = r#"{"id":3,"jsonrpc":"2.0","result":null}"#;
-    has_bytes(&rt, alloc, Reply::Null { id: Id::Number(3) }, content)?;
+    has_bytes(&rt, alloc, &Reply::Null { id: Id::Number(3) }, content);
     let content =
         r#"{"id":2,"jsonrpc":"2.0","result":{"branches":8,"built":4,"edit":18446744073709551615,"nodes":10,"scanned":3,"tokens":7}}"#;
-    has_bytes(&rt, alloc, greatest_count(), content)?;
+    has_bytes(&rt, alloc, &greatest_count(), content);
     let content =
         r#"{"jsonrpc":"2.0","method":"textDocument/publishDiagnostics","params":{"diagnostics":[{"message":"unexpected end; expected NUM, LP","range":{"end":{"character":0,"line":0},"start":{"character":0,"line":0}},"severity":1,"source":"lrls"}],"uri":"a:x"}}"#;
-    has_bytes(&rt, alloc, fault_without_version(alloc)?, content)?;
+    has_bytes(&rt, alloc, &fault_without_version(&rt, alloc), content);
     let content =
         r#"{"error":{"code":-32803,"message":"document lost: no memory"},"id":"a\"","jsonrpc":"2.0"}"#;
-    has_bytes(&rt, alloc, no_memory(alloc)?, content)?;
+    has_bytes(&rt, alloc, &no_memory(&rt, alloc), content);
     let log = Log::Lost(Loss::NoMemory);
     let content =
         r#"{"jsonrpc":"2.0","method":"window/logMessage","params":{"message":"document lost: no memory","type":1}}"#;
-    has_bytes(&rt, alloc, Reply::Log { log }, content)
+    has_bytes(&rt, alloc, &Reply::Log { log }, content);
 }
 
 #[test]
-fn a_change_is_told(rt: HostRuntime) -> Result<(), Fail> {
+fn a_change_is_told(rt: HostRuntime) {
     let content =
         br#"{"jsonrpc":"2.0","method":"textDocument/didChange","params":{"textDocument":{"uri":"a:x","version":2},"contentChanges":[{"range":{"start":{"line":0,"character":0},"end":{"line":0,"character":1}},"text":"12"},{"text":"3"}]}}"#;
     let outcome = read(rt.alloc(), content);
@@ -109,11 +105,10 @@ fn a_change_is_told(rt: HostRuntime) -> Result<(), Fail> {
         assert!(rt; change.text.as_str() == text);
         assert!(rt; change.range == place);
     }
-    Ok(())
 }
 
 #[test]
-fn a_request_for_selections_is_told(rt: HostRuntime) -> Result<(), Fail> {
+fn a_request_for_selections_is_told(rt: HostRuntime) {
     let content =
         br#"{"jsonrpc":"2.0","id":4,"method":"textDocument/selectionRange","params":{"textDocument":{"uri":"a:x"},"positions":[{"line":3,"character":4},{"line":0,"character":1}]}}"#;
     let outcome = read(rt.alloc(), content);
@@ -127,7 +122,6 @@ fn a_request_for_selections_is_told(rt: HostRuntime) -> Result<(), Fail> {
         character: 4,
     };
     assert!(rt; positions.as_slice() == [first, before(1)].as_slice());
-    Ok(())
 }
 
 #[test]
