@@ -6,15 +6,14 @@ ghost use Rattle.tables.specs.Tables.{IsStateOf};
 
 use definitions::Kind;
 use grammar::Grammar;
-use std::alloc::{AllocError, Global};
+use std::alloc::Global;
 use std::process::Abort;
-use std::test::Fail;
 use tables::{Move, Tables};
 use worked::SUMS;
 
-fn tables(alloc: Global, text: &str) -> Result<Tables, Fail> {
-    let grammar = Grammar::read(alloc, text)?;
-    Ok(Tables::build(alloc, &grammar)?)
+fn tables(rt: &impl Abort, alloc: Global, text: &str) -> Tables {
+    let grammar = Grammar::read(alloc, text).expect(rt, "a grammar");
+    Tables::build(alloc, &grammar).expect(rt, "tables")
 }
 
 /// The state that a token rule which is shifted leads to.
@@ -28,42 +27,27 @@ fn shift(rt: &impl Abort, tables: &Tables, state: usize, rule: usize) -> usize
     }
 }
 
-/// What may come next in a state.
-fn expected(alloc: Global, tables: &Tables, state: usize) -> Result<Vec<Option<usize>>, AllocError>
+/// Just these may come next in a state of the tables of sums.
+fn expects(rt: &impl Abort, alloc: Global, tables: &Tables, state: usize, wanted: &[Option<usize>])
     requires { (prefix : List GrammarSymbol) × IsStateOf tables.now prefix state }
 {
     let mut looks = Vec::new(alloc);
     for look in tables.expects(state) {
-        looks.push(look)?;
+        looks.push(look).expect(rt, "memory");
     }
-    Ok(looks)
-}
-
-/// Just these may come next in a state of the tables of sums.
-fn expects(
-    rt: &impl Abort,
-    alloc: Global,
-    tables: &Tables,
-    state: usize,
-    wanted: &[Option<usize>],
-) -> Result<(), Fail>
-    requires { (prefix : List GrammarSymbol) × IsStateOf tables.now prefix state }
-{
-    let looks = expected(alloc, tables, state)?;
     assert!(rt; looks.as_slice() == wanted);
-    Ok(())
 }
 
-fn check_expected(rt: &impl Abort, alloc: Global, tables: &Tables) -> Result<(), Fail> {
+fn check_expected(rt: &impl Abort, alloc: Global, tables: &Tables) {
     let start = tables.start();
     let number = shift(rt, tables, start, 0);
     let open = shift(rt, tables, start, 2);
     let inner = shift(rt, tables, open, 0);
     let operand = [Some(0), Some(2)];
-    expects(rt, alloc, tables, start, &operand)?;
-    expects(rt, alloc, tables, open, &operand)?;
-    expects(rt, alloc, tables, number, &[Some(1), None])?;
-    expects(rt, alloc, tables, inner, &[Some(1), Some(3)])
+    expects(rt, alloc, tables, start, &operand);
+    expects(rt, alloc, tables, open, &operand);
+    expects(rt, alloc, tables, number, &[Some(1), None]);
+    expects(rt, alloc, tables, inner, &[Some(1), Some(3)]);
 }
 
 /// The moves of a state: each row is a lookahead and its move.
@@ -97,8 +81,8 @@ fn check_moves(rt: &impl Abort, tables: &Tables) {
 }
 
 #[test]
-fn moves_in_sums_and_what_they_go_on_with(rt: HostRuntime) -> Result<(), Fail> {
-    let tables = tables(rt.alloc(), SUMS)?;
+fn moves_in_sums_and_what_they_go_on_with(rt: HostRuntime) {
+    let tables = tables(&rt, rt.alloc(), SUMS);
     check_moves(&rt, &tables);
-    check_expected(&rt, rt.alloc(), &tables)
+    check_expected(&rt, rt.alloc(), &tables);
 }

@@ -3,13 +3,12 @@
 use grammar::{Grammar, Kind, Symbol};
 use std::alloc::Global;
 use std::process::Abort;
-use std::test::Fail;
 use worked::SUMS;
 
 /// The grammar of a file that is given in two parts.
-pub fn read_both(alloc: Global, front: &str, lines: &str) -> Result<Grammar, Fail> {
-    let file = format!(in alloc; "{front}{lines}")?;
-    Ok(Grammar::read(alloc, &file)?)
+pub fn read_both(rt: &impl Abort, alloc: Global, front: &str, lines: &str) -> Grammar {
+    let file = format!(in alloc; "{front}{lines}").expect(rt, "memory");
+    Grammar::read(alloc, &file).expect(rt, "a grammar")
 }
 
 /// The productions are these: each has a left side and a right side.
@@ -50,17 +49,15 @@ fn check_sums(rt: &impl Abort, grammar: &Grammar) {
 }
 
 #[test]
-fn tells_counts_names_marks_and_symbols_of_sums(rt: HostRuntime) -> Result<(), Fail> {
-    let grammar = Grammar::read(rt.alloc(), SUMS)?;
+fn tells_counts_names_marks_and_symbols_of_sums(rt: HostRuntime) {
+    let grammar = read_both(&rt, rt.alloc(), SUMS, "");
     check_names_and_marks(&rt, &grammar);
     check_sums(&rt, &grammar);
-    Ok(())
 }
 
 #[test]
-fn notes_what_is_not_used(rt: HostRuntime) -> Result<(), Fail> {
-    let grammar = read_both(rt.alloc(), SUMS, "token DOT = \".\"\n")?;
+fn notes_what_is_not_used(rt: HostRuntime) {
+    let grammar = read_both(&rt, rt.alloc(), SUMS, "token DOT = \".\"\n");
     let mut notes = grammar.notes();
     assert!(rt; (notes.next(), notes.next()) == (Some("DOT"), None));
-    Ok(())
 }

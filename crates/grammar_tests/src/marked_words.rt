@@ -4,7 +4,6 @@ use crate::grammars::{check_productions, read_both};
 use grammar::Symbol;
 use std::alloc::Global;
 use std::process::Abort;
-use std::test::Fail;
 
 /// Two rules and the start of a file of version 2.
 const HEAD: &str = "lrgrammar 2\ntoken A = \"a\"\ntoken B = \"b\"\nstart S\n";
@@ -16,18 +15,17 @@ fn check(
     lines: &str,
     names: &[&str],
     sides: &[(usize, &[Symbol])],
-) -> Result<(), Fail> {
-    let grammar = read_both(alloc, HEAD, lines)?;
+) {
+    let grammar = read_both(rt, alloc, HEAD, lines);
     for (number, name) in names.iter().enumerate() {
         assert!(rt; number < grammar.nonterminals());
         assert!(rt; grammar.nonterminal_name(number) == *name, "at {number}");
     }
     check_productions(rt, &grammar, sides);
-    Ok(())
 }
 
 #[test]
-fn numbers_marked_words_behind_the_lines(rt: HostRuntime) -> Result<(), Fail> {
+fn numbers_marked_words_behind_the_lines(rt: HostRuntime) {
     let (t, any, maybe) = (
         Symbol::Nonterminal(1),
         Symbol::Nonterminal(2),
@@ -42,12 +40,12 @@ fn numbers_marked_words_behind_the_lines(rt: HostRuntime) -> Result<(), Fail> {
         (3, &[Symbol::Rule(1)]),
     ];
     let names = ["S", "T", "A*", "B?"];
-    check(&rt, rt.alloc(), "S = A* T B?\nT = B? A*\n", &names, &sides)
+    check(&rt, rt.alloc(), "S = A* T B?\nT = B? A*\n", &names, &sides);
 }
 
 #[test]
-fn repeats_once_or_more(rt: HostRuntime) -> Result<(), Fail> {
+fn repeats_once_or_more(rt: HostRuntime) {
     let (again, rule) = (Symbol::Nonterminal(1), Symbol::Rule(0));
     let sides: [(usize, &[Symbol]); 3] = [(0, &[again]), (1, &[rule]), (1, &[again, rule])];
-    check(&rt, rt.alloc(), "S = A+\n", &["S", "A+"], &sides)
+    check(&rt, rt.alloc(), "S = A+\n", &["S", "A+"], &sides);
 }
