@@ -4,7 +4,6 @@ ghost use Rattle.std.specs.Prelude.{◌<◌, length};
 
 use std::alloc::{AllocError, Global};
 use std::process::Abort;
-use std::test::Fail;
 use trees::{Child, Children, Kind, Kinds, NodeId, Store};
 
 const NUMBER: Child = Child::Token(Kind::Rule(0));
@@ -14,12 +13,16 @@ const PLUS: Child = Child::Token(Kind::Rule(1));
 const GREATEST: u64 = 18_446_744_073_709_551_615;
 
 /// The tree of `1+2` in the grammar of sums: its second number was made by edit 6, the rest by edit 5.
-fn sum(alloc: Global, store: &mut Store) -> Result<[NodeId; 4], AllocError> {
-    let first = store.branch(alloc, 2, &[NUMBER], 5)?;
-    let left = store.branch(alloc, 1, &[Child::Node(first)], 5)?;
-    let second = store.branch(alloc, 2, &[NUMBER], 6)?;
-    let whole = store.branch(alloc, 0, &[Child::Node(left), PLUS, Child::Node(second)], 6)?;
-    Ok([first, left, second, whole])
+fn sum(rt: &impl Abort, alloc: Global, store: &mut Store) -> [NodeId; 4] {
+    let first = store.branch(alloc, 2, &[NUMBER], 5).expect(rt, "memory");
+    let left = store
+        .branch(alloc, 1, &[Child::Node(first)], 5)
+        .expect(rt, "memory");
+    let second = store.branch(alloc, 2, &[NUMBER], 6).expect(rt, "memory");
+    let whole = store
+        .branch(alloc, 0, &[Child::Node(left), PLUS, Child::Node(second)], 6)
+        .expect(rt, "memory");
+    [first, left, second, whole]
 }
 
 /// The production of a node, the edit that made it, its tokens and its size.
@@ -74,25 +77,23 @@ fn check_children(rt: &impl Abort, store: &Store, whole: NodeId, second: NodeId)
 }
 
 #[test]
-fn branches_over_tokens_and_nodes(rt: HostRuntime) -> Result<(), Fail> {
+fn branches_over_tokens_and_nodes(rt: HostRuntime) {
     let mut store = Store::new(rt.alloc());
     assert!(rt; store.len() == 0);
-    let nodes = sum(rt.alloc(), &mut store)?;
+    let nodes = sum(&rt, rt.alloc(), &mut store);
     assert!(rt; store.len() == 4);
     check_nodes(&rt, &store, nodes);
     let [_, _, second, whole] = nodes;
     check_children(&rt, &store, whole, second);
     assert!(rt; Children::of(&[PLUS, NUMBER]).next_back() == Some(NUMBER));
-    Ok(())
 }
 
 #[test]
-fn an_empty_production_is_a_branch_of_no_token(rt: HostRuntime) -> Result<(), Fail> {
+fn an_empty_production_is_a_branch_of_no_token(rt: HostRuntime) {
     let mut store = Store::new(rt.alloc());
-    let id = store.branch(rt.alloc(), 0, &[], 0)?;
+    let id = store.branch(rt.alloc(), 0, &[], 0).expect(&rt, "memory");
     assert!(rt; label(&rt, &store, id) == (0, 0, 0, 1));
     assert!(rt; store.child(id, 0) == None);
-    Ok(())
 }
 
 /// Cuts a store of a sum, and makes a node in the place of one that it lost.
@@ -101,34 +102,38 @@ fn check_cuts(
     alloc: Global,
     store: &mut Store,
     [first, left, second, _]: [NodeId; 4],
-) -> Result<(), AllocError> {
+) {
     store.truncate(4);
     assert!(rt; store.len() == 4);
     store.truncate(2);
     assert!(rt; store.len() == 2);
     assert!(rt; label(rt, store, left) == (1, 5, 1, 2));
     assert!(rt; store.child(left, 0) == Some(Child::Node(first)));
-    let again = store.branch(alloc, 3, &[Child::Node(left), PLUS], 7)?;
+    let again = store
+        .branch(alloc, 3, &[Child::Node(left), PLUS], 7)
+        .expect(rt, "memory");
     assert!(rt; (again, label(rt, store, again)) == (second, (3, 7, 2, 3)));
     store.truncate(0);
     assert!(rt; store.len() == 0);
-    Ok(())
 }
 
 #[test]
-fn a_cut_keeps_the_first_nodes(rt: HostRuntime) -> Result<(), Fail> {
+fn a_cut_keeps_the_first_nodes(rt: HostRuntime) {
     let mut store = Store::new(rt.alloc());
-    let nodes = sum(rt.alloc(), &mut store)?;
-    check_cuts(&rt, rt.alloc(), &mut store, nodes)?;
-    Ok(())
+    let nodes = sum(&rt, rt.alloc(), &mut store);
+    check_cuts(&rt, rt.alloc(), &mut store, nodes);
 }
 
 /// Makes nodes of which each stands twice below the next one, so that the numbers double.
-fn check_doubling(rt: &impl Abort, alloc: Global, store: &mut Store) -> Result<(), AllocError> {
-    let mut last = store.branch(alloc, 0, &[NUMBER, NUMBER], 0)?;
+fn check_doubling(rt: &impl Abort, alloc: Global, store: &mut Store) {
+    let mut last = store
+        .branch(alloc, 0, &[NUMBER, NUMBER], 0)
+        .expect(rt, "memory");
     for k in 1..70u64 {
         assert!(rt; last.index < store.len());
-        last = store.branch(alloc, 0, &[Child::Node(last), Child::Node(last)], k)?;
+        last = store
+            .branch(alloc, 0, &[Child::Node(last), Child::Node(last)], k)
+            .expect(rt, "memory");
         assert!(rt; last.index < store.len());
         let counts = (store.tokens(last), store.size(last));
         let wanted = match k {
@@ -139,22 +144,22 @@ fn check_doubling(rt: &impl Abort, alloc: Global, store: &mut Store) -> Result<(
         };
         assert!(rt; counts == wanted, "at {k}");
     }
-    Ok(())
 }
 
 #[test]
-fn counts_stop_at_the_greatest_number(rt: HostRuntime) -> Result<(), Fail> {
+fn counts_stop_at_the_greatest_number(rt: HostRuntime) {
     let mut store = Store::new(rt.alloc());
-    check_doubling(&rt, rt.alloc(), &mut store)?;
-    Ok(())
+    check_doubling(&rt, rt.alloc(), &mut store);
 }
 
 #[test]
-fn more_children_than_stand_inline(rt: HostRuntime) -> Result<(), Fail> {
+fn more_children_than_stand_inline(rt: HostRuntime) {
     let mut store = Store::new(rt.alloc());
     let mut children = [NUMBER; 40];
     children[39] = PLUS;
-    let id = store.branch(rt.alloc(), 1, &children, 0)?;
+    let id = store
+        .branch(rt.alloc(), 1, &children, 0)
+        .expect(&rt, "memory");
     assert!(rt; label(&rt, &store, id) == (1, 0, 40, 1));
     for (k, child) in [
         (4, Some(NUMBER)),
@@ -164,11 +169,10 @@ fn more_children_than_stand_inline(rt: HostRuntime) -> Result<(), Fail> {
     ] {
         assert!(rt; store.child(id, k) == child, "at {k}");
     }
-    Ok(())
 }
 
 /// Makes a branch over a number and a token of each kind.
-fn check_kinds(rt: &impl Abort, alloc: Global, store: &mut Store) -> Result<(), AllocError> {
+fn check_kinds(rt: &impl Abort, alloc: Global, store: &mut Store) {
     for kind in [
         Kind::Invalid,
         Kind::Rule(2_147_483_646),
@@ -176,37 +180,38 @@ fn check_kinds(rt: &impl Abort, alloc: Global, store: &mut Store) -> Result<(), 
         Kind::Rule(18_446_744_073_709_551_615),
     ] {
         let last = Child::Token(kind);
-        let id = store.branch(alloc, 1, &[NUMBER, last], 2)?;
+        let id = store
+            .branch(alloc, 1, &[NUMBER, last], 2)
+            .expect(rt, "memory");
         assert!(rt; label(rt, store, id) == (1, 2, 2, 1));
         assert!(rt; first_two(store, id) == (Some(NUMBER), Some(last)));
         let behind = (store.child_count(id), store.child(id, 2));
         assert!(rt; (behind, store.children(id).last()) == ((2, None), Some(last)));
     }
-    Ok(())
 }
 
 /// Makes branches whose production and whose edit have this number.
-fn check_numbers(rt: &impl Abort, alloc: Global, store: &mut Store) -> Result<(), AllocError> {
+fn check_numbers(rt: &impl Abort, alloc: Global, store: &mut Store) {
     for number in [4_294_967_295, 4_294_967_296, GREATEST] {
-        let id = store.branch(alloc, number as usize, &[PLUS], number)?;
+        let id = store
+            .branch(alloc, number as usize, &[PLUS], number)
+            .expect(rt, "memory");
         assert!(rt; label(rt, store, id) == (number as usize, number, 1, 1));
         assert!(rt; store.child(id, 0) == Some(PLUS));
     }
-    Ok(())
 }
 
 /// Numbers on both sides of what 32 bits hold.
 #[test]
-fn kinds_and_productions_of_any_number(rt: HostRuntime) -> Result<(), Fail> {
+fn kinds_and_productions_of_any_number(rt: HostRuntime) {
     let mut store = Store::new(rt.alloc());
-    check_kinds(&rt, rt.alloc(), &mut store)?;
-    check_numbers(&rt, rt.alloc(), &mut store)?;
-    Ok(())
+    check_kinds(&rt, rt.alloc(), &mut store);
+    check_numbers(&rt, rt.alloc(), &mut store);
 }
 
 /// Passes whichever allocation fails.
 #[test]
-fn a_refused_branch_leaves_the_store(rt: HostRuntime) -> Result<(), Fail> {
+fn a_refused_branch_leaves_the_store(rt: HostRuntime) {
     let mut store = Store::new(rt.alloc());
     for k in 0..20u64 {
         let before = store.len();
@@ -219,7 +224,6 @@ fn a_refused_branch_leaves_the_store(rt: HostRuntime) -> Result<(), Fail> {
         }
     }
     assert!(rt; store.len() >= 19);
-    Ok(())
 }
 
 /// Checks two roots, of which the first one is over the second number, a plus and the second root.
@@ -241,41 +245,36 @@ fn check_compaction(
     alloc: Global,
     store: &mut Store,
     [_, left, second, _]: [NodeId; 4],
-) -> Result<(), AllocError> {
+) {
     assert!(rt; left.index < store.len());
     assert!(rt; second.index < store.len());
     let children = [Child::Node(second), PLUS, Child::Node(left)];
-    let other = store.branch(alloc, 0, &children, 7)?;
+    let other = store.branch(alloc, 0, &children, 7).expect(rt, "memory");
     assert!(rt; left.index < store.len());
     assert!(rt; other.index < store.len());
     let mut roots = [other, left, other];
-    store.compact(alloc, &mut roots)?;
+    store.compact(alloc, &mut roots).expect(rt, "memory");
     let [other, left, again] = roots;
     assert!(rt; (store.len(), again) == (4, other));
     check_roots(rt, store, other, left);
-    store.compact(alloc, &mut [])?;
+    store.compact(alloc, &mut []).expect(rt, "memory");
     assert!(rt; store.len() == 0);
-    Ok(())
 }
 
 #[test]
-fn compacting_keeps_the_trees_of_the_roots(rt: HostRuntime) -> Result<(), Fail> {
+fn compacting_keeps_the_trees_of_the_roots(rt: HostRuntime) {
     let mut store = Store::new(rt.alloc());
-    let nodes = sum(rt.alloc(), &mut store)?;
-    check_compaction(&rt, rt.alloc(), &mut store, nodes)?;
-    Ok(())
+    let nodes = sum(&rt, rt.alloc(), &mut store);
+    check_compaction(&rt, rt.alloc(), &mut store, nodes);
 }
 
 /// Compacts a store to a node over nine times the same, or fails to and leaves all as it was.
-fn check_refused_compaction(
-    rt: &impl Abort,
-    alloc: Global,
-    store: &mut Store,
-    whole: NodeId,
-) -> Result<(), AllocError> {
+fn check_refused_compaction(rt: &impl Abort, alloc: Global, store: &mut Store, whole: NodeId) {
     assert!(rt; whole.index < store.len());
-    let last = store.branch(alloc, 3, &[Child::Node(whole); 9], 8)?;
-    let _dropped = store.branch(alloc, 2, &[NUMBER], 9)?;
+    let last = store
+        .branch(alloc, 3, &[Child::Node(whole); 9], 8)
+        .expect(rt, "memory");
+    let _dropped = store.branch(alloc, 2, &[NUMBER], 9).expect(rt, "memory");
     assert!(rt; last.index < store.len());
     let mut roots = [last];
     match store.compact(alloc, &mut roots) {
@@ -283,16 +282,14 @@ fn check_refused_compaction(
         Err(AllocError) => assert!(rt; (store.len(), roots[0]) == (6, last)),
     }
     assert!(rt; label(rt, store, roots[0]) == (3, 8, 27, 37));
-    Ok(())
 }
 
 /// Passes whichever allocation of the compaction fails.
 #[test]
-fn a_refused_compaction_changes_nothing(rt: HostRuntime) -> Result<(), Fail> {
+fn a_refused_compaction_changes_nothing(rt: HostRuntime) {
     let mut store = Store::new(rt.alloc());
-    let [_, _, _, whole] = sum(rt.alloc(), &mut store)?;
-    check_refused_compaction(&rt, rt.alloc(), &mut store, whole)?;
-    Ok(())
+    let [_, _, _, whole] = sum(&rt, rt.alloc(), &mut store);
+    check_refused_compaction(&rt, rt.alloc(), &mut store, whole);
 }
 
 /// Kinds in a vector.
@@ -320,11 +317,12 @@ fn count_invalid<K: Kinds>(kinds: &K) -> usize {
 }
 
 #[test]
-fn kinds_of_a_row(rt: HostRuntime) -> Result<(), Fail> {
-    let kinds = vec![in rt.alloc(); Kind::Rule(2), Kind::Invalid, Kind::Rule(0)]?;
-    let row = Row { kinds };
+fn kinds_of_a_row(rt: HostRuntime) {
+    let kinds = vec![in rt.alloc(); Kind::Rule(2), Kind::Invalid, Kind::Rule(0)];
+    let row = Row {
+        kinds: kinds.expect(&rt, "memory"),
+    };
     let told = (row.len(), row.kind(2), row.kind(3));
     assert!(rt; told == (3, Some(Kind::Rule(0)), None));
     assert!(rt; count_invalid(&row) == 1);
-    Ok(())
 }
