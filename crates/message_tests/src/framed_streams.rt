@@ -94,7 +94,7 @@ fn feed_in_pieces(
 }
 
 /// Streams, the contents of their frames, and what their ends say.
-const STREAMS: [(&str, &[&str], Result<(), FrameFault>); 26] = [
+const STREAMS: &[(&str, &[&str], Result<(), FrameFault>)] = &[
     ("", &[], Ok(())),
     ("Content-Length: 1\r\n\r\n{", &["{"], Ok(())),
     ("Content-Length: 5\r\n\r\n{}", &[], CUT),
@@ -145,10 +145,9 @@ const STREAMS: [(&str, &[&str], Result<(), FrameFault>); 26] = [
 
 #[test]
 fn streams_are_split_whatever_the_pieces(rt: HostRuntime) {
-    let alloc = rt.alloc();
     for (stream, contents, end) in STREAMS {
         for size in 1..80 {
-            feed_in_pieces(&rt, alloc, stream.as_bytes(), size, contents, end);
+            feed_in_pieces(&rt, rt.alloc(), stream.as_bytes(), size, contents, *end);
         }
     }
 }
