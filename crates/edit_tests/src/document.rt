@@ -1,19 +1,19 @@
 //! A document that keeps its tokens and its parse through edits.
 
-ghost use Rattle.std.specs.Prelude.{◌≡◌, ◌+◌, ◌≤◌, length, IfOk, OnOk};
+ghost use Rattle.std.specs.Prelude.{◌+◌, ◌≤◌, length};
 ghost use Rattle.dfa.specs.Table.{IsAutomaton};
+ghost use Rattle.definitions.specs.TokenEdits.{IsSpliced, plain_splice};
 ghost use Rattle.lexer.specs.Tokens.{AreTokensOf};
 ghost use Rattle.lexer.specs.Rescans.{significant_kinds};
 ghost use Rattle.parser.specs.Parses.{IsParseOf};
 
-use definitions::{Edit, Kind};
+use definitions::{Edit, Kind, KindSplice};
 use dfa::Automaton;
 use grammar::Grammar;
 use lexer::{Tokens, Whole};
 use parser::{Parse, Verdict};
 use std::alloc::Global;
 use std::process::Abort;
-use std::test::Fail;
 use tables::Tables;
 use text::Text;
 use trees::{Kinds, Store};
@@ -27,17 +27,17 @@ pub struct Language {
 }
 
 /// The language of a grammar file.
-pub fn load(alloc: Global, file: &str) -> Result<Language, Fail>
-    ensures { IfOk result (λ l. IsAutomaton l.grammar.patterns l.automaton) }
+pub fn load(rt: &impl Abort, alloc: Global, file: &str) -> Language
+    ensures { IsAutomaton result.grammar.patterns result.automaton }
 {
-    let grammar = Grammar::read(alloc, file)?;
-    let automaton = Automaton::build(alloc, grammar.patterns())?;
-    let tables = Tables::build(alloc, &grammar)?;
-    Ok(Language {
+    let grammar = Grammar::read(alloc, file).expect(rt, "a grammar");
+    let automaton = Automaton::build(alloc, grammar.patterns()).expect(rt, "an automaton");
+    let tables = Tables::build(alloc, &grammar).expect(rt, "tables");
+    Language {
         grammar,
         automaton,
         tables,
-    })
+    }
 }
 
 /// The kinds of the tokens that aren't skipped, looked up among all.
@@ -66,25 +66,27 @@ pub struct Document {
 }
 
 /// Scans and parses a whole text.
-pub fn open(alloc: Global, language: &Language, text: &str) -> Result<Document, Fail>
+pub fn open(rt: &impl Abort, alloc: Global, language: &Language, text: &str) -> Document
     requires { IsAutomaton language.now.grammar.patterns language.now.automaton }
-    ensures tokens { IfOk result (λ d.
-        AreTokensOf language.now.grammar.patterns language.now.grammar.skips d.text d.tokens.items) }
-    ensures parse { IfOk result (λ d.
-        IsParseOf language.now.tables (significant_kinds d.tokens.items) d.store d.parse) }
+    ensures tokens { AreTokensOf language.now.grammar.patterns language.now.grammar.skips
+        result.text result.tokens.items }
+    ensures parse { IsParseOf language.now.tables (significant_kinds result.tokens.items)
+        result.store result.parse }
 {
-    let text = Text::open(alloc, text)?;
+    let text = Text::open(alloc, text).expect(rt, "a text");
     let _length = text.len();
-    let tokens = Tokens::scan(alloc, &language.grammar, &language.automaton, &Whole(&text))?;
+    let tokens = Tokens::scan(alloc, &language.grammar, &language.automaton, &Whole(&text)).expect(
+        rt, "tokens",
+    );
     let mut store = Store::new(alloc);
     let kinds = Significant(&tokens);
-    let parse = Parse::whole(alloc, &language.tables, &mut store, &kinds)?;
-    Ok(Document {
+    let parse = Parse::whole(alloc, &language.tables, &mut store, &kinds).expect(rt, "a parse");
+    Document {
         text,
         tokens,
         store,
         parse,
-    })
+    }
 }
 
 /// What is told of a parse.
@@ -112,6 +114,41 @@ pub struct Change<'a> {
     pub number: u64,
 }
 
+/// Puts the piece of a change into a text, brings the tokens to it, and answers how the kinds change.
+pub fn rescan(
+    rt: &impl Abort,
+    alloc: Global,
+    language: &Language,
+    text: &mut Text,
+    tokens: &mut Tokens,
+    change: &Change<'_>,
+) -> KindSplice
+    requires sound { IsAutomaton language.now.grammar.patterns language.now.automaton }
+    requires tokens { AreTokensOf language.now.grammar.patterns language.now.grammar.skips
+        text.old tokens.old.items }
+    requires inside { change.now.at + change.now.removed ≤ length text.old }
+    ensures tokens { AreTokensOf language.now.grammar.patterns language.now.grammar.skips
+        text.new tokens.new.items }
+    ensures kinds { IsSpliced (plain_splice result) (significant_kinds tokens.old.items)
+        (significant_kinds tokens.new.items) }
+{
+    let piece = Text::open(alloc, change.piece).expect(rt, "a piece");
+    let edit = Edit {
+        at: change.at,
+        removed: change.removed,
+        inserted: piece.len(),
+        number: change.number,
+    };
+    let _before = text.len();
+    text.replace(alloc, change.at, change.at + change.removed, change.piece)
+        .expect(rt, "an edit");
+    let _after = text.len();
+    let (grammar, automaton) = (&language.grammar, &language.automaton);
+    tokens
+        .rescan(alloc, grammar, automaton, &Whole(text), edit)
+        .expect(rt, "a rescan")
+}
+
 /// Makes an edit, and brings tokens and parse to the text.
 pub fn apply(
     rt: &impl Abort,
@@ -119,47 +156,26 @@ pub fn apply(
     language: &Language,
     document: &mut Document,
     change: &Change<'_>,
-) -> Result<(), Fail>
+)
     requires sound { IsAutomaton language.now.grammar.patterns language.now.automaton }
     requires tokens { AreTokensOf language.now.grammar.patterns language.now.grammar.skips
         document.old.text document.old.tokens.items }
     requires parse { IsParseOf language.now.tables (significant_kinds document.old.tokens.items)
         document.old.store document.old.parse }
-    ensures tokens { OnOk result (AreTokensOf language.now.grammar.patterns
-        language.now.grammar.skips document.new.text document.new.tokens.items) }
-    ensures parse { OnOk result (IsParseOf language.now.tables
-        (significant_kinds document.new.tokens.items) document.new.store document.new.parse) }
+    ensures tokens { AreTokensOf language.now.grammar.patterns language.now.grammar.skips
+        document.new.text document.new.tokens.items }
+    ensures parse { IsParseOf language.now.tables (significant_kinds document.new.tokens.items)
+        document.new.store document.new.parse }
 {
     let length = document.text.len();
     assert!(rt; change.at <= length);
     assert!(rt; change.removed <= length - change.at);
-    let piece = Text::open(alloc, change.piece)?;
-    let edit = Edit {
-        at: change.at,
-        removed: change.removed,
-        inserted: piece.len(),
-        number: change.number,
-    };
-    document
-        .text
-        .replace(alloc, change.at, change.at + change.removed, change.piece)?;
-    let _after = document.text.len();
-    let source = Whole(&document.text);
-    let splice = document.tokens.rescan(
-        alloc,
-        &language.grammar,
-        &language.automaton,
-        &source,
-        edit,
-    )?;
+    let (text, tokens) = (&mut document.text, &mut document.tokens);
+    let splice = rescan(rt, alloc, language, text, tokens, change);
+    let (tables, store) = (&language.tables, &mut document.store);
     let kinds = Significant(&document.tokens);
-    document.parse.change(
-        alloc,
-        &language.tables,
-        &mut document.store,
-        &kinds,
-        splice,
-        change.number,
-    )?;
-    Ok(())
+    document
+        .parse
+        .change(alloc, tables, store, &kinds, splice, change.number)
+        .expect(rt, "a change");
 }

@@ -6,9 +6,8 @@ ghost use Rattle.parser.specs.Parses.{IsParseOf};
 
 use crate::document::{Change, Document, Language, apply, load, open};
 use crate::facts::{Branch, Facts, Placed, facts_of, kinds_in};
-use std::alloc::{AllocError, Global};
+use std::alloc::Global;
 use std::process::Abort;
-use std::test::Fail;
 use worked::{LISTS, SUMS};
 
 /// An edit of a text: how many characters give way to how many, and from which one on.
@@ -101,27 +100,20 @@ fn made_by(old: &[Placed], new: &[Placed], cut: Cut) -> Made {
 }
 
 /// How the significant tokens change. Where their kinds stay, it's not at all.
-fn splice_of(
-    alloc: Global,
-    old: &[Placed],
-    new: &[Placed],
-    made: Made,
-) -> Result<Splice, AllocError> {
-    let from = kinds_in(alloc, old, 0, made.from)?.len();
-    let before = kinds_in(alloc, old, made.from, made.old_to)?;
-    let after = kinds_in(alloc, new, made.from, made.to)?;
-    if before.as_slice() == after.as_slice() {
-        return Ok(Splice {
-            from,
-            to: from,
-            inserted: 0,
-        });
-    }
-    Ok(Splice {
+fn splice_of(rt: &impl Abort, alloc: Global, old: &[Placed], new: &[Placed], made: Made) -> Splice {
+    let from = kinds_in(rt, alloc, old, 0, made.from).len();
+    let before = kinds_in(rt, alloc, old, made.from, made.old_to);
+    let after = kinds_in(rt, alloc, new, made.from, made.to);
+    let (removed, inserted) = if before.as_slice() == after.as_slice() {
+        (0, 0)
+    } else {
+        (before.len(), after.len())
+    };
+    Splice {
         from,
-        to: from.saturating_add(before.len()),
-        inserted: after.len(),
-    })
+        to: from.saturating_add(removed),
+        inserted,
+    }
 }
 
 /// Whether the trees of branch `o` and of branch `n` are the same. Productions in preorder tell a tree, as each has its right
@@ -156,20 +148,21 @@ fn is_kept(old: &[Branch], new: &[Branch], n: usize, branch: Branch, splice: Spl
 
 /// Which new branches lie in no kept one.
 fn built_by(
+    rt: &impl Abort,
     alloc: Global,
     old: &[Branch],
     new: &[Branch],
     splice: Splice,
-) -> Result<Vec<bool>, AllocError> {
+) -> Vec<bool> {
     let mut built = Vec::new(alloc);
     let mut kept_to: usize = 0;
     for (n, branch) in new.iter().enumerate() {
         if is_kept(old, new, n, *branch, splice) {
             kept_to = kept_to.max(n.saturating_add(branch.size));
         }
-        built.push(kept_to <= n)?;
+        built.push(kept_to <= n).expect(rt, "memory");
     }
-    Ok(built)
+    built
 }
 
 /// Whether the tokens are these, and edit 1 has made exactly those that it is to make.
@@ -228,27 +221,26 @@ fn are_counts(document: &Document, facts: &Facts, made: Made, built: &[bool]) ->
 
 /// Whether edit 1 has brought the document to the new facts, and has made no more than it had to.
 fn is_brought(
+    rt: &impl Abort,
     alloc: Global,
     language: &Language,
     document: &Document,
     old: &Facts,
     new: &Facts,
     cut: Cut,
-) -> Result<bool, AllocError>
+) -> bool
     requires { IsParseOf language.now.tables (significant_kinds document.now.tokens.items)
         document.now.store document.now.parse }
 {
-    let facts = facts_of(alloc, language, document)?;
+    let facts = facts_of(rt, alloc, language, document);
     let made = made_by(&old.tokens, &new.tokens, cut);
-    let splice = splice_of(alloc, &old.tokens, &new.tokens, made)?;
-    let built = built_by(alloc, &old.branches, &new.branches, splice)?;
-    Ok(
-        are_tokens(&facts.tokens, &new.tokens, made)
-            && are_branches(&facts.branches, &new.branches, &built)
-            && are_counts(document, &facts, made, &built)
-            && facts.told == new.told
-            && facts.expected.as_slice() == new.expected.as_slice(),
-    )
+    let splice = splice_of(rt, alloc, &old.tokens, &new.tokens, made);
+    let built = built_by(rt, alloc, &old.branches, &new.branches, splice);
+    are_tokens(&facts.tokens, &new.tokens, made)
+        && are_branches(&facts.branches, &new.branches, &built)
+        && are_counts(document, &facts, made, &built)
+        && facts.told == new.told
+        && facts.expected.as_slice() == new.expected.as_slice()
 }
 
 /// The place of a letter, counted from 1.
@@ -281,42 +273,48 @@ fn count_below(letters: &[char], length: usize) -> usize {
 }
 
 fn push_longer(
+    rt: &impl Abort,
     alloc: Global,
     texts: &mut Vec<String>,
     text: &str,
     letters: &[char],
-) -> Result<(), AllocError> {
+) {
     for letter in letters {
-        let mut longer = String::from_str(alloc, text)?;
-        longer.push(*letter)?;
-        texts.push(longer)?;
+        let mut longer = String::from_str(alloc, text).expect(rt, "memory");
+        longer.push(*letter).expect(rt, "memory");
+        texts.push(longer).expect(rt, "memory");
     }
-    Ok(())
 }
 
 /// All texts up to this length, by their numbers.
-fn texts_up_to(alloc: Global, letters: &[char], longest: usize) -> Result<Vec<String>, AllocError> {
+fn texts_up_to(rt: &impl Abort, alloc: Global, letters: &[char], longest: usize) -> Vec<String> {
     let mut texts = Vec::new(alloc);
-    texts.push(String::new(alloc))?;
+    texts.push(String::new(alloc)).expect(rt, "memory");
     for number in 0..count_below(letters, longest) {
         if let Some(text) = texts.get(number) {
-            let text: String = text.clone()?;
-            push_longer(alloc, &mut texts, text.as_str(), letters)?;
+            let text: String = text.clone().expect(rt, "memory");
+            push_longer(rt, alloc, &mut texts, text.as_str(), letters);
         }
     }
-    Ok(texts)
+    texts
 }
 
 /// What is so of each of the texts, scanned and parsed whole.
-fn facts_of_texts(alloc: Global, language: &Language, texts: &[String]) -> Result<Vec<Facts>, Fail>
+fn facts_of_texts(
+    rt: &impl Abort,
+    alloc: Global,
+    language: &Language,
+    texts: &[String],
+) -> Vec<Facts>
     requires { IsAutomaton language.now.grammar.patterns language.now.automaton }
 {
     let mut all = Vec::new(alloc);
     for text in texts {
-        let document = open(alloc, language, text.as_str())?;
-        all.push(facts_of(alloc, language, &document)?)?;
+        let document = open(rt, alloc, language, text.as_str());
+        let facts = facts_of(rt, alloc, language, &document);
+        all.push(facts).expect(rt, "memory");
     }
-    Ok(all)
+    all
 }
 
 /// All texts up to a length, and what is so of each.
@@ -336,12 +334,12 @@ fn check_edited(
     document: &Document,
     old: (&str, &Facts),
     change: &Change<'_>,
-) -> Result<(), Fail>
+)
     requires { IsParseOf language.now.tables (significant_kinds document.now.tokens.items)
         document.now.store document.now.parse }
 {
     let (text, old) = old;
-    let after = document.text.characters(alloc)?;
+    let after = document.text.characters(alloc).expect(rt, "memory");
     let Some(new) = all.facts.get(number_of(all.letters, &after)) else {
         panic!(rt; "no such text");
     };
@@ -353,9 +351,8 @@ fn check_edited(
         removed,
         inserted,
     };
-    let is_brought = is_brought(alloc, language, document, old, new, cut)?;
+    let is_brought = is_brought(rt, alloc, language, document, old, new, cut);
     assert!(rt; is_brought, "'{piece}' for {removed} at {at} of '{text}'");
-    Ok(())
 }
 
 /// Makes an edit as edit 1 of a text, and sees that it comes to what a whole scan and parse come to.
@@ -367,12 +364,12 @@ fn check_edit(
     text: &str,
     old: &Facts,
     change: &Change<'_>,
-) -> Result<(), Fail>
+)
     requires { IsAutomaton language.now.grammar.patterns language.now.automaton }
 {
-    let mut document = open(alloc, language, text)?;
-    apply(rt, alloc, language, &mut document, change)?;
-    check_edited(rt, alloc, language, all, &document, (text, old), change)
+    let mut document = open(rt, alloc, language, text);
+    apply(rt, alloc, language, &mut document, change);
+    check_edited(rt, alloc, language, all, &document, (text, old), change);
 }
 
 /// Puts each of the first pieces in the place of some characters of a text.
@@ -384,7 +381,7 @@ fn check_cut(
     number: usize,
     cut: (usize, usize),
     pieces: usize,
-) -> Result<(), Fail>
+)
     requires { IsAutomaton language.now.grammar.patterns language.now.automaton }
 {
     let (Some(text), Some(old)) = (all.texts.get(number), all.facts.get(number)) else {
@@ -397,9 +394,8 @@ fn check_cut(
             piece: piece.as_str(),
             number: 1,
         };
-        check_edit(rt, alloc, language, all, text.as_str(), old, &change)?;
+        check_edit(rt, alloc, language, all, text.as_str(), old, &change);
     }
-    Ok(())
 }
 
 /// The edits of a text of this length at one place.
@@ -411,16 +407,15 @@ fn check_place(
     text: (usize, usize),
     at: usize,
     pieces: usize,
-) -> Result<(), Fail>
+)
     requires { IsAutomaton language.now.grammar.patterns language.now.automaton }
 {
     let (number, length) = text;
     for removed in 0..3 {
         if removed <= length.saturating_sub(at) {
-            check_cut(rt, alloc, language, all, number, (at, removed), pieces)?;
+            check_cut(rt, alloc, language, all, number, (at, removed), pieces);
         }
     }
-    Ok(())
 }
 
 /// The edits of a text of this length at all its places.
@@ -431,14 +426,13 @@ fn check_text(
     all: &Texts<'_>,
     text: (usize, usize),
     pieces: usize,
-) -> Result<(), Fail>
+)
     requires { IsAutomaton language.now.grammar.patterns language.now.automaton }
 {
     let (_, length) = text;
     for at in 0..length.saturating_add(1) {
-        check_place(rt, alloc, language, all, text, at, pieces)?;
+        check_place(rt, alloc, language, all, text, at, pieces);
     }
-    Ok(())
 }
 
 /// Each text of a length, with each edit that puts at most so many characters in the place of two or fewer.
@@ -449,10 +443,10 @@ fn check_texts(
     letters: &[char],
     length: usize,
     inserted: usize,
-) -> Result<(), Fail> {
-    let texts = texts_up_to(alloc, letters, length.saturating_add(inserted))?;
-    let language = load(alloc, file)?;
-    let facts = facts_of_texts(alloc, &language, &texts)?;
+) {
+    let texts = texts_up_to(rt, alloc, letters, length.saturating_add(inserted));
+    let language = load(rt, alloc, file);
+    let facts = facts_of_texts(rt, alloc, &language, &texts);
     let all = Texts {
         letters,
         texts: &texts,
@@ -461,31 +455,28 @@ fn check_texts(
     let pieces = count_below(letters, inserted.saturating_add(1));
     let first = count_below(letters, length);
     for number in first..count_below(letters, length.saturating_add(1)) {
-        check_text(rt, alloc, &language, &all, (number, length), pieces)?;
+        check_text(rt, alloc, &language, &all, (number, length), pieces);
     }
-    Ok(())
 }
 
 #[test]
-fn sums_of_up_to_three(rt: HostRuntime) -> Result<(), Fail> {
+fn sums_of_up_to_three(rt: HostRuntime) {
     let letters = ['1', '+', '(', ')', ' '];
     for length in 0..4 {
-        check_texts(&rt, rt.alloc(), SUMS, &letters, length, 2)?;
+        check_texts(&rt, rt.alloc(), SUMS, &letters, length, 2);
     }
-    Ok(())
 }
 
 #[test]
-fn sums_of_four(rt: HostRuntime) -> Result<(), Fail> {
+fn sums_of_four(rt: HostRuntime) {
     let letters = ['1', '+', '(', ')', ' '];
-    check_texts(&rt, rt.alloc(), SUMS, &letters, 4, 2)
+    check_texts(&rt, rt.alloc(), SUMS, &letters, 4, 2);
 }
 
 #[test]
-fn lists_of_up_to_four(rt: HostRuntime) -> Result<(), Fail> {
+fn lists_of_up_to_four(rt: HostRuntime) {
     let letters = ['a', '"', ' '];
     for length in 0..5 {
-        check_texts(&rt, rt.alloc(), LISTS, &letters, length, 2)?;
+        check_texts(&rt, rt.alloc(), LISTS, &letters, length, 2);
     }
-    Ok(())
 }

@@ -10,7 +10,8 @@ use crate::document::{Document, Language, Told, told_of};
 use definitions::Kind;
 use lexer::{Token, Tokens};
 use parser::Parse;
-use std::alloc::{AllocError, Global};
+use std::alloc::Global;
+use std::process::Abort;
 use tables::Tables;
 use trees::{Child, Children, NodeId, Store};
 
@@ -43,24 +44,23 @@ pub struct Facts {
     pub expected: Vec<Option<usize>>,
 }
 
-fn placed_tokens(alloc: Global, tokens: &Tokens) -> Result<Vec<Placed>, AllocError> {
+fn placed_tokens(rt: &impl Abort, alloc: Global, tokens: &Tokens) -> Vec<Placed> {
     let mut all = Vec::new(alloc);
     let mut start: usize = 0;
     for i in 0..tokens.count() {
         if let Some(token) = tokens.token(i) {
             let token = *token;
-            all.push(Placed { start, token })?;
+            all.push(Placed { start, token }).expect(rt, "memory");
             start = start.saturating_add(token.length as usize);
         }
     }
-    Ok(all)
+    all
 }
 
-fn push_reversed(pending: &mut Vec<Child>, children: Children<'_>) -> Result<(), AllocError> {
+fn push_reversed(rt: &impl Abort, pending: &mut Vec<Child>, children: Children<'_>) {
     for child in children.rev() {
-        pending.push(child)?;
+        pending.push(child).expect(rt, "memory");
     }
-    Ok(())
 }
 
 /// The branch of a node whose first token is this one. None where there is no such node.
@@ -77,79 +77,71 @@ fn branch_at(store: &Store, id: NodeId, from: usize) -> Option<Branch> {
     })
 }
 
-fn push_children(pending: &mut Vec<Child>, store: &Store, id: NodeId) -> Result<(), AllocError> {
+fn push_children(rt: &impl Abort, pending: &mut Vec<Child>, store: &Store, id: NodeId) {
     if id.index < store.len() {
-        push_reversed(pending, store.children(id))?;
+        push_reversed(rt, pending, store.children(id));
     }
-    Ok(())
 }
 
 /// The branches of the trees, in preorder.
-fn branches_of(alloc: Global, store: &Store, trees: &[Child]) -> Result<Vec<Branch>, AllocError> {
+fn branches_of(rt: &impl Abort, alloc: Global, store: &Store, trees: &[Child]) -> Vec<Branch> {
     let mut pending = Vec::new(alloc);
-    push_reversed(&mut pending, Children::of(trees))?;
+    push_reversed(rt, &mut pending, Children::of(trees));
     let mut branches = Vec::new(alloc);
     let mut at: usize = 0;
     for _ in 0..MOST_STEPS {
         match pending.pop() {
-            None => return Ok(branches),
+            None => break,
             Some(Child::Token(_)) => at = at.saturating_add(1),
             Some(Child::Node(id)) => {
                 if let Some(branch) = branch_at(store, id, at) {
-                    branches.push(branch)?;
+                    branches.push(branch).expect(rt, "memory");
                 }
-                push_children(&mut pending, store, id)?;
+                push_children(rt, &mut pending, store, id);
             }
         }
     }
-    Ok(branches)
+    branches
 }
 
 /// What may stand at the fault.
-fn expected_of(
-    alloc: Global,
-    tables: &Tables,
-    parse: &Parse,
-) -> Result<Vec<Option<usize>>, AllocError>
+fn expected_of(rt: &impl Abort, alloc: Global, tables: &Tables, parse: &Parse) -> Vec<Option<usize>>
     requires { (kinds : List TokenKind) × (cells : List Cell)
         × IsParseOf tables.now kinds cells parse.now }
 {
     let mut looks = Vec::new(alloc);
     for look in parse.expected(tables) {
-        looks.push(look)?;
+        looks.push(look).expect(rt, "memory");
     }
-    Ok(looks)
+    looks
 }
 
 /// What is so of a document.
-pub fn facts_of(
-    alloc: Global,
-    language: &Language,
-    document: &Document,
-) -> Result<Facts, AllocError>
+pub fn facts_of(rt: &impl Abort, alloc: Global, language: &Language, document: &Document) -> Facts
     requires { IsParseOf language.now.tables (significant_kinds document.now.tokens.items)
         document.now.store document.now.parse }
 {
-    Ok(Facts {
-        tokens: placed_tokens(alloc, &document.tokens)?,
-        branches: branches_of(alloc, &document.store, document.parse.stack())?,
+    Facts {
+        tokens: placed_tokens(rt, alloc, &document.tokens),
+        branches: branches_of(rt, alloc, &document.store, document.parse.stack()),
         told: told_of(&document.parse),
-        expected: expected_of(alloc, &language.tables, &document.parse)?,
-    })
+        expected: expected_of(rt, alloc, &language.tables, &document.parse),
+    }
 }
 
 /// The kinds of the significant ones of the tokens `from..to`.
 pub fn kinds_in(
+    rt: &impl Abort,
     alloc: Global,
     tokens: &[Placed],
     from: usize,
     to: usize,
-) -> Result<Vec<Kind>, AllocError> {
+) -> Vec<Kind> {
     let mut kinds = Vec::new(alloc);
     for (k, placed) in tokens.iter().enumerate() {
         if from <= k && k < to && !placed.token.skipped {
-            kinds.push(placed.token.kind)?;
+            kinds.push(placed.token.kind).expect(rt, "memory");
         }
     }
-    Ok(kinds)
+    kinds
 }

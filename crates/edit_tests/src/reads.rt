@@ -5,13 +5,11 @@ ghost use Rattle.lexer.specs.Tokens.{AreTokensOf};
 ghost use Rattle.lexer.specs.Rescans.{significant_kinds};
 ghost use Rattle.parser.specs.Parses.{IsParseOf};
 
-use crate::document::{Document, Language, Significant, load, open};
-use definitions::{Edit, Kind};
-use lexer::Whole;
+use crate::document::{Change, Document, Language, Significant, load, open, rescan};
+use definitions::Kind;
 use std::alloc::Global;
 use std::cell::Cell;
-use std::test::Fail;
-use text::Text;
+use std::process::Abort;
 use trees::Kinds;
 use worked::SUMS;
 
@@ -36,31 +34,26 @@ impl<'a> Kinds for Counted<'a> {
 }
 
 /// Puts `+1` at the end, as edit 1, and answers how many kinds the parser reads for it.
-fn reads_at_end(alloc: Global, language: &Language, document: &mut Document) -> Result<usize, Fail>
+fn reads_at_end(
+    rt: &impl Abort,
+    alloc: Global,
+    language: &Language,
+    document: &mut Document,
+) -> usize
     requires sound { IsAutomaton language.now.grammar.patterns language.now.automaton }
     requires tokens { AreTokensOf language.now.grammar.patterns language.now.grammar.skips
         document.old.text document.old.tokens.items }
     requires parse { IsParseOf language.now.tables (significant_kinds document.old.tokens.items)
         document.old.store document.old.parse }
 {
-    let at = document.text.len();
-    let piece = Text::open(alloc, "+1")?;
-    let edit = Edit {
-        at,
+    let change = Change {
+        at: document.text.len(),
         removed: 0,
-        inserted: piece.len(),
+        piece: "+1",
         number: 1,
     };
-    document.text.replace(alloc, at, at, "+1")?;
-    let _after = document.text.len();
-    let source = Whole(&document.text);
-    let splice = document.tokens.rescan(
-        alloc,
-        &language.grammar,
-        &language.automaton,
-        &source,
-        edit,
-    )?;
+    let (text, tokens) = (&mut document.text, &mut document.tokens);
+    let splice = rescan(rt, alloc, language, text, tokens, &change);
     let kinds = Counted {
         whole: Significant(&document.tokens),
         reads: Cell::new(0),
@@ -68,34 +61,39 @@ fn reads_at_end(alloc: Global, language: &Language, document: &mut Document) -> 
     let (tables, store) = (&language.tables, &mut document.store);
     document
         .parse
-        .change(alloc, tables, store, &kinds, splice, 1)?;
-    Ok(kinds.reads.get())
+        .change(alloc, tables, store, &kinds, splice, 1)
+        .expect(rt, "a change");
+    kinds.reads.get()
 }
 
 /// Opens a text, and answers how many kinds the parser reads for `+1` at its end.
-fn reads_of(alloc: Global, language: &Language, text: &str) -> Result<usize, Fail>
+fn reads_of(rt: &impl Abort, alloc: Global, language: &Language, text: &str) -> usize
     requires { IsAutomaton language.now.grammar.patterns language.now.automaton }
 {
-    let mut document = open(alloc, language, text)?;
-    reads_at_end(alloc, language, &mut document)
+    let mut document = open(rt, alloc, language, text);
+    reads_at_end(rt, alloc, language, &mut document)
+}
+
+/// The same of a sum.
+fn reads_of_sum(rt: &impl Abort, alloc: Global, text: &str) -> usize {
+    let sums = load(rt, alloc, SUMS);
+    reads_of(rt, alloc, &sums, text)
 }
 
 /// `1` and so many times `+1`.
-fn sum_of(alloc: Global, count: usize) -> Result<String, Fail> {
-    let mut text = String::from_str(alloc, "1")?;
+fn sum_of(rt: &impl Abort, alloc: Global, count: usize) -> String {
+    let mut text = String::from_str(alloc, "1").expect(rt, "memory");
     for _ in 0..count {
-        text.push_str("+1")?;
+        text.push_str("+1").expect(rt, "memory");
     }
-    Ok(text)
+    text
 }
 
 /// What stands before a sum's end is taken over as one tree, and isn't read again.
 #[test]
-fn few_kinds_are_read(rt: HostRuntime) -> Result<(), Fail> {
+fn few_kinds_are_read(rt: HostRuntime) {
     let alloc = rt.alloc();
-    let text = sum_of(alloc, 9_999)?;
-    let sums = load(alloc, SUMS)?;
-    let reads = reads_of(alloc, &sums, text.as_str())?;
+    let text = sum_of(&rt, alloc, 9_999);
+    let reads = reads_of_sum(&rt, alloc, text.as_str());
     assert!(rt; reads < 1_000, "{reads}");
-    Ok(())
 }

@@ -1,6 +1,6 @@
 //! Worked edits, with the counts of what they make.
 
-ghost use Rattle.std.specs.Prelude.{◌≡◌, ◌+◌, ◌≤◌, length, IfOk, OnOk};
+ghost use Rattle.std.specs.Prelude.{◌≡◌, ◌+◌, ◌≤◌, length};
 ghost use Rattle.dfa.specs.Table.{IsAutomaton};
 ghost use Rattle.lexer.specs.Tokens.{AreTokensOf};
 ghost use Rattle.lexer.specs.Rescans.{significant_kinds};
@@ -9,7 +9,6 @@ ghost use Rattle.parser.specs.Parses.{IsParseOf};
 use crate::document::{Change, Document, Language, Told, apply, load, open, told_of};
 use std::alloc::Global;
 use std::process::Abort;
-use std::test::Fail;
 use worked::{LISTS, SUMS};
 
 /// How many tokens and branches there are, how many of them the last edit made, and what is told.
@@ -49,16 +48,16 @@ fn check_row(
     language: &Language,
     document: &mut Document,
     row: &Row<'_>,
-) -> Result<(), Fail>
+)
     requires sound { IsAutomaton language.now.grammar.patterns language.now.automaton }
     requires tokens { AreTokensOf language.now.grammar.patterns language.now.grammar.skips
         document.old.text document.old.tokens.items }
     requires parse { IsParseOf language.now.tables (significant_kinds document.old.tokens.items)
         document.old.store document.old.parse }
-    ensures tokens { OnOk result (AreTokensOf language.now.grammar.patterns
-        language.now.grammar.skips document.new.text document.new.tokens.items) }
-    ensures parse { OnOk result (IsParseOf language.now.tables
-        (significant_kinds document.new.tokens.items) document.new.store document.new.parse) }
+    ensures tokens { AreTokensOf language.now.grammar.patterns language.now.grammar.skips
+        document.new.text document.new.tokens.items }
+    ensures parse { IsParseOf language.now.tables (significant_kinds document.new.tokens.items)
+        document.new.store document.new.parse }
 {
     let (at, removed, piece) = row.edit;
     let edit = Change {
@@ -67,7 +66,7 @@ fn check_row(
         piece,
         number: row.number,
     };
-    apply(rt, alloc, language, document, &edit)?;
+    apply(rt, alloc, language, document, &edit);
     let (tokens, scanned, branches, built) = row.counts;
     let awaited = Outcome {
         tokens,
@@ -78,24 +77,22 @@ fn check_row(
     };
     let number = row.number;
     assert!(rt; outcome_of(document) == awaited, "edit {number}");
-    Ok(())
 }
 
 /// Opens a text and makes the edits of the rows in turn.
-fn check(
-    rt: &impl Abort,
-    alloc: Global,
-    language: &Language,
-    text: &str,
-    rows: &[Row<'_>],
-) -> Result<(), Fail>
+fn check(rt: &impl Abort, alloc: Global, language: &Language, text: &str, rows: &[Row<'_>])
     requires { IsAutomaton language.now.grammar.patterns language.now.automaton }
 {
-    let mut document = open(alloc, language, text)?;
+    let mut document = open(rt, alloc, language, text);
     'rows: for row in rows {
-        check_row(rt, alloc, language, &mut document, row)?;
+        check_row(rt, alloc, language, &mut document, row);
     }
-    Ok(())
+}
+
+/// The same, by the rules of a grammar file.
+fn check_by(rt: &impl Abort, alloc: Global, file: &str, text: &str, rows: &[Row<'_>]) {
+    let language = load(rt, alloc, file);
+    check(rt, alloc, &language, text, rows);
 }
 
 fn row_of<'a>(
@@ -112,50 +109,47 @@ fn row_of<'a>(
     }
 }
 
-/// Each with the counts of tokens, of those scanned, of branches and of those built.
+/// Sums, an edit of each, and the counts of tokens, of those scanned, of branches and of those built.
+const EDITED_SUMS: [(
+    &str,
+    (usize, usize, &str),
+    (usize, usize, usize, usize),
+    Told,
+); 10] = [
+    ("1+2", (1, 0, " "), (4, 2, 4, 0), Told::Tree),
+    ("1+ 2", (3, 0, "3+"), (6, 3, 6, 3), Told::Tree),
+    ("(1", (2, 0, ")"), (3, 2, 4, 4), Told::Tree),
+    ("(1+2", (4, 0, ")"), (5, 2, 6, 4), Told::Tree),
+    ("(1)", (2, 1, ""), (2, 1, 0, 0), Told::FaultAtEnd),
+    ("1+2+3", (5, 0, "4"), (5, 1, 6, 0), Told::Tree),
+    ("1+2+3", (5, 0, "+4"), (7, 3, 8, 4), Told::Tree),
+    ("1+2+3", (0, 0, "9"), (5, 1, 6, 0), Told::Tree),
+    ("1+2+3", (4, 1, ""), (4, 1, 4, 0), Told::FaultAtEnd),
+    ("1+2", (1, 0, ""), (3, 1, 4, 0), Told::Tree),
+];
+
 #[test]
-fn edits_of_sums(rt: HostRuntime) -> Result<(), Fail> {
-    let alloc = rt.alloc();
-    let sums = load(alloc, SUMS)?;
-    let rows = [
-        ("1+2", row_of(1, (1, 0, " "), (4, 2, 4, 0), Told::Tree)),
-        ("1+ 2", row_of(1, (3, 0, "3+"), (6, 3, 6, 3), Told::Tree)),
-        ("(1", row_of(1, (2, 0, ")"), (3, 2, 4, 4), Told::Tree)),
-        ("(1+2", row_of(1, (4, 0, ")"), (5, 2, 6, 4), Told::Tree)),
-        ("(1)", row_of(1, (2, 1, ""), (2, 1, 0, 0), Told::FaultAtEnd)),
-        ("1+2+3", row_of(1, (5, 0, "4"), (5, 1, 6, 0), Told::Tree)),
-        ("1+2+3", row_of(1, (5, 0, "+4"), (7, 3, 8, 4), Told::Tree)),
-        ("1+2+3", row_of(1, (0, 0, "9"), (5, 1, 6, 0), Told::Tree)),
-        (
-            "1+2+3",
-            row_of(1, (4, 1, ""), (4, 1, 4, 0), Told::FaultAtEnd),
-        ),
-        ("1+2", row_of(1, (1, 0, ""), (3, 1, 4, 0), Told::Tree)),
-    ];
-    for (text, row) in rows {
-        check(&rt, alloc, &sums, text, &[row])?;
+fn edits_of_sums(rt: HostRuntime) {
+    for (text, edit, counts, told) in EDITED_SUMS {
+        let row = row_of(1, edit, counts, told);
+        check_by(&rt, rt.alloc(), SUMS, text, &[row]);
     }
-    Ok(())
 }
 
 #[test]
-fn edits_of_lists(rt: HostRuntime) -> Result<(), Fail> {
-    let alloc = rt.alloc();
-    let lists = load(alloc, LISTS)?;
+fn edits_of_lists(rt: HostRuntime) {
     let rows = [
         row_of(1, (0, 0, "\""), (4, 1, 0, 0), Told::FaultAt(0)),
         row_of(2, (6, 0, "\""), (1, 1, 3, 3), Told::Tree),
         row_of(3, (6, 1, ""), (4, 4, 0, 0), Told::FaultAt(0)),
     ];
-    check(&rt, alloc, &lists, "ab cd", &rows)
+    check_by(&rt, rt.alloc(), LISTS, "ab cd", &rows);
 }
 
 /// A fault, edits behind and before it, and the fault mended: what stands before the fault is kept, and what stands behind it
 /// is built once it is mended.
 #[test]
-fn faulty_and_back(rt: HostRuntime) -> Result<(), Fail> {
-    let alloc = rt.alloc();
-    let sums = load(alloc, SUMS)?;
+fn faulty_and_back(rt: HostRuntime) {
     let rows = [
         row_of(1, (0, 0, ")"), (6, 1, 0, 0), Told::FaultAt(0)),
         row_of(2, (0, 1, ""), (5, 0, 6, 6), Told::Tree),
@@ -164,14 +158,12 @@ fn faulty_and_back(rt: HostRuntime) -> Result<(), Fail> {
         row_of(5, (0, 0, "5+"), (10, 2, 6, 4), Told::FaultAt(6)),
         row_of(6, (6, 1, ""), (9, 1, 10, 4), Told::Tree),
     ];
-    check(&rt, alloc, &sums, "1+2+3", &rows)
+    check_by(&rt, rt.alloc(), SUMS, "1+2+3", &rows);
 }
 
 /// Only a number above the last one's keeps what stands.
 #[test]
-fn numbers_that_are_no_new_ones(rt: HostRuntime) -> Result<(), Fail> {
-    let alloc = rt.alloc();
-    let sums = load(alloc, SUMS)?;
+fn numbers_that_are_no_new_ones(rt: HostRuntime) {
     let space = (1, 0, " ");
     let rows = [
         row_of(7, space, (4, 2, 4, 0), Told::Tree),
@@ -179,27 +171,25 @@ fn numbers_that_are_no_new_ones(rt: HostRuntime) -> Result<(), Fail> {
         row_of(3, space, (4, 2, 4, 4), Told::Tree),
         row_of(4, space, (4, 2, 4, 0), Told::Tree),
     ];
-    check(&rt, alloc, &sums, "1+2", &rows)
+    check_by(&rt, rt.alloc(), SUMS, "1+2", &rows);
 }
 
-/// So many characters, all the same.
-fn repeated(alloc: Global, c: char, count: usize) -> Result<String, Fail> {
-    let mut text = String::new(alloc);
-    for _ in 0..count {
-        text.push(c)?;
+/// A hundred thousand times the same character, behind others.
+fn repeated(rt: &impl Abort, alloc: Global, front: &str, c: char) -> String {
+    let mut text = String::from_str(alloc, front).expect(rt, "memory");
+    for _ in 0..100_000 {
+        text.push(c).expect(rt, "memory");
     }
-    Ok(text)
+    text
 }
 
 /// So deep a tree is built and gone over without recursion.
 #[test]
-fn deep_trees(rt: HostRuntime) -> Result<(), Fail> {
+fn deep_trees(rt: HostRuntime) {
     let alloc = rt.alloc();
-    let opening = repeated(alloc, '(', 100_000)?;
-    let mut closing = repeated(alloc, ')', 100_000)?;
-    closing.insert(0, '1')?;
-    let sums = load(alloc, SUMS)?;
+    let opening = repeated(&rt, alloc, "", '(');
+    let closing = repeated(&rt, alloc, "1", ')');
     let edit = (100_000, 0, closing.as_str());
     let mended = row_of(1, edit, (200_001, 100_002, 200_002, 200_002), Told::Tree);
-    check(&rt, alloc, &sums, &opening, &[mended])
+    check_by(&rt, alloc, SUMS, &opening, &[mended]);
 }
