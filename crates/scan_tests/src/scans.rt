@@ -1,6 +1,6 @@
 //! The tokens of worked texts, and what edits change of them.
 
-ghost use Rattle.std.specs.Prelude.{◌≡◌, ◌+◌, ◌<◌, ◌≤◌, length, IfOk, OnOk};
+ghost use Rattle.std.specs.Prelude.{◌≡◌, ◌+◌, ◌<◌, ◌≤◌, length};
 ghost use Rattle.std.specs.Str.{chars};
 ghost use Rattle.dfa.specs.Table.{IsAutomaton};
 ghost use Rattle.lexer.specs.Tokens.{AreTokensOf};
@@ -11,7 +11,6 @@ use lexer::{Edit, Kind, KindSplice, Source, Tokens, Whole};
 use std::alloc::Global;
 use std::cell::Cell;
 use std::process::Abort;
-use std::test::Fail;
 use text::Text;
 use worked::{LETTERS, LISTS, SUMS};
 
@@ -28,23 +27,22 @@ struct Language {
     automaton: Automaton,
 }
 
-fn load(alloc: Global, text: &str) -> Result<Language, Fail>
-    ensures { IfOk result (λ l. IsAutomaton l.grammar.patterns l.automaton) }
+fn load(rt: &impl Abort, alloc: Global, text: &str) -> Language
+    ensures { IsAutomaton result.grammar.patterns result.automaton }
 {
-    let grammar = Grammar::read(alloc, text)?;
-    let automaton = Automaton::build(alloc, grammar.patterns())?;
-    Ok(Language { grammar, automaton })
+    let grammar = Grammar::read(alloc, text).expect(rt, "a grammar");
+    let automaton = Automaton::build(alloc, grammar.patterns()).expect(rt, "an automaton");
+    Language { grammar, automaton }
 }
 
 /// The tokens of a whole text.
-fn scan(alloc: Global, language: &Language, text: &Text) -> Result<Tokens, Fail>
+fn scan(rt: &impl Abort, alloc: Global, language: &Language, text: &Text) -> Tokens
     requires { IsAutomaton language.now.grammar.patterns language.now.automaton }
     ensures { let g = language.now.grammar in
-        IfOk result (λ tokens. AreTokensOf g.patterns g.skips text.now tokens.items) }
+        AreTokensOf g.patterns g.skips text.now result.items }
 {
     let _length = text.len();
-    let tokens = Tokens::scan(alloc, &language.grammar, &language.automaton, &Whole(text))?;
-    Ok(tokens)
+    Tokens::scan(alloc, &language.grammar, &language.automaton, &Whole(text)).expect(rt, "tokens")
 }
 
 /// A text whose reads are counted.
@@ -94,20 +92,21 @@ struct Rescan {
 
 /// Makes the edit of a step, and brings the tokens to the text.
 fn change(
+    rt: &impl Abort,
     alloc: Global,
     language: &Language,
     text: &mut Text,
     tokens: &mut Tokens,
     step: &Step<'_>,
-) -> Result<Rescan, Fail>
+) -> Rescan
     requires sound { IsAutomaton language.now.grammar.patterns language.now.automaton }
     requires tokens { let g = language.now.grammar in
         AreTokensOf g.patterns g.skips text.old tokens.old.items }
     requires inside { step.now.at + step.now.removed ≤ length text.old }
     ensures { let g = language.now.grammar in
-        OnOk result (AreTokensOf g.patterns g.skips text.new tokens.new.items) }
+        AreTokensOf g.patterns g.skips text.new tokens.new.items }
 {
-    let piece = Text::open(alloc, step.piece)?;
+    let piece = Text::open(alloc, step.piece).expect(rt, "a piece");
     let edit = Edit {
         at: step.at,
         removed: step.removed,
@@ -115,15 +114,18 @@ fn change(
         number: step.number,
     };
     let _before = text.len();
-    text.replace(alloc, step.at, step.at + step.removed, step.piece)?;
+    text.replace(alloc, step.at, step.at + step.removed, step.piece)
+        .expect(rt, "an edit");
     let _after = text.len();
     let source = Counted {
         whole: Whole(text),
         reads: Cell::new(0),
     };
-    let splice = tokens.rescan(alloc, &language.grammar, &language.automaton, &source, edit)?;
+    let splice = tokens
+        .rescan(alloc, &language.grammar, &language.automaton, &source, edit)
+        .expect(rt, "a rescan");
     let reads = source.reads.get();
-    Ok(Rescan { splice, reads })
+    Rescan { splice, reads }
 }
 
 /// How many tokens have this stamp.
@@ -147,24 +149,24 @@ fn check_step(
     text: &mut Text,
     tokens: &mut Tokens,
     step: &Step<'_>,
-) -> Result<usize, Fail>
+) -> usize
     requires sound { IsAutomaton language.now.grammar.patterns language.now.automaton }
     requires tokens { let g = language.now.grammar in
         AreTokensOf g.patterns g.skips text.old tokens.old.items }
     ensures { let g = language.now.grammar in
-        OnOk result (AreTokensOf g.patterns g.skips text.new tokens.new.items) }
+        AreTokensOf g.patterns g.skips text.new tokens.new.items }
 {
     let length = text.len();
     assert!(rt; step.at <= length);
     assert!(rt; step.removed <= length - step.at);
-    let rescan = change(alloc, language, text, tokens, step)?;
+    let rescan = change(rt, alloc, language, text, tokens, step);
     assert!(rt; tokens.scanned() == step.scanned);
     assert!(rt; born_by(tokens, step.number) == step.scanned);
     assert!(rt; tokens.count() == step.count);
     assert!(rt; rescan.splice.from == step.from);
     assert!(rt; rescan.splice.to == step.to);
     assert!(rt; rescan.splice.kinds.as_slice() == step.kinds);
-    Ok(rescan.reads)
+    rescan.reads
 }
 
 /// Opens a text, makes the edits of the steps in turn, and answers how many characters were read for the last one.
@@ -174,16 +176,22 @@ fn check(
     language: &Language,
     open: &str,
     steps: &[Step<'_>],
-) -> Result<usize, Fail>
+) -> usize
     requires { IsAutomaton language.now.grammar.patterns language.now.automaton }
 {
-    let mut text = Text::open(alloc, open)?;
-    let mut tokens = scan(alloc, language, &text)?;
+    let mut text = Text::open(alloc, open).expect(rt, "a text");
+    let mut tokens = scan(rt, alloc, language, &text);
     let mut reads = 0;
     'steps: for step in steps {
-        reads = check_step(rt, alloc, language, &mut text, &mut tokens, step)?;
+        reads = check_step(rt, alloc, language, &mut text, &mut tokens, step);
     }
-    Ok(reads)
+    reads
+}
+
+/// The same, by the rules of a grammar file.
+fn check_by(rt: &impl Abort, alloc: Global, file: &str, open: &str, steps: &[Step<'_>]) -> usize {
+    let language = load(rt, alloc, file);
+    check(rt, alloc, &language, open, steps)
 }
 
 /// Whether the tokens have these names, lengths, reaches and starts, and stamp 0.
@@ -206,25 +214,26 @@ fn are_rows(grammar: &Grammar, tokens: &Tokens, rows: &[(&str, u32, u32, usize)]
 
 /// Whether the tokens of a text are these.
 fn has_tokens(
+    rt: &impl Abort,
     alloc: Global,
     language: &Language,
     text: &str,
     rows: &[(&str, u32, u32, usize)],
-) -> Result<bool, Fail>
+) -> bool
     requires { IsAutomaton language.now.grammar.patterns language.now.automaton }
 {
-    let text = Text::open(alloc, text)?;
-    let tokens = scan(alloc, language, &text)?;
-    Ok(are_rows(&language.grammar, &tokens, rows))
+    let text = Text::open(alloc, text).expect(rt, "a text");
+    let tokens = scan(rt, alloc, language, &text);
+    are_rows(&language.grammar, &tokens, rows)
 }
 
 /// So many times the same characters.
-fn repeated(alloc: Global, piece: &str, count: usize) -> Result<String, Fail> {
+fn repeated(rt: &impl Abort, alloc: Global, piece: &str, count: usize) -> String {
     let mut text = String::new(alloc);
     for _ in 0..count {
-        text.push_str(piece)?;
+        text.push_str(piece).expect(rt, "memory");
     }
-    Ok(text)
+    text
 }
 
 /// Checks the tokens of a text by the rules of a grammar file.
@@ -234,14 +243,13 @@ fn check_tokens(
     file: &str,
     text: &str,
     rows: &[(&str, u32, u32, usize)],
-) -> Result<(), Fail> {
-    let language = load(alloc, file)?;
-    assert!(rt; has_tokens(alloc, &language, text, rows)?);
-    Ok(())
+) {
+    let language = load(rt, alloc, file);
+    assert!(rt; has_tokens(rt, alloc, &language, text, rows));
 }
 
 #[test]
-fn scans_whole_texts(rt: HostRuntime) -> Result<(), Fail> {
+fn scans_whole_texts(rt: HostRuntime) {
     let alloc = rt.alloc();
     let rows = [
         ("NUM", 1, 2, 0),
@@ -250,65 +258,70 @@ fn scans_whole_texts(rt: HostRuntime) -> Result<(), Fail> {
         ("WS", 2, 3, 3),
         ("NUM", 1, 2, 5),
     ];
-    check_tokens(&rt, alloc, SUMS, "1 +\r\n2", &rows)?;
-    check_tokens(&rt, alloc, SUMS, "", &[])?;
+    check_tokens(&rt, alloc, SUMS, "1 +\r\n2", &rows);
+    check_tokens(&rt, alloc, SUMS, "", &[]);
     let rows = [("invalid", 1, 1, 0), ("invalid", 1, 1, 1)];
-    check_tokens(&rt, alloc, LISTS, "\r\n", &rows)?;
+    check_tokens(&rt, alloc, LISTS, "\r\n", &rows);
     let rows = [("A", 1, 3, 0), ("B", 1, 2, 1), ("D", 1, 2, 2)];
-    check_tokens(&rt, alloc, LETTERS, "abd", &rows)
+    check_tokens(&rt, alloc, LETTERS, "abd", &rows);
 }
 
-/// Scans 1,500 times `1 +`.
-fn check_with_kinds(
-    rt: &impl Abort,
-    alloc: Global,
-    language: &Language,
-    text: &str,
-) -> Result<(), Fail>
-    requires { IsAutomaton language.now.grammar.patterns language.now.automaton }
-{
-    let text = Text::open(alloc, text)?;
-    let _length = text.len();
-    let grammar = &language.grammar;
-    let (tokens, kinds) = Tokens::scan_with_kinds(
-        alloc,
-        grammar,
-        &language.automaton,
-        &Whole(&text),
-    )?;
+/// Numbers, blanks and pluses in turn.
+fn check_tokens_in_turn(rt: &impl Abort, grammar: &Grammar, tokens: &Tokens) {
     assert!(rt; tokens.count() == 4500);
     for (i, token) in tokens.items().iter_from(0).enumerate() {
         let name = ["NUM", "WS", "PLUS"][i % 3];
         assert!(rt; grammar.kind_name(token.kind) == name, "at {i}");
     }
+}
+
+/// Numbers and pluses in turn.
+fn check_kinds_in_turn(rt: &impl Abort, grammar: &Grammar, kinds: &[Kind]) {
     assert!(rt; kinds.len() == 3000);
     for (i, kind) in kinds.iter().enumerate() {
         let name = ["NUM", "PLUS"][i % 2];
         assert!(rt; grammar.kind_name(*kind) == name, "at {i}");
     }
-    Ok(())
+}
+
+/// Scans 1,500 times `1 +`.
+fn check_with_kinds(rt: &impl Abort, alloc: Global, language: &Language, text: &str)
+    requires { IsAutomaton language.now.grammar.patterns language.now.automaton }
+{
+    let text = Text::open(alloc, text).expect(rt, "a text");
+    let _length = text.len();
+    let (grammar, automaton) = (&language.grammar, &language.automaton);
+    let (tokens, kinds) = Tokens::scan_with_kinds(alloc, grammar, automaton, &Whole(&text)).expect(
+        rt, "tokens",
+    );
+    check_tokens_in_turn(rt, grammar, &tokens);
+    check_kinds_in_turn(rt, grammar, &kinds);
 }
 
 /// More tokens than are put into the list at once.
 #[test]
-fn scans_a_long_text_with_its_kinds(rt: HostRuntime) -> Result<(), Fail> {
+fn scans_a_long_text_with_its_kinds(rt: HostRuntime) {
     let alloc = rt.alloc();
-    let text = repeated(alloc, "1 +", 1500)?;
-    let sums = load(alloc, SUMS)?;
-    check_with_kinds(&rt, alloc, &sums, &text)
+    let text = repeated(&rt, alloc, "1 +", 1500);
+    let sums = load(&rt, alloc, SUMS);
+    check_with_kinds(&rt, alloc, &sums, &text);
+}
+
+/// Checks the tokens of two numbers with a plus between them, and blanks around the plus.
+fn check_significant(rt: &impl Abort, tokens: &Tokens) {
+    assert!(rt; tokens.items().len() == 5);
+    assert!(rt; tokens.significant() == 3);
+    let places = [tokens.place(0), tokens.place(1), tokens.place(2)];
+    assert!(rt; places == [0, 2, 4]);
 }
 
 #[test]
-fn tells_the_significant_tokens(rt: HostRuntime) -> Result<(), Fail> {
+fn tells_the_significant_tokens(rt: HostRuntime) {
     let alloc = rt.alloc();
-    let sums = load(alloc, SUMS)?;
-    let tokens = scan(alloc, &sums, &Text::open(alloc, "1 +\r\n2")?)?;
-    assert!(rt; tokens.items().len() == 5);
-    assert!(rt; tokens.significant() == 3);
-    assert!(rt; tokens.place(0) == 0);
-    assert!(rt; tokens.place(1) == 2);
-    assert!(rt; tokens.place(2) == 4);
-    Ok(())
+    let text = Text::open(alloc, "1 +\r\n2").expect(&rt, "a text");
+    let sums = load(&rt, alloc, SUMS);
+    let tokens = scan(&rt, alloc, &sums, &text);
+    check_significant(&rt, &tokens);
 }
 
 /// The edit with number 7, and what is to come of it.
@@ -330,93 +343,85 @@ fn step_by_7<'a>(
     }
 }
 
+/// A text, the edit that puts a piece in the place of so many characters, how many tokens are scanned for it and how many there
+/// are behind it, and the splice of kinds.
+type Row = (
+    &'static str,
+    (usize, usize, &'static str),
+    (usize, usize),
+    (usize, usize, &'static [Kind]),
+);
+
+const EDITED_SUMS: [Row; 9] = [
+    ("1+2", (1, 0, " "), (2, 4), (0, 0, &[])),
+    ("1+ 2", (3, 0, "3+"), (3, 6), (2, 2, &[NUM, PLUS])),
+    ("1+2+3", (0, 0, ")"), (1, 6), (0, 0, &[RP])),
+    (")1+2+3", (0, 1, ""), (0, 5), (0, 1, &[])),
+    ("(1)", (2, 1, ""), (1, 2), (1, 3, &[NUM])),
+    ("1+2+3", (5, 0, "4"), (1, 5), (4, 4, &[])),
+    ("1+2+3", (5, 0, "+4"), (3, 7), (4, 5, &[NUM, PLUS, NUM])),
+    ("1+2+3", (0, 0, "9"), (1, 5), (0, 0, &[])),
+    ("1+2+3", (4, 1, ""), (1, 4), (3, 5, &[PLUS])),
+];
+
 #[test]
-fn rescans_sums(rt: HostRuntime) -> Result<(), Fail> {
-    let alloc = rt.alloc();
-    let sums = load(alloc, SUMS)?;
-    let rows = [
-        ("1+2", step_by_7((1, 0, " "), (2, 4), (0, 0, &[]))),
-        (
-            "1+ 2",
-            step_by_7((3, 0, "3+"), (3, 6), (2, 2, &[NUM, PLUS])),
-        ),
-        ("1+2+3", step_by_7((0, 0, ")"), (1, 6), (0, 0, &[RP]))),
-        (")1+2+3", step_by_7((0, 1, ""), (0, 5), (0, 1, &[]))),
-        ("(1)", step_by_7((2, 1, ""), (1, 2), (1, 3, &[NUM]))),
-        ("1+2+3", step_by_7((5, 0, "4"), (1, 5), (4, 4, &[]))),
-        (
-            "1+2+3",
-            step_by_7((5, 0, "+4"), (3, 7), (4, 5, &[NUM, PLUS, NUM])),
-        ),
-        ("1+2+3", step_by_7((0, 0, "9"), (1, 5), (0, 0, &[]))),
-        ("1+2+3", step_by_7((4, 1, ""), (1, 4), (3, 5, &[PLUS]))),
-    ];
-    for (open, step) in rows {
-        check(&rt, alloc, &sums, open, &[step])?;
+fn rescans_sums(rt: HostRuntime) {
+    for (open, edit, counts, splice) in EDITED_SUMS {
+        let step = step_by_7(edit, counts, splice);
+        check_by(&rt, rt.alloc(), SUMS, open, &[step]);
     }
-    Ok(())
 }
 
 #[test]
-fn rescans_by_reach(rt: HostRuntime) -> Result<(), Fail> {
-    let alloc = rt.alloc();
-    let letters = load(alloc, LETTERS)?;
+fn rescans_by_reach(rt: HostRuntime) {
     let edit = step_by_7((2, 1, "c"), (1, 1), (0, 3, &[Kind::Rule(0)]));
-    check(&rt, alloc, &letters, "abd", &[edit])?;
-    Ok(())
+    check_by(&rt, rt.alloc(), LETTERS, "abd", &[edit]);
 }
 
 #[test]
-fn rescans_what_was_rescanned(rt: HostRuntime) -> Result<(), Fail> {
-    let alloc = rt.alloc();
-    let lists = load(alloc, LISTS)?;
+fn rescans_what_was_rescanned(rt: HostRuntime) {
     let words = [Kind::Invalid, Kind::Rule(1), Kind::Rule(1)];
     let first = step_by_7((0, 0, "\""), (1, 4), (0, 0, &[Kind::Invalid]));
     let mut second = step_by_7((6, 0, "\""), (1, 1), (0, 3, &[Kind::Rule(0)]));
     second.number = 8;
     let mut third = step_by_7((6, 1, ""), (4, 4), (0, 1, &words));
     third.number = 9;
-    check(&rt, alloc, &lists, "ab cd", &[first, second, third])?;
-    Ok(())
+    check_by(&rt, rt.alloc(), LISTS, "ab cd", &[first, second, third]);
 }
 
 #[test]
-fn reads_few_characters(rt: HostRuntime) -> Result<(), Fail> {
+fn reads_few_characters(rt: HostRuntime) {
     let alloc = rt.alloc();
-    let open = repeated(alloc, "1+", 50_000)?;
-    let sums = load(alloc, SUMS)?;
+    let open = repeated(&rt, alloc, "1+", 50_000);
     let edit = step_by_7((50_000, 0, "9"), (2, 100_000), (49_999, 49_999, &[]));
-    let reads = check(&rt, alloc, &sums, &open, &[edit])?;
+    let reads = check_by(&rt, alloc, SUMS, &open, &[edit]);
     assert!(rt; 0 < reads && reads < 100);
-    Ok(())
 }
 
 /// So many words in quotes, and the kinds that they have once the quote behind them is taken away.
-fn quoted_words(alloc: Global, count: usize) -> Result<(String, Vec<Kind>), Fail> {
-    let mut text = String::from_str(alloc, "\"")?;
-    let mut kinds = vec![in alloc; Kind::Invalid]?;
+fn quoted_words(rt: &impl Abort, alloc: Global, count: usize) -> (String, Vec<Kind>) {
+    let mut text = String::from_str(alloc, "\"").expect(rt, "memory");
+    let mut kinds = vec![in alloc; Kind::Invalid].expect(rt, "memory");
     for _ in 0..count {
-        text.push_str("a ")?;
-        kinds.push(Kind::Rule(1))?;
+        text.push_str("a ").expect(rt, "memory");
+        kinds.push(Kind::Rule(1)).expect(rt, "memory");
     }
-    text.push('"')?;
-    Ok((text, kinds))
+    text.push('"').expect(rt, "memory");
+    (text, kinds)
 }
 
 /// The quote behind the words is taken away, so that each of them is a token again.
 #[test]
-fn rescans_ten_thousand_tokens(rt: HostRuntime) -> Result<(), Fail> {
+fn rescans_ten_thousand_tokens(rt: HostRuntime) {
     let alloc = rt.alloc();
-    let (open, kinds) = quoted_words(alloc, 5_000)?;
-    let lists = load(alloc, LISTS)?;
+    let (open, kinds) = quoted_words(&rt, alloc, 5_000);
     let edit = step_by_7((10_001, 1, ""), (10_001, 10_001), (0, 1, &kinds));
-    check(&rt, alloc, &lists, &open, &[edit])?;
-    Ok(())
+    check_by(&rt, alloc, LISTS, &open, &[edit]);
 }
 
 /// Faces are a rule's; other characters outside the first plane are no rule's.
 #[test]
-fn scans_characters_outside_the_first_plane(rt: HostRuntime) -> Result<(), Fail> {
+fn scans_characters_outside_the_first_plane(rt: HostRuntime) {
     let alloc = rt.alloc();
     let file = "lrgrammar 1\ntoken FACE = [\\u{1F600}-\\u{1F64F}]+\nstart S\nS = FACE\n";
     let rows = [
@@ -426,8 +431,8 @@ fn scans_characters_outside_the_first_plane(rt: HostRuntime) -> Result<(), Fail>
         ("invalid", 1, 1, 4),
     ];
     let text = "\u{1f600}\u{1f64f}\u{10000}\u{1f601}\u{10ffff}";
-    check_tokens(&rt, alloc, file, text, &rows)?;
-    let long = repeated(alloc, "\u{1f600}", 262_144)?;
+    check_tokens(&rt, alloc, file, text, &rows);
+    let long = repeated(&rt, alloc, "\u{1f600}", 262_144);
     let rows = [("FACE", 262_144, 262_145, 0)];
-    check_tokens(&rt, alloc, file, &long, &rows)
+    check_tokens(&rt, alloc, file, &long, &rows);
 }
