@@ -1,8 +1,7 @@
 //! Texts, their positions and their edits.
 
-use std::alloc::{AllocError, Global};
+use std::alloc::Global;
 use std::process::Abort;
-use std::test::Fail;
 use text::{LONGEST_TEXT, Position, Range, Text, TextFault, Unit};
 
 fn at(line: u32, character: u32) -> Position {
@@ -14,12 +13,12 @@ fn between(start: Position, end: Position) -> Option<Range> {
 }
 
 /// So many times the character.
-pub fn filled(alloc: Global, c: char, count: usize) -> Result<String, AllocError> {
+pub fn filled(rt: &impl Abort, alloc: Global, c: char, count: usize) -> String {
     let mut text = String::new(alloc);
     for _ in 0..count {
-        text.push(c)?;
+        text.push(c).expect(rt, "memory");
     }
-    Ok(text)
+    text
 }
 
 /// Each row is an offset, and the line and character of its position.
@@ -47,38 +46,23 @@ struct Case<'a> {
 }
 
 /// The whole text is this.
-fn expect_text(
-    rt: &impl Abort,
-    alloc: Global,
-    text: &Text,
-    wanted: &str,
-) -> Result<(), AllocError> {
-    let whole = text.to_string(alloc)?;
+fn expect_text(rt: &impl Abort, alloc: Global, text: &Text, wanted: &str) {
+    let whole = text.to_string(alloc).expect(rt, "memory");
     assert!(rt; whole.as_str() == wanted);
-    Ok(())
 }
 
-fn check_edit(
-    rt: &impl Abort,
-    alloc: Global,
-    text: &mut Text,
-    case: &Case<'_>,
-) -> Result<(), Fail> {
-    expect_positions(rt, text, case.positions);
+fn check_case(rt: &impl Abort, alloc: Global, case: &Case<'_>) {
+    let mut text = Text::open(alloc, case.open).expect(rt, "a text");
+    expect_positions(rt, &text, case.positions);
     let range = between(at(case.line, case.from), at(case.line, case.to));
-    text.change(alloc, Unit::Utf16, range, case.piece)?;
-    expect_text(rt, alloc, text, case.edited)?;
-    expect_positions(rt, text, case.positions_behind);
-    Ok(())
-}
-
-fn check_case(rt: &impl Abort, alloc: Global, case: &Case<'_>) -> Result<(), Fail> {
-    let mut text = Text::open(alloc, case.open)?;
-    check_edit(rt, alloc, &mut text, case)
+    text.change(alloc, Unit::Utf16, range, case.piece)
+        .expect(rt, "a change");
+    expect_text(rt, alloc, &text, case.edited);
+    expect_positions(rt, &text, case.positions_behind);
 }
 
 #[test]
-fn breaks_apart_are_two_and_together_one(rt: HostRuntime) -> Result<(), Fail> {
+fn breaks_apart_are_two_and_together_one(rt: HostRuntime) {
     let case = Case {
         open: "1\rX\n2",
         positions: &[(2, 1, 0), (3, 1, 1), (4, 2, 0), (5, 2, 1)],
@@ -89,12 +73,12 @@ fn breaks_apart_are_two_and_together_one(rt: HostRuntime) -> Result<(), Fail> {
         edited: "1\r\n2",
         positions_behind: &[(1, 0, 1), (2, 0, 1), (3, 1, 0), (4, 1, 1)],
     };
-    check_case(&rt, rt.alloc(), &case)
+    check_case(&rt, rt.alloc(), &case);
 }
 
 /// Each row is a text of a character and `1`, and the text with a `5` before them, put there by a range within the character.
 #[test]
-fn characters_past_the_first_plane_count_two(rt: HostRuntime) -> Result<(), Fail> {
+fn characters_past_the_first_plane_count_two(rt: HostRuntime) {
     for (open, edited) in [
         ("\u{10000}1", "5\u{10000}1"),
         ("\u{1f600}1", "5\u{1f600}1"),
@@ -110,14 +94,13 @@ fn characters_past_the_first_plane_count_two(rt: HostRuntime) -> Result<(), Fail
             edited,
             positions_behind: &[(1, 0, 1), (2, 0, 3)],
         };
-        check_case(&rt, rt.alloc(), &case)?;
+        check_case(&rt, rt.alloc(), &case);
     }
-    Ok(())
 }
 
 #[test]
-fn a_walk_tells_each_position(rt: HostRuntime) -> Result<(), Fail> {
-    let text = Text::open(rt.alloc(), "1\r\n\u{1f600}2")?;
+fn a_walk_tells_each_position(rt: HostRuntime) {
+    let text = Text::open(rt.alloc(), "1\r\n\u{1f600}2").expect(&rt, "a text");
     let mut places = text.places(Unit::Utf16);
     for (line, character) in [(0, 0), (0, 1), (0, 1), (1, 0), (1, 2), (1, 3), (1, 3)] {
         assert!(rt; places.position() == at(line, character));
@@ -126,43 +109,40 @@ fn a_walk_tells_each_position(rt: HostRuntime) -> Result<(), Fail> {
     let mut places = text.places(Unit::Utf16);
     places.advance(4);
     assert!(rt; places.position() == at(1, 2));
-    Ok(())
 }
 
 /// Whether a text of so many times the character is refused.
-fn is_too_large(alloc: Global, c: char, count: usize) -> Result<bool, AllocError> {
-    let text = filled(alloc, c, count)?;
-    Ok(Text::open(alloc, text.as_str()).err() == Some(TextFault::TooLarge))
+fn is_too_large(rt: &impl Abort, alloc: Global, c: char, count: usize) -> bool {
+    let text = filled(rt, alloc, c, count);
+    Text::open(alloc, text.as_str()).err() == Some(TextFault::TooLarge)
 }
 
 /// An open text of so many times the character.
-pub fn text_of(alloc: Global, c: char, count: usize) -> Result<Text, Fail> {
-    let text = filled(alloc, c, count)?;
-    Ok(Text::open(alloc, text.as_str())?)
+pub fn text_of(rt: &impl Abort, alloc: Global, c: char, count: usize) -> Text {
+    let text = filled(rt, alloc, c, count);
+    Text::open(alloc, text.as_str()).expect(rt, "a text")
 }
 
-/// Whether an edit is refused as too large. Any other refusal is handed on.
-fn is_refused(outcome: Result<(), TextFault>) -> Result<bool, TextFault> {
-    match outcome {
-        Ok(()) => Ok(false),
-        Err(TextFault::TooLarge) => Ok(true),
-        Err(fault) => Err(fault),
-    }
+/// Whether an edit is refused as too large. There is no other refusal.
+fn is_refused(rt: &impl Abort, outcome: Result<(), TextFault>) -> bool {
+    assert!(rt; matches!(outcome, Ok(()) | Err(TextFault::TooLarge)));
+    outcome.is_err()
 }
 
 /// Whether the text with so many times `1` in the place of a range is refused.
 fn is_change_refused(
+    rt: &impl Abort,
     alloc: Global,
     text: &mut Text,
     range: Option<Range>,
     count: usize,
-) -> Result<bool, Fail> {
-    let piece = filled(alloc, '1', count)?;
-    Ok(is_refused(text.change(alloc, Unit::Utf16, range, piece.as_str()))?)
+) -> bool {
+    let piece = filled(rt, alloc, '1', count);
+    is_refused(rt, text.change(alloc, Unit::Utf16, range, piece.as_str()))
 }
 
 /// Each row is a range, how many times `1` it gives way to, whether that is refused, and how many bytes there are behind it.
-fn check_bytes(rt: &impl Abort, alloc: Global, text: &mut Text) -> Result<(), Fail> {
+fn check_bytes(rt: &impl Abort, alloc: Global, text: &mut Text) {
     let front = between(at(0, 0), at(0, 0));
     for (range, count, wanted, bytes) in [
         (front, 1, false, 1_048_576),
@@ -170,23 +150,22 @@ fn check_bytes(rt: &impl Abort, alloc: Global, text: &mut Text) -> Result<(), Fa
         (None, 1, false, 1),
         (None, 1_048_577, true, 1),
     ] {
-        let is_refused = is_change_refused(alloc, text, range, count)?;
+        let is_refused = is_change_refused(rt, alloc, text, range, count);
         assert!(rt; (is_refused, text.bytes()) == (wanted, bytes));
     }
-    Ok(())
 }
 
 #[test]
-fn a_text_may_have_so_many_bytes(rt: HostRuntime) -> Result<(), Fail> {
+fn a_text_may_have_so_many_bytes(rt: HostRuntime) {
     let alloc = rt.alloc();
-    assert!(rt; is_too_large(alloc, '1', 1_048_577)?);
-    let mut text = text_of(alloc, '1', 1_048_575)?;
-    check_bytes(&rt, alloc, &mut text)
+    assert!(rt; is_too_large(&rt, alloc, '1', 1_048_577));
+    let mut text = text_of(&rt, alloc, '1', 1_048_575);
+    check_bytes(&rt, alloc, &mut text);
 }
 
 /// Each row is how many of the first characters give way to a piece, whether that is refused, and how many characters there are
 /// behind it. There are as many bytes as may be throughout.
-fn check_full_text(rt: &impl Abort, alloc: Global, text: &mut Text) -> Result<(), Fail> {
+fn check_full_text(rt: &impl Abort, alloc: Global, text: &mut Text) {
     assert!(rt; (text.len(), text.bytes()) == (262_144, LONGEST_TEXT));
     for (removed, piece, wanted, count) in [
         (1, "12345", true, 262_144),
@@ -194,23 +173,22 @@ fn check_full_text(rt: &impl Abort, alloc: Global, text: &mut Text) -> Result<()
         (0, "1", true, 262_146),
     ] {
         assert!(rt; removed <= text.len());
-        let is_refused = is_refused(text.replace(alloc, 0, removed, piece))?;
+        let is_refused = is_refused(rt, text.replace(alloc, 0, removed, piece));
         assert!(rt; (is_refused, text.len(), text.bytes()) == (wanted, count, LONGEST_TEXT));
     }
-    Ok(())
 }
 
 #[test]
-fn the_limit_counts_bytes_and_not_characters(rt: HostRuntime) -> Result<(), Fail> {
+fn the_limit_counts_bytes_and_not_characters(rt: HostRuntime) {
     let alloc = rt.alloc();
-    assert!(rt; is_too_large(alloc, '\u{e9}', 524_289)?);
-    let mut text = text_of(alloc, '\u{1f600}', 262_144)?;
-    check_full_text(&rt, alloc, &mut text)
+    assert!(rt; is_too_large(&rt, alloc, '\u{e9}', 524_289));
+    let mut text = text_of(&rt, alloc, '\u{1f600}', 262_144);
+    check_full_text(&rt, alloc, &mut text);
 }
 
 /// Checks the characters of `abc`, a line feed, a face and `z`.
-fn check_characters(rt: &impl Abort, alloc: Global, text: &Text) -> Result<(), AllocError> {
-    let characters = text.characters(alloc)?;
+fn check_characters(rt: &impl Abort, alloc: Global, text: &Text) {
+    let characters = text.characters(alloc).expect(rt, "memory");
     assert!(rt; characters.len() == 6);
     assert!(rt; characters[4] == '\u{1f600}');
     assert!(rt; 4 < text.len());
@@ -218,29 +196,26 @@ fn check_characters(rt: &impl Abort, alloc: Global, text: &Text) -> Result<(), A
     let mut rest = text.chars_from(4);
     assert!(rt; (rest.next(), rest.next(), rest.next()) == (Some('\u{1f600}'), Some('z'), None));
     assert!(rt; text.chars_from(7).next() == None);
-    Ok(())
 }
 
 /// Puts `bc` in the place of the second and the third of six characters.
-fn check_replaced(rt: &impl Abort, alloc: Global, text: &mut Text) -> Result<(), Fail> {
+fn check_replaced(rt: &impl Abort, alloc: Global, text: &mut Text) {
     assert!(rt; text.len() == 6);
-    text.replace(alloc, 1, 3, "bc")?;
-    expect_text(rt, alloc, text, "abc\n\u{1f600}z")?;
-    Ok(())
+    text.replace(alloc, 1, 3, "bc").expect(rt, "an edit");
+    expect_text(rt, alloc, text, "abc\n\u{1f600}z");
 }
 
 #[test]
-fn each_call_answers(rt: HostRuntime) -> Result<(), Fail> {
-    let mut text = Text::open(rt.alloc(), "a\u{e9}\r\n\u{1f600}z")?;
+fn each_call_answers(rt: HostRuntime) {
+    let mut text = Text::open(rt.alloc(), "a\u{e9}\r\n\u{1f600}z").expect(&rt, "a text");
     assert!(rt; text.bytes() == 10);
-    check_replaced(&rt, rt.alloc(), &mut text)?;
-    check_characters(&rt, rt.alloc(), &text)?;
-    Ok(())
+    check_replaced(&rt, rt.alloc(), &mut text);
+    check_characters(&rt, rt.alloc(), &text);
 }
 
 #[test]
-fn offsets_and_positions_of_a_text(rt: HostRuntime) -> Result<(), Fail> {
-    let text = Text::open(rt.alloc(), "abc\n\u{1f600}z")?;
+fn offsets_and_positions_of_a_text(rt: HostRuntime) {
+    let text = Text::open(rt.alloc(), "abc\n\u{1f600}z").expect(&rt, "a text");
     for (line, character, offset) in [
         (0, 2, 2),
         (0, 9, 3),
@@ -255,5 +230,4 @@ fn offsets_and_positions_of_a_text(rt: HostRuntime) -> Result<(), Fail> {
         );
     }
     expect_positions(&rt, &text, &[(3, 0, 3), (4, 1, 0), (6, 1, 3), (99, 1, 3)]);
-    Ok(())
 }

@@ -6,7 +6,6 @@ ghost use Rattle.text_tests.specs.Maxima.{max_left_unit, max_right_unit, max_ass
 use seqtree::{Goal, Measured, Monoid, Seq, Slots};
 use std::alloc::Global;
 use std::process::Abort;
-use std::test::Fail;
 
 #[derive(Clone, Copy, Debug, PartialEq, Eq)]
 struct Greatest {
@@ -62,12 +61,12 @@ impl Goal<Greatest> for AtLeast {
     }
 }
 
-fn slots_of(alloc: Global, values: &[u32]) -> Result<Slots<Number>, Fail> {
+fn slots_of(rt: &impl Abort, alloc: Global, values: &[u32]) -> Slots<Number> {
     let mut numbers = Vec::new(alloc);
     for value in values {
-        numbers.push(Number { value: *value })?;
+        numbers.push(Number { value: *value }).expect(rt, "memory");
     }
-    Ok(Slots::make(alloc, numbers)?)
+    Slots::make(alloc, numbers).expect(rt, "memory")
 }
 
 /// Puts the items in the place of `from..to`, and answers how many were removed.
@@ -88,17 +87,17 @@ fn put(
 }
 
 /// The list of 3, 1, 4, 1, 5, 9, 2 and 6.
-fn digits(rt: &impl Abort, alloc: Global) -> Result<Seq<Number>, Fail> {
+fn digits(rt: &impl Abort, alloc: Global) -> Seq<Number> {
     let mut seq = Seq::new();
     assert!(rt; (seq.len(), seq.height()) == (0, 0));
-    let items = slots_of(alloc, &[3, 1, 4, 1, 5, 9, 2, 6])?;
+    let items = slots_of(rt, alloc, &[3, 1, 4, 1, 5, 9, 2, 6]);
     assert!(rt; put(rt, &mut seq, 0, 0, items) == 0);
-    Ok(seq)
+    seq
 }
 
 #[test]
-fn each_call_answers(rt: HostRuntime) -> Result<(), Fail> {
-    let seq = digits(&rt, rt.alloc())?;
+fn each_call_answers(rt: HostRuntime) {
+    let seq = digits(&rt, rt.alloc());
     assert!(rt; (seq.len(), seq.height(), seq.total().value) == (8, 4, 9));
     assert!(rt; seq.get(4) == Some(&Number { value: 5 }));
     assert!(rt; seq.get(8) == None);
@@ -106,39 +105,16 @@ fn each_call_answers(rt: HostRuntime) -> Result<(), Fail> {
         let found = seq.locate(&AtLeast { value });
         assert!(rt; found == (at, Greatest { value: before }), "at {value}");
     }
-    Ok(())
 }
 
 #[test]
-fn a_part_is_replaced(rt: HostRuntime) -> Result<(), Fail> {
-    let mut seq = digits(&rt, rt.alloc())?;
-    let items = slots_of(rt.alloc(), &[7])?;
+fn a_part_is_replaced(rt: HostRuntime) {
+    let mut seq = digits(&rt, rt.alloc());
+    let items = slots_of(&rt, rt.alloc(), &[7]);
     assert!(rt; put(&rt, &mut seq, 4, 6, items) == 2);
     let mut rest = seq.iter_from(3);
     assert!(rt; rest.next() == Some(&Number { value: 1 }));
     assert!(rt; rest.next() == Some(&Number { value: 7 }));
-    Ok(())
-}
-
-#[test]
-fn a_walk_from_each_place_meets_each_item(rt: HostRuntime) -> Result<(), Fail> {
-    let alloc = rt.alloc();
-    let mut seq = Seq::new();
-    let mut state = 1;
-    for i in 0..100 {
-        state = random(state);
-        let at = (state >> 33) as usize % (i as usize + 1);
-        put(&rt, &mut seq, at, at, slots_of(alloc, &[i])?);
-    }
-    for from in 0..102 {
-        let mut at = from;
-        for number in seq.iter_from(from) {
-            assert!(rt; Some(number) == seq.get(at));
-            at = at.saturating_add(1);
-        }
-        assert!(rt; at == from.max(100));
-    }
-    Ok(())
 }
 
 /// The next number of a simple generator.
@@ -148,18 +124,35 @@ fn random(state: u64) -> u64 {
         .wrapping_add(1_442_695_040_888_963_407)
 }
 
-#[test]
-fn a_list_of_ten_thousand_stays_low(rt: HostRuntime) -> Result<(), Fail> {
-    let alloc = rt.alloc();
+/// The list of the first numbers, each put at a place that looks random.
+fn put_in_turn(rt: &impl Abort, alloc: Global, count: u32) -> Seq<Number> {
     let mut seq = Seq::new();
     let mut state = 1;
-    for i in 0..10_000 {
+    for i in 0..count {
         state = random(state);
         let at = (state >> 33) as usize % (i as usize + 1);
-        put(&rt, &mut seq, at, at, slots_of(alloc, &[i])?);
+        put(rt, &mut seq, at, at, slots_of(rt, alloc, &[i]));
     }
+    seq
+}
+
+#[test]
+fn a_walk_from_each_place_meets_each_item(rt: HostRuntime) {
+    let seq = put_in_turn(&rt, rt.alloc(), 100);
+    for from in 0..102 {
+        let mut at = from;
+        for number in seq.iter_from(from) {
+            assert!(rt; Some(number) == seq.get(at));
+            at = at.saturating_add(1);
+        }
+        assert!(rt; at == from.max(100));
+    }
+}
+
+#[test]
+fn a_list_of_ten_thousand_stays_low(rt: HostRuntime) {
+    let seq = put_in_turn(&rt, rt.alloc(), 10_000);
     assert!(rt; seq.len() == 10_000);
     assert!(rt; seq.height() <= 20);
     assert!(rt; seq.total() == Greatest { value: 9_999 });
-    Ok(())
 }

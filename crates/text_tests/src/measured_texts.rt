@@ -3,9 +3,8 @@
 ghost use Rattle.std.specs.Prelude.{◌<◌};
 
 use crate::documents::text_of;
-use std::alloc::{AllocError, Global};
+use std::alloc::Global;
 use std::process::Abort;
-use std::test::Fail;
 use text::{Position, Text, Unit};
 
 fn at(line: u32, character: u32) -> Position {
@@ -13,8 +12,8 @@ fn at(line: u32, character: u32) -> Position {
 }
 
 #[test]
-fn positions_count_the_unit_that_is_asked_for(rt: HostRuntime) -> Result<(), Fail> {
-    let text = Text::open(rt.alloc(), "\u{e9}\u{1f600}z")?;
+fn positions_count_the_unit_that_is_asked_for(rt: HostRuntime) {
+    let text = Text::open(rt.alloc(), "\u{e9}\u{1f600}z").expect(&rt, "a text");
     for (unit, ends) in [
         (Unit::Utf8, [0, 2, 6, 7]),
         (Unit::Utf16, [0, 1, 3, 4]),
@@ -31,7 +30,6 @@ fn positions_count_the_unit_that_is_asked_for(rt: HostRuntime) -> Result<(), Fai
             places.advance(1);
         }
     }
-    Ok(())
 }
 
 /// Whether the break behind the first `n` characters is one, and ends line 0.
@@ -42,31 +40,36 @@ fn breaks_behind(text: &Text, n: u32) -> bool {
         && text.offset(Unit::Utf16, at(1, 0)) == count + 2
 }
 
-fn check_whole_break(rt: &impl Abort, alloc: Global, line: &str, n: u32) -> Result<(), Fail> {
-    let whole = Text::open(alloc, format!(in alloc; "{line}\r\ny")?.as_str())?;
-    assert!(rt; breaks_behind(&whole, n), "a line of {n}");
-    Ok(())
+/// The text of a line and what stands behind it.
+fn text_behind(rt: &impl Abort, alloc: Global, line: &str, behind: &str) -> Text {
+    let text = format!(in alloc; "{line}{behind}").expect(rt, "memory");
+    Text::open(alloc, text.as_str()).expect(rt, "a text")
 }
 
-fn check_joined_break(rt: &impl Abort, alloc: Global, line: &str, n: u32) -> Result<(), Fail> {
-    let mut joined = Text::open(alloc, format!(in alloc; "{line}\ry")?.as_str())?;
+fn check_whole_break(rt: &impl Abort, alloc: Global, line: &str, n: u32) {
+    let whole = text_behind(rt, alloc, line, "\r\ny");
+    assert!(rt; breaks_behind(&whole, n), "a line of {n}");
+}
+
+fn check_joined_break(rt: &impl Abort, alloc: Global, line: &str, n: u32) {
+    let mut joined = text_behind(rt, alloc, line, "\ry");
     let behind = n as usize + 1;
     assert!(rt; joined.len() == behind + 1);
-    joined.replace(alloc, behind, behind, "\n")?;
+    joined
+        .replace(alloc, behind, behind, "\n")
+        .expect(rt, "an edit");
     assert!(rt; breaks_behind(&joined, n), "joined behind a line of {n}");
-    Ok(())
 }
 
 #[test]
-fn a_break_over_the_border_of_pieces(rt: HostRuntime) -> Result<(), Fail> {
+fn a_break_over_the_border_of_pieces(rt: HostRuntime) {
     let alloc = rt.alloc();
     let mut line = String::new(alloc);
     for n in 0u32..2_101 {
-        check_whole_break(&rt, alloc, &line, n)?;
-        check_joined_break(&rt, alloc, &line, n)?;
-        line.push('x')?;
+        check_whole_break(&rt, alloc, &line, n);
+        check_joined_break(&rt, alloc, &line, n);
+        line.push('x').expect(&rt, "memory");
     }
-    Ok(())
 }
 
 /// Numbers that look random, by a linear congruence.
@@ -95,23 +98,24 @@ impl Numbers {
 
 /// The characters with `new` in the place of those from `a` up to `b`.
 fn edited(
+    rt: &impl Abort,
     alloc: Global,
     old: &Vec<char>,
     a: usize,
     b: usize,
     new: &str,
-) -> Result<Vec<char>, AllocError> {
+) -> Vec<char> {
     let mut characters = Vec::new(alloc);
     for c in old.iter().take(a) {
-        characters.push(*c)?;
+        characters.push(*c).expect(rt, "memory");
     }
     for c in new.chars() {
-        characters.push(c)?;
+        characters.push(c).expect(rt, "memory");
     }
     for c in old.iter().skip(b) {
-        characters.push(*c)?;
+        characters.push(*c).expect(rt, "memory");
     }
-    Ok(characters)
+    characters
 }
 
 /// Whether a text has these characters.
@@ -125,54 +129,69 @@ fn has_characters(text: &Text, wanted: &Vec<char>) -> bool {
     characters.next() == None
 }
 
-#[test]
-fn random_edits_are_those_of_a_list(rt: HostRuntime) -> Result<(), Fail> {
-    let alloc = rt.alloc();
+/// 600 times two characters.
+fn long_line(rt: &impl Abort, alloc: Global) -> String {
     let mut line = String::new(alloc);
     for _ in 0..600 {
-        line.push_str("\u{e9}z")?;
+        line.push_str("\u{e9}z").expect(rt, "memory");
     }
-    let mut numbers = Numbers::new();
-    let mut text = Text::open(alloc, "")?;
-    let mut wanted = Vec::new(alloc);
+    line
+}
+
+/// Makes an edit at a random place of a text and of its characters.
+fn edit_both(
+    rt: &impl Abort,
+    alloc: Global,
+    numbers: &mut Numbers,
+    texts: &[&str; 6],
+    text: &mut Text,
+    wanted: &mut Vec<char>,
+) {
+    let len = text.len();
+    let a = numbers.below(len + 1);
+    let b = a + numbers.below((len - a).min(500) + 1);
+    let new = texts[numbers.below(6)];
+    text.replace(alloc, a, b, new).expect(rt, "an edit");
+    *wanted = edited(rt, alloc, wanted, a, b, new);
+    assert!(rt; text.len() == wanted.len());
+}
+
+#[test]
+fn random_edits_are_those_of_a_list(rt: HostRuntime) {
+    let alloc = rt.alloc();
+    let line = long_line(&rt, alloc);
     let texts = ["", "x", "\r", "\n", "\u{1f600}", line.as_str()];
+    let mut numbers = Numbers::new();
+    let mut text = Text::open(alloc, "").expect(&rt, "a text");
+    let mut wanted = Vec::new(alloc);
     for step in 0..10_000 {
-        let len = text.len();
-        let a = numbers.below(len + 1);
-        let b = a + numbers.below((len - a).min(500) + 1);
-        let new = texts[numbers.below(6)];
-        text.replace(alloc, a, b, new)?;
-        wanted = edited(alloc, &wanted, a, b, new)?;
-        assert!(rt; text.len() == wanted.len());
+        edit_both(&rt, alloc, &mut numbers, &texts, &mut text, &mut wanted);
         if step % 64 == 0 {
             assert!(rt; has_characters(&text, &wanted), "after step {step}");
         }
     }
     assert!(rt; has_characters(&text, &wanted));
-    Ok(())
 }
 
 /// Makes edits of one character all over a text, and keeps its length.
-fn edit_all_over(alloc: Global, text: &mut Text) -> Result<(), Fail> {
+fn edit_all_over(rt: &impl Abort, alloc: Global, text: &mut Text) {
     let mut numbers = Numbers::new();
     for _ in 0..100_000 {
         let len = text.len();
         if len > 1_048_000 {
             let a = numbers.below(len);
-            text.replace(alloc, a, a + 1, "")?;
+            text.replace(alloc, a, a + 1, "").expect(rt, "an edit");
         } else {
             let a = numbers.below(len + 1);
-            text.replace(alloc, a, a, "y")?;
+            text.replace(alloc, a, a, "y").expect(rt, "an edit");
         }
     }
-    Ok(())
 }
 
 #[test]
-fn pieces_stay_few(rt: HostRuntime) -> Result<(), Fail> {
-    let mut text = text_of(rt.alloc(), 'x', 1_048_576)?;
+fn pieces_stay_few(rt: HostRuntime) {
+    let mut text = text_of(&rt, rt.alloc(), 'x', 1_048_576);
     assert!(rt; text.pieces().len() == 1_024);
-    edit_all_over(rt.alloc(), &mut text)?;
+    edit_all_over(&rt, rt.alloc(), &mut text);
     assert!(rt; text.pieces().len() / 4 <= 1_024);
-    Ok(())
 }

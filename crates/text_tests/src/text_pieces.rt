@@ -5,12 +5,12 @@ ghost use Rattle.std.specs.List.{concat};
 ghost use Rattle.definitions.specs.Text.{units};
 ghost use Rattle.definitions.specs.declared.Unit.TheVariants.{Utf8};
 
+use crate::documents::filled;
 use pieces::{
     Counts, LONGEST_PIECE, Piece, Position, Sums, Unit, Units, of_text, offset, pieces_of, position,
 };
 use seqtree::{Measured, Monoid, Seq, Slots};
 use std::alloc::{AllocError, Global};
-use std::test::Fail;
 
 /// As many characters, bytes and breaks, and nothing behind the last break.
 fn ended(characters: u32, bytes: u32, breaks: u32) -> Sums {
@@ -29,25 +29,20 @@ fn ended(characters: u32, bytes: u32, breaks: u32) -> Sums {
 }
 
 #[test]
-fn texts_are_cut_at_borders_of_characters(rt: HostRuntime) -> Result<(), Fail> {
-    let mut text = String::from_str(rt.alloc(), "x")?;
-    for _ in 0..300 {
-        text.push('\u{1F600}')?;
-    }
-    text.push_str("\r\n")?;
-    let pieces = pieces_of(rt.alloc(), text.as_str())?;
+fn texts_are_cut_at_borders_of_characters(rt: HostRuntime) {
+    let faces = filled(&rt, rt.alloc(), '\u{1F600}', 300);
+    let text = format!(in rt.alloc(); "x{faces}\r\n").expect(&rt, "memory");
+    let pieces = pieces_of(rt.alloc(), text.as_str()).expect(&rt, "memory");
     assert!(rt; pieces.len() == 2);
     assert!(rt; pieces[0].text().len() == 601);
     assert!(rt; pieces[1].sum() == ended(152, 602, 1));
-    Ok(())
 }
 
 /// A `\r` and a `\n` in two pieces are one break.
 #[test]
-fn sums_join_over_a_line_end(rt: HostRuntime) -> Result<(), Fail> {
+fn sums_join_over_a_line_end(rt: HostRuntime) {
     let joined = of_text("a\r").join(&of_text("\n"));
     assert!(rt; joined == ended(3, 3, 1));
-    Ok(())
 }
 
 /// `\u{1F600}a`, `\u{E9}` and `b` in three lines, where the first break is in two pieces.
@@ -75,8 +70,8 @@ fn in_two(alloc: Global, front: &str, back: &str) -> Result<Seq<Piece>, AllocErr
 
 /// Each row is an offset, the line of its position, and the character in UTF-8, UTF-16 and UTF-32.
 #[test]
-fn positions_over_a_border(rt: HostRuntime) -> Result<(), Fail> {
-    let pieces = three_lines(rt.alloc())?;
+fn positions_over_a_border(rt: HostRuntime) {
+    let pieces = three_lines(rt.alloc()).expect(&rt, "memory");
     let rows = [
         (0, 0, 0, 0, 0),
         (1, 0, 4, 2, 1),
@@ -98,13 +93,12 @@ fn positions_over_a_border(rt: HostRuntime) -> Result<(), Fail> {
             assert!(rt; position(&pieces, unit, at) == wanted, "at {at}");
         }
     }
-    Ok(())
 }
 
 /// Past the ends of lines, between the units of a character, and past the last line too.
 #[test]
-fn offsets_over_a_border(rt: HostRuntime) -> Result<(), Fail> {
-    let pieces = three_lines(rt.alloc())?;
+fn offsets_over_a_border(rt: HostRuntime) {
+    let pieces = three_lines(rt.alloc()).expect(&rt, "memory");
     for (unit, line, character, wanted) in [
         (Unit::Utf8, 0, 3, 0),
         (Unit::Utf8, 0, 4, 1),
@@ -122,5 +116,4 @@ fn offsets_over_a_border(rt: HostRuntime) -> Result<(), Fail> {
         let found = offset(&pieces, unit, Position { line, character });
         assert!(rt; found == wanted, "at {line}:{character}");
     }
-    Ok(())
 }

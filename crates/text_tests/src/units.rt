@@ -27,8 +27,9 @@
 
 ghost use Rattle.std.specs.Prelude.{◌<◌, ◌≤◌};
 
-use std::alloc::{AllocError, Global};
-use std::test::Fail;
+use crate::documents::filled;
+use std::alloc::Global;
+use std::process::Abort;
 use text::{Position, Text, Unit};
 
 /// For each number of letters the sum over positions and the sum over offsets, in UTF-8.
@@ -137,13 +138,12 @@ const PLACES: [(u32, u32); 12] = [
     (6, 1_096),
 ];
 
-/// A text of so many letters.
-fn letters(alloc: Global, letter: char, count: usize) -> Result<String, AllocError> {
-    let mut text = String::new(alloc);
-    for _ in 0..count {
-        text.push(letter)?;
-    }
-    Ok(text)
+/// So many letters, and 1,100 letters behind what stands between.
+fn text_around(rt: &impl Abort, alloc: Global, count: usize, between: &str) -> Text {
+    let before = filled(rt, alloc, 'x', count);
+    let behind = filled(rt, alloc, 'z', 1_100);
+    let text = format!(in alloc; "{before}{between}{behind}").expect(rt, "memory");
+    Text::open(alloc, text.as_str()).expect(rt, "a text")
 }
 
 /// The number that stands for a position in the sums.
@@ -201,31 +201,21 @@ fn has_row(text: &Text, row: usize) -> bool
 }
 
 #[test]
-fn opened_texts_have_the_sums_of_another_program(rt: HostRuntime) -> Result<(), Fail> {
-    let alloc = rt.alloc();
-    let behind = letters(alloc, 'z', 1_100)?;
+fn opened_texts_have_the_sums_of_another_program(rt: HostRuntime) {
     for row in 0usize..25 {
-        let before = letters(alloc, 'x', 1_000 + row)?;
-        let text = Text::open(
-            alloc,
-            format!(in alloc; "{before}{BREAKS}{behind}")?.as_str(),
-        )?;
+        let text = text_around(&rt, rt.alloc(), 1_000 + row, BREAKS);
         assert!(rt; has_row(&text, row), "in row {row}");
     }
-    Ok(())
 }
 
 #[test]
-fn edited_texts_have_the_sums_of_another_program(rt: HostRuntime) -> Result<(), Fail> {
-    let alloc = rt.alloc();
-    let behind = letters(alloc, 'z', 1_100)?;
+fn edited_texts_have_the_sums_of_another_program(rt: HostRuntime) {
     for row in 0usize..25 {
-        let before = letters(alloc, 'x', 1_000 + row)?;
-        let mut text = Text::open(alloc, format!(in alloc; "{before}{behind}")?.as_str())?;
-        let place = before.len();
+        let place = 1_000 + row;
+        let mut text = text_around(&rt, rt.alloc(), place, "");
         assert!(rt; place <= text.len());
-        text.replace(alloc, place, place, BREAKS)?;
+        text.replace(rt.alloc(), place, place, BREAKS)
+            .expect(&rt, "an edit");
         assert!(rt; has_row(&text, row), "in row {row}");
     }
-    Ok(())
 }
