@@ -3,10 +3,10 @@
 ghost use Rattle.std.specs.Prelude.{◌<◌, length};
 ghost use Rattle.definitions.specs.Text.{IsText};
 
-use dfa::{Automaton, DfaFault, Match, Source};
+use dfa::{Automaton, Source};
 use patterns::Pattern;
 use std::alloc::Global;
-use std::test::Fail;
+use std::process::Abort;
 
 /// A text in memory, all of which may be asked for.
 #[derive(Clone, Copy)]
@@ -30,53 +30,43 @@ impl Source for Characters<'_> {
     ghost inside = { λ s i h. h };
 }
 
-fn read(alloc: Global, texts: &[&str]) -> Result<Vec<Pattern>, DfaFault> {
+fn read(rt: &impl Abort, alloc: Global, texts: &[&str]) -> Vec<Pattern> {
     let mut patterns = Vec::new(alloc);
     for text in texts {
-        let Ok(pattern) = Pattern::read(alloc, text) else {
-            return Err(DfaFault::Memory);
-        };
-        patterns.push(pattern)?;
+        let pattern = Pattern::read(alloc, text).expect(rt, "a pattern");
+        patterns.push(pattern).expect(rt, "memory");
     }
-    Ok(patterns)
+    patterns
 }
 
-/// What the rules find at the start of a text.
-fn first(alloc: Global, texts: &[&str], characters: &[char]) -> Result<Match, DfaFault>
+/// The rules find this at the start of a text: which rule, its match's length, and its reach.
+fn finds(
+    rt: &impl Abort,
+    alloc: Global,
+    texts: &[&str],
+    characters: &[char],
+    wanted: (Option<usize>, usize, usize),
+)
     requires text { IsText characters.now }
     requires small { length characters.now < 100 }
 {
-    let patterns = read(alloc, texts)?;
-    let automaton = Automaton::build(alloc, &patterns)?;
-    Ok(automaton.longest(&Characters { characters }, 0))
-}
-
-fn found(rule: Option<usize>, length: usize, reach: usize) -> Result<Match, DfaFault> {
-    Ok(Match {
-        rule,
-        length,
-        reach,
-    })
+    let patterns = read(rt, alloc, texts);
+    let automaton = Automaton::build(alloc, &patterns).expect(rt, "an automaton");
+    let found = automaton.longest(&Characters { characters }, 0);
+    assert!(rt; (found.rule, found.length, found.reach) == wanted);
 }
 
 #[test]
-fn finds_longest_matches(rt: HostRuntime) -> Result<(), Fail> {
+fn finds_longest_matches(rt: HostRuntime) {
     let alloc = rt.alloc();
     let sums = ["[0-9]+", "\"+\""];
-    assert_eq!(rt; first(alloc, &sums, &['1', '2', '+']), found(Some(0), 2, 3));
-    assert_eq!(rt; first(alloc, &sums, &['1', '2']), found(Some(0), 2, 3));
-    assert_eq!(rt; first(alloc, &sums, &['?']), found(None, 1, 1));
-    assert_eq!(rt; first(alloc, &sums, &[]), found(None, 0, 1));
+    finds(&rt, alloc, &sums, &['1', '2', '+'], (Some(0), 2, 3));
+    finds(&rt, alloc, &sums, &['1', '2'], (Some(0), 2, 3));
+    finds(&rt, alloc, &sums, &['?'], (None, 1, 1));
+    finds(&rt, alloc, &sums, &[], (None, 0, 1));
     let letters = ["\"abc\"", "\"a\""];
-    assert_eq!(rt;
-        first(alloc, &letters, &['a', 'b', 'd']),
-        found(Some(1), 1, 3)
-    );
+    finds(&rt, alloc, &letters, &['a', 'b', 'd'], (Some(1), 1, 3));
     let words = ["\"if\"", "[a-z]+"];
-    assert_eq!(rt; first(alloc, &words, &['i', 'f']), found(Some(0), 2, 3));
-    assert_eq!(rt;
-        first(alloc, &words, &['i', 'f', 'f']),
-        found(Some(1), 3, 4)
-    );
-    Ok(())
+    finds(&rt, alloc, &words, &['i', 'f'], (Some(0), 2, 3));
+    finds(&rt, alloc, &words, &['i', 'f', 'f'], (Some(1), 3, 4));
 }

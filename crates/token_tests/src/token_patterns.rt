@@ -1,10 +1,9 @@
 //! What token patterns mean. `tests/program` has those that are refused.
 
 use patterns::{Expression, Interval, Pattern};
-use std::test::Fail;
 
 #[test]
-fn reads_patterns(rt: HostRuntime) -> Result<(), Fail> {
+fn reads_patterns(rt: HostRuntime) {
     for text in [
         "\"\\\"\" [^\"]* \"\\\"\"",
         "[a-z]+",
@@ -20,42 +19,31 @@ fn reads_patterns(rt: HostRuntime) -> Result<(), Fail> {
     ] {
         assert!(rt; Pattern::read(rt.alloc(), text).is_ok());
     }
-    Ok(())
 }
 
 #[test]
-fn reads_a_class(rt: HostRuntime) -> Result<(), Fail> {
-    match Pattern::read(rt.alloc(), "[^a-c\\n]") {
-        Err(_) => assert!(rt; false),
-        Ok(pattern) => match pattern.expression() {
-            Expression::Class { negated, intervals } => {
-                let letters = Interval {
-                    first: 'a',
-                    last: 'c',
-                };
-                let line_feed = Interval {
-                    first: '\n',
-                    last: '\n',
-                };
-                assert!(rt; *negated);
-                assert!(rt; intervals.as_slice() == [letters, line_feed].as_slice());
-            }
-            _ => assert!(rt; false),
-        },
-    }
-    Ok(())
+fn reads_a_class(rt: HostRuntime) {
+    let pattern = Pattern::read(rt.alloc(), "[^a-c\\n]").expect(&rt, "a pattern");
+    let Expression::Class { negated, intervals } = pattern.expression() else {
+        panic!(rt; "no class");
+    };
+    let letters = Interval {
+        first: 'a',
+        last: 'c',
+    };
+    let line_feed = Interval {
+        first: '\n',
+        last: '\n',
+    };
+    assert!(rt; *negated);
+    assert!(rt; intervals.as_slice() == [letters, line_feed].as_slice());
 }
 
 #[test]
-fn reads_a_literal(rt: HostRuntime) -> Result<(), Fail> {
-    match Pattern::read(rt.alloc(), "\"\\u{1F600}\\t\\\\\"") {
-        Err(_) => assert!(rt; false),
-        Ok(pattern) => match pattern.expression() {
-            Expression::Literal(characters) => {
-                assert!(rt; characters.as_slice() == ['\u{1F600}', '\t', '\\'].as_slice());
-            }
-            _ => assert!(rt; false),
-        },
-    }
-    Ok(())
+fn reads_a_literal(rt: HostRuntime) {
+    let pattern = Pattern::read(rt.alloc(), "\"\\u{1F600}\\t\\\\\"").expect(&rt, "a pattern");
+    let Expression::Literal(characters) = pattern.expression() else {
+        panic!(rt; "no literal");
+    };
+    assert!(rt; characters.as_slice() == ['\u{1F600}', '\t', '\\'].as_slice());
 }
