@@ -352,7 +352,7 @@ type Row = (
     (usize, usize, &'static [Kind]),
 );
 
-const EDITED_SUMS: [Row; 9] = [
+const EDITED_SUMS: &[Row] = &[
     ("1+2", (1, 0, " "), (2, 4), (0, 0, &[])),
     ("1+ 2", (3, 0, "3+"), (3, 6), (2, 2, &[NUM, PLUS])),
     ("1+2+3", (0, 0, ")"), (1, 6), (0, 0, &[RP])),
@@ -367,7 +367,7 @@ const EDITED_SUMS: [Row; 9] = [
 #[test]
 fn rescans_sums(rt: HostRuntime) {
     for (open, edit, counts, splice) in EDITED_SUMS {
-        let step = step_by_7(edit, counts, splice);
+        let step = step_by_7(*edit, *counts, *splice);
         check_by(&rt, rt.alloc(), SUMS, open, &[step]);
     }
 }
