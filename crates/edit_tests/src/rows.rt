@@ -110,12 +110,12 @@ fn row_of<'a>(
 }
 
 /// Sums, an edit of each, and the counts of tokens, of those scanned, of branches and of those built.
-const EDITED_SUMS: [(
+const EDITED_SUMS: &[(
     &str,
     (usize, usize, &str),
     (usize, usize, usize, usize),
     Told,
-); 10] = [
+)] = &[
     ("1+2", (1, 0, " "), (4, 2, 4, 0), Told::Tree),
     ("1+ 2", (3, 0, "3+"), (6, 3, 6, 3), Told::Tree),
     ("(1", (2, 0, ")"), (3, 2, 4, 4), Told::Tree),
@@ -131,7 +131,7 @@ const EDITED_SUMS: [(
 #[test]
 fn edits_of_sums(rt: HostRuntime) {
     for (text, edit, counts, told) in EDITED_SUMS {
-        let row = row_of(1, edit, counts, told);
+        let row = row_of(1, *edit, *counts, *told);
         check_by(&rt, rt.alloc(), SUMS, text, &[row]);
     }
 }
