@@ -1,14 +1,19 @@
 //! What `parse` prints of texts: a tree and faults. `tests/program` has the texts that are refused.
 
 use crate::grammar_checks::{assert_printed, sums};
-use commands::parse;
+use commands::{Printed, parse};
 use std::alloc::Global;
 use std::process::Abort;
 
+/// What `parse` prints of a text by the grammar of sums.
+fn parsed(rt: &impl Abort, alloc: Global, text: &[u8]) -> Printed {
+    let language = sums(rt, alloc);
+    parse(alloc, &language, text).expect(rt, "memory")
+}
+
 /// The text of these bytes is a sum, or not: this is printed of it.
 fn prints(rt: &impl Abort, alloc: Global, text: &[u8], out: &str, err: &str, status: u8) {
-    let language = sums(rt, alloc);
-    let printed = parse(alloc, &language, text).expect(rt, "memory");
+    let printed = parsed(rt, alloc, text);
     assert_printed(rt, &printed, out, err, status);
 }
 
