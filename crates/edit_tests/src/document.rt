@@ -75,9 +75,8 @@ pub fn open(rt: &impl Abort, alloc: Global, language: &Language, text: &str) -> 
 {
     let text = Text::open(alloc, text).expect(rt, "a text");
     let _length = text.len();
-    let tokens = Tokens::scan(alloc, &language.grammar, &language.automaton, &Whole(&text)).expect(
-        rt, "tokens",
-    );
+    let (grammar, automaton) = (&language.grammar, &language.automaton);
+    let tokens = Tokens::scan(alloc, grammar, automaton, &Whole(&text)).expect(rt, "tokens");
     let mut store = Store::new(alloc);
     let kinds = Significant(&tokens);
     let parse = Parse::whole(alloc, &language.tables, &mut store, &kinds).expect(rt, "a parse");

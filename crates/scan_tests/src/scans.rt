@@ -291,9 +291,8 @@ fn check_with_kinds(rt: &impl Abort, alloc: Global, language: &Language, text: &
     let text = Text::open(alloc, text).expect(rt, "a text");
     let _length = text.len();
     let (grammar, automaton) = (&language.grammar, &language.automaton);
-    let (tokens, kinds) = Tokens::scan_with_kinds(alloc, grammar, automaton, &Whole(&text)).expect(
-        rt, "tokens",
-    );
+    let scanned = Tokens::scan_with_kinds(alloc, grammar, automaton, &Whole(&text));
+    let (tokens, kinds) = scanned.expect(rt, "tokens");
     check_tokens_in_turn(rt, grammar, &tokens);
     check_kinds_in_turn(rt, grammar, &kinds);
 }
