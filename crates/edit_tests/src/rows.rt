@@ -21,14 +21,14 @@ struct Outcome {
     told: Told,
 }
 
-/// The edit of a number, and what is to come of it.
-#[derive(Clone, Copy)]
-struct Row<'a> {
-    number: u64,
-    edit: (usize, usize, &'a str),
-    counts: (usize, usize, usize, usize),
-    told: Told,
-}
+/// The number of an edit, the edit, and what is to come of it: the counts of tokens, of those scanned, of branches and of those
+/// built, and what is told.
+type Row<'a> = (
+    u64,
+    (usize, usize, &'a str),
+    (usize, usize, usize, usize),
+    Told,
+);
 
 fn outcome_of(document: &Document) -> Outcome {
     let (branches, built) = document.parse.counts();
@@ -41,7 +41,7 @@ fn outcome_of(document: &Document) -> Outcome {
     }
 }
 
-/// Makes the edit of a row. Its counts are those of the tokens, of those scanned, of the branches and of those built.
+/// Makes the edit of a row, and sees that what comes of it is what is to come.
 fn check_row(
     rt: &impl Abort,
     alloc: Global,
@@ -59,23 +59,22 @@ fn check_row(
     ensures parse { IsParseOf language.now.tables (significant_kinds document.new.tokens.items)
         document.new.store document.new.parse }
 {
-    let (at, removed, piece) = row.edit;
+    let (number, (at, removed, piece), counts, told) = *row;
     let edit = Change {
         at,
         removed,
         piece,
-        number: row.number,
+        number,
     };
     apply(rt, alloc, language, document, &edit);
-    let (tokens, scanned, branches, built) = row.counts;
+    let (tokens, scanned, branches, built) = counts;
     let awaited = Outcome {
         tokens,
         scanned,
         branches,
         built,
-        told: row.told,
+        told,
     };
-    let number = row.number;
     assert!(rt; outcome_of(document) == awaited, "edit {number}");
 }
 
@@ -95,53 +94,33 @@ fn check_by(rt: &impl Abort, alloc: Global, file: &str, text: &str, rows: &[Row<
     check(rt, alloc, &language, text, rows);
 }
 
-fn row_of<'a>(
-    number: u64,
-    edit: (usize, usize, &'a str),
-    counts: (usize, usize, usize, usize),
-    told: Told,
-) -> Row<'a> {
-    Row {
-        number,
-        edit,
-        counts,
-        told,
-    }
-}
-
-/// Sums, an edit of each, and the counts of tokens, of those scanned, of branches and of those built.
-const EDITED_SUMS: &[(
-    &str,
-    (usize, usize, &str),
-    (usize, usize, usize, usize),
-    Told,
-)] = &[
-    ("1+2", (1, 0, " "), (4, 2, 4, 0), Told::Tree),
-    ("1+ 2", (3, 0, "3+"), (6, 3, 6, 3), Told::Tree),
-    ("(1", (2, 0, ")"), (3, 2, 4, 4), Told::Tree),
-    ("(1+2", (4, 0, ")"), (5, 2, 6, 4), Told::Tree),
-    ("(1)", (2, 1, ""), (2, 1, 0, 0), Told::FaultAtEnd),
-    ("1+2+3", (5, 0, "4"), (5, 1, 6, 0), Told::Tree),
-    ("1+2+3", (5, 0, "+4"), (7, 3, 8, 4), Told::Tree),
-    ("1+2+3", (0, 0, "9"), (5, 1, 6, 0), Told::Tree),
-    ("1+2+3", (4, 1, ""), (4, 1, 4, 0), Told::FaultAtEnd),
-    ("1+2", (1, 0, ""), (3, 1, 4, 0), Told::Tree),
+/// Sums, and an edit of each.
+const EDITED_SUMS: &[(&str, Row<'static>)] = &[
+    ("1+2", (1, (1, 0, " "), (4, 2, 4, 0), Told::Tree)),
+    ("1+ 2", (1, (3, 0, "3+"), (6, 3, 6, 3), Told::Tree)),
+    ("(1", (1, (2, 0, ")"), (3, 2, 4, 4), Told::Tree)),
+    ("(1+2", (1, (4, 0, ")"), (5, 2, 6, 4), Told::Tree)),
+    ("(1)", (1, (2, 1, ""), (2, 1, 0, 0), Told::FaultAtEnd)),
+    ("1+2+3", (1, (5, 0, "4"), (5, 1, 6, 0), Told::Tree)),
+    ("1+2+3", (1, (5, 0, "+4"), (7, 3, 8, 4), Told::Tree)),
+    ("1+2+3", (1, (0, 0, "9"), (5, 1, 6, 0), Told::Tree)),
+    ("1+2+3", (1, (4, 1, ""), (4, 1, 4, 0), Told::FaultAtEnd)),
+    ("1+2", (1, (1, 0, ""), (3, 1, 4, 0), Told::Tree)),
 ];
 
 #[test]
 fn edits_of_sums(rt: HostRuntime) {
-    for (text, edit, counts, told) in EDITED_SUMS {
-        let row = row_of(1, *edit, *counts, *told);
-        check_by(&rt, rt.alloc(), SUMS, text, &[row]);
+    for (text, row) in EDITED_SUMS {
+        check_by(&rt, rt.alloc(), SUMS, text, &[*row]);
     }
 }
 
 #[test]
 fn edits_of_lists(rt: HostRuntime) {
     let rows = [
-        row_of(1, (0, 0, "\""), (4, 1, 0, 0), Told::FaultAt(0)),
-        row_of(2, (6, 0, "\""), (1, 1, 3, 3), Told::Tree),
-        row_of(3, (6, 1, ""), (4, 4, 0, 0), Told::FaultAt(0)),
+        (1, (0, 0, "\""), (4, 1, 0, 0), Told::FaultAt(0)),
+        (2, (6, 0, "\""), (1, 1, 3, 3), Told::Tree),
+        (3, (6, 1, ""), (4, 4, 0, 0), Told::FaultAt(0)),
     ];
     check_by(&rt, rt.alloc(), LISTS, "ab cd", &rows);
 }
@@ -151,12 +130,12 @@ fn edits_of_lists(rt: HostRuntime) {
 #[test]
 fn faulty_and_back(rt: HostRuntime) {
     let rows = [
-        row_of(1, (0, 0, ")"), (6, 1, 0, 0), Told::FaultAt(0)),
-        row_of(2, (0, 1, ""), (5, 0, 6, 6), Told::Tree),
-        row_of(3, (4, 0, "+"), (6, 2, 4, 0), Told::FaultAt(4)),
-        row_of(4, (6, 0, "+4"), (8, 3, 4, 0), Told::FaultAt(4)),
-        row_of(5, (0, 0, "5+"), (10, 2, 6, 4), Told::FaultAt(6)),
-        row_of(6, (6, 1, ""), (9, 1, 10, 4), Told::Tree),
+        (1, (0, 0, ")"), (6, 1, 0, 0), Told::FaultAt(0)),
+        (2, (0, 1, ""), (5, 0, 6, 6), Told::Tree),
+        (3, (4, 0, "+"), (6, 2, 4, 0), Told::FaultAt(4)),
+        (4, (6, 0, "+4"), (8, 3, 4, 0), Told::FaultAt(4)),
+        (5, (0, 0, "5+"), (10, 2, 6, 4), Told::FaultAt(6)),
+        (6, (6, 1, ""), (9, 1, 10, 4), Told::Tree),
     ];
     check_by(&rt, rt.alloc(), SUMS, "1+2+3", &rows);
 }
@@ -166,10 +145,10 @@ fn faulty_and_back(rt: HostRuntime) {
 fn numbers_that_are_no_new_ones(rt: HostRuntime) {
     let space = (1, 0, " ");
     let rows = [
-        row_of(7, space, (4, 2, 4, 0), Told::Tree),
-        row_of(7, space, (4, 2, 4, 4), Told::Tree),
-        row_of(3, space, (4, 2, 4, 4), Told::Tree),
-        row_of(4, space, (4, 2, 4, 0), Told::Tree),
+        (7, space, (4, 2, 4, 0), Told::Tree),
+        (7, space, (4, 2, 4, 4), Told::Tree),
+        (3, space, (4, 2, 4, 4), Told::Tree),
+        (4, space, (4, 2, 4, 0), Told::Tree),
     ];
     check_by(&rt, rt.alloc(), SUMS, "1+2", &rows);
 }
@@ -190,6 +169,6 @@ fn deep_trees(rt: HostRuntime) {
     let opening = repeated(&rt, alloc, "", '(');
     let closing = repeated(&rt, alloc, "1", ')');
     let edit = (100_000, 0, closing.as_str());
-    let mended = row_of(1, edit, (200_001, 100_002, 200_002, 200_002), Told::Tree);
+    let mended = (1, edit, (200_001, 100_002, 200_002, 200_002), Told::Tree);
     check_by(&rt, alloc, SUMS, &opening, &[mended]);
 }
