@@ -1,6 +1,7 @@
 -- A text's refusal, passed on as a document's.
 use Rattle.std.proofs.Common.{◌≡◌, ◌↔◌, ◌<◌, ℕ, Bool, true, false, List, length, refl, sym, ap, subst, ◌∙◌, leb-true, leb-false}
-use Rattle.std.specs.Prelude.{Option, Some, None, Result, Ok, Err, nat_le, encode_utf8_all}
+use Rattle.std.specs.Prelude.{Option, Some, None, Result, Ok, Err, IfOk, OnOk, nat_le, encode_utf8_all}
+use Rattle.std.specs.Result.{result_and}
 use Rattle.std.specs.Str.{chars, IsUtf8}
 use Rattle.definitions.specs.Text.{IsText, changed, span}
 use Rattle.definitions.specs.declared.Range.{Range}
@@ -76,3 +77,16 @@ module _ {S : Type 0} (made : Result S TextFault) (large over : Type 0) (by : (m
       λ r. absurd (let oks : Ok y ≡ Err TooLarge = sym is ∙ r in let f : ⊥ = cc in f),
       λ o. absurd (text_made x was o),
     )
+
+-- ---- what `made.and(Ok(x))` is
+
+pub ok_of_and : {S T E : Type 0} (made : Result S E) (x : T) (result : Result T E) (P : T → Type 0) → result ≡ result_and made (Ok x) → OnOk made (P x) → IfOk result P
+ok_of_and (Ok y) x result P is h = subst (λ r. IfOk r P) (sym is) h
+ok_of_and (Err d) x result P is h = subst (λ r. IfOk r P) (sym is) tt
+
+pub refusal_of_and : {S T E : Type 0} (made : Result S E) (x : T) (result : Result T E) (e : E) (over : Type 0) → result ≡ result_and made (Ok x) → (made ≡ Err e) ↔ over → (result ≡ Err e) ↔ over
+refusal_of_and (Ok y) x result e over is h = (λ r. absurd (let f : ⊥ = cc in f), λ o. absurd (let wrong = h.1 o in let f : ⊥ = cc in f))
+refusal_of_and (Err d) x result e over is h = (
+  λ r. h.0 (let same : d ≡ e = cc in ap (λ y. Err y) same),
+  λ o. let refused = h.1 o in let same : d ≡ e = cc in is ∙ ap (λ y. Err y) same,
+)

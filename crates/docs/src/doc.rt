@@ -1,6 +1,6 @@
 //! A document that is open: its version and text, with the tokens of the text and their parse.
 
-ghost use Rattle.std.specs.Prelude.{◌≡◌, ◌↔◌, ℕ, Option, Err, None, Some, true, false, string_bytes, encode_utf8_all, length, map, option_map, IfOk};
+ghost use Rattle.std.specs.Prelude.{◌≡◌, ◌↔◌, ℕ, Option, Err, None, Some, true, false, string_bytes, encode_utf8_all, length, map, option_map, IfOk, OnOk};
 ghost use Rattle.std.specs.Str.{chars};
 ghost use Rattle.definitions.specs.Answers.{Diagnostic as Fault};
 ghost use Rattle.definitions.specs.Text.{changed, offset};
@@ -102,7 +102,7 @@ impl Doc {
     /// the whole text where there is none. The ends of a range may stand in either order. `TooLarge` exactly where the text
     /// would have more than 1,048,576 bytes in UTF-8. Where it is refused, the document is lost.
     pub fn change(
-        self,
+        mut self,
         alloc: Global,
         language: &Language,
         range: Option<Range>,
@@ -121,33 +121,50 @@ impl Doc {
         ensures too_large { let text = changed self.unit self.text range (chars new.now) in
             (result ≡ Err DocFault.TooLarge) ↔ (fits text ≡ false) }
     {
-        let Doc {
-            unit,
-            version,
-            mut text,
-            mut tokens,
-            mut store,
-            mut parse,
-        } = self;
-        let before = text.len();
-        let (from, to) = text.span(unit, range);
-        text.replace(alloc, from, to, new)?;
+        self.edit(alloc, language, range, new).and(Ok(self))
+    }
+
+    /// The same of a document where it stands. Where it is refused, the parts of the document don't belong together any more.
+    fn edit(
+        &mut self,
+        alloc: Global,
+        language: &Language,
+        range: Option<Range>,
+        new: &str,
+    ) -> Result<(), DocFault>
+        requires { IsCurrent language.now self.old }
+        ensures is { let old = self.old in
+            let text = changed old.unit old.text range (chars new.now) in
+            let last = last_edit self.new in
+            OnOk result (open_document self.new
+            ≡ record { unit = old.unit; version = old.version; text = text; last = last }) }
+        ensures last { let old = self.old in
+            OnOk result ((next : LastEdit) × (last_edit self.new ≡ Some next)
+            × IsNext old.unit language.now.file old.text range (chars new.now) (last_edit old)
+            next) }
+        ensures current { OnOk result (IsCurrent language.now self.new) }
+        ensures too_large { let text = changed self.old.unit self.old.text range (chars new.now) in
+            (result ≡ Err DocFault.TooLarge) ↔ (fits text ≡ false) }
+    {
+        let before = self.text.len();
+        let (from, to) = self.text.span(self.unit, range);
+        self.text.replace(alloc, from, to, new)?;
         let edit = Edit {
             at: from,
             removed: to - from,
-            inserted: text.len() - (before - (to - from)),
-            number: parse.number().saturating_add(1),
+            inserted: self.text.len() - (before - (to - from)),
+            number: self.parse.number().saturating_add(1),
         };
-        let splice = language.rescan(alloc, &mut tokens, &text, edit)?;
-        language.reparse(alloc, &mut parse, &mut store, &tokens, splice, edit.number)?;
-        Ok(Doc {
-            unit,
-            version,
-            text,
-            tokens,
-            store,
-            parse,
-        })
+        let splice = language.rescan(alloc, &mut self.tokens, &self.text, edit)?;
+        language.reparse(
+            alloc,
+            &mut self.parse,
+            &mut self.store,
+            &self.tokens,
+            splice,
+            edit.number,
+        )?;
+        Ok(())
     }
 
     /// Scans and parses a text. Refuses for memory alone.
