@@ -1,5 +1,5 @@
 //! The tables.
-ghost use Rattle.std.specs.Prelude.{◌≡◌, ◌<◌, ◌≤◌, ◌∷◌, ◌++◌, ◌↔◌, ℕ, List, [], Option, Some, None, true, MatchOption, IfOk, IfErr, length};
+ghost use Rattle.std.specs.Prelude.{◌≡◌, ◌<◌, ◌≤◌, ◌∷◌, ◌++◌, ◌↔◌, ℕ, List, [], Option, Some, None, true, MatchOption, IfOk, IfErr, OnOk, length};
 ghost use Rattle.definitions.specs.declared.Kind.{Kind};
 ghost use Rattle.definitions.specs.declared.Kind.TheVariants.{Rule as Token};
 ghost use Rattle.definitions.specs.declared.Symbol.{Symbol};
@@ -10,10 +10,10 @@ ghost use Rattle.theory.specs.Laws.{HasOneTreeEach};
 ghost use Rattle.definitions.specs.Sentences.{AllProductive};
 ghost use Rattle.definitions.specs.Trees.{HasProduction, HaveRoots, Tree};
 ghost use Rattle.theory.specs.Machine.{IsStackAfter};
-ghost use Rattle.tables.specs.Actions.{AreMade};
+ghost use Rattle.tables.specs.Actions.{AreMade, IsClashAt};
 ghost use Rattle.item_sets.specs.Collection.{AreStates};
 ghost use Rattle.tables.specs.Expected.{AreExpected};
-ghost use Rattle.tables.specs.Faults.{IsRight, RefutesLr1};
+ghost use Rattle.tables.specs.Faults.{IsConflictOf, IsRight, RefutesLr1};
 ghost use Rattle.tables.specs.Tables.{IsStateOf, IsAction, IsAccepted};
 ghost use Rattle.tables.specs.Decidable.{AreMovesDecided};
 
@@ -21,7 +21,7 @@ use crate::conflict::{Conflict, conflict_of};
 use crate::decisions::{Move, Moves};
 use crate::expected::Expected;
 use crate::outline::Outline;
-use crate::progress::{Progress, advance};
+use crate::progress::{ClashAt, Progress, advance};
 use crate::rows::Row;
 use definitions::Kind;
 use erased::Erased;
@@ -70,7 +70,55 @@ impl Model for Tables {
     ghost invariant = { λ a. AreTables a.productions.value a.kernels.value a.gotos.items a.moves.items × IsOutline a.productions.value a.outline };
 }
 
-/// The tables of all states, or the conflict that was found.
+/// Makes the gotos and the moves of all states. They are refused where there are too many states, or two items conflict.
+fn complete(
+    alloc: Global,
+    grammar: &AugmentedGrammar,
+    states: &mut States,
+    made: &mut Progress,
+) -> Result<(), TableFault>
+    requires states { AreStates grammar.now states.old }
+    requires made { AreMade grammar.now states.old.kernels made.old }
+    requires few { length made.old.gotos ≤ 8192 }
+    ensures states { OnOk result (AreStates grammar.now states.new) }
+    ensures made { OnOk result (AreMade grammar.now states.new.kernels made.new) }
+    ensures all { OnOk result (length made.new.gotos ≡ length states.new.kernels) }
+    ensures free { OnOk result (made.new.clash ≡ None) }
+    ensures few { OnOk result (HasMoreSetsThan grammar.now.grammar 8192 → ⊥) }
+    ensures refused { IfErr result (IsRight grammar.now.grammar 8192) }
+{
+    while made.len() < states.len() {
+        if states.len() > MOST_SETS {
+            return Err(TableFault::TooManySets);
+        }
+        if advance(alloc, grammar, states, made).is_err() {
+            return Err(TableFault::Memory);
+        }
+    }
+    if let Some(at) = made.clash {
+        return Err(conflict_fault(alloc, grammar, states, at));
+    }
+    Ok(())
+}
+
+/// Why there are no tables where two items of a state conflict.
+fn conflict_fault(
+    alloc: Global,
+    grammar: &AugmentedGrammar,
+    states: &States,
+    at: ClashAt,
+) -> TableFault
+    requires states { AreStates grammar.now states.now }
+    requires clash { IsClashAt grammar.now states.now.kernels at }
+    ensures { IsConflictOf grammar.now.grammar result }
+{
+    match conflict_of(alloc, grammar, states, at) {
+        Ok(conflict) => TableFault::Conflict(conflict),
+        Err(_) => TableFault::Memory,
+    }
+}
+
+/// The tables of all states, of which no two items conflict.
 fn finish(
     alloc: Global,
     grammar: AugmentedGrammar,
@@ -80,37 +128,23 @@ fn finish(
     requires states { AreStates grammar states }
     requires made { AreMade grammar states.kernels made }
     requires all { length made.gotos ≡ length states.kernels }
-    requires few { length made.gotos ≤ 8192 }
+    requires free { made.clash ≡ None }
     ensures grammar { IfOk result (λ t. t.grammar ≡ grammar.grammar) }
     ensures free { IfOk result (λ _. HasNoConflict grammar.grammar) }
-    ensures few { IfOk result (λ _. HasMoreSetsThan grammar.grammar 8192 → ⊥) }
     ensures refused { IfErr result (IsRight grammar.grammar 8192) }
 {
-    let Progress {
-        gotos,
-        moves,
-        clash,
-    } = made;
-    match clash {
-        None => {
-            let productions = grammar.into_productions();
-            let kernels = states.into_kernels();
-            let Ok(outline) = Outline::of(alloc, &productions) else {
-                return Err(TableFault::Memory);
-            };
-            Ok(Tables {
-                productions: Erased::of(&productions),
-                kernels: Erased::of(&kernels),
-                outline,
-                gotos,
-                moves,
-            })
-        }
-        Some(at) => match conflict_of(alloc, &grammar, &states, at) {
-            Ok(conflict) => Err(TableFault::Conflict(conflict)),
-            Err(_) => Err(TableFault::Memory),
-        },
-    }
+    let productions = grammar.into_productions();
+    let kernels = states.into_kernels();
+    let Ok(outline) = Outline::of(alloc, &productions) else {
+        return Err(TableFault::Memory);
+    };
+    Ok(Tables {
+        productions: Erased::of(&productions),
+        kernels: Erased::of(&kernels),
+        outline,
+        gotos: made.gotos,
+        moves: made.moves,
+    })
 }
 
 /// The tables of a grammar.
@@ -124,14 +158,7 @@ fn tables_of(alloc: Global, grammar: AugmentedGrammar) -> Result<Tables, TableFa
         return Err(TableFault::Memory);
     };
     let mut made = Progress::new(alloc);
-    while made.len() < states.len() {
-        if states.len() > MOST_SETS {
-            return Err(TableFault::TooManySets);
-        }
-        if advance(alloc, &grammar, &mut states, &mut made).is_err() {
-            return Err(TableFault::Memory);
-        }
-    }
+    complete(alloc, &grammar, &mut states, &mut made)?;
     finish(alloc, grammar, states, made)
 }
 

@@ -1,12 +1,12 @@
 use Rattle.std.proofs.Common.{◌≤◌, ◌-◌, length}
 use Rattle.tables.specs.Actions.{AreMade}
 use Rattle.item_sets.specs.Collection.{AreStates}
-use Rattle.tables.proofs.tables.tables_of.Given as goal
+use Rattle.tables.proofs.tables.complete.Given as goal
 
 abbrev pub invariant-loop-states : goal.invariant-loop-states
 invariant-loop-states l = record {
-  states : AreStates l.fn.grammar l.states;
-  made : AreMade l.fn.grammar l.states.kernels l.made;
+  states : AreStates l.grammar l.states;
+  made : AreMade l.grammar l.states.kernels l.made;
   few : length l.made.gotos ≤ 8192;
 }
 
