@@ -1,9 +1,12 @@
 use Rattle.std.proofs.Common.{◌≡◌, ◌+◌, ◌-◌, ◌≤◌, ℕ, List, [], ◌∷◌, ◌++◌, length, length-take, take, drop, get_or, sym, ap, ◌∙◌, subst, rules, arith, length-append}
+use Rattle.std.specs.Prelude.{Option}
+use Rattle.definitions.specs.declared.Kind.{Kind}
 use Rattle.definitions.specs.declared.Symbol.{Symbol}
 use Rattle.definitions.specs.declared.Symbol.TheVariants.{Nonterminal}
 use Rattle.definitions.specs.Trees.{Grammar, Tree, HaveRoots}
 use Rattle.std.proofs.lemmas.List.{append_cancel_right}
 use Rattle.theory.proofs.Simulation.{length-roots}
+use Rattle.theory.specs.Machine.{Reduces}
 use Rattle.theory.proofs.Sets.{goto_there}
 use Rattle.theory.proofs.Stack.{handle, reduces_roots}
 use Rattle.trees.specs.Cells.{AreBelow}
@@ -16,6 +19,12 @@ use Rattle.parser.proofs.machine.Machine.reduce.Goals as goal
 -- the stack has as many trees as a called production's right side has symbols, and more
 deep : (g : Grammar) (stack under kids : List Tree) (d right : List Symbol) (n : ℕ) → stack ≡ under ++ kids → HaveRoots g kids right → n ≡ length stack → length right ≤ n
 deep g stack under kids d right n e h l = omega (arith, l, ap length e, length-append under kids, length-roots g kids right h)
+
+-- a reduction leaves its left side behind what stands under the right one
+left_behind : (g : Grammar) (stack new : List Tree) (look : Option Kind) (r : Reduces g stack look new) (d : List Symbol) → r.symbols ≡ d ++ r.right → HaveRoots g new (d ++ (Nonterminal r.left ∷ []))
+left_behind g stack new look r d is =
+    let rd = reduces_roots g stack new look r in
+    subst (λ l. HaveRoots g new (l ++ (Nonterminal r.left ∷ []))) (append_cancel_right rd.d d r.right (sym rd.symbols_are ∙ is)) rd.roots
 
 pub overflow_sub-below : goal.overflow_sub-below
 overflow_sub-below c =
@@ -91,9 +100,7 @@ returns-clause-states c =
     let long : length made.kids ≡ length sized.0 = omega (arith, d, n, sized.2, ap length made.stack_is, length-append made.under made.kids, length-take m items) in
     let new = plain_of c.branch-store.new.self c.push.new.self.stack.items in
     let r = reduced gr cells c.branch-store.new.self items c.push.new.self.stack.items c.args.production c.args.number made c.requires.below called.0 called.1 called.2 called.3 left sized.0 sized.1 long in
-    let rd = reduces_roots gr stack new called.0 r in
-    let d_same : rd.d ≡ k.d = append_cancel_right rd.d k.d sized.0 (sym rd.symbols_are ∙ k.symbols_are) in
-    let roots = subst (λ l. HaveRoots gr new (l ++ (Nonterminal left ∷ []))) d_same rd.roots in
+    let roots = left_behind gr stack new called.0 r k.d k.symbols_are in
     let there = state_under t stack states c.requires.states called.1 called.2 left sized.0 k m at in
     let state : c.state.result ≡ get_or (take (m + 1) states) (length (take (m + 1) states) - 1) 0 = c.state.ensures ∙ ap (λ l. get_or l (length l - 1) 0) c.truncate-2.ensures.items in
     let goes = (c.in-Some.ensures k.d (subst (IsStateOf t k.d) (sym state) there)).1 in
