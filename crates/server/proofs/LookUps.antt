@@ -1,6 +1,6 @@
 -- What a look-up finds after a document was inserted or removed.
 use Rattle.std.proofs.Common.{◌≡◌, ◌≢◌, ◌⊎◌, inl, inr, ℕ, true, false, cond, List, sym, ap, ◌∙◌, refl, Bool}
-use Rattle.std.specs.Prelude.{Option, Some, None}
+use Rattle.std.specs.Prelude.{Option, Some, None, is_some}
 use Rattle.std.specs.Ordering.{nat_cmp, is_eq, eq_by_cmp}
 use Rattle.std.specs.declared.cmp.Ordering.{Ordering}
 use Rattle.std.specs.declared.cmp.Ordering.TheVariants.{Less, Equal, Greater}
@@ -43,6 +43,11 @@ inserted_again documents uri state = same_map nat_list_cmp_total (slice_cmp-IsAn
     twice : (b : Bool) (o : Option DocumentState) → cond b (Some state) (cond b None o) ≡ cond b (Some state) o
     twice true o = refl
     twice false o = refl
+
+-- where nothing was found
+pub none_is : {A : Type 0} (o : Option A) → is_some o ≡ false → o ≡ None
+none_is None e = refl
+none_is (Some x) e = absurd (let f : ⊥ = cc in f)
 
 -- to forget what isn't held changes nothing
 pub removed_none : (documents : Held) (uri : List ℕ) → get documents uri ≡ None → remove documents uri ≡ documents

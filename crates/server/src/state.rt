@@ -5,12 +5,12 @@ ghost use Rattle.std.specs.Str.{chars};
 ghost use Rattle.std.specs.FinMap.{get, insert};
 ghost use Rattle.docs.specs.Docs.{open_document, IsCurrent};
 ghost use Rattle.docs.specs.declared.doc.DocFault.TheVariants as DocFault;
-ghost use Rattle.rpc.specs.Messages.{id_view, call_view, note_view, malformed_view, change_view, heard_of};
+ghost use Rattle.rpc.specs.Messages.{Ident, Question as Asking, id_view, call_view, note_view, malformed_view, change_view, heard_of};
 ghost use Rattle.rpc.specs.declared.reply.Refusal.TheVariants.{DocumentNotOpen, DocumentLost};
 ghost use Rattle.rpc.specs.declared.reply.Loss.TheVariants.{TooLarge, NoMemory};
 ghost use Rattle.rpc.specs.Replies.{reply_view, told_error, told_log};
 ghost use Rattle.server.specs.Answers.{question_view, IsAnswer, IsCount};
-ghost use Rattle.server.specs.Documents.{entry_view, has_room, IsEntryOf, Becomes};
+ghost use Rattle.server.specs.Documents.{entry_view, has_room, is_open, IsEntryOf, Becomes};
 ghost use Rattle.server.specs.Steps.{State, state_view, first_state, opened, exit_status, unknown_in, params_in, Asks, Changes, Closes, Holds, Misses, Opens, Spoils, Tells, StepOn};
 
 use crate::answers::{Question, answer, cleared, published};
@@ -125,6 +125,24 @@ fn reply_and_log(alloc: Global, reply: Reply, log: Log) -> Result<Out, AllocErro
     Ok(out)
 }
 
+/// A document of this text, or how it is lost. Refuses for memory alone.
+fn opened(
+    alloc: Global,
+    language: &Language,
+    unit: Unit,
+    version: i32,
+    text: &str,
+) -> Result<Entry, AllocError>
+    ensures is { IfOk result (λ e. entry_view e ≡ opened unit version (chars text.now)) }
+    ensures current { IfOk result (IsEntryOf language.now) }
+{
+    match Doc::open(alloc, language, unit, version, text) {
+        Ok(doc) => Ok(Entry::Open(doc)),
+        Err(DocFault::TooLarge) => Ok(Entry::Lost(Loss::TooLarge)),
+        Err(DocFault::NoMemory) => Err(AllocError),
+    }
+}
+
 /// The document after the changes in turn, or how it is lost by the first of them that is refused.
 fn changed(
     alloc: Global,
@@ -162,6 +180,24 @@ impl Server {
         }
     }
 
+    /// The document of this URI, or the refusal of what is asked about it where it isn't open.
+    fn document(&self, uri: &str) -> Result<&Doc, Refusal>
+        ensures open { let held = self.now.documents in
+            IfOk result (λ doc. IsCurrent held.language doc.now
+            × (get held.documents uri.now ≡ Some (is_open (open_document doc.now)))) }
+        ensures refusal { let held = self.now.documents in
+            let document = get held.documents uri.now in
+            IfErr result (λ refusal. (id : Ident) → let answer = told_error (Some id) refusal in
+            ((question : Asking) → IsAnswer held.language.file id document question answer)
+            × IsCount held.language.file id document answer) }
+    {
+        match self.documents.get(uri) {
+            Some(Entry::Open(doc)) => Ok(doc),
+            Some(Entry::Lost(loss)) => Err(Refusal::DocumentLost(*loss)),
+            None => Err(Refusal::DocumentNotOpen),
+        }
+    }
+
     /// The reply to a question about the document of this URI.
     fn answer(
         &self,
@@ -176,17 +212,13 @@ impl Server {
             let question = question_view question.now in
             IsAnswer held.language.file (id_view id) document question (reply_view reply)) }
     {
-        let refusal = match self.documents.get(uri) {
-            Some(Entry::Open(doc)) => {
-                return answer(alloc, self.documents.language(), doc, id, question);
-            }
-            Some(Entry::Lost(loss)) => Refusal::DocumentLost(*loss),
-            None => Refusal::DocumentNotOpen,
-        };
-        Ok(Reply::Error {
-            id: Some(id),
-            refusal,
-        })
+        match self.document(uri) {
+            Ok(doc) => answer(alloc, self.documents.language(), doc, id, question),
+            Err(refusal) => Ok(Reply::Error {
+                id: Some(id),
+                refusal,
+            }),
+        }
     }
 
     /// The reply that tells how much there is of the document of this URI, and how much its last edit has made.
@@ -195,19 +227,15 @@ impl Server {
             let document = get held.documents uri.now in
             IsCount held.language.file (id_view id) document (reply_view result) }
     {
-        let refusal = match self.documents.get(uri) {
-            Some(Entry::Open(doc)) => {
-                return Reply::Stats {
-                    id,
-                    stats: doc.stats(),
-                };
-            }
-            Some(Entry::Lost(loss)) => Refusal::DocumentLost(*loss),
-            None => Refusal::DocumentNotOpen,
-        };
-        Reply::Error {
-            id: Some(id),
-            refusal,
+        match self.document(uri) {
+            Ok(doc) => Reply::Stats {
+                id,
+                stats: doc.stats(),
+            },
+            Err(refusal) => Reply::Error {
+                id: Some(id),
+                refusal,
+            },
         }
     }
 
@@ -298,17 +326,8 @@ impl Server {
         if !self.documents.has_room(uri.as_str()) {
             return logged(alloc, Log::TooManyDocuments);
         }
-        let entry = match Doc::open(
-            alloc,
-            self.documents.language(),
-            unit,
-            version,
-            text.as_str(),
-        ) {
-            Ok(doc) => Entry::Open(doc),
-            Err(DocFault::TooLarge) => Entry::Lost(Loss::TooLarge),
-            Err(DocFault::NoMemory) => return Err(AllocError),
-        };
+        let language = self.documents.language();
+        let entry = opened(alloc, language, unit, version, text.as_str())?;
         self.hold(alloc, uri, entry)
     }
 
@@ -362,10 +381,10 @@ impl Server {
             let replies = map reply_view out.replies.items in
             Closes (get old.documents uri) old uri replies out.stop (state_view self.new)) }
     {
-        match self.documents.remove(uri.as_str()) {
-            None => logged(alloc, Log::CloseNotOpen),
-            Some(_) => one_reply(alloc, cleared(alloc, uri.as_str())?),
+        if self.documents.remove(uri.as_str()).is_none() {
+            return logged(alloc, Log::CloseNotOpen);
         }
+        one_reply(alloc, cleared(alloc, uri.as_str())?)
     }
 
     /// A notification whose parameters don't fit.
