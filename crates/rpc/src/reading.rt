@@ -238,7 +238,23 @@ fn notice_of(alloc: Global, method: &str, params: &Value) -> Result<Message, All
 }
 
 /// With an id it is a request, without one a notification.
-fn of_method(alloc: Global, value: &Value, id: Option<Id>) -> Result<Message, RpcFault>
+fn of_method(
+    alloc: Global,
+    method: &str,
+    id: Option<Id>,
+    params: &Value,
+) -> Result<Message, RpcFault>
+    ensures { Gives result (of_method
+        (Some method.now) (option_map id_view id) (view params.now)) }
+{
+    match id {
+        Some(id) => request_of(alloc, method, id, params),
+        None => Ok(notice_of(alloc, method, params)?),
+    }
+}
+
+/// The message of a value with this id, which has a method. Without `params` they are `null`.
+fn called(alloc: Global, value: &Value, id: Option<Id>) -> Result<Message, RpcFault>
     ensures { Gives result (of_method
         (text_at (codes "method") (view value.now))
         (option_map id_view id)
@@ -248,11 +264,7 @@ fn of_method(alloc: Global, value: &Value, id: Option<Id>) -> Result<Message, Rp
         return Err(RpcFault::Invalid { id });
     };
     let none = Value::Null;
-    let params = value.get("params").unwrap_or(&none);
-    match id {
-        Some(id) => request_of(alloc, method, id, params),
-        None => Ok(notice_of(alloc, method, params)?),
-    }
+    of_method(alloc, method, id, value.get("params").unwrap_or(&none))
 }
 
 /// The message that a value is, by the tests in their order.
@@ -269,7 +281,7 @@ fn message_of(alloc: Global, value: &Value) -> Result<Message, RpcFault>
     if is_invalid(value, &id) {
         return Err(RpcFault::Invalid { id });
     }
-    of_method(alloc, value, id)
+    called(alloc, value, id)
 }
 
 /// The message that a content is (JSON-RPC 2.0). It is refused where the content is no JSON value in
