@@ -45,21 +45,21 @@ module _ {Y : Type 0} (one : Data → Option Y) (all : Items → Option (List Y)
       ∙ ap (option_map (λ rest. ys ++ rest)) (at_drop_all (λ l. all (items_view l)) values k past ∙ none_left)
       ∙ ap (λ l. Some l) (append-nil ys))
 
--- one more value of an array
-pub made_more : {A B : Type 0} (told : A → B) (of_told : B → Data) (values after : List Value) (v : Value) (rows : List A) (k : ℕ) (row : A) → k < length rows → row ≡ get_or rows k row
-    → view v ≡ of_told (told row) → after ≡ values ++ v ∷ []
-    → map view values ≡ map of_told (map told (take k rows)) → map view after ≡ map of_told (map told (take (k + 1) rows))
-made_more told of_told values after v rows k row within is made pushed so_far =
+-- one more value of an array, where f tells the value of a row
+pub made_more : {A : Type 0} (f : A → Data) (values after : List Value) (v : Value) (rows : List A) (k : ℕ) (d : A) → k < length rows → view v ≡ f (get_or rows k d) → after ≡ values ++ v ∷ []
+    → map view values ≡ map f (take k rows) → map view after ≡ map f (take (k + 1) rows)
+made_more f values after v rows k d within made pushed so_far =
     ap (map view) pushed
     ∙ map-append view values (v ∷ [])
     ∙ ap (λ ds. ds ++ view v ∷ []) so_far
-    ∙ ap (λ d. map of_told (map told (take k rows)) ++ d ∷ []) (made ∙ ap (λ r. of_told (told r)) is)
-    ∙ sym (
-    ap (λ l. map of_told (map told l)) (take_more rows k row within)
-    ∙ ap (map of_told) (map-append told (take k rows) (get_or rows k row ∷ []))
-    ∙ map-append of_told (map told (take k rows)) (told (get_or rows k row) ∷ []))
+    ∙ ap (λ told. map f (take k rows) ++ told ∷ []) made
+    ∙ sym (ap (map f) (take_more rows k d within) ∙ map-append f (take k rows) (get_or rows k d ∷ []))
 
 -- the array of all of them
-pub array_made : {A B : Type 0} (told : A → B) (of_told : B → Data) (values : Vec Value Global) (rows : List A) (k : ℕ) → length rows ≤ k → map view values.items ≡ map of_told (map told (take k rows))
-    → view (Array values) ≡ array (items_of (map of_told (map told rows)))
-array_made told of_told values rows k past made = view-Array values ∙ ap (λ ds. array (items_of ds)) (made ∙ ap (λ l. map of_told (map told l)) (take_all k rows past))
+pub array_made : {A : Type 0} (f : A → Data) (values : Vec Value Global) (rows : List A) (k : ℕ) → length rows ≤ k → map view values.items ≡ map f (take k rows) → view (Array values) ≡ array (items_of (map f rows))
+array_made f values rows k past made = view-Array values ∙ ap (λ ds. array (items_of ds)) (made ∙ ap (map f) (take_all k rows past))
+
+-- f of what g tells of each
+pub map-map : {A B C : Type 0} (f : B → C) (g : A → B) (xs : List A) → map (λ x. f (g x)) xs ≡ map f (map g xs)
+map-map f g [] = refl
+map-map f g (x ∷ xs) = ap (λ ys. f (g x) ∷ ys) (map-map f g xs)

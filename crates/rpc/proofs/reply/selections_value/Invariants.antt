@@ -4,4 +4,4 @@ use Rattle.rpc.specs.Replies.{selection_data}
 use Rattle.rpc.proofs.reply.selections_value.Given as goal
 
 abbrev pub invariant-loop-ranges : goal.invariant-loop-ranges
-invariant-loop-ranges l = map view l.values.items ≡ map selection_data (map (λ s. s.items) (take l.ranges-index l.fn.selections))
+invariant-loop-ranges l = map view l.values.items ≡ map (λ s. selection_data s.items) (take l.ranges-index l.fn.selections)
