@@ -1,0 +1,5 @@
+use Rattle.std.proofs.Common.{rules}
+use Rattle.grammar.proofs.grammar.Grammar.rules.Goals as goal
+
+pub returns : goal.returns
+returns c = search rules
