@@ -57,7 +57,8 @@ impl<'a> Names<'a> {
         ensures skips { OnOk result (self.new.skips ≡ with_skip self.old.skips (said line.now)) }
         ensures nonterminals { OnOk result (self.new.nonterminals
             ≡ with_left self.old.nonterminals (said line.now)) }
-        ensures marked { OnOk result (self.new.marked ≡ with_right self.old.marked (said line.now)) }
+        ensures marked { OnOk result (self.new.marked
+            ≡ with_right self.old.marked (said line.now)) }
         ensures sides { OnOk result (self.new.sides ≡ with_sides self.old.sides (said line.now)) }
         ensures productions { OnOk result (self.new.productions
             ≡ with_production self.old.productions (said line.now)) }
