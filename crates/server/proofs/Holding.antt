@@ -1,5 +1,5 @@
 -- A document that came to stand otherwise.
-use Rattle.std.proofs.Common.{◌≡◌, ℕ, ℤ, List, [], ◌∷◌, ap, ◌∙◌, sym, subst}
+use Rattle.std.proofs.Common.{◌≡◌, ℕ, ℤ, Bool, true, List, [], ◌∷◌, ap, ◌∙◌, sym, subst}
 use Rattle.std.specs.Prelude.{Option, Some, None}
 use Rattle.std.specs.FinMap.{get, insert, remove}
 use Rattle.docs.specs.Docs.{open_document}
@@ -13,7 +13,7 @@ use Rattle.server.specs.declared.state.Phase.{Phase}
 use Rattle.server.specs.Answers.{IsPublished}
 use Rattle.rpc.specs.Messages.{ChangeSaid}
 use Rattle.server.specs.Documents.{DocumentState, Held, is_open, is_lost, entry_view, Becomes}
-use Rattle.server.specs.Steps.{State, Changes, Closes, Holds}
+use Rattle.server.specs.Steps.{State, Changes, Closes, Holds, Opens}
 use Rattle.server.proofs.LookUps.{inserted_again}
 
 abbrev pub state_of : FileGrammar → Phase → Held → State
@@ -45,3 +45,8 @@ changes_open old mid uri d version changes state answers stop new held same beco
 pub closes_none : (old : State) (uri : List ℕ) (answers : List Answer) (stop : Option ℕ) (new : State) → get old.documents uri ≡ None → answers ≡ told_log CloseNotOpen ∷ [] → stop ≡ None → new ≡ old → Closes (get old.documents uri) old uri answers stop new
 closes_none old uri answers stop new none told stays same =
     subst (λ (o : Option DocumentState). Closes o old uri answers stop new) (sym none) (told, stays, same)
+
+-- a document that there is room for
+pub opens_room : (room : Bool) (old : State) (uri : List ℕ) (made state : DocumentState) (answers : List Answer) (stop : Option ℕ) (new : State) → Holds old uri made answers stop new → made ≡ state → room ≡ true → Opens room old uri state answers stop new
+opens_room room old uri made state answers stop new holds same is =
+    subst (λ (b : Bool). Opens b old uri state answers stop new) (sym is) (subst (λ (s : DocumentState). Holds old uri s answers stop new) same holds)

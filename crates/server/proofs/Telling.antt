@@ -1,6 +1,7 @@
 -- What is answered, from what a document tells.
-use Rattle.std.proofs.Common.{◌≡◌, ℕ, List, refl, ap}
-use Rattle.std.specs.Prelude.{Option, Some, None, option_map, Result, Ok, Err, IfOk}
+use Rattle.std.proofs.Common.{◌≡◌, ℕ, List, Bool, true, false, refl, ap}
+use Rattle.std.specs.Prelude.{Option, Some, None, option_map, Result, Ok, Err, IfOk, OnOk, OnErr}
+use Rattle.std.specs.Result.{is_err}
 use Rattle.rpc.specs.Diagnostic.{Diagnostic as Stored}
 use Rattle.docs.specs.Answers.{Diagnostic}
 use Rattle.docs.specs.Answers.{Reading, IsTold, Reads}
@@ -15,6 +16,10 @@ use Rattle.server.specs.Answers.{IsPublished, told_of}
 pub if_ok : {T E : Type 0} {P Q : T → Type 0} (r : Result T E) → ((x : T) → P x → Q x) → IfOk r P → IfOk r Q
 if_ok (Ok x) f p = f x p
 if_ok (Err e) f p = tt
+
+-- so, with what is answered first
+pub if_ok_then : {T E : Type 0} {P Q : T → Type 0} (r : Result T E) → IfOk r P → ((x : T) → P x → Q x) → IfOk r Q
+if_ok_then r p f = if_ok r f p
 
 pub if_ok_both : {T E : Type 0} {P Q R : T → Type 0} (r : Result T E) → ((x : T) → P x → Q x → R x) → IfOk r P → IfOk r Q → IfOk r R
 if_ok_both (Ok x) f p q = f x p q
@@ -38,3 +43,12 @@ pub diagnosis_published : (file : FileGrammar) (uri : List ℕ) (d : OpenDocumen
     → IsPublished file uri d (told_diagnostics uri (Some d.version) (option_map diagnostic_view told))
 diagnosis_published file uri d told r =
     (r.0, r.1, (r.2.0, r.2.1, ap (told_diagnostics uri (Some d.version)) (told_same told r.2.0 r.2.2)))
+
+-- What tells whether a call was refused is `true` where it was, and `false` where it wasn't.
+pub tells_refused : {A E : Type 0} {told : Bool} (r : Result A E) → told ≡ is_err r → OnErr r (told ≡ true)
+tells_refused (Ok _) is = tt
+tells_refused (Err _) is = is
+
+pub tells_done : {A E : Type 0} {told : Bool} (r : Result A E) → told ≡ is_err r → OnOk r (told ≡ false)
+tells_done (Ok _) is = is
+tells_done (Err _) is = tt

@@ -5,7 +5,6 @@ use Rattle.std.proofs.lemmas.Int.{to_z-of_z}
 use Rattle.docs.specs.Docs.{open_document}
 use Rattle.docs.specs.Texts.{OpenDocument, fits}
 use Rattle.docs.specs.declared.doc.DocFault.{DocFault}
-use Rattle.docs.specs.declared.doc.DocFault.TheVariants as DocFault
 use Rattle.rpc.specs.Unit.{Unit as Encoding}
 use Rattle.rpc.specs.declared.reply.Loss.TheVariants.{TooLarge}
 use Rattle.server.specs.Documents.{is_open, is_lost}
