@@ -33,7 +33,7 @@ fn bytes_of(rt: &HostRuntime, path: &str) -> Result<Vec<u8>, Fault> {
 /// The language of the grammar in the file of this path, or what is printed where there is none.
 fn loaded(rt: &HostRuntime, path: &str) -> Result<Result<Language, Printed>, Fault> {
     let bytes = bytes_of(rt, path)?;
-    Ok(load(rt.alloc(), &bytes)?)
+    load(rt.alloc(), &bytes).map_err(Fault::from)
 }
 
 /// Prints what a command answers, and answers its status.
@@ -45,17 +45,26 @@ fn print(rt: &HostRuntime, printed: &Printed) -> Result<u8, Fault> {
     }
 }
 
+/// Checks a grammar that gives this language.
+fn check_grammar(rt: &HostRuntime, language: &Language) -> Result<u8, Fault> {
+    print(rt, &check(rt.alloc(), language)?)
+}
+
+/// Parses a text of these bytes.
+fn parse_text(rt: &HostRuntime, language: &Language, bytes: &[u8]) -> Result<u8, Fault> {
+    print(rt, &parse(rt.alloc(), language, bytes)?)
+}
+
 /// Parses the text in a file.
-fn parse_text(rt: &HostRuntime, language: &Language, path: &str) -> Result<u8, Fault> {
-    let bytes = bytes_of(rt, path)?;
-    print(rt, &parse(rt.alloc(), language, &bytes)?)
+fn parse_file(rt: &HostRuntime, language: &Language, path: &str) -> Result<u8, Fault> {
+    parse_text(rt, language, &bytes_of(rt, path)?)
 }
 
 /// Serves an editor until it leaves.
 fn serve(rt: &HostRuntime, alloc: Global, language: Language) -> Result<u8, Fault> {
     let mut input = ReadInput::new(rt.stdin());
     let mut output = WriteOutput::new(rt.stdout());
-    Ok(run(alloc, language, &mut input, &mut output)?)
+    run(alloc, language, &mut input, &mut output).map_err(Fault::from)
 }
 
 /// The path of the grammar's file.
@@ -68,8 +77,8 @@ fn grammar_of(task: &Task) -> &str {
 /// Does a task by the language of its grammar.
 fn perform_in(rt: &HostRuntime, task: &Task, language: Language) -> Result<u8, Fault> {
     match task {
-        Task::Check(_) => print(rt, &check(rt.alloc(), &language)?),
-        Task::Parse(_, text) => parse_text(rt, &language, text.as_str()),
+        Task::Check(_) => check_grammar(rt, &language),
+        Task::Parse(_, text) => parse_file(rt, &language, text.as_str()),
         Task::Serve(_) => serve(rt, rt.alloc(), language),
     }
 }
