@@ -7,7 +7,7 @@ use seqtree::{Goal, Measured, Monoid, Seq, Slots};
 use std::alloc::Global;
 use std::process::Abort;
 
-#[derive(Clone, Copy, Debug, PartialEq, Eq)]
+#[derive(Clone, Copy, PartialEq, Eq)]
 struct Greatest {
     value: u32,
 }
@@ -30,7 +30,7 @@ impl Monoid for Greatest {
     }
 }
 
-#[derive(Clone, Copy, Debug, PartialEq, Eq)]
+#[derive(Clone, Copy, PartialEq, Eq)]
 struct Number {
     value: u32,
 }
@@ -46,7 +46,7 @@ impl Measured for Number {
 }
 
 /// The first number that is at least this one.
-#[derive(Clone, Copy, Debug, PartialEq, Eq)]
+#[derive(Clone, Copy)]
 struct AtLeast {
     value: u32,
 }
@@ -95,16 +95,31 @@ fn digits(rt: &impl Abort, alloc: Global) -> Seq<Number> {
     seq
 }
 
+/// The first number that is at least this one is here, and this is the greatest of those before it.
+fn check_located(rt: &impl Abort, seq: &Seq<Number>, value: u32, at: usize, before: u32) {
+    let found = seq.locate(&AtLeast { value });
+    assert!(rt; found == (at, Greatest { value: before }), "at {value}");
+}
+
+/// The number at a place.
+fn number_at(seq: &Seq<Number>, at: usize) -> Option<u32> {
+    Some(seq.get(at)?.value)
+}
+
 #[test]
 fn each_call_answers(rt: HostRuntime) {
     let seq = digits(&rt, rt.alloc());
     assert!(rt; (seq.len(), seq.height(), seq.total().value) == (8, 4, 9));
-    assert!(rt; seq.get(4) == Some(&Number { value: 5 }));
-    assert!(rt; seq.get(8) == None);
-    for (value, at, before) in [(5, 4, 4), (10, 8, 9)] {
-        let found = seq.locate(&AtLeast { value });
-        assert!(rt; found == (at, Greatest { value: before }), "at {value}");
-    }
+    assert!(rt; (number_at(&seq, 4), number_at(&seq, 8)) == (Some(5), None));
+    check_located(&rt, &seq, 5, 4, 4);
+    check_located(&rt, &seq, 10, 8, 9);
+}
+
+/// These two numbers stand side by side from a place on.
+fn check_pair(rt: &impl Abort, seq: &Seq<Number>, from: usize, first: u32, second: u32) {
+    let mut rest = seq.iter_from(from);
+    assert!(rt; rest.next() == Some(&Number { value: first }));
+    assert!(rt; rest.next() == Some(&Number { value: second }));
 }
 
 #[test]
@@ -112,9 +127,7 @@ fn a_part_is_replaced(rt: HostRuntime) {
     let mut seq = digits(&rt, rt.alloc());
     let items = slots_of(&rt, rt.alloc(), &[7]);
     assert!(rt; put(&rt, &mut seq, 4, 6, items) == 2);
-    let mut rest = seq.iter_from(3);
-    assert!(rt; rest.next() == Some(&Number { value: 1 }));
-    assert!(rt; rest.next() == Some(&Number { value: 7 }));
+    check_pair(&rt, &seq, 3, 1, 7);
 }
 
 /// The next number of a simple generator.
@@ -136,16 +149,21 @@ fn put_in_turn(rt: &impl Abort, alloc: Global, count: u32) -> Seq<Number> {
     seq
 }
 
+/// A walk from this place meets each item behind it, and answers where it ends.
+fn end_of_walk(rt: &impl Abort, seq: &Seq<Number>, from: usize) -> usize {
+    let mut at = from;
+    for number in seq.iter_from(from) {
+        assert!(rt; Some(number) == seq.get(at));
+        at = at.saturating_add(1);
+    }
+    at
+}
+
 #[test]
 fn a_walk_from_each_place_meets_each_item(rt: HostRuntime) {
     let seq = put_in_turn(&rt, rt.alloc(), 100);
     for from in 0..102 {
-        let mut at = from;
-        for number in seq.iter_from(from) {
-            assert!(rt; Some(number) == seq.get(at));
-            at = at.saturating_add(1);
-        }
-        assert!(rt; at == from.max(100));
+        assert!(rt; end_of_walk(&rt, &seq, from) == from.max(100));
     }
 }
 

@@ -11,24 +11,37 @@ fn at(line: u32, character: u32) -> Position {
     Position { line, character }
 }
 
+/// Where the characters of a line of three end, in each unit.
+const ENDS: &[(Unit, [u32; 4])] = &[
+    (Unit::Utf8, [0, 2, 6, 7]),
+    (Unit::Utf16, [0, 1, 3, 4]),
+    (Unit::Utf32, [0, 1, 2, 3]),
+];
+
+/// The offsets from 0 on are those of these characters of line 0.
+fn check_offsets(rt: &impl Abort, text: &Text, unit: Unit, ends: &[u32]) {
+    for (offset, character) in ends.iter().enumerate() {
+        let position = at(0, *character);
+        assert!(rt; text.position(unit, offset) == position, "at {offset}");
+        assert!(rt; text.offset(unit, position) == offset);
+    }
+}
+
+/// A walk comes to these characters of line 0.
+fn check_walk(rt: &impl Abort, text: &Text, unit: Unit, ends: &[u32]) {
+    let mut places = text.places(unit);
+    for character in ends {
+        assert!(rt; places.position() == at(0, *character));
+        places.advance(1);
+    }
+}
+
 #[test]
 fn positions_count_the_unit_that_is_asked_for(rt: HostRuntime) {
     let text = Text::open(rt.alloc(), "\u{e9}\u{1f600}z").expect(&rt, "a text");
-    for (unit, ends) in [
-        (Unit::Utf8, [0, 2, 6, 7]),
-        (Unit::Utf16, [0, 1, 3, 4]),
-        (Unit::Utf32, [0, 1, 2, 3]),
-    ] {
-        let mut places = text.places(unit);
-        for (offset, character) in ends.iter().enumerate() {
-            assert!(rt;
-                text.position(unit, offset) == at(0, *character),
-                "at {offset}"
-            );
-            assert!(rt; text.offset(unit, at(0, *character)) == offset);
-            assert!(rt; places.position() == at(0, *character));
-            places.advance(1);
-        }
+    for (unit, ends) in ENDS {
+        check_offsets(&rt, &text, *unit, ends);
+        check_walk(&rt, &text, *unit, ends);
     }
 }
 
@@ -51,13 +64,17 @@ fn check_whole_break(rt: &impl Abort, alloc: Global, line: &str, n: u32) {
     assert!(rt; breaks_behind(&whole, n), "a line of {n}");
 }
 
+/// Puts a line feed before the last character of a text.
+fn join_break(rt: &impl Abort, alloc: Global, text: &mut Text, behind: usize) {
+    assert!(rt; behind < text.len());
+    assert!(rt; text.len() - behind == 1);
+    text.replace(alloc, behind, behind, "\n")
+        .expect(rt, "an edit");
+}
+
 fn check_joined_break(rt: &impl Abort, alloc: Global, line: &str, n: u32) {
     let mut joined = text_behind(rt, alloc, line, "\ry");
-    let behind = n as usize + 1;
-    assert!(rt; joined.len() == behind + 1);
-    joined
-        .replace(alloc, behind, behind, "\n")
-        .expect(rt, "an edit");
+    join_break(rt, alloc, &mut joined, n as usize + 1);
     assert!(rt; breaks_behind(&joined, n), "joined behind a line of {n}");
 }
 
@@ -96,25 +113,33 @@ impl Numbers {
     }
 }
 
+/// Puts the characters of `old` from `from` up to `to` behind the others.
+fn push_part(rt: &impl Abort, characters: &mut Vec<char>, old: &[char], from: usize, to: usize) {
+    for c in old.iter().take(to).skip(from) {
+        characters.push(*c).expect(rt, "memory");
+    }
+}
+
+/// Puts the characters of a text behind the others.
+fn push_text(rt: &impl Abort, characters: &mut Vec<char>, text: &str) {
+    for c in text.chars() {
+        characters.push(c).expect(rt, "memory");
+    }
+}
+
 /// The characters with `new` in the place of those from `a` up to `b`.
 fn edited(
     rt: &impl Abort,
     alloc: Global,
-    old: &Vec<char>,
+    old: &[char],
     a: usize,
     b: usize,
     new: &str,
 ) -> Vec<char> {
     let mut characters = Vec::new(alloc);
-    for c in old.iter().take(a) {
-        characters.push(*c).expect(rt, "memory");
-    }
-    for c in new.chars() {
-        characters.push(c).expect(rt, "memory");
-    }
-    for c in old.iter().skip(b) {
-        characters.push(*c).expect(rt, "memory");
-    }
+    push_part(rt, &mut characters, old, 0, a);
+    push_text(rt, &mut characters, new);
+    push_part(rt, &mut characters, old, b, old.len());
     characters
 }
 
@@ -156,20 +181,31 @@ fn edit_both(
     assert!(rt; text.len() == wanted.len());
 }
 
+/// Makes ten thousand edits of a text and of its characters, and sees now and then that they are the same.
+fn edit_in_turn(
+    rt: &impl Abort,
+    alloc: Global,
+    texts: &[&str; 6],
+    text: &mut Text,
+    wanted: &mut Vec<char>,
+) {
+    let mut numbers = Numbers::new();
+    for step in 0..10_000 {
+        edit_both(rt, alloc, &mut numbers, texts, text, wanted);
+        if step % 64 == 0 {
+            assert!(rt; has_characters(text, wanted), "after step {step}");
+        }
+    }
+}
+
 #[test]
 fn random_edits_are_those_of_a_list(rt: HostRuntime) {
     let alloc = rt.alloc();
-    let line = long_line(&rt, alloc);
-    let texts = ["", "x", "\r", "\n", "\u{1f600}", line.as_str()];
-    let mut numbers = Numbers::new();
     let mut text = Text::open(alloc, "").expect(&rt, "a text");
     let mut wanted = Vec::new(alloc);
-    for step in 0..10_000 {
-        edit_both(&rt, alloc, &mut numbers, &texts, &mut text, &mut wanted);
-        if step % 64 == 0 {
-            assert!(rt; has_characters(&text, &wanted), "after step {step}");
-        }
-    }
+    let line = long_line(&rt, alloc);
+    let texts = ["", "x", "\r", "\n", "\u{1f600}", line.as_str()];
+    edit_in_turn(&rt, alloc, &texts, &mut text, &mut wanted);
     assert!(rt; has_characters(&text, &wanted));
 }
 

@@ -33,7 +33,7 @@ use std::process::Abort;
 use text::{Position, Text, Unit};
 
 /// For each number of letters the sum over positions and the sum over offsets, in UTF-8.
-const UTF8: [(u64, u64); 25] = [
+const UTF8: &[(u64, u64); 25] = &[
     (8765008814, 5911481443),
     (8705459335, 5915608684),
     (8645850760, 5919734924),
@@ -62,7 +62,7 @@ const UTF8: [(u64, u64); 25] = [
 ];
 
 /// The same in UTF-16.
-const UTF16: [(u64, u64); 25] = [
+const UTF16: &[(u64, u64); 25] = &[
     (8764996747, 5911671489),
     (8705447256, 5915798730),
     (8645838669, 5919924970),
@@ -91,7 +91,7 @@ const UTF16: [(u64, u64); 25] = [
 ];
 
 /// The same in UTF-32.
-const UTF32: [(u64, u64); 25] = [
+const UTF32: &[(u64, u64); 25] = &[
     (8764994732, 5911721493),
     (8705445239, 5915848734),
     (8645836650, 5919974974),
@@ -123,7 +123,7 @@ const UTF32: [(u64, u64); 25] = [
 const BREAKS: &str = "\r\n\u{e9}\u{20ac}\u{1f600}\r\u{e9}\n\n\u{1f600}\r\r\ny";
 
 /// Lines, and characters in them, near the ends of the lines and past the last one.
-const PLACES: [(u32, u32); 12] = [
+const PLACES: &[(u32, u32)] = &[
     (0, 0),
     (0, 998),
     (0, 1_010),
@@ -179,7 +179,7 @@ fn sum_of_twelve(text: &Text, unit: Unit, line: u32, first: u32) -> u64 {
 fn sum_of_offsets(text: &Text, unit: Unit) -> u64 {
     let mut sum = 0u64;
     for (line, first) in PLACES {
-        sum = sum.wrapping_add(sum_of_twelve(text, unit, line, first));
+        sum = sum.wrapping_add(sum_of_twelve(text, unit, *line, *first));
     }
     sum
 }
@@ -208,14 +208,19 @@ fn opened_texts_have_the_sums_of_another_program(rt: HostRuntime) {
     }
 }
 
+/// Puts the breaks at a place of a text.
+fn put_breaks(rt: &impl Abort, alloc: Global, text: &mut Text, place: usize) {
+    assert!(rt; place <= text.len());
+    text.replace(alloc, place, place, BREAKS)
+        .expect(rt, "an edit");
+}
+
 #[test]
 fn edited_texts_have_the_sums_of_another_program(rt: HostRuntime) {
     for row in 0usize..25 {
         let place = 1_000 + row;
         let mut text = text_around(&rt, rt.alloc(), place, "");
-        assert!(rt; place <= text.len());
-        text.replace(rt.alloc(), place, place, BREAKS)
-            .expect(&rt, "an edit");
+        put_breaks(&rt, rt.alloc(), &mut text, place);
         assert!(rt; has_row(&text, row), "in row {row}");
     }
 }
