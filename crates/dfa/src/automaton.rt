@@ -130,6 +130,7 @@ impl Automaton {
         ensures near { result.reach ≤ length (S.text source.now) + 1 }
     {
         let rest = source.len() - from;
+        let mut ahead = source.ahead(from);
         let mut state = self.start();
         let mut read = 0;
         let mut best = Match {
@@ -138,7 +139,7 @@ impl Automaton {
             reach: 0,
         };
         while read < rest {
-            let c = source.get(from + read);
+            let c = source.next(&mut ahead, from + read);
             let Some(next) = self.next(state, c) else {
                 break;
             };

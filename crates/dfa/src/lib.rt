@@ -1,7 +1,7 @@
 //! The longest match of a list of token rules, by an automaton whose states are sets of positions.
 #![tactic(auto)]
 
-ghost use Rattle.std.specs.Prelude.{◌≡◌, ℕ, ◌<◌, List, length, slice_index_or};
+ghost use Rattle.std.specs.Prelude.{◌≡◌, ℕ, ◌+◌, ◌<◌, ◌≤◌, List, length, slice_index_or};
 
 mod alphabet;
 mod automaton;
@@ -15,11 +15,17 @@ pub use build::DfaFault;
 
 /// A text that is read by offsets of characters. Only the offsets in its window may be asked for.
 pub trait Source {
+    /// A place in the text, from which characters are read one after another.
+    type Ahead: Drop;
+
     /// The characters, by their codes.
     ghost text: { Self → List ℕ };
 
     /// Which offsets may be asked for.
     ghost in_window: { Self → ℕ → Type 0 };
+
+    /// The place is the one before the character at this offset.
+    ghost is_before: { Self → ℕ → Self.Ahead → Type 0 };
 
     /// The number of characters.
     fn len(&self) -> usize
@@ -29,6 +35,18 @@ pub trait Source {
     fn get(&self, i: usize) -> char
         requires { in_window self.now i }
         ensures { result ≡ slice_index_or (text self.now) i 0 };
+
+    /// The place before the character at an offset. It asks for no character.
+    fn ahead(&self, i: usize) -> Self::Ahead
+        requires { i ≤ length (text self.now) }
+        ensures { is_before self.now i result };
+
+    /// The character at an offset in the window, before which the place is. The place moves on to the next character.
+    fn next(&self, ahead: &mut Self::Ahead, i: usize) -> char
+        requires window { in_window self.now i }
+        requires before { is_before self.now i ahead.old }
+        ensures is { result ≡ slice_index_or (text self.now) i 0 }
+        ensures moved { is_before self.now (i + 1) ahead.new };
 
     /// The window lies within the text.
     ghost inside: { (s : Self) (i : ℕ) → in_window s i → i < length (text s) };

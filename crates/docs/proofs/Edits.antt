@@ -13,7 +13,7 @@ use Rattle.definitions.specs.Nodes.{StandsIn, branches, branches_of, all_branche
 use Rattle.definitions.specs.Text.{changed, span}
 use Rattle.definitions.specs.TokenEdits.{Splice, made, splice}
 use Rattle.definitions.specs.TreeEdits.{IsKept, Built, Nothing, Token, Kept, New, Stamped, StampedLeaf, StampedBranch, StampedForest, StampedNil, StampedCons, plain, plain_all, plain_trees}
-use Rattle.definitions.specs.Trees.{Tree, Forest, Leaf, Branch, trees, yields}
+use Rattle.definitions.specs.Trees.{Tree, Forest, Leaf, Branch}
 use Rattle.grammar.specs.Grammars.{FileGrammar}
 use Rattle.lexer.specs.Rescans.{significant_kinds}
 use Rattle.lexer.specs.Tokens.{plain as plain_token}

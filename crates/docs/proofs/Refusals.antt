@@ -1,6 +1,6 @@
 -- A text's refusal, passed on as a document's.
 use Rattle.std.proofs.Common.{◌≡◌, ◌↔◌, ◌<◌, ℕ, Bool, true, false, List, length, refl, sym, ap, subst, ◌∙◌, leb-true, leb-false}
-use Rattle.std.specs.Prelude.{Option, Some, None, Result, Ok, Err, IfOk, OnOk, nat_le, encode_utf8_all}
+use Rattle.std.specs.Prelude.{Option, Result, Ok, Err, IfOk, OnOk, nat_le, encode_utf8_all}
 use Rattle.std.specs.Result.{result_and}
 use Rattle.std.specs.Str.{chars, IsUtf8}
 use Rattle.definitions.specs.Text.{IsText, changed, span}

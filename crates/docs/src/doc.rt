@@ -182,9 +182,9 @@ impl Doc {
     {
         // The read opens what a language says of its tables.
         let _tables = language.tables();
-        let (tokens, kinds) = language.scan(alloc, &text)?;
+        let tokens = language.scan(alloc, &text)?;
         let mut store = Store::new(alloc);
-        let parse = language.parse(alloc, &mut store, &kinds)?;
+        let parse = language.parse(alloc, &mut store, &tokens)?;
         Ok(Doc {
             unit,
             version,

@@ -14,7 +14,7 @@ ghost use Rattle.docs.specs.Languages.{IsLanguageOf, IsLoadFault};
 ghost use Rattle.docs.specs.Answers.{AlwaysAnswers, AnswersOnce};
 ghost use Rattle.docs.specs.Edits.{CountsOnce};
 
-use crate::significant::{Listed, Significant};
+use crate::significant::Significant;
 use definitions::laws::{expected_unique, folds_unique, selection_unique, tokens_unique};
 use definitions::{Edit, KindSplice};
 use dfa::{Automaton, DfaFault};
@@ -119,38 +119,37 @@ impl Language {
         &self.tables
     }
 
-    /// The tokens of a text, and the kinds of the significant ones. Refuses for memory alone.
-    pub(crate) fn scan(&self, alloc: Global, text: &Text) -> Result<(Tokens, Listed), AllocError>
+    /// The tokens of a text. Refuses for memory alone.
+    pub(crate) fn scan(&self, alloc: Global, text: &Text) -> Result<Tokens, AllocError>
         ensures tokens { IfOk result (λ r.
-            AreTokensOf self.now.file.patterns self.now.file.skips text.now r.0.items) }
-        ensures kinds { IfOk result (λ r. r.1.kinds.items ≡ significant_kinds r.0.items) }
-        ensures scanned { IfOk result (λ r. r.0.scanned ≡ length r.0.items) }
+            AreTokensOf self.now.file.patterns self.now.file.skips text.now r.items) }
+        ensures scanned { IfOk result (λ r. r.scanned ≡ length r.items) }
     {
         // The read opens the invariant of the text.
         let _length = text.len();
         let characters = text.characters(alloc)?;
-        let (tokens, kinds) = Tokens::scan_with_kinds(
+        Tokens::scan(
             alloc,
             &self.grammar,
             &self.automaton,
             &Characters(&characters),
-        )?;
-        Ok((tokens, Listed { kinds }))
+        )
     }
 
-    /// The parse of these kinds, with its nodes in the store. Refuses for memory alone.
+    /// The parse of these tokens, with its nodes in the store. Refuses for memory alone.
     pub(crate) fn parse(
         &self,
         alloc: Global,
         store: &mut Store,
-        kinds: &Listed,
+        tokens: &Tokens,
     ) -> Result<Parse, AllocError>
-        ensures parse { IfOk result (IsParseOf self.now.tables kinds.now.kinds.items store.new) }
+        ensures parse { let kinds = significant_kinds tokens.now.items in
+            IfOk result (IsParseOf self.now.tables kinds store.new) }
         ensures number { IfOk result (λ p. p.number ≡ 0) }
         ensures built { IfOk result (λ p. p.built ≡ p.branches) }
         ensures count { IfOk result (λ p. length store.new ≡ length store.old + p.branches) }
     {
-        Parse::whole(alloc, &self.tables, store, kinds)
+        Parse::whole(alloc, &self.tables, store, &Significant(tokens))
     }
 
     /// Brings the tokens to the text after an edit, and answers how the kinds of the significant ones change. Refuses for memory

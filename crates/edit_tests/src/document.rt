@@ -1,6 +1,6 @@
 //! A document that keeps its tokens and its parse through edits.
 
-ghost use Rattle.std.specs.Prelude.{◌+◌, ◌≤◌, length};
+ghost use Rattle.std.specs.Prelude.{◌≡◌, ◌+◌, ◌≤◌, drop, length};
 ghost use Rattle.dfa.specs.Table.{IsAutomaton};
 ghost use Rattle.definitions.specs.TokenEdits.{IsSpliced, plain_splice};
 ghost use Rattle.lexer.specs.Tokens.{AreTokensOf};
@@ -10,7 +10,7 @@ ghost use Rattle.parser.specs.Parses.{IsParseOf};
 use definitions::{Edit, Kind, KindSplice};
 use dfa::Automaton;
 use grammar::Grammar;
-use lexer::{Tokens, Whole};
+use lexer::{KindsAhead, Tokens, Whole};
 use parser::{Parse, Verdict};
 use std::alloc::Global;
 use std::process::Abort;
@@ -45,7 +45,11 @@ pub fn load(rt: &impl Abort, alloc: Global, file: &str) -> Language
 pub struct Significant<'a>(pub &'a Tokens);
 
 impl<'a> Kinds for Significant<'a> {
+    type Ahead = KindsAhead<'a>;
+
     ghost kinds = { λ s. significant_kinds s.0.now.items };
+
+    ghost is_before = { λ s k ahead. ahead ≡ drop k (significant_kinds s.0.now.items) };
 
     fn len(&self) -> usize {
         self.0.significant()
@@ -53,6 +57,14 @@ impl<'a> Kinds for Significant<'a> {
 
     fn kind(&self, k: usize) -> Option<Kind> {
         self.0.kind(k)
+    }
+
+    fn ahead(&self, k: usize) -> KindsAhead<'a> {
+        self.0.kinds_from(k)
+    }
+
+    fn next(&self, ahead: &mut KindsAhead<'a>, k: usize) -> Option<Kind> {
+        self.0.next_kind(ahead, k)
     }
 }
 

@@ -1,83 +1,123 @@
-//! How many kinds a change of a parse reads.
+//! How many kinds a change of a parse reads, and how often it looks for one among all.
 
+ghost use Rattle.std.specs.Prelude.{◌≡◌, ◌+◌, ◌≤◌, drop, length};
 ghost use Rattle.dfa.specs.Table.{IsAutomaton};
 ghost use Rattle.lexer.specs.Tokens.{AreTokensOf};
 ghost use Rattle.lexer.specs.Rescans.{significant_kinds};
 ghost use Rattle.parser.specs.Parses.{IsParseOf};
 
-use crate::document::{Change, Document, Language, Significant, load, open, rescan};
+use crate::document::{Change, Document, Language, Significant, apply, load, open, rescan};
 use definitions::Kind;
+use lexer::KindsAhead;
 use std::alloc::Global;
 use std::cell::Cell;
 use std::process::Abort;
 use trees::Kinds;
 use worked::SUMS;
 
-/// The kinds of the significant tokens, with a count of those looked up.
+/// The kinds of the significant tokens, with a count of those read, and of the places looked up among all.
 #[derive(Drop)]
 struct Counted<'a> {
     whole: Significant<'a>,
     reads: Cell<usize>,
+    places: Cell<usize>,
+}
+
+fn count(cell: &Cell<usize>) {
+    cell.set(cell.get().saturating_add(1));
 }
 
 impl<'a> Kinds for Counted<'a> {
+    type Ahead = KindsAhead<'a>;
+
     ghost kinds = { λ s. significant_kinds s.whole.0.now.items };
+
+    ghost is_before = { λ s k ahead. ahead ≡ drop k (significant_kinds s.whole.0.now.items) };
 
     fn len(&self) -> usize {
         self.whole.len()
     }
 
     fn kind(&self, k: usize) -> Option<Kind> {
-        self.reads.set(self.reads.get().saturating_add(1));
+        count(&self.reads);
+        count(&self.places);
         self.whole.kind(k)
+    }
+
+    fn ahead(&self, k: usize) -> KindsAhead<'a> {
+        count(&self.places);
+        self.whole.ahead(k)
+    }
+
+    fn next(&self, ahead: &mut KindsAhead<'a>, k: usize) -> Option<Kind> {
+        count(&self.reads);
+        self.whole.next(ahead, k)
     }
 }
 
-/// Puts `+1` at the end, as edit 1, and answers how many kinds the parser reads for it.
-fn reads_at_end(
+/// Makes a change, and answers how many kinds the parser reads for it, and how many places it looks up.
+fn reads_for(
     rt: &impl Abort,
     alloc: Global,
     language: &Language,
     document: &mut Document,
-) -> usize
+    change: &Change<'_>,
+) -> (usize, usize)
     requires sound { IsAutomaton language.now.grammar.patterns language.now.automaton }
     requires tokens { AreTokensOf language.now.grammar.patterns language.now.grammar.skips
         document.old.text document.old.tokens.items }
     requires parse { IsParseOf language.now.tables (significant_kinds document.old.tokens.items)
         document.old.store document.old.parse }
+    requires inside { change.now.at + change.now.removed ≤ length document.old.text }
 {
-    let change = Change {
-        at: document.text.len(),
-        removed: 0,
-        piece: "+1",
-        number: 1,
-    };
     let (text, tokens) = (&mut document.text, &mut document.tokens);
-    let splice = rescan(rt, alloc, language, text, tokens, &change);
+    let splice = rescan(rt, alloc, language, text, tokens, change);
     let kinds = Counted {
         whole: Significant(&document.tokens),
         reads: Cell::new(0),
+        places: Cell::new(0),
     };
     let (tables, store) = (&language.tables, &mut document.store);
     document
         .parse
-        .change(alloc, tables, store, &kinds, splice, 1)
+        .change(alloc, tables, store, &kinds, splice, change.number)
         .expect(rt, "a change");
-    kinds.reads.get()
+    (kinds.reads.get(), kinds.places.get())
 }
 
-/// Opens a text, and answers how many kinds the parser reads for `+1` at its end.
-fn reads_of(rt: &impl Abort, alloc: Global, language: &Language, text: &str) -> usize
-    requires { IsAutomaton language.now.grammar.patterns language.now.automaton }
-{
-    let mut document = open(rt, alloc, language, text);
-    reads_at_end(rt, alloc, language, &mut document)
-}
-
-/// The same of a sum.
-fn reads_of_sum(rt: &impl Abort, alloc: Global, text: &str) -> usize {
+/// Opens a sum, and answers what `+1` at this offset reads.
+fn reads_of_insert(rt: &impl Abort, alloc: Global, text: &str, at: usize) -> (usize, usize) {
     let sums = load(rt, alloc, SUMS);
-    reads_of(rt, alloc, &sums, text)
+    let mut document = open(rt, alloc, &sums, text);
+    assert!(rt; at <= document.text.len());
+    let insert = Change {
+        at,
+        removed: 0,
+        piece: "+1",
+        number: 1,
+    };
+    reads_for(rt, alloc, &sums, &mut document, &insert)
+}
+
+/// Opens a sum, puts a second plus behind the first, and answers what reading the text anew without it reads.
+fn reads_of_mend(rt: &impl Abort, alloc: Global, text: &str) -> (usize, usize) {
+    let sums = load(rt, alloc, SUMS);
+    let mut document = open(rt, alloc, &sums, text);
+    let fault = Change {
+        at: 2,
+        removed: 0,
+        piece: "+",
+        number: 1,
+    };
+    apply(rt, alloc, &sums, &mut document, &fault);
+    assert!(rt; document.text.len() > 2);
+    let mend = Change {
+        at: 2,
+        removed: 1,
+        piece: "",
+        number: 2,
+    };
+    reads_for(rt, alloc, &sums, &mut document, &mend)
 }
 
 /// `1` and so many times `+1`.
@@ -94,6 +134,28 @@ fn sum_of(rt: &impl Abort, alloc: Global, count: usize) -> String {
 fn few_kinds_are_read(rt: HostRuntime) {
     let alloc = rt.alloc();
     let text = sum_of(&rt, alloc, 9_999);
-    let reads = reads_of_sum(&rt, alloc, text.as_str());
-    assert!(rt; reads < 1_000, "{reads}");
+    let (reads, places) = reads_of_insert(&rt, alloc, text.as_str(), text.len());
+    assert!(rt; reads < 10, "{reads}");
+    assert!(rt; places < 10, "{places}");
+}
+
+/// Behind an edit at the start all sums are made anew, over numbers that stand as they were: the kind behind each of these is
+/// that of the next tree, and isn't looked up.
+#[test]
+fn no_kind_is_looked_up_before_old_trees(rt: HostRuntime) {
+    let alloc = rt.alloc();
+    let text = sum_of(&rt, alloc, 2_000);
+    let (reads, places) = reads_of_insert(&rt, alloc, text.as_str(), 1);
+    assert!(rt; reads < 10, "{reads}");
+    assert!(rt; places < 10, "{places}");
+}
+
+/// Behind a fault there are no old trees. Its mending reads each kind once, one after another.
+#[test]
+fn kinds_are_read_in_order(rt: HostRuntime) {
+    let alloc = rt.alloc();
+    let text = sum_of(&rt, alloc, 2_000);
+    let (reads, places) = reads_of_mend(&rt, alloc, text.as_str());
+    assert!(rt; reads < 4_010, "{reads}");
+    assert!(rt; places < 10, "{places}");
 }

@@ -1,8 +1,10 @@
 -- The kinds of the significant ones of a list of tokens.
-use Rattle.std.specs.Prelude.{◌≡◌, ℕ, zero, suc, ◌+◌, ◌-◌, ◌<◌, ◌≤◌, drop, Bool, true, false, List, [], ◌∷◌, ◌++◌, length, take, map, filter, count_by, slice_get, slice_index_or, Some, None, All, if◌then◌else◌}
+use Rattle.std.specs.Prelude.{◌≡◌, ℕ, zero, suc, ◌+◌, ◌-◌, ◌<◌, ◌≤◌, drop, Bool, true, false, List, [], ◌∷◌, ◌++◌, length, take, map, filter, count_by, slice_get, slice_index_or, Option, Some, None, All, if◌then◌else◌}
 use Rattle.std.proofs.Common.{arith, refl, sym, ap, subst, ◌∙◌, slice_range, length-append, nat_eq}
 use Rattle.std.proofs.lemmas.List.{append_assoc, drop_at, drop-take, length-map, map-append, take_at, take-append-drop, take-take}
 use Rattle.std.proofs.lemmas.List.Sums.{length-filter}
+use mathlib.Core.List.{tail-eq_of_cons-eq, head-eq_of_cons-eq}
+use Rattle.std.specs.Iterator.{YieldsFirst}
 use Rattle.std.proofs.lemmas.Bool.{and_parts, eqb-true}
 use Rattle.definitions.specs.declared.Kind.{Kind}
 use Rattle.definitions.specs.declared.Kind.TheVariants.{Rule, Invalid}
@@ -167,3 +169,19 @@ module _ (xs made : List Token) (front to : ℕ) (ordered : front ≤ to) where
       by : (t : Bool) → same_kinds m (significant_kinds made) ≡ t → IsSpliced (change xs front to (significant_kinds made)) (significant_kinds xs) (significant_kinds (take front xs ++ (made ++ drop to xs)))
       by true e = rw e (same (same_list m (significant_kinds made) e))
       by false e = rw e other
+
+-- where k of the tokens before a place are significant, the kinds from number k on are those of the tokens from the place on
+pub kinds_behind : (xs : List Token) (k p : ℕ) → count_by is_significant (take p xs) ≡ k → significant_kinds (drop p xs) ≡ drop k (significant_kinds xs)
+kinds_behind xs k p e =
+    sym (drop_at (significant_kinds (take p xs)) (significant_kinds (drop p xs)) k (length-kinds (take p xs) ∙ e))
+    ∙ ap (drop k) (sym (kinds_append (take p xs) (drop p xs)) ∙ ap significant_kinds (take-append-drop p xs))
+
+-- what a step over the kinds from number k on gives, and what it leaves
+pub next_of : (ks : List Kind) (k : ℕ) (left : List Kind) (found : Option Kind) → YieldsFirst (λ s. s) (drop k ks) found left → (found ≡ slice_get ks k) × (left ≡ drop (suc k) ks)
+next_of [] zero left None h = (refl, h.1)
+next_of [] (suc k) left None h = (refl, h.1)
+next_of [] zero left (Some x) h = absurd (cc h)
+next_of [] (suc k) left (Some x) h = absurd (cc h)
+next_of (y ∷ ys) zero left None h = absurd (cc h.0)
+next_of (y ∷ ys) zero left (Some x) h = (ap (λ z. Some z) (sym (head-eq_of_cons-eq h)), sym (tail-eq_of_cons-eq h))
+next_of (y ∷ ys) (suc k) left found h = next_of ys k left found h

@@ -183,3 +183,12 @@ significant-mono xs a b l = subst (λ ys. count_by is_significant ys ≤ count_b
 
 pub significant-take-le : (xs : List Token) (a : ℕ) → count_by is_significant (take a xs) ≤ count_by is_significant xs
 significant-take-le xs a = sum_by-take-le (λ x. if is_significant x then 1 else 0) xs a
+
+-- no place is found for a number past the last one
+pub none_past : (xs : List Token) (k p : ℕ) → Fits xs → count_by is_significant xs ≤ k → p ≤ length xs → (p < length xs → IsTrue (nat_lt k (tot (take (p + 1) xs)).significant)) → length xs ≤ p
+none_past xs k p f past m at = elim (cases_lt p (length xs)) [
+  | inr ge ↦ ge
+  | inl lt ↦
+      let here : k < count_by is_significant (take (p + 1) xs) = subst (λ y. k < y) (take_significant (p + 1) xs f) (ltb-true _ _ (at lt)) in
+      absurd (omega (arith, here, past, significant-take-le xs (p + 1)))
+]

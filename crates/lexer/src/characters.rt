@@ -1,6 +1,6 @@
 //! A list of characters as a source.
 
-ghost use Rattle.std.specs.Prelude.{◌<◌, length};
+ghost use Rattle.std.specs.Prelude.{⊤, ◌<◌, length};
 
 use dfa::Source;
 
@@ -10,9 +10,14 @@ use dfa::Source;
 pub struct Characters<'a>(pub &'a [char]);
 
 impl<'a> Source for Characters<'a> {
+    /// An offset is place enough.
+    type Ahead = ();
+
     ghost text = { λ s. s.0.now };
 
     ghost in_window = { λ s i. i < length s.0.now };
+
+    ghost is_before = { λ s i ahead. ⊤ };
 
     fn len(&self) -> usize {
         self.0.len()
@@ -20,6 +25,12 @@ impl<'a> Source for Characters<'a> {
 
     fn get(&self, i: usize) -> char {
         self.0[i]
+    }
+
+    fn ahead(&self, _i: usize) {}
+
+    fn next(&self, _ahead: &mut (), i: usize) -> char {
+        self.get(i)
     }
 
     ghost inside = { λ s i h. h };

@@ -1,6 +1,7 @@
 //! The tokens of a text by longest matches, and what an edit changes of them.
 #![tactic(auto)]
 
+mod ahead;
 mod characters;
 mod laws;
 mod scan;
@@ -9,6 +10,7 @@ mod tokens;
 mod walk;
 mod whole;
 
+pub use ahead::KindsAhead;
 pub use characters::Characters;
 pub use definitions::{Edit, Kind, KindSplice};
 pub use dfa::Source;

@@ -5,7 +5,6 @@ ghost use Rattle.dfa.specs.Table.{IsAutomaton, kind_of};
 ghost use Rattle.dfa.specs.Windows.{IsWithinReach};
 ghost use Rattle.lexer.specs.Tokens.{plain};
 ghost use Rattle.lexer.specs.Scans.{AreNext};
-ghost use Rattle.lexer.specs.Rescans.{significant_kinds};
 
 use crate::sums::Token;
 use definitions::Kind;
@@ -85,18 +84,6 @@ fn scan_piece<S: Source>(
     Ok((made, at))
 }
 
-/// Adds the kinds of the significant ones of these tokens.
-pub fn add_kinds(kinds: &mut Vec<Kind>, tokens: &[Token]) -> Result<(), AllocError>
-    ensures { OnOk result (kinds.new.items ≡ kinds.old.items ++ significant_kinds tokens.now) }
-{
-    for token in tokens {
-        if !token.skipped {
-            kinds.push(token.kind)?;
-        }
-    }
-    Ok(())
-}
-
 /// Puts tokens behind those of a list.
 fn append(alloc: Global, list: &mut Runs<Token>, tokens: &[Token]) -> Result<(), AllocError>
     requires { length list.old + length tokens.now < 2 ^ 64 }
@@ -107,29 +94,26 @@ fn append(alloc: Global, list: &mut Runs<Token>, tokens: &[Token]) -> Result<(),
     Ok(())
 }
 
-/// The tokens of a text, and the kinds of the significant ones.
+/// The tokens of a text.
 pub fn scan_all<S: Source>(
     alloc: Global,
     grammar: &Grammar,
     automaton: &Automaton,
     source: &S,
-) -> Result<(Runs<Token>, Vec<Kind>), AllocError>
+) -> Result<Runs<Token>, AllocError>
     requires sound { IsAutomaton grammar.now.patterns automaton.now }
     requires small { length (S.text source.now) ≤ 1048576 }
     requires window { (i : ℕ) → i < length (S.text source.now) → S.in_window source.now i }
-    ensures next { IfOk result
-        (λ r. AreNext grammar.now.patterns grammar.now.skips (S.text source.now) 0 r.0
+    ensures { IfOk result
+        (λ list. AreNext grammar.now.patterns grammar.now.skips (S.text source.now) 0 list
         (length (S.text source.now))) }
-    ensures kinds { IfOk result (λ r. r.1.items ≡ significant_kinds r.0) }
 {
     let mut list = Runs::new();
-    let mut kinds = Vec::new(alloc);
     let mut at = 0;
     while at < source.len() {
         let (piece, end) = scan_piece(alloc, grammar, automaton, source, at)?;
-        add_kinds(&mut kinds, &piece)?;
         append(alloc, &mut list, &piece)?;
         at = end;
     }
-    Ok((list, kinds))
+    Ok(list)
 }

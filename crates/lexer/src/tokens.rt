@@ -10,7 +10,8 @@ ghost use Rattle.lexer.specs.Walks.{IsPassed, horizon};
 ghost use Rattle.lexer.specs.Tokens.{plain, is_significant, characters, Fits, AreTokensOf};
 ghost use Rattle.lexer.specs.Rescans.{plain_all, front_end, significant_kinds, IsEdited, IsNeeded, IsRemade, AreRescanned, change};
 
-use crate::scan::{add_kinds, scan_all, token_at};
+use crate::ahead::KindsAhead;
+use crate::scan::{scan_all, token_at};
 use crate::sums::{AfterCount, AfterSignificant, ReachesPast, Token};
 use crate::walk::Walk;
 use definitions::{Edit, Kind, KindSplice};
@@ -55,31 +56,9 @@ impl Tokens {
         ensures born { IfOk result (λ r. All (λ x. x.born ≡ 0) r.items) }
         ensures scanned { IfOk result (λ r. r.scanned ≡ length r.items) }
     {
-        let (tokens, _kinds) = Tokens::scan_with_kinds(alloc, grammar, automaton, source)?;
-        Ok(tokens)
-    }
-
-    /// The same, with the kinds of the significant ones, in order. A parser reads them all, and needs no walk over the tokens
-    /// for them.
-    pub fn scan_with_kinds<S: Source>(
-        alloc: Global,
-        grammar: &Grammar,
-        automaton: &Automaton,
-        source: &S,
-    ) -> Result<(Tokens, Vec<Kind>), AllocError>
-        requires sound { IsAutomaton grammar.now.patterns automaton.now }
-        requires small { length (S.text source.now) ≤ 1048576 }
-        requires window { (i : ℕ) → i < length (S.text source.now) → S.in_window source.now i }
-        ensures tokens { IfOk result
-            (λ r. AreTokensOf grammar.now.patterns grammar.now.skips (S.text source.now)
-            r.0.items) }
-        ensures born { IfOk result (λ r. All (λ x. x.born ≡ 0) r.0.items) }
-        ensures scanned { IfOk result (λ r. r.0.scanned ≡ length r.0.items) }
-        ensures kinds { IfOk result (λ r. r.1.items ≡ significant_kinds r.0.items) }
-    {
-        let (items, kinds) = scan_all(alloc, grammar, automaton, source)?;
+        let items = scan_all(alloc, grammar, automaton, source)?;
         let scanned = items.len();
-        Ok((Tokens { items, scanned }, kinds))
+        Ok(Tokens { items, scanned })
     }
 
     /// How many tokens there are.
@@ -133,6 +112,26 @@ impl Tokens {
         }
         let token = self.items.get(self.place(k))?;
         Some(token.kind)
+    }
+
+    /// The kinds of the significant tokens from number `k` on, and none past the last one. The way to the first is a logarithm of
+    /// the count of all, and each further one takes a step for each token up to it.
+    pub fn kinds_from(&self, k: usize) -> KindsAhead<'_>
+        ensures { result ≡ drop k (significant_kinds self.now.items) }
+    {
+        let first = AfterSignificant { count: k };
+        let (place, _) = self.items.locate(&first);
+        KindsAhead::new(self.items.iter_from(place))
+    }
+
+    /// The kind of significant token number `k`, and none past the last one, from the kinds that begin with it. They go on
+    /// behind it.
+    pub fn next_kind(&self, ahead: &mut KindsAhead<'_>, k: usize) -> Option<Kind>
+        requires { ahead.old ≡ drop k (significant_kinds self.now.items) }
+        ensures is { result ≡ slice_get (significant_kinds self.now.items) k }
+        ensures moved { ahead.new ≡ drop (k + 1) (significant_kinds self.now.items) }
+    {
+        ahead.next()
     }
 
     /// How many tokens the last scan or rescan made.
@@ -259,7 +258,11 @@ fn kinds_of(alloc: Global, tokens: &[Token]) -> Result<Vec<Kind>, AllocError>
     ensures { IfOk result (λ v. v.items ≡ significant_kinds tokens.now) }
 {
     let mut kinds = Vec::new(alloc);
-    add_kinds(&mut kinds, tokens)?;
+    for token in tokens {
+        if !token.skipped {
+            kinds.push(token.kind)?;
+        }
+    }
     Ok(kinds)
 }
 

@@ -1,6 +1,6 @@
 //! Parses of worked kinds, of grammars of sums and of lists. `tests/program` has a deep one.
 
-ghost use Rattle.std.specs.Prelude.{◌<◌, List, length};
+ghost use Rattle.std.specs.Prelude.{⊤, ◌<◌, List, length};
 ghost use Rattle.definitions.specs.declared.Kind.{Kind as TokenKind};
 ghost use Rattle.trees.specs.Cells.{Cell};
 ghost use Rattle.parser.specs.Parses.{IsParseOf};
@@ -26,7 +26,11 @@ struct Listed<'a> {
 }
 
 impl<'a> Kinds for Listed<'a> {
+    type Ahead = ();
+
     ghost kinds = { λ s. s.kinds.now };
+
+    ghost is_before = { λ s k ahead. ⊤ };
 
     fn len(&self) -> usize {
         self.kinds.len()
@@ -34,6 +38,12 @@ impl<'a> Kinds for Listed<'a> {
 
     fn kind(&self, k: usize) -> Option<Kind> {
         self.kinds.get(k).copied()
+    }
+
+    fn ahead(&self, _k: usize) {}
+
+    fn next(&self, _ahead: &mut (), k: usize) -> Option<Kind> {
+        self.kind(k)
     }
 }
 

@@ -10,6 +10,7 @@ pub mod Lists
 pub mod Inputs
 pub mod Front
 pub mod Reusing
+pub mod Nearby
 pub mod Running
 pub mod Stamping
 pub mod Plain

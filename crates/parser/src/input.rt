@@ -1,15 +1,21 @@
 //! The trees that are still to be read.
 
-ghost use Rattle.std.specs.Prelude.{◌≡◌, ℕ, ◌-◌, ◌≤◌, ◌<◌, List, [], ◌∷◌, ◌++◌, length, drop, IfOk, MatchOption};
-ghost use Rattle.definitions.specs.Trees.{yield};
+ghost use Rattle.std.specs.Prelude.{◌≡◌, ℕ, ◌-◌, ◌≤◌, ◌<◌, List, [], ◌∷◌, ◌++◌, length, drop, IfOk, IfSome, MatchOption};
+ghost use Rattle.definitions.specs.declared.Kind.{Kind as TokenKind};
+ghost use Rattle.definitions.specs.Trees.{all_kinds, yield};
 ghost use Rattle.definitions.specs.TreeEdits.{plain};
 ghost use Rattle.trees.specs.declared.store.Child.{Child};
 ghost use Rattle.trees.specs.Cells.{AreBelow, tree};
 ghost use Rattle.parser.specs.Input.{BeginsWith, IsFull, IsOpened, Skips};
+ghost use Rattle.parser.specs.Machine.{plain_of};
 
+use definitions::Kind;
 use std::alloc::{AllocError, Global};
 use std::marker::Model;
 use trees::{Child, Children, Store};
+
+/// How many trees are looked at for a kind, from the first one on and from the root of one down.
+const NEARBY: usize = 32;
 
 /// A list of trees of a store. The first one stands last in the vector.
 #[derive(Drop)]
@@ -54,6 +60,26 @@ impl Input {
         } else {
             Some(self.items[n - 1])
         }
+    }
+
+    /// The kind with which the trees after the first one begin, where it is found nearby.
+    pub fn second_kind(&self, store: &Store) -> Option<Kind>
+        requires { AreBelow (length store.now) self.now }
+        ensures { IfSome result (λ k. (first : Child) × (rest : List Child) × (more : List TokenKind)
+            × (self.now ≡ first ∷ rest) × (all_kinds (plain_of store.now rest) ≡ k ∷ more)) }
+    {
+        let (_, mut behind) = self.items.split_last()?;
+        'empty: for _ in 0..NEARBY {
+            let (next, rest) = behind.split_last()?;
+            match *next {
+                Child::Token(kind) => return Some(kind),
+                Child::Node(id) if store.tokens(id) > 0 => {
+                    return first_kind(store, store.children(id));
+                }
+                Child::Node(_) => behind = rest,
+            }
+        }
+        None
     }
 
     /// Takes the first tree away.
@@ -117,4 +143,20 @@ impl Input {
         }
         Ok(())
     }
+}
+
+/// The kind with which these trees begin, where it is found nearby.
+fn first_kind<'a>(store: &'a Store, mut trees: Children<'a>) -> Option<Kind>
+    requires { AreBelow (length store.now) trees }
+    ensures { IfSome result (λ k. (more : List TokenKind)
+        × (all_kinds (plain_of store.now trees.entry) ≡ k ∷ more)) }
+{
+    'edge: for _ in 0..NEARBY {
+        match trees.next()? {
+            Child::Token(kind) => return Some(kind),
+            Child::Node(id) if store.tokens(id) > 0 => trees = store.children(id),
+            Child::Node(_) => {}
+        }
+    }
+    None
 }

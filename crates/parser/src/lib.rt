@@ -7,5 +7,6 @@ pub mod laws;
 mod machine;
 mod parse;
 mod prepare;
+mod reader;
 
 pub use parse::{Parse, Verdict};

@@ -1,11 +1,11 @@
 //! The LR(1) machine, which makes trees of what it reads, and takes over whole trees of its input where it can.
 
-ghost use Rattle.std.specs.Prelude.{◌≡◌, ℕ, ◌+◌, ◌-◌, ◌^◌, ◌<◌, ◌≤◌, List, [], ◌∷◌, ◌++◌, length, take, drop, slice_index_or, Option, IfOk, MatchOption};
+ghost use Rattle.std.specs.Prelude.{◌≡◌, ℕ, ◌+◌, ◌-◌, ◌^◌, ◌<◌, ◌≤◌, List, [], ◌∷◌, ◌++◌, length, take, drop, slice_get, slice_index_or, Option, IfOk, MatchOption};
 ghost use Rattle.definitions.specs.declared.Kind.{Kind as TokenKind};
 ghost use Rattle.definitions.specs.declared.Symbol.{Symbol};
 ghost use Rattle.definitions.specs.declared.Symbol.TheVariants.{Nonterminal};
 ghost use Rattle.definitions.specs.Nodes.{all_branches};
-ghost use Rattle.definitions.specs.Trees.{Tree, HaveRoots, IsTree, yield};
+ghost use Rattle.definitions.specs.Trees.{Tree, HaveRoots, IsTree, all_kinds, yield};
 ghost use Rattle.definitions.specs.TreeEdits.{plain};
 ghost use Rattle.definitions.specs.Items.{HasMove, Reduce as ReduceMove};
 ghost use Rattle.trees.specs.declared.store.Child.{Child};
@@ -21,6 +21,7 @@ ghost use Rattle.parser.specs.Parses.{IsStoppedAt};
 
 use crate::Verdict;
 use crate::input::Input;
+use crate::reader::Reader;
 use definitions::Kind;
 use std::alloc::{AllocError, Global};
 use tables::{Move, Tables};
@@ -83,36 +84,63 @@ impl Machine {
         Ok(())
     }
 
-    /// The state behind a node, where the tables have a move there on what follows the node.
+    /// The kind of the token behind the first tree of the input. It is read from the next trees, where one of them begins with it
+    /// not far down.
+    fn kind_behind<K: Kinds>(
+        &self,
+        store: &Store,
+        kinds: &mut Reader<'_, K>,
+        input: &Input,
+        id: NodeId,
+    ) -> Option<Kind>
+        requires first { (rest : List Child) × (input.now ≡ Child.Node id ∷ rest) }
+        requires below { AreBelow (length store.now) input.now }
+        requires covers { all_kinds (input_of store.now input.now kinds.old self.now.read)
+            ≡ drop self.now.read kinds.old }
+        requires fits { self.now.read + length (yield (plain (tree store.now (Child.Node id))))
+            ≤ length kinds.old }
+        ensures is { result ≡ slice_get kinds.old
+            (self.now.read + length (yield (plain (tree store.now (Child.Node id))))) }
+        ensures same { kinds.new ≡ kinds.old }
+    {
+        // The read opens what the trait says of the kinds.
+        let _count = kinds.len();
+        if let Some(kind) = input.second_kind(store) {
+            return Some(kind);
+        }
+        kinds.kind(self.read + store.tokens(id) as usize)
+    }
+
+    /// The state behind the first tree of the input, where the tables have a move there on what follows it.
     fn passes<K: Kinds>(
         &self,
         tables: &Tables,
         store: &Store,
-        kinds: &K,
+        kinds: &mut Reader<'_, K>,
+        input: &Input,
         id: NodeId,
     ) -> Option<usize>
         requires states { HasStates tables.now (plain_of store.now self.now.stack.items)
             self.now.states.items }
-        requires inside { id.index < length store.now }
+        requires first { (rest : List Child) × (input.now ≡ Child.Node id ∷ rest) }
+        requires input { IsInput tables.now.grammar store.now input.now kinds.old self.now.read }
         requires root { let meant = plain (tree store.now (Child.Node id)) in
             (left : ℕ) × IsTree tables.now.grammar meant (Nonterminal left) }
         requires not_empty { 0 < length (yield (plain (tree store.now (Child.Node id)))) }
         requires fits { self.now.read + length (yield (plain (tree store.now (Child.Node id))))
-            ≤ length (K.kinds kinds.now) }
-        ensures { let stack = plain_of store.now self.now.stack.items in
+            ≤ length kinds.old }
+        ensures is { let stack = plain_of store.now self.now.stack.items in
             let meant = plain (tree store.now (Child.Node id)) in
-            let all = K.kinds kinds.now in
-            let behind = drop (self.now.read + length (yield meant)) all in
+            let behind = drop (self.now.read + length (yield meant)) kinds.old in
             MatchOption result (CanReuse tables.now.grammar stack meant behind → ⊥)
-            (λ next. IsReusable tables.now store.now stack all self.now.read id next) }
+            (λ next. IsReusable tables.now store.now stack kinds.old self.now.read id next) }
+        ensures same { kinds.new ≡ kinds.old }
     {
-        // The read opens what the trait says of the kinds.
-        let _count = kinds.len();
         let (root, _) = tables.production(store.production(id));
         let Some(next) = tables.goto(self.state(), root) else {
             return None;
         };
-        let look = kinds.kind(self.read + store.tokens(id) as usize);
+        let look = self.kind_behind(store, kinds, input, id);
         if tables.action(next, look).is_some() {
             Some(next)
         } else {
@@ -125,20 +153,20 @@ impl Machine {
         &self,
         tables: &Tables,
         store: &Store,
-        kinds: &K,
+        kinds: &mut Reader<'_, K>,
         input: &mut Input,
     ) -> Result<Front, AllocError>
         requires states { HasStates tables.now (plain_of store.now self.now.stack.items)
             self.now.states.items }
-        requires input { IsInput tables.now.grammar store.now input.old (K.kinds kinds.now)
+        requires input { IsInput tables.now.grammar store.now input.old kinds.old
             self.now.read }
         requires full { IsFull store.now input.old }
         ensures input { IfOk result
-            (λ _. IsInput tables.now.grammar store.now input.new (K.kinds kinds.now)
+            (λ _. IsInput tables.now.grammar store.now input.new kinds.old
             self.now.read) }
         ensures opened { IfOk result (λ _. IsOpened input.old input.new) }
         ensures offers { let stack = plain_of store.now self.now.stack.items in
-            let all = K.kinds kinds.now in
+            let all = kinds.old in
             IfOk result (λ _. Offers tables.now.grammar stack
             (input_of store.now input.new all self.now.read)
             (input_of store.now input.old all self.now.read)) }
@@ -146,15 +174,16 @@ impl Machine {
             → AreOlder number (all_trees store.now input.old)
             → AreOlder number (all_trees store.now input.new)) }
         ensures offer { let stack = plain_of store.now self.now.stack.items in
-            let all = K.kinds kinds.now in
+            let all = kinds.old in
             IfOk result (λ f. IsOffer tables.now store.now stack all self.now.read input.new f) }
+        ensures same { kinds.new ≡ kinds.old }
     {
         'edge: while let Some(child) = input.first() {
             match child {
                 Child::Token(kind) => return Ok(Front::Next(Some(kind))),
                 Child::Node(id) => {
                     if store.tokens(id) > 0 {
-                        if let Some(next) = self.passes(tables, store, kinds, id) {
+                        if let Some(next) = self.passes(tables, store, kinds, input, id) {
                             return Ok(Front::Tree(id, next));
                         }
                         input.take();
@@ -217,19 +246,19 @@ impl Machine {
         alloc: Global,
         tables: &Tables,
         store: &mut Store,
-        kinds: &K,
+        kinds: &mut Reader<'_, K>,
         mut input: Input,
         number: u64,
     ) -> Result<Verdict, AllocError>
         requires accepted { IsAccepted tables.now.grammar }
-        requires so_far { SoFar tables.now (input_of store.old input (K.kinds kinds.now) 0)
-            (K.kinds kinds.now) (length store.old) number store.old self.old.stack.items
+        requires so_far { SoFar tables.now (input_of store.old input kinds.old 0)
+            kinds.old (length store.old) number store.old self.old.stack.items
             self.old.states.items self.old.read input }
         ensures stops { IfOk result
-            (λ v. IsStoppedAt tables.now (K.kinds kinds.now) store.new v self.new.stack.items
+            (λ v. IsStoppedAt tables.now kinds.old store.new v self.new.stack.items
             self.new.states.items) }
         ensures so_far { IfOk result (λ _. (rest : List Child)
-            × SoFar tables.now (input_of store.old input (K.kinds kinds.now) 0) (K.kinds kinds.now)
+            × SoFar tables.now (input_of store.old input kinds.old 0) kinds.old
             (length store.old) number store.new self.new.stack.items self.new.states.items
             self.new.read rest) }
         ensures grown { take (length store.old) store.new ≡ store.old }

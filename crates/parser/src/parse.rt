@@ -18,6 +18,7 @@ use crate::compact::compact;
 use crate::input::Input;
 use crate::machine::Machine;
 use crate::prepare::prepare;
+use crate::reader::Reader;
 use definitions::KindSplice;
 use std::alloc::{AllocError, Global};
 use std::marker::Model;
@@ -113,7 +114,8 @@ fn parsed<K: Kinds>(
 {
     let before = store.len();
     let mut machine = Machine::new(alloc, tables)?;
-    let verdict = machine.run(alloc, tables, store, kinds, input, number)?;
+    let mut reader = Reader::new(kinds);
+    let verdict = machine.run(alloc, tables, store, &mut reader, input, number)?;
     let state = machine.state();
     let branches = branches_of(store, &machine.stack);
     if branches == u64::MAX {

@@ -1,6 +1,6 @@
 //! The tokens of worked texts, and what edits change of them.
 
-ghost use Rattle.std.specs.Prelude.{◌≡◌, ◌+◌, ◌<◌, ◌≤◌, length};
+ghost use Rattle.std.specs.Prelude.{◌≡◌, ◌+◌, ◌<◌, ◌≤◌, drop, length};
 ghost use Rattle.std.specs.Str.{chars};
 ghost use Rattle.dfa.specs.Table.{IsAutomaton};
 ghost use Rattle.lexer.specs.Tokens.{AreTokensOf};
@@ -11,7 +11,7 @@ use lexer::{Edit, Kind, KindSplice, Source, Tokens, Whole};
 use std::alloc::Global;
 use std::cell::Cell;
 use std::process::Abort;
-use text::Text;
+use text::{Chars, Text};
 use worked::{LETTERS, LISTS, SUMS};
 
 const NUM: Kind = Kind::Rule(0);
@@ -52,10 +52,14 @@ struct Counted<'a> {
     reads: Cell<usize>,
 }
 
-impl Source for Counted<'_> {
+impl<'a> Source for Counted<'a> {
+    type Ahead = Chars<'a>;
+
     ghost text = { λ s. s.whole.0.now };
 
     ghost in_window = { λ s i. i < length s.whole.0.now };
+
+    ghost is_before = { λ s i ahead. ahead ≡ drop i s.whole.0.now };
 
     fn len(&self) -> usize {
         self.whole.len()
@@ -64,6 +68,15 @@ impl Source for Counted<'_> {
     fn get(&self, i: usize) -> char {
         self.reads.set(self.reads.get().saturating_add(1));
         self.whole.get(i)
+    }
+
+    fn ahead(&self, i: usize) -> Chars<'a> {
+        self.whole.ahead(i)
+    }
+
+    fn next(&self, ahead: &mut Chars<'a>, i: usize) -> char {
+        self.reads.set(self.reads.get().saturating_add(1));
+        self.whole.next(ahead, i)
     }
 
     ghost inside = { λ s i h. h };
@@ -275,13 +288,16 @@ fn check_tokens_in_turn(rt: &impl Abort, grammar: &Grammar, tokens: &Tokens) {
     }
 }
 
-/// Numbers and pluses in turn.
-fn check_kinds_in_turn(rt: &impl Abort, grammar: &Grammar, kinds: &[Kind]) {
-    assert!(rt; kinds.len() == 3000);
-    for (i, kind) in kinds.iter().enumerate() {
-        let name = ["NUM", "PLUS"][i % 2];
-        assert!(rt; grammar.kind_name(*kind) == name, "at {i}");
+/// From the second token on, pluses and numbers in turn.
+fn check_kinds_in_turn(rt: &impl Abort, grammar: &Grammar, tokens: &Tokens) {
+    let mut count: usize = 1;
+    for kind in tokens.kinds_from(1) {
+        let name = ["NUM", "PLUS"][count % 2];
+        assert!(rt; grammar.kind_name(kind) == name, "at {count}");
+        count = count.saturating_add(1);
     }
+    assert!(rt; count == 3000);
+    assert!(rt; tokens.kinds_from(3000).next().is_none());
 }
 
 /// Scans 1,500 times `1 +`.
@@ -291,10 +307,10 @@ fn check_with_kinds(rt: &impl Abort, alloc: Global, language: &Language, text: &
     let text = Text::open(alloc, text).expect(rt, "a text");
     let _length = text.len();
     let (grammar, automaton) = (&language.grammar, &language.automaton);
-    let scanned = Tokens::scan_with_kinds(alloc, grammar, automaton, &Whole(&text));
-    let (tokens, kinds) = scanned.expect(rt, "tokens");
+    let scanned = Tokens::scan(alloc, grammar, automaton, &Whole(&text));
+    let tokens = scanned.expect(rt, "tokens");
     check_tokens_in_turn(rt, grammar, &tokens);
-    check_kinds_in_turn(rt, grammar, &kinds);
+    check_kinds_in_turn(rt, grammar, &tokens);
 }
 
 /// More tokens than are put into the list at once.

@@ -1,6 +1,6 @@
 //! Longest matches. `tests/program` shows how many states an automaton may have.
 
-ghost use Rattle.std.specs.Prelude.{◌<◌, length};
+ghost use Rattle.std.specs.Prelude.{⊤, ◌<◌, length};
 ghost use Rattle.definitions.specs.Text.{IsText};
 
 use dfa::{Automaton, Source};
@@ -15,15 +15,25 @@ struct Characters<'a> {
 }
 
 impl Source for Characters<'_> {
+    type Ahead = ();
+
     ghost text = { λ s. s.characters.now };
 
     ghost in_window = { λ s i. i < length s.characters.now };
+
+    ghost is_before = { λ s i ahead. ⊤ };
 
     fn len(&self) -> usize {
         self.characters.len()
     }
 
     fn get(&self, i: usize) -> char {
+        self.characters[i]
+    }
+
+    fn ahead(&self, _i: usize) {}
+
+    fn next(&self, _ahead: &mut (), i: usize) -> char {
         self.characters[i]
     }
 

@@ -1,6 +1,6 @@
 //! Stores of trees.
 
-ghost use Rattle.std.specs.Prelude.{◌<◌, length};
+ghost use Rattle.std.specs.Prelude.{⊤, ◌<◌, length};
 
 use std::alloc::{AllocError, Global};
 use std::process::Abort;
@@ -299,7 +299,11 @@ struct Row {
 }
 
 impl Kinds for Row {
+    type Ahead = ();
+
     ghost kinds = { λ r. r.kinds.items };
+
+    ghost is_before = { λ r k ahead. ⊤ };
 
     fn len(&self) -> usize {
         self.kinds.len()
@@ -307,6 +311,12 @@ impl Kinds for Row {
 
     fn kind(&self, k: usize) -> Option<Kind> {
         self.kinds.get(k).copied()
+    }
+
+    fn ahead(&self, _k: usize) {}
+
+    fn next(&self, _ahead: &mut (), k: usize) -> Option<Kind> {
+        self.kind(k)
     }
 }
 
@@ -325,4 +335,6 @@ fn kinds_of_a_row(rt: HostRuntime) {
     let told = (row.len(), row.kind(2), row.kind(3));
     assert!(rt; told == (3, Some(Kind::Rule(0)), None));
     assert!(rt; count_invalid(&row) == 1);
+    let read = (row.next(&mut row.ahead(1), 1), row.next(&mut (), 3));
+    assert!(rt; read == (Some(Kind::Invalid), None));
 }

@@ -16,9 +16,9 @@ run-requires-clause-so_far g c =
     let input = c.args.input in
     let first = begun t kinds n cells start input made.states.1 c.requires.input c.requires.older in
     let whole = input_of cells input kinds 0 in
-    subst (λ stack. SoFar t whole kinds (length cells) n cells stack m.states.items m.read input) (sym made.stack) (subst (λ states. SoFar t whole kinds (length cells) n cells [] states m.read input) (sym made.states.2) (subst (λ r. SoFar t whole kinds (length cells) n cells [] (start ∷ []) r input) (sym made.read) first))
+    subst (λ read_from. SoFar t (input_of cells input read_from 0) read_from (length cells) n cells m.stack.items m.states.items m.read input) (sym c.new-reader.ensures) (subst (λ stack. SoFar t whole kinds (length cells) n cells stack m.states.items m.read input) (sym made.stack) (subst (λ states. SoFar t whole kinds (length cells) n cells [] states m.read input) (sym made.states.2) (subst (λ r. SoFar t whole kinds (length cells) n cells [] (start ∷ []) r input) (sym made.read) first)))
 
 pub returns-clause-run : goal.returns-clause-run
 returns-clause-run g c =
     let there = c.in_ok-verdict.ensures.so_far in
-    record { states = c.run.new.self.states.items; read = c.run.new.self.read; rest = there.0; so_far = there.1 }
+    record { states = c.run.new.self.states.items; read = c.run.new.self.read; rest = there.0; so_far = subst (λ kinds. SoFar c.args.tables.now (input_of c.args.store.now c.args.input kinds 0) kinds (length c.args.store.now) c.args.number c.run.new.store c.run.new.self.stack.items c.run.new.self.states.items c.run.new.self.read there.0) c.new-reader.ensures there.1 }

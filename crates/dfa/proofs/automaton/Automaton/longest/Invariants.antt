@@ -1,4 +1,4 @@
-use Rattle.std.proofs.Common.{length, ℕ, ◌-◌, ◌≡◌, ◌≤◌, ◌<◌, List, take, drop, Some, None}
+use Rattle.std.proofs.Common.{length, ℕ, ◌+◌, ◌-◌, ◌≡◌, ◌≤◌, ◌<◌, List, take, drop, Some, None}
 use Rattle.definitions.specs.declared.expression.Expression.{Expression}
 use Rattle.definitions.specs.Text.{IsText}
 use Rattle.definitions.specs.Tokens.{IsRuleFront}
@@ -11,6 +11,7 @@ invariant-loop-read g l =
     record {
       in_text : l.read ≤ l.rest;
       in_rows : l.state < length l.self.accepts;
+      before : g.S.Source.is_before l.source (l.from + l.read) l.ahead;
       length_in : l.best.length ≤ l.rest;
       nonempty : 0 < l.rest → 1 ≤ l.best.length;
       none_at_end : l.rest ≡ 0 → (l.best.rule ≡ None) × (l.best.length ≡ 0);

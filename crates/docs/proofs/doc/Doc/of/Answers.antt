@@ -1,11 +1,10 @@
-use Rattle.std.proofs.Common.{length, subst, ap, arith}
-use Rattle.parser.specs.Parses.{IsParseOf}
+use Rattle.std.proofs.Common.{length, ap, arith}
 use Rattle.docs.proofs.doc.Doc.of.Goals as goal
 
 pub returns-clause-current : goal.returns-clause-current
 returns-clause-current c = record {
   tokens = c.in_ok-tokens.ensures.tokens;
-  parse = subst (λ kinds. IsParseOf c.args.language.now.tables kinds c.parse.new.store c.in_ok-parse.parse) c.in_ok-tokens.ensures.kinds c.in_ok-parse.ensures.parse;
+  parse = c.in_ok-parse.ensures.parse;
   grammar = c.tables-tables.ensures.grammar;
   scanned = λ none. c.in_ok-tokens.ensures.scanned;
   built = λ none. c.in_ok-parse.ensures.built;

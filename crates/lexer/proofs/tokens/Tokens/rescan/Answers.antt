@@ -1,4 +1,4 @@
-use Rattle.std.proofs.Common.{arith, rules, vec_len, sym, ap, subst, ◌≡◌, ◌∙◌, ℕ, ◌≤◌, ◌^◌, List, ◌++◌, length, take, drop, length-append, length-drop}
+use Rattle.std.proofs.Common.{arith, vec_len, sym, ap, subst, ◌≡◌, ◌∙◌, ℕ, ◌≤◌, ◌^◌, List, ◌++◌, length, take, drop, length-append, length-drop}
 use Rattle.std.proofs.lemmas.List.{length-take, append_assoc}
 use Rattle.definitions.specs.TokenEdits.{IsSpliced, front, splice, plain_splice, made as made_by}
 use Rattle.lexer.specs.declared.sums.Token.{Token}

@@ -1,10 +1,10 @@
-use Rattle.std.proofs.Common.{◌≡◌, ◌<◌, ◌∷◌, ◌++◌, [], length, sym, ap, ◌∙◌, subst, arith}
+use Rattle.std.proofs.Common.{◌≡◌, ◌<◌, ◌∷◌, ◌++◌, [], ◌+◌, drop, length, refl, sym, ap, ◌∙◌, subst, arith}
 use Rattle.definitions.specs.Trees.{all_kinds, yield}
 use Rattle.definitions.specs.TreeEdits.{plain, plain_all}
 use Rattle.trees.specs.declared.store.Child.TheVariants.{Node, Token}
 use Rattle.trees.specs.Cells.{all_trees, tree}
 use Rattle.trees.proofs.Cells.{all_below-more}
-use Rattle.theory.specs.Reuse.{Tries}
+use Rattle.theory.specs.Reuse.{CanReuse, Tries}
 use Rattle.parser.specs.Machine.{plain_of}
 use Rattle.parser.specs.Input.{input_of, IsInput}
 use Rattle.parser.proofs.Front.{weight, branch_root, opened, dropped}
@@ -19,7 +19,7 @@ use Rattle.parser.proofs.machine.Machine.front.Goals as goal
 
 pub passes-requires-clause-root : goal.passes-requires-clause-root
 passes-requires-clause-root g c =
-    let kinds = g.K.Kinds.kinds c.args.kinds.now in
+    let kinds = c.args.kinds.now in
     let cells = c.args.store.now in
     let id = c.in-Node.id in
     let node : c.edge.input ≡ Node id ∷ c.in-Some.ensures.0 = c.in-Some.ensures.1 ∙ ap (λ x. x ∷ c.in-Some.ensures.0) c.in-Node.is in
@@ -30,7 +30,7 @@ passes-requires-clause-root g c =
 pub edge-preserved-in-Continue-1 : goal.edge-preserved-in-Continue-1
 edge-preserved-in-Continue-1 g c =
     let gr = c.args.tables.now.grammar in
-    let kinds = g.K.Kinds.kinds c.args.kinds.now in
+    let kinds = c.args.kinds.now in
     let read = c.args.self.now.read in
     let cells = c.args.store.now in
     let stack = plain_of cells c.args.self.now.stack.items in
@@ -40,7 +40,7 @@ edge-preserved-in-Continue-1 g c =
     let node : c.edge.input ≡ Node id ∷ c.in-Some.ensures.0 = c.in-Some.ensures.1 ∙ ap (λ x. x ∷ c.in-Some.ensures.0) c.in-Node.is in
     let old : c.edge.input ≡ Node id ∷ rest = taken c.take.result c.edge.input rest c.in-Some.ensures.0 (Node id) c.take.ensures node in
     let inp = subst (λ l. IsInput gr cells l kinds read) old c.edge.invariant.input in
-    let step = opened gr cells stack kinds read id rest kids c.children.ensures.tree.0 c.children.ensures.tree.1 c.children.ensures.tree.2 inp.parts inp.covers c.in_default-passes.ensures in
+    let step = opened gr cells stack kinds read id rest kids c.children.ensures.tree.0 c.children.ensures.tree.1 c.children.ensures.tree.2 inp.parts inp.covers (subst (λ kinds. CanReuse gr stack (plain (tree cells (Node id))) (drop (read + length (yield (plain (tree cells (Node id))))) kinds) → ⊥) c.edge.invariant.same c.in_default-passes.ensures.is) in
     let inside : id.index < length cells = inp.below.0 in
     let below = below-append (length cells) kids rest (all_below-more id.index (length cells) (omega (arith, inside)) kids c.children.ensures.below) inp.below.1 in
     let made : IsInput gr cells (kids ++ rest) kinds read = record { below = below; parts = step.0; covers = step.1 } in
@@ -50,13 +50,14 @@ edge-preserved-in-Continue-1 g c =
       input = subst (λ l. IsInput gr cells l kinds read) (sym new) made;
       offers = (λ f d. c.edge.invariant.offers f (subst (λ l. Tries gr stack (input_of cells l kinds read) f) (sym old) (step.2 f (subst (λ l. Tries gr stack (input_of cells l kinds read) f) new d))));
       older = λ n h. subst (λ l. AreOlder n (all_trees cells l)) (sym new) (opened_older n cells kids rest id c.children.ensures.tree.0 c.children.ensures.tree.1 c.children.ensures.tree.2 (subst (λ l. AreOlder n (all_trees cells l)) old (c.edge.invariant.older n h)));
+      same = c.in_default-passes.ensures.same ∙ c.edge.invariant.same;
       opening = subst (IsOpening cells c.args.input.now) (sym new) (opening_on cells c.args.input.now c.edge.input rest kids (Node id) c.requires.full c.edge.invariant.opening old same);
     }
 
 pub edge-smaller-in-Continue-1 : goal.edge-smaller-in-Continue-1
 edge-smaller-in-Continue-1 g c =
     let gr = c.args.tables.now.grammar in
-    let kinds = g.K.Kinds.kinds c.args.kinds.now in
+    let kinds = c.args.kinds.now in
     let read = c.args.self.now.read in
     let cells = c.args.store.now in
     let stack = plain_of cells c.args.self.now.stack.items in
@@ -66,14 +67,14 @@ edge-smaller-in-Continue-1 g c =
     let node : c.edge.input ≡ Node id ∷ c.in-Some.ensures.0 = c.in-Some.ensures.1 ∙ ap (λ x. x ∷ c.in-Some.ensures.0) c.in-Node.is in
     let old : c.edge.input ≡ Node id ∷ rest = taken c.take.result c.edge.input rest c.in-Some.ensures.0 (Node id) c.take.ensures node in
     let inp = subst (λ l. IsInput gr cells l kinds read) old c.edge.invariant.input in
-    let step = opened gr cells stack kinds read id rest kids c.children.ensures.tree.0 c.children.ensures.tree.1 c.children.ensures.tree.2 inp.parts inp.covers c.in_default-passes.ensures in
+    let step = opened gr cells stack kinds read id rest kids c.children.ensures.tree.0 c.children.ensures.tree.1 c.children.ensures.tree.2 inp.parts inp.covers (subst (λ kinds. CanReuse gr stack (plain (tree cells (Node id))) (drop (read + length (yield (plain (tree cells (Node id))))) kinds) → ⊥) c.edge.invariant.same c.in_default-passes.ensures.is) in
     let new : c.put_all.new.self ≡ kids ++ rest = c.in_ok-put_all-in-Node.ensures in
     subst (λ l. weight (plain_of cells l) < weight (plain_of cells c.edge.input)) (sym new) (subst (λ l. weight (plain_of cells (kids ++ rest)) < weight (plain_of cells l)) (sym old) step.3)
 
 pub edge-preserved : goal.edge-preserved
 edge-preserved g c =
     let gr = c.args.tables.now.grammar in
-    let kinds = g.K.Kinds.kinds c.args.kinds.now in
+    let kinds = c.args.kinds.now in
     let read = c.args.self.now.read in
     let cells = c.args.store.now in
     let stack = plain_of cells c.args.self.now.stack.items in
@@ -89,12 +90,13 @@ edge-preserved g c =
       input = record { below = inp.below.1; parts = step.0; covers = step.1 };
       offers = (λ f d. c.edge.invariant.offers f (subst (λ l. Tries gr stack (input_of cells l kinds read) f) (sym old) (step.2 f d)));
       older = λ n h. none_behind n (tree cells (Node id)) (all_trees cells rest) (subst (λ l. AreOlder n (all_trees cells l)) old (c.edge.invariant.older n h));
+      same = c.edge.invariant.same;
       opening = opening_on cells c.args.input.now c.edge.input rest [] (Node id) c.requires.full c.edge.invariant.opening old (sym (no_kinds (yield (plain (tree cells (Node id)))) empty));
     }
 
 pub returns-in-Token-clause-offer : goal.returns-in-Token-clause-offer
 returns-in-Token-clause-offer g c =
-    let kinds = g.K.Kinds.kinds c.args.kinds.now in
+    let kinds = c.args.kinds.now in
     let read = c.args.self.now.read in
     let cells = c.args.store.now in
     let rest = c.in-Some.ensures.0 in
@@ -104,4 +106,4 @@ returns-in-Token-clause-offer g c =
     (look_first kinds read k _ inp.covers, subst BeginsWithNoNode (sym token) tt)
 
 pub edge-init : goal.edge-init
-edge-init g c = record { input = c.requires.input; offers = λ f d. d; older = λ n h. h; opening = opening_begins c.args.store.now c.args.input.now }
+edge-init g c = record { input = c.requires.input; offers = λ f d. d; older = λ n h. h; same = refl; opening = opening_begins c.args.store.now c.args.input.now }

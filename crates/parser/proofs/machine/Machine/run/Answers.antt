@@ -10,7 +10,8 @@ use Rattle.theory.specs.Machine.{Reduces}
 use Rattle.tables.specs.Actions.{plain}
 use Rattle.tables.specs.Tables.{IsStateOf}
 use Rattle.parser.specs.Front.{Offers, IsOffer}
-use Rattle.parser.specs.Input.{input_of}
+use Rattle.parser.specs.declared.machine.Front.TheVariants.{Tree as OffersTree, Next as OffersNext}
+use Rattle.parser.specs.Input.{input_of, IsInput}
 use Rattle.parser.specs.Machine.{plain_of}
 use Rattle.parser.specs.Parses.{IsStoppedAt}
 use Rattle.parser.specs.Run.{SoFar}
@@ -24,12 +25,12 @@ use Rattle.parser.proofs.machine.Machine.run.Goals.{then-self-count, else-self-c
 use Rattle.parser.proofs.machine.Machine.run.Goals as goal
 
 pub front-requires-clause-input : goal.front-requires-clause-input
-front-requires-clause-input g c = (skipped_on c.args.tables.now.grammar c.moves.store (g.K.Kinds.kinds c.args.kinds.now) c.moves.self.read c.moves.input c.skip_empty.new.self c.skip_empty.ensures.skips c.moves.invariant.so_far.input).0
+front-requires-clause-input g c = subst (λ kinds. IsInput c.args.tables.now.grammar c.moves.store c.skip_empty.new.self kinds c.moves.self.read) (sym c.moves.invariant.same) (skipped_on c.args.tables.now.grammar c.moves.store c.args.kinds.now c.moves.self.read c.moves.input c.skip_empty.new.self c.skip_empty.ensures.skips c.moves.invariant.so_far.input).0
 
 pub moves-preserved-in-Tree : goal.moves-preserved-in-Tree
 moves-preserved-in-Tree g c =
     let t = c.args.tables.now in
-    let kinds = g.K.Kinds.kinds c.args.kinds.now in
+    let kinds = c.args.kinds.now in
     let cells = c.moves.store in
     let m = c.moves.self in
     let h = c.moves.invariant.so_far in
@@ -38,13 +39,14 @@ moves-preserved-in-Tree g c =
     let trees = plain_of cells m.stack.items in
     let on = skipped_on t.grammar cells kinds m.read c.moves.input c.skip_empty.new.self c.skip_empty.ensures.skips h.input in
     let now = c.front.new.input in
-    let offers : Offers t.grammar trees (input_of cells now kinds m.read) (input_of cells c.moves.input kinds m.read) = λ f d. on.1 trees f (c.in_ok-id.ensures.offers f d) in
+    let input = subst (λ kinds. IsInput t.grammar cells now kinds m.read) c.moves.invariant.same c.in_ok-id.ensures.input in
+    let offers : Offers t.grammar trees (input_of cells now kinds m.read) (input_of cells c.moves.input kinds m.read) = λ f d. on.1 trees f (subst (λ kinds. Offers t.grammar trees (input_of cells now kinds m.read) (input_of cells c.skip_empty.new.self kinds m.read)) c.moves.invariant.same c.in_ok-id.ensures.offers f d) in
     let id = c.in-Tree.id in
     let older = c.in_ok-id.ensures.older c.args.number (skipped_older c.args.number cells c.moves.input c.skip_empty.new.self c.skip_empty.ensures.skips h.older) in
-    let offer = subst (IsOffer t cells trees kinds m.read now) c.in-Tree.is c.in_ok-id.ensures.offer in
+    let offer = subst (λ kinds. IsOffer t cells trees kinds m.read now (OffersTree c.in-Tree.id c.in-Tree.next)) c.moves.invariant.same (subst (IsOffer t cells trees c.moves.kinds m.read now) c.in-Tree.is c.in_ok-id.ensures.offer) in
     let rest = c.take.new.self in
     let now_is = taken c.take.result now rest offer.0.0 (Node id) c.take.ensures offer.0.1 in
-    let next = taken_on t whole kinds before c.args.number cells m.stack.items m.states.items m.read c.moves.input h now rest id c.in-Tree.next now_is c.in_ok-id.ensures.input offers older offer.1 in
+    let next = taken_on t whole kinds before c.args.number cells m.stack.items m.states.items m.read c.moves.input h now rest id c.in-Tree.next now_is input offers older offer.1 in
     let n = length (yield (plain_tree (tree cells (Node id)))) in
     let count : c.tokens.result ≡ n = c.tokens.ensures.is ∙ counted n (omega (arith, next.within, c.len-count.ensures, c.len-count.type_inv)) in
     let push = c.in_ok-push-in-Tree.ensures in
@@ -52,30 +54,31 @@ moves-preserved-in-Tree g c =
     record {
       so_far = subst (λ s. SoFar t whole kinds before c.args.number cells s c.push.new.self.states.items (c.push.new.self.read + c.tokens.result) rest) (sym push.stack) (subst (λ s. SoFar t whole kinds before c.args.number cells (m.stack.items ++ (Node id ∷ [])) s (c.push.new.self.read + c.tokens.result) rest) (sym push.states) (subst (λ r. SoFar t whole kinds before c.args.number cells (m.stack.items ++ (Node id ∷ [])) (m.states.items ++ (c.in-Tree.next ∷ [])) r rest) read next));
       grown = c.moves.invariant.grown;
+      same = c.in_ok-id.ensures.same ∙ c.moves.invariant.same;
     }
 
 pub overflow_add-self-in-Some-Shift : goal.overflow_add-self-in-Some-Shift
 overflow_add-self-in-Some-Shift g c =
-    let kinds = g.K.Kinds.kinds c.args.kinds.now in
+    let kinds = c.args.kinds.now in
     let m = c.moves.self in
     let trees = plain_of c.moves.store m.stack.items in
-    let offer = subst (IsOffer c.args.tables.now c.moves.store trees kinds m.read c.front.new.input) c.in-Next.is c.in_ok-id.ensures.offer in
+    let offer = subst (λ kinds. IsOffer c.args.tables.now c.moves.store trees kinds m.read c.front.new.input (OffersNext c.in-Next.look)) c.moves.invariant.same (subst (IsOffer c.args.tables.now c.moves.store trees c.moves.kinds m.read c.front.new.input) c.in-Next.is c.in_ok-id.ensures.offer) in
     let lt : m.read < length kinds = slice_get_within kinds m.read c.in-Some.kind (sym offer.0 ∙ c.in-Some.is) in
     omega (arith, lt, c.len-count.ensures, c.len-count.type_inv, c.in_ok-push-in-Some-Shift.ensures.read)
 
 pub moves-smaller-in-Some-Shift : goal.moves-smaller-in-Some-Shift
 moves-smaller-in-Some-Shift g c =
-    let kinds = g.K.Kinds.kinds c.args.kinds.now in
+    let kinds = c.args.kinds.now in
     let m = c.moves.self in
     let trees = plain_of c.moves.store m.stack.items in
-    let offer = subst (IsOffer c.args.tables.now c.moves.store trees kinds m.read c.front.new.input) c.in-Next.is c.in_ok-id.ensures.offer in
+    let offer = subst (λ kinds. IsOffer c.args.tables.now c.moves.store trees kinds m.read c.front.new.input (OffersNext c.in-Next.look)) c.moves.invariant.same (subst (IsOffer c.args.tables.now c.moves.store trees c.moves.kinds m.read c.front.new.input) c.in-Next.is c.in_ok-id.ensures.offer) in
     let lt : m.read < length kinds = slice_get_within kinds m.read c.in-Some.kind (sym offer.0 ∙ c.in-Some.is) in
     omega (arith, lt, c.in_ok-push-in-Some-Shift.ensures.read)
 
 pub moves-preserved-in-Some-Shift : goal.moves-preserved-in-Some-Shift
 moves-preserved-in-Some-Shift g c =
     let t = c.args.tables.now in
-    let kinds = g.K.Kinds.kinds c.args.kinds.now in
+    let kinds = c.args.kinds.now in
     let cells = c.moves.store in
     let m = c.moves.self in
     let h = c.moves.invariant.so_far in
@@ -84,13 +87,14 @@ moves-preserved-in-Some-Shift g c =
     let trees = plain_of cells m.stack.items in
     let on = skipped_on t.grammar cells kinds m.read c.moves.input c.skip_empty.new.self c.skip_empty.ensures.skips h.input in
     let now = c.front.new.input in
-    let offers : Offers t.grammar trees (input_of cells now kinds m.read) (input_of cells c.moves.input kinds m.read) = λ f d. on.1 trees f (c.in_ok-id.ensures.offers f d) in
-    let offer = subst (IsOffer t cells trees kinds m.read now) c.in-Next.is c.in_ok-id.ensures.offer in
+    let input = subst (λ kinds. IsInput t.grammar cells now kinds m.read) c.moves.invariant.same c.in_ok-id.ensures.input in
+    let offers : Offers t.grammar trees (input_of cells now kinds m.read) (input_of cells c.moves.input kinds m.read) = λ f d. on.1 trees f (subst (λ kinds. Offers t.grammar trees (input_of cells now kinds m.read) (input_of cells c.skip_empty.new.self kinds m.read)) c.moves.invariant.same c.in_ok-id.ensures.offers f d) in
+    let offer = subst (λ kinds. IsOffer t cells trees kinds m.read now (OffersNext c.in-Next.look)) c.moves.invariant.same (subst (IsOffer t cells trees c.moves.kinds m.read now) c.in-Next.is c.in_ok-id.ensures.offer) in
     let older = c.in_ok-id.ensures.older c.args.number (skipped_older c.args.number cells c.moves.input c.skip_empty.new.self c.skip_empty.ensures.skips h.older) in
     let k = c.in-Some.kind in
     let is : slice_get kinds m.read ≡ Some k = sym offer.0 ∙ c.in-Some.is in
     let rest = c.take-in-Some-Shift.new.self in
-    let behind = behind_first t.grammar cells kinds m.read now rest c.take-in-Some-Shift.result k offer.1 c.in_ok-id.ensures.input is c.take-in-Some-Shift.ensures in
+    let behind = behind_first t.grammar cells kinds m.read now rest c.take-in-Some-Shift.result k offer.1 input is c.take-in-Some-Shift.ensures in
     let symbols = h.has_states.symbols in
     let there = subst (IsStateOf t symbols) (sym c.state.ensures) (top_stands t trees m.states.items h.has_states) in
     let next = c.in-Some-Shift.next in
@@ -98,18 +102,19 @@ moves-preserved-in-Some-Shift g c =
     let a = called.calls.0 in
     let rule : k ≡ Token a = let same : Some k ≡ Some (Token a) = called.calls.3 in cc same in
     let goes = c.in-Some-Shift.ensures.shifts symbols a next there (c.in-Some.is ∙ ap Some rule) (ap Some c.in-Some-Shift.field-0-is) in
-    let one = shifted_on t whole kinds before c.args.number cells m.stack.items m.states.items m.read c.moves.input h now rest k a next behind c.in_ok-id.ensures.input offers older rule (slice_get_within kinds m.read k is) called goes in
+    let one = shifted_on t whole kinds before c.args.number cells m.stack.items m.states.items m.read c.moves.input h now rest k a next behind input offers older rule (slice_get_within kinds m.read k is) called goes in
     let push = c.in_ok-push-in-Some-Shift.ensures in
     let m' = c.push-in-Some-Shift.new.self in
     record {
       so_far = subst (λ s. SoFar t whole kinds before c.args.number cells s m'.states.items (m'.read + 1) rest) (sym push.stack) (subst (λ s. SoFar t whole kinds before c.args.number cells (m.stack.items ++ (TokenChild k ∷ [])) s (m'.read + 1) rest) (sym push.states) (subst (λ r. SoFar t whole kinds before c.args.number cells (m.stack.items ++ (TokenChild k ∷ [])) (m.states.items ++ (next ∷ [])) (r + 1) rest) (sym push.read) one));
       grown = c.moves.invariant.grown;
+      same = c.in_ok-id.ensures.same ∙ c.moves.invariant.same;
     }
 
 pub moves-preserved : goal.moves-preserved
 moves-preserved g c =
     let t = c.args.tables.now in
-    let kinds = g.K.Kinds.kinds c.args.kinds.now in
+    let kinds = c.args.kinds.now in
     let cells = c.moves.store in
     let m = c.moves.self in
     let h = c.moves.invariant.so_far in
@@ -119,8 +124,9 @@ moves-preserved g c =
     let full = c.skip_empty.new.self in
     let on = skipped_on t.grammar cells kinds m.read c.moves.input full c.skip_empty.ensures.skips h.input in
     let now = c.front.new.input in
-    let offers : Offers t.grammar trees (input_of cells now kinds m.read) (input_of cells c.moves.input kinds m.read) = λ f d. on.1 trees f (c.in_ok-id.ensures.offers f d) in
-    let offer = subst (IsOffer t cells trees kinds m.read now) c.in-Next.is c.in_ok-id.ensures.offer in
+    let input = subst (λ kinds. IsInput t.grammar cells now kinds m.read) c.moves.invariant.same c.in_ok-id.ensures.input in
+    let offers : Offers t.grammar trees (input_of cells now kinds m.read) (input_of cells c.moves.input kinds m.read) = λ f d. on.1 trees f (subst (λ kinds. Offers t.grammar trees (input_of cells now kinds m.read) (input_of cells c.skip_empty.new.self kinds m.read)) c.moves.invariant.same c.in_ok-id.ensures.offers f d) in
+    let offer = subst (λ kinds. IsOffer t cells trees kinds m.read now (OffersNext c.in-Next.look)) c.moves.invariant.same (subst (IsOffer t cells trees c.moves.kinds m.read now) c.in-Next.is c.in_ok-id.ensures.offer) in
     let symbols = h.has_states.symbols in
     let there = subst (IsStateOf t symbols) (sym c.state.ensures) (top_stands t trees m.states.items h.has_states) in
     let p = c.in-Some-Reduce.production in
@@ -134,18 +140,19 @@ moves-preserved g c =
     record {
       so_far = subst (λ r. SoFar t whole kinds before c.args.number new m'.stack.items m'.states.items r c.close.new.self) (sym done.read) (subst (SoFar t whole kinds before c.args.number new m'.stack.items m'.states.items m.read) (sym closed) one);
       grown = front_stays c.args.store.now cells new c.moves.invariant.grown done.grown;
+      same = c.in_ok-id.ensures.same ∙ c.moves.invariant.same;
     }
 
 pub returns-in-Node-clause-stops : goal.returns-in-Node-clause-stops
 returns-in-Node-clause-stops g c =
     let t = c.args.tables.now in
-    let kinds = g.K.Kinds.kinds c.args.kinds.now in
+    let kinds = c.args.kinds.now in
     let cells = c.moves.store in
     let m = c.moves.self in
     let h = c.moves.invariant.so_far in
     let whole = input_of c.args.store.now c.args.input kinds 0 in
     let trees = plain_of cells m.stack.items in
-    let offer = subst (IsOffer t cells trees kinds m.read c.front.new.input) c.in-Next.is c.in_ok-id.ensures.offer in
+    let offer = subst (λ kinds. IsOffer t cells trees kinds m.read c.front.new.input (OffersNext c.in-Next.look)) c.moves.invariant.same (subst (IsOffer t cells trees c.moves.kinds m.read c.front.new.input) c.in-Next.is c.in_ok-id.ensures.offer) in
     let here = reached t whole kinds (length c.args.store.now) c.args.number cells m.stack.items m.states.items m.read c.moves.input h c.requires.accepted.productive in
     let symbols = here.has_states.symbols in
     let there = subst (IsStateOf t symbols) (sym c.state.ensures) (top_stands t trees m.states.items here.has_states) in
@@ -157,13 +164,13 @@ returns-in-Node-clause-stops g c =
 pub returns-in-None-clause-stops : goal.returns-in-None-clause-stops
 returns-in-None-clause-stops g c =
     let t = c.args.tables.now in
-    let kinds = g.K.Kinds.kinds c.args.kinds.now in
+    let kinds = c.args.kinds.now in
     let cells = c.moves.store in
     let m = c.moves.self in
     let h = c.moves.invariant.so_far in
     let whole = input_of c.args.store.now c.args.input kinds 0 in
     let trees = plain_of cells m.stack.items in
-    let offer = subst (IsOffer t cells trees kinds m.read c.front.new.input) c.in-Next.is c.in_ok-id.ensures.offer in
+    let offer = subst (λ kinds. IsOffer t cells trees kinds m.read c.front.new.input (OffersNext c.in-Next.look)) c.moves.invariant.same (subst (IsOffer t cells trees c.moves.kinds m.read c.front.new.input) c.in-Next.is c.in_ok-id.ensures.offer) in
     let here = reached t whole kinds (length c.args.store.now) c.args.number cells m.stack.items m.states.items m.read c.moves.input h c.requires.accepted.productive in
     let symbols = here.has_states.symbols in
     let there = subst (IsStateOf t symbols) (sym c.state.ensures) (top_stands t trees m.states.items here.has_states) in

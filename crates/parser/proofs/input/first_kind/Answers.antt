@@ -1,0 +1,52 @@
+use Rattle.std.proofs.Common.{◌≡◌, List, [], ◌∷◌, ◌++◌, length, sym, ap, ◌∙◌, subst, arith}
+use Rattle.std.proofs.lemmas.List.{append-nil}
+use Rattle.definitions.specs.declared.Kind.{Kind}
+use Rattle.definitions.specs.Trees.{all_kinds, yield}
+use Rattle.definitions.specs.TreeEdits.{plain}
+use Rattle.trees.specs.declared.store.Child.TheVariants.{Node, Token}
+use Rattle.trees.specs.Cells.{AreBelow, tree}
+use Rattle.trees.proofs.Cells.{all_below-more}
+use Rattle.parser.specs.Machine.{plain_of}
+use Rattle.parser.proofs.Inputs.{no_kinds, none_counted}
+use Rattle.parser.proofs.Nearby.{into_node, past_empty}
+use Rattle.parser.proofs.input.first_kind.Goals.{then-tokens-gt0, else-tokens-gt0}
+use Rattle.parser.proofs.input.first_kind.Goals as goal
+
+pub edge-init : goal.edge-init
+edge-init c = (c.requires, ([], sym (append-nil (all_kinds (plain_of c.args.store.now c.args.trees)))))
+
+pub returns-in-Token : goal.returns-in-Token
+returns-in-Token c =
+    let rest = c.next.new.self in
+    let kinds = c.edge.invariant.1 in
+    let front : c.edge.trees ≡ Token c.in-Token.kind ∷ rest = c.in_ok-kind.ensures.steps ∙ ap (λ x. x ∷ rest) c.in-Token.is in
+    (all_kinds (plain_of c.args.store.now rest) ++ kinds.0, kinds.1 ∙ ap (λ l. all_kinds (plain_of c.args.store.now l) ++ kinds.0) front)
+
+pub tokens-requires : goal.tokens-requires
+tokens-requires c =
+    let rest = c.next.new.self in
+    let front : c.edge.trees ≡ Node c.in-Node.id ∷ rest = c.in_ok-kind.ensures.steps ∙ ap (λ x. x ∷ rest) c.in-Node.is in
+    (subst (AreBelow (length c.args.store.now)) front c.edge.invariant.0).0
+
+pub edge-preserved : goal.edge-preserved
+edge-preserved c =
+    let cells = c.args.store.now in
+    let id = c.in-Node.id in
+    let rest = c.next.new.self in
+    let all = all_kinds (plain_of cells c.args.trees) in
+    let front : c.edge.trees ≡ Node id ∷ rest = c.in_ok-kind.ensures.steps ∙ ap (λ x. x ∷ rest) c.in-Node.is in
+    let below = subst (AreBelow (length cells)) front c.edge.invariant.0 in
+    let more = c.edge.invariant.1.0 in
+    let kinds : all ≡ all_kinds (plain_of cells (Node id ∷ rest)) ++ more = c.edge.invariant.1.1 ∙ ap (λ l. all_kinds (plain_of cells l) ++ more) front in
+    elim c.if-tokens-gt0.branch [
+      | then-tokens-gt0 w ↦
+          let kids = w.children-trees.result in
+          let tree = w.children-trees.ensures.tree in
+          subst (λ l. AreBelow (length cells) l × ((more : List Kind) × (all ≡ all_kinds (plain_of cells l) ++ more))) (sym w.trees-is)
+          (all_below-more id.index (length cells) (omega (arith, below.0)) kids w.children-trees.ensures.below, (all_kinds (plain_of cells rest) ++ more, into_node cells id rest kids tree.0 tree.1 all more tree.2 kinds))
+      | else-tokens-gt0 w ↦
+          let zero_tokens : c.tokens.result ≡ 0 = omega (arith, w.if-tokens-gt0.false) in
+          let none = no_kinds (yield (plain (tree cells (Node id)))) (none_counted (length (yield (plain (tree cells (Node id))))) (sym c.tokens.ensures.is ∙ zero_tokens)) in
+          subst (λ l. AreBelow (length cells) l × ((more : List Kind) × (all ≡ all_kinds (plain_of cells l) ++ more))) (sym w.trees-is)
+          (below.1, (more, past_empty cells (Node id) rest all more none kinds))
+    ]
