@@ -1,0 +1,97 @@
+"""A client of `lrls serve`: what tests/program, tests/corpora and the programs of bench/ share."""
+
+import json
+import os
+import subprocess
+
+TOP = os.path.dirname(os.path.dirname(os.path.abspath(__file__)))
+START = os.path.join(TOP, "lrls")
+PROGRAM = os.path.join(TOP, "crates", "lrls", "out", "lrls")
+SUMS = os.path.join(TOP, "grammars", "g0.lr")
+
+
+def build():
+    """Builds the program where it isn't built. From then on the sessions run it without looking whether it is."""
+    subprocess.run([START, "check", SUMS], stdout=subprocess.DEVNULL, check=True)
+
+
+def position(place):
+    """A line and a character in it, as the protocol writes them."""
+    return {"line": place[0], "character": place[1]}
+
+
+def framed(message):
+    content = json.dumps(message, separators=(",", ":")).encode()
+    return b"Content-Length: %d\r\n\r\n%s" % (len(content), content)
+
+
+def received(out):
+    """The content of the next frame on this stream."""
+    length = 0
+    while True:
+        line = out.readline()
+        if not line:
+            raise EOFError("the server has ended")
+        if line == b"\r\n":
+            return out.read(length)
+        name, value = line.split(b":", 1)
+        if name.lower() == b"content-length":
+            length = int(value)
+
+
+class Session:
+    """A server that runs. Each message waits for its answers; their contents are returned as they were sent."""
+
+    def __init__(self, grammar):
+        words = [PROGRAM, "serve", os.path.join(TOP, grammar)]
+        self.process = subprocess.Popen(words, stdin=subprocess.PIPE, stdout=subprocess.PIPE, bufsize=0)
+        self.input = self.process.stdin
+        self.output = os.fdopen(os.dup(self.process.stdout.fileno()), "rb", buffering=1 << 16)
+        self.send({"jsonrpc": "2.0", "id": 0, "method": "initialize", "params": {}})
+
+    def write(self, frame):
+        view = memoryview(frame)
+        while view:
+            view = view[self.input.write(view) :]
+
+    def receive(self):
+        return received(self.output)
+
+    def send(self, message, answers=1):
+        """Sends a message that has so many answers, and returns the last one of them."""
+        self.write(framed(message))
+        answer = b""
+        for _ in range(answers):
+            answer = self.receive()
+        return answer
+
+    def notify(self, method, params, answers=1):
+        return self.send({"jsonrpc": "2.0", "method": method, "params": params}, answers)
+
+    def request(self, method, params):
+        return self.send({"jsonrpc": "2.0", "id": 0, "method": method, "params": params})
+
+    def ask(self, method, uri, **more):
+        return self.request(method, {"textDocument": {"uri": uri}, **more})
+
+    def open(self, uri, version, text, answers=1):
+        document = {"uri": uri, "languageId": "text", "version": version, "text": text}
+        return self.notify("textDocument/didOpen", {"textDocument": document}, answers)
+
+    def change(self, uri, version, changes, answers=1):
+        document = {"uri": uri, "version": version}
+        return self.notify("textDocument/didChange", {"textDocument": document, "contentChanges": changes}, answers)
+
+    def forget(self, uri):
+        return self.notify("textDocument/didClose", {"textDocument": {"uri": uri}})
+
+    def end(self):
+        """Closes the input, and returns the status with which the server ends."""
+        self.input.close()
+        return self.process.wait(timeout=60)
+
+    def close(self):
+        """Ends the server by `shutdown` and `exit`."""
+        self.send({"jsonrpc": "2.0", "id": 0, "method": "shutdown"})
+        self.write(framed({"jsonrpc": "2.0", "method": "exit"}))
+        return self.process.wait(timeout=60)
