@@ -42,4 +42,7 @@ for i = 10, 1, -1 do
         do i = i - 1; end
     end
 end
+local low, high <const> = false, [=[ a ]] b ]=]
+low, (Stack).inner().rows[1] = high, 2;
+(print)(low)(high)
 return Stack, bits(1, 2)
