@@ -1,0 +1,286 @@
+"""The languages of tests/corpora: where files of each are, how they are read, and the other parser of each.
+
+A parser returns None where it accepts a text by its form, else what it says. What it finds wrong with the meaning of a text is
+no fault of form: it returns None where it had read the whole text before it said so, and else a Meaning, since the rest of the text
+may have any form.
+"""
+
+import glob
+import gzip
+import json
+import os
+import re
+import shutil
+import sqlite3
+import subprocess
+import sys
+import sysconfig
+import threading
+
+import corpus_c
+
+STDLIB = sysconfig.get_paths()["stdlib"].lstrip("/")
+PACKAGES = sysconfig.get_paths()["purelib"].lstrip("/")
+
+
+def ran(words, text, **more):
+    """What a command says of a text on its standard input: its status, and both of its outputs."""
+    found = subprocess.run(
+        words, input=text.encode(), stdout=subprocess.PIPE, stderr=subprocess.PIPE, timeout=120, check=False, **more
+    )
+    return found.returncode, found.stdout.decode(errors="replace"), found.stderr.decode(errors="replace")
+
+
+def first_line(text):
+    return text.strip().split("\n")[0][:200]
+
+
+# Parsers. Each maker returns the parser, or raises Missing and says what to install.
+
+
+class Missing(Exception):
+    """A parser that isn't installed."""
+
+
+class Meaning(str):
+    """What a parser found wrong with the meaning of a text, before it had read all of it."""
+
+
+def program(names, package):
+    for name in names:
+        if shutil.which(name):
+            return name
+    raise Missing(f"{names[0]} isn't installed (Debian package {package})")
+
+
+LUA_MEANING = re.compile(
+    r"const variable|visible label|label .* already|break outside|outside a vararg|jumps into|multiple to-be-closed"
+    r"|unknown attribute|too many|escape|UTF-8 value|hexadecimal digit|missing '\{' in"
+)
+
+
+def luac(roots):
+    name = program(["luac5.4", "luac"], "lua5.4")
+
+    def parse(text):
+        status, _, err = ran([name, "-p", "-"], text)
+        if not status:
+            return None
+        return (Meaning if LUA_MEANING.search(err) else str)(first_line(err))
+
+    return name, parse
+
+
+def python_json(roots):
+    def refused(word):
+        raise ValueError(f"{word} is no JSON")
+
+    def parse(text):
+        try:
+            json.loads(text, parse_constant=refused)
+        except (ValueError, RecursionError) as fault:
+            return str(fault)
+        return None
+
+    return "Python's json", parse
+
+
+TOML_MEANING = re.compile(r"Cannot (overwrite|declare|mutate|redefine)|Duplicate inline|Invalid date or|namespace|twice")
+
+
+def python_toml(roots):
+    try:
+        import tomllib
+    except ImportError:
+        raise Missing("tomllib is part of Python from 3.11 on") from None
+
+    def parse(text):
+        try:
+            tomllib.loads(text)
+        except (ValueError, RecursionError) as fault:
+            return (Meaning if TOML_MEANING.search(str(fault)) else str)(fault)
+        return None
+
+    return "tomllib", parse
+
+
+C_FAULT = re.compile(
+    r"error: (expected|stray|missing terminating|unterminated|unknown type name|empty character|invalid suffix|type defaults"
+    r"|return type defaults|ISO C does not allow extra).*"
+)
+GCC = ["gcc", "-std=c99", "-pedantic-errors", "-fsyntax-only", "-x", "cpp-output", "-"]
+
+
+def gcc(roots):
+    program(["gcc"], "gcc")
+
+    def parse(text):
+        _, _, err = ran(GCC, text, env={**os.environ, "LC_ALL": "C"})
+        found = C_FAULT.search(err)
+        return found.group(0) if found else None
+
+    return "gcc", parse
+
+
+def graphviz(roots):
+    program(["dot"], "graphviz")
+
+    def parse(text):
+        _, _, err = ran(["dot", "-Tcanon"], text)
+        faults = [line for line in err.split("\n") if "syntax error" in line or "unterminated" in line or "scanner" in line]
+        return first_line(faults[0]) if faults else None
+
+    return "dot", parse
+
+
+CSS_OF_RULES = re.compile(r"media|supports|layer|container|scope|(-\w+-)?document")
+CSS_OF_DECLARATIONS = re.compile(r"page|font-face|property|counter-style")
+
+
+def tinycss(roots):
+    sys.path += [os.path.join(root, "usr/lib/python3/dist-packages") for root in roots]
+    try:
+        import tinycss2
+    except ImportError:
+        raise Missing("tinycss2 isn't installed (Debian package python3-tinycss2)") from None
+
+    def faults(nodes):
+        for node in nodes or []:
+            if node.type == "error":
+                yield f"{node.source_line}:{node.source_column}: {node.message}"
+            elif node.type == "declaration":
+                yield from faults(node.value)
+            elif node.type == "qualified-rule":
+                yield from faults(node.prelude)
+                yield from faults(tinycss2.parse_declaration_list(node.content, True, True))
+            elif node.type == "at-rule":
+                yield from faults(node.prelude)
+                if node.content and CSS_OF_RULES.fullmatch(node.lower_at_keyword):
+                    yield from faults(tinycss2.parse_rule_list(node.content, True, True))
+                elif node.content and CSS_OF_DECLARATIONS.fullmatch(node.lower_at_keyword):
+                    yield from faults(tinycss2.parse_declaration_list(node.content, True, True))
+            else:
+                yield from faults(getattr(node, "arguments", None) or getattr(node, "content", None))
+
+    name = "tinycss2, which takes any words for a selector"
+    return name, lambda text: next(faults(tinycss2.parse_stylesheet(text, True, True)), None)
+
+
+NODE_GRAPHQL = """const { parse } = require("graphql");
+require("readline").createInterface({ input: process.stdin }).on("line", (line) => {
+  let fault = "";
+  try { parse(JSON.parse(line)); } catch (error) { fault = error.message; }
+  console.log(JSON.stringify(fault));
+});"""
+
+
+def node_graphql(roots):
+    """One process for all texts, since node takes long to start."""
+    program(["node"], "nodejs")
+    paths = ":".join(os.path.join(root, "usr/share/nodejs") for root in roots)
+    words = ["node", "-e", NODE_GRAPHQL]
+    pipes = {"stdin": subprocess.PIPE, "stdout": subprocess.PIPE, "stderr": subprocess.DEVNULL}
+    node = subprocess.Popen(words, env={**os.environ, "NODE_PATH": paths}, text=True, encoding="utf-8", **pipes)
+    lock = threading.Lock()
+
+    def parse(text):
+        with lock:
+            print(json.dumps(text), file=node.stdin, flush=True)
+            return first_line(json.loads(node.stdout.readline())) or None
+
+    try:
+        parse("{a}")
+    except (OSError, ValueError):
+        raise Missing("graphql isn't installed (Debian package node-graphql)") from None
+    return "node-graphql", parse
+
+
+NO_STATEMENT = re.compile(r"(\s|--[^\n]*|/\*.*?\*/|;)*", re.DOTALL)
+SQL_FAULT = re.compile(r"syntax error|incomplete input|unrecognized token")
+
+
+def sqlite(roots):
+    def parse(text):
+        if NO_STATEMENT.fullmatch(text):
+            return None  # it can't be explained
+        connection = sqlite3.connect(":memory:")
+        try:
+            connection.execute("EXPLAIN " + text)
+        except (sqlite3.Error, sqlite3.Warning, ValueError) as fault:
+            return str(fault) if SQL_FAULT.search(str(fault)) else None
+        finally:
+            connection.close()
+        return None
+
+    return "sqlite " + sqlite3.sqlite_version, parse
+
+
+# What is made of a file: the texts that are parsed, with a name for each
+
+
+def whole(path, text):
+    return [(path, text)]
+
+
+def statements(path, text):
+    """The statements of a file of SQL, each by itself. Comments between them belong to none."""
+    found, begun = [], 0
+    for end in re.finditer(";", text):
+        if sqlite3.complete_statement(text[begun : end.end()]):
+            found.append(text[begun : end.end()])
+            begun = end.end()
+    found = [statement[NO_STATEMENT.match(statement).end() :] for statement in found]
+    return [(f"{path} statement {number + 1}", statement) for number, statement in enumerate(found) if statement]
+
+
+class Language:
+    """Where files are, by globs below a root; the other parser; what makes texts of a file, and what does where they are edited;
+    and what is done to a text before `lrls` reads it."""
+
+    def __init__(self, globs, parser, texts=whole, edited=None, adapted=lambda text: text):
+        self.globs, self.parser, self.texts, self.adapted = globs, parser, texts, adapted
+        self.edited = edited or texts
+
+    def files(self, roots):
+        found = {}
+        for root in roots:
+            for pattern in self.globs:
+                for path in glob.glob(os.path.join(root, pattern), recursive=True):
+                    if os.path.isfile(path):
+                        found.setdefault(os.path.realpath(path), path)
+        return sorted(found.values())
+
+
+def read(path):
+    """The text of a file, or none where it is no UTF-8."""
+    opened = gzip.open if path.endswith(".gz") else open
+    with opened(path, "rb") as file:
+        try:
+            return file.read().decode("utf-8")
+        except (UnicodeDecodeError, OSError):
+            return None
+
+
+LANGUAGES = {
+    "c": Language(
+        ["usr/include/*.h", "usr/share/doc/*/examples/**/*.c"], gcc, corpus_c.preprocessed, adapted=corpus_c.without_typedefs
+    ),
+    "css": Language(["usr/share/**/*.css"], tinycss),
+    "dot": Language(["usr/share/doc/graphviz/examples/**/*.gv", "usr/share/doc/graphviz/examples/**/*.gv.gz"], graphviz),
+    "graphql": Language(["usr/share/gocode/**/*.graphql", "usr/share/nodejs/**/*.graphql"], node_graphql),
+    "json": Language(
+        [f"{STDLIB}/test/**/*.json", f"{PACKAGES}/**/*.json", "usr/share/**/*.json", "usr/lib/node_modules/**/*.json"], python_json
+    ),
+    "lua": Language(["usr/share/nvim/runtime/**/*.lua", "usr/share/luajit-*/**/*.lua"], luac),
+    "sql": Language(
+        [
+            "usr/share/mediawiki/**/sqlite/**/*.sql",
+            "usr/share/pdns-backend-sqlite3/schema/*.sql",
+            "usr/share/roundcube/SQL/sqlite/*.sql",
+        ],
+        sqlite,
+        statements,
+        edited=whole,
+    ),
+    "toml": Language([f"{STDLIB}/test/test_tomllib/data/**/*.toml", "usr/share/cargo/registry/**/*.toml"], python_toml),
+}
