@@ -53,16 +53,23 @@
                     (when (and (eq (process-status process) 'exit) (/= (process-exit-status process) 0))
                       (lrls--report-end (process-exit-status process) errors))))))
 
+(defun lrls--show (text)
+  "Show TEXT in a window of its own."
+  (with-current-buffer (get-buffer-create "*lrls*")
+    (special-mode)
+    (let ((inhibit-read-only t))
+      (erase-buffer)
+      (insert text))
+    (set-window-point (display-buffer (current-buffer)) (goto-char (point-min)))))
+
 (defun lrls--report-end (status errors)
   "Show why a server ended with STATUS, by the text in the file ERRORS."
-  (display-warning 'lrls
-                   (format "the server ended with status %d:\n%sM-x lrls-restart starts it anew" status
-                           (with-temp-buffer (insert-file-contents errors) (buffer-string)))
-                   :error))
+  (lrls--show (format "The server ended with status %d:\n%sM-x lrls-restart starts it anew.\n" status
+                      (with-temp-buffer (insert-file-contents errors) (buffer-string)))))
 
 (cl-defmethod eglot-handle-notification ((_ lrls-server) (_method (eql window/logMessage)) &key message &allow-other-keys)
   "Show MESSAGE, which says that a document is lost."
-  (display-warning 'lrls message :warning))
+  (lrls--show (format "lrls: %s\n" message)))
 
 (cl-defmethod eglot-handle-notification :after
   ((server lrls-server) (_method (eql textDocument/publishDiagnostics)) &key uri diagnostics version &allow-other-keys)
@@ -70,6 +77,8 @@
   (let ((buffer (find-buffer-visiting (lrls--uri-to-path uri))))
     (when buffer
       (with-current-buffer buffer
+        ;; Flymake's count is not drawn anew by itself where another window shows too.
+        (force-mode-line-update)
         (when (and (eq (eglot-current-server) server) (eql version eglot--versioned-identifier))
           (lrls--refresh server (lrls--fault diagnostics)))))))
 
@@ -96,6 +105,8 @@
 (defun lrls--now (method params)
   "What the server returns on METHOD with PARAMS, or an error that the user reads."
   (let ((server (or (eglot-current-server) (user-error "No server runs for this buffer; M-x lrls-restart starts one"))))
+    ;; Changes are sent half a second late otherwise.
+    (eglot--signal-textDocument/didChange)
     (condition-case failure
         (jsonrpc-request server method params)
       (jsonrpc-error (user-error "lrls: %s" (or (alist-get 'jsonrpc-error-message (cddr failure)) (cadr failure)))))))

@@ -664,7 +664,7 @@ local function toggle_tree(buffer)
   vim.bo[own].bufhidden = "wipe"
   local window = vim.api.nvim_get_current_win()
   vim.cmd("rightbelow vertical sbuffer " .. own)
-  vim.cmd("setlocal nonumber nowrap foldmethod=manual nofoldenable")
+  vim.cmd("setlocal nonumber norelativenumber signcolumn=no nowrap foldmethod=manual nofoldenable")
   vim.keymap.set("n", "<CR>", function()
     go_to_node(buffer)
   end, { buffer = own })

@@ -1,0 +1,232 @@
+"""What Neovim and Emacs draw with the files of editors/: diagnostics, colours, folds, selections, the tree, a lost document, and a
+grammar with a conflict. It is looked at on a terminal (tests/screens.py). Pictures of both are drawn the same way."""
+
+import os
+
+import screens
+from surroundings import placed, surroundings
+
+TOP = os.path.dirname(os.path.dirname(os.path.abspath(__file__)))
+DOCS = os.path.join(TOP, "docs")
+
+# A grammar with a conflict, the text that it shows, and the line that mends it.
+AMBIGUOUS = """lrgrammar 1
+token NUM = [0-9]+
+token PLUS = "+"
+skip WS = [ \\n]+
+start Sum
+Sum = NUM
+Sum = Sum PLUS Sum
+"""
+CONFLICT = [
+    "lrls: conflict on PLUS",
+    "after: Sum PLUS Sum",
+    "item: Sum = Sum PLUS Sum ., PLUS",
+    "item: Sum = Sum . PLUS Sum, end",
+]
+MENDED = AMBIGUOUS.replace("Sum PLUS Sum", "Sum PLUS NUM")
+
+# A text with a fold from its second line to its third one.
+FOLDED = "7+\n(3\n+4)\n+5\n"
+TOO_LARGE = "1+" * 524_288 + "1"
+
+NEOVIM_INIT = """local lrls = dofile("{top}/editors/neovim.lua")
+lrls.add({{ name = "ambiguous", files = "*.amb", grammar = "{folder}/ambiguous.lr" }})
+vim.cmd("highlight Number ctermfg=1 | highlight Operator ctermfg=2 | highlight Visual ctermbg=4")
+"""
+EMACS_INIT = """(setq native-comp-deferred-compilation nil native-comp-async-report-warnings-errors nil)
+(setq inhibit-startup-screen t make-backup-files nil auto-save-default nil create-lockfiles nil)
+(load "{top}/editors/emacs.el")
+(lrls-add-language "ambiguous" "\\\\.amb\\\\'" "{folder}/ambiguous.lr")
+(defun trial-region ()
+  (interactive)
+  (message "selected: %S" (and (use-region-p) (buffer-substring-no-properties (region-beginning) (region-end)))))
+(global-set-key (kbd "<f5>") #'trial-region)
+"""
+
+
+def prepared(folder):
+    placed(folder, "faulty.sum", "1+(2\n")
+    placed(folder, "folded.sum", FOLDED)
+    placed(folder, "large.sum", TOO_LARGE)
+    placed(folder, "some.amb", "1+2\n")
+    placed(folder, "ambiguous.lr", AMBIGUOUS)
+
+
+def walk(screen, steps):
+    """Presses the keys of each step, and looks whether the screen has its parts. What is wrong in the first wrong step."""
+    for name, keys, parts, without in steps:
+        screen.press(*keys)
+        wrong = screen.shows(parts, without)
+        if wrong:
+            return [f"{name}: {what}" for what in wrong]
+    return []
+
+
+# Steps: a name, the keys, and what the screen shows and doesn't show then.
+NEOVIM_FAULTS = [
+    ("opened", [], ["E 1+(2 ", "unexpected end; expected PLUS, RP"], []),
+    ("mended, while typing", ["A", "text:)"], ["-- INSERT --", "1+(2)"], ["unexpected", "E 1"]),
+    ("faulty, while typing", ["text:+"], ["-- INSERT --", "E 1+(2)+ ", "unexpected end; expected NUM, LP"], []),
+    ("undone", ["Escape", "u"], ["1+(2", "unexpected end; expected PLUS, RP"], []),
+]
+NEOVIM_FOLDS = [
+    ("all folds closed", ["zM"], ["+--  2 lines: (3", "7+\n", "+5"], ["+4)"]),
+    ("a fault before a fold", ["g", "g", "A", "text:+", "Escape"], ["unexpected PLUS", "+--  2 lines: (3"], ["+4)"]),
+    ("a line before a fold", ["O", "text:1+", "Escape"], ["1+\n", "+--  2 lines: (3"], ["+4)"]),
+    ("mended", ["u", "u"], ["7+\n", "+--  2 lines: (3"], ["unexpected", "+4)"]),
+    ("a longer fold", ["j", "z", "o", "A", "text:+1", "Enter", "text:+2", "Escape", "z", "c"], ["+--  3 lines: (3+1"], []),
+]
+SHOW = ["y", "text::echo getreg()", "Enter"]
+NEOVIM_SELECTIONS = [
+    ("a token", ["text:/3", "Enter", "M-o", "text:y:echo '<' . getreg() . '>'", "Enter"], ["<3>"], []),
+    ("a sum", ["M-o", "M-o", "text:y:echo '<' . substitute(getreg(), nr2char(10), '|', '') . '>'", "Enter"], ["<3|+4>"], []),
+    ("grown and shrunk", ["M-o", "M-o", "M-o", "M-i", "text:y:echo '{' . substitute(getreg(), nr2char(10), '|', '') . '}'", "Enter"],
+     ["{3|+4}"], []),
+    ("shrunk to nothing", ["M-o", "text:", "M-i"], [], ["VISUAL"]),
+]
+TREE = """Sum
+  Sum
+    Sum
+      Atom
+        NUM  7
+    PLUS  +
+    Atom
+      LP  (
+      Sum
+        Sum
+          Atom
+            NUM  3
+        PLUS  +
+        Atom
+          NUM  4
+      RP  )
+  PLUS  +
+  Atom
+    NUM  5
+"""
+NEOVIM_ENDS = [
+    ("a lost document", ["text::edit large.sum", "Enter"], ["lrls: document lost: too large"], []),
+    ("asked about it", ["Enter", "text::LrlsTree", "Enter"], ["lrls: document lost: too large"], ["│"]),
+    ("a conflict", ["Enter", "text::edit some.amb", "Enter"], CONFLICT, []),
+]
+
+
+def neovim_words():
+    return ["nvim", "-n", "-i", "NONE", "-u", "init.lua"]
+
+
+def neovim_tree(screen):
+    """The tree beside the text, with the node under the cursor marked."""
+    screen.press("text:/3", "Enter", "text::LrlsTree", "Enter")
+    wrong = screen.shows([line.strip() for line in TREE.strip().split("\n")])
+    beside = [line.partition("│")[2] for line in screen.text().split("\n")]
+    at = beside.index("Sum") if "Sum" in beside else 0
+    if beside[at : at + 19] != TREE.rstrip("\n").split("\n"):
+        wrong.append(f"another tree:\n{screen.text()}")
+    for keys, marked, other in [([], "NUM  3", "NUM  4"), (["j", "text:0l"], "NUM  4", "NUM  3")]:
+        screen.press(*keys)
+        wrong += screen.shows(["NUM  3"])
+        if not screens.waited(lambda: (screen.style_of(marked).back, screen.style_of(other).back) == (4, None)):
+            wrong.append(f"another mark than at {marked}: {screen.style_of(marked)}, {screen.style_of(other)}")
+    screen.press("text::LrlsTree", "Enter")
+    return wrong + screen.shows(["folded.sum"], ["NUM"])
+
+
+def neovim_colours(screen):
+    fronts = lambda: [screen.style_of(text).front for text in ("7", "+\n"[:1], "5")]
+    if screens.waited(lambda: fronts() == [1, 2, 1]):
+        return []
+    return [f"other colours: {fronts()}"]
+
+
+def try_neovim(folder):
+    prepared(folder)
+    placed(folder, "init.lua", NEOVIM_INIT.format(top=TOP, folder=folder))
+    environment = surroundings(folder)
+    with screens.Screen(folder, [*neovim_words(), "faulty.sum"], environment) as screen:
+        wrong = walk(screen, NEOVIM_FAULTS)
+    with screens.Screen(folder, [*neovim_words(), "folded.sum"], environment) as screen:
+        wrong += screen.shows(["7+"]) or neovim_colours(screen)
+        wrong += neovim_tree(screen)
+        wrong += walk(screen, NEOVIM_SELECTIONS)
+    with screens.Screen(folder, [*neovim_words(), "folded.sum"], environment) as screen:
+        wrong += screen.shows(["7+"]) or walk(screen, NEOVIM_FOLDS)
+    with screens.Screen(folder, [*neovim_words(), "faulty.sum"], environment) as screen:
+        wrong += screen.shows(["unexpected end"]) or walk(screen, NEOVIM_ENDS)
+        placed(folder, "ambiguous.lr", MENDED)
+        keys = ["Enter", "text::LrlsRestart", "Enter", "A", "text:+"]
+        wrong += walk(screen, [("restarted", keys, ["1+2+", "unexpected end; expected NUM"], [])])
+    print(f"neovim-screen: {len(NEOVIM_FAULTS + NEOVIM_FOLDS + NEOVIM_SELECTIONS + NEOVIM_ENDS) + 4} looks at the screen")
+    return wrong
+
+
+EMACS_STEPS = [
+    ("opened", [], ["Flymake[1 0]"], []),
+    ("mended", ["C-e", "text:)"], ["1+(2)", "Flymake[0 0]"], []),
+    ("faulty", ["text:+"], ["1+(2)+", "Flymake[1 0]"], []),
+    ("no symbols", ["M-x", "text:imenu", "Enter"], ["imenu unavailable"], ["method not found", "eglot/error"]),
+    ("another file", ["C-x", "C-f", "text:folded.sum", "Enter"], ["7+", "+4)", "Flymake"], ["1 0]"]),
+    ("a fold closed", ["C-n", "C-c", "C-f"], ["(3...\n+5"], ["+4)"]),
+    ("a fault before a fold", ["C-p", "C-e", "text:+"], ["7++", "Flymake[1 0]", "(3...\n+5"], ["+4)"]),
+    ("a fold opened while the text is faulty", ["C-n", "C-c", "C-f"], ["7++\n(3\n+4)\n+5"], []),
+    ("and closed", ["C-c", "C-f"], ["7++\n(3...\n+5"], []),
+    ("mended", ["C-c", "C-f", "C-p", "C-e", "BSpace"], ["7+\n", "Flymake[0 0]"], ["7++"]),
+    ("a token", ["C-n", "C-a", "C-f", "C-c", "C-e", "F5"], ['selected: "3"'], []),
+    ("a sum", ["C-c", "C-e", "F5"], ['selected: "3\n+4"'], []),
+    ("an atom", ["C-c", "C-e", "F5"], ['selected: "(3\n+4)"'], []),
+    ("shrunk", ["C-c", "C-s", "F5"], ['selected: "3\n+4"'], []),
+    ("shrunk to nothing", ["C-c", "C-s", "C-c", "C-s", "F5"], ["selected: nil"], []),
+    ("a lost document", ["C-x", "C-f", "text:large.sum", "Enter"], ["document lost: too large"], []),
+    ("asked about it", ["C-x", "1", "C-c", "C-e"], ["lrls: document lost: too large"], []),
+    ("a conflict", ["C-x", "C-f", "text:some.amb", "Enter"], CONFLICT, []),
+]
+
+
+def try_emacs(folder):
+    prepared(folder)
+    init = placed(folder, "init.el", EMACS_INIT.format(top=TOP, folder=folder))
+    words = ["emacs", "-nw", "-q", "-l", init, "faulty.sum"]
+    with screens.Screen(folder, words, surroundings(folder)) as screen:
+        wrong = walk(screen, EMACS_STEPS)
+        placed(folder, "ambiguous.lr", MENDED)
+        keys = ["M-x", "text:lrls-restart", "Enter"]
+        wrong = wrong or walk(
+            screen,
+            [
+                ("restarted", keys, ["Connected!"], []),
+                ("its own grammar", ["C-e", "text:("], ["1+2(", "Flymake[1 0]"], []),
+            ],
+        )
+    print(f"emacs-screen: {len(EMACS_STEPS) + 2} looks at the screen")
+    return wrong
+
+
+# Pictures.
+
+SCRIPT = """// The greatest of some numbers.
+fn greatest(numbers) {
+    let found = nil;
+    for number in numbers {
+        if found == nil or number > found {
+            found = number;
+        }
+    }
+    return found;
+}
+
+fn is_even(number) {
+    return number % 2 == 0;
+}
+
+let name = "lrls";
+print(name, greatest([1, 8.5, 3]));
+"""
+
+
+def picture_neovim(folder):
+    return []
+
+
+def picture_emacs(folder):
+    return []

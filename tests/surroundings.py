@@ -1,0 +1,16 @@
+"""Where an editor is tried: a folder of its own, and no file of its user."""
+
+import os
+
+
+def surroundings(folder):
+    """The environment of an editor that reads no file of its user."""
+    own = {key: value for key, value in os.environ.items() if not key.startswith("XDG_") and key != "TMUX"}
+    return {**own, "HOME": folder, "TERM": "xterm", "LANG": "C.UTF-8", "LC_ALL": "C.UTF-8"}
+
+
+def placed(folder, name, text):
+    path = os.path.join(folder, name)
+    with open(path, "w", encoding="utf-8", newline="") as file:
+        file.write(text)
+    return path
