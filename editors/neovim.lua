@@ -374,26 +374,27 @@ end
 -- Writes the tree into its window. Where the text has a fault there is none, and the last one stays.
 local function draw_tree(buffer, tree, encoding)
   local state = served[buffer]
-  local view = state.tree
-  local lines = { "The text has a fault: this is the tree of before." }
-  if tree then
-    view.nodes, view.leaves = nodes_of(tree), leaves_of(tree, state.tokens)
-    lines = { "" }
+  local view, lines = state.tree, {}
+  for _, window in ipairs(vim.fn.win_findbuf(view.buffer)) do
+    vim.wo[window].statusline = tree and "tree" or "the text has a fault: this is the tree before it"
   end
+  if not tree then
+    return
+  end
+  view.nodes, view.leaves, view.tick = nodes_of(tree), leaves_of(tree, state.tokens), state.tick
   for _, node in ipairs(view.nodes) do
     local text = node.is_token and "  " .. text_of(buffer, view.leaves[node.first], encoding) or ""
-    node.line = tree and ("  "):rep(node.depth) .. node.name .. text or node.line
-    table.insert(lines, node.line)
+    table.insert(lines, ("  "):rep(node.depth) .. node.name .. text)
   end
   vim.bo[view.buffer].modifiable = true
   vim.api.nvim_buf_set_lines(view.buffer, 0, -1, false, lines)
   vim.bo[view.buffer].modifiable = false
 end
 
--- Marks in the window of the tree the innermost node around the cursor.
+-- Marks in the window of the tree the innermost node around the cursor, where the tree is that of the text.
 local function mark_node(buffer)
   local view, client = served[buffer].tree, client_of(buffer)
-  if not view or not client or #view.nodes == 0 then
+  if not view or not client or view.tick ~= tick_of(buffer) then
     return
   end
   local cursor = vim.api.nvim_win_get_cursor(0)
@@ -408,9 +409,14 @@ local function mark_node(buffer)
     end
   end
   vim.api.nvim_buf_clear_namespace(view.buffer, marks, 0, -1)
-  vim.api.nvim_buf_set_extmark(view.buffer, marks, innermost, 0, { line_hl_group = "Visual" })
+  vim.api.nvim_buf_set_extmark(view.buffer, marks, innermost - 1, 0, { line_hl_group = "Visual" })
   for _, window in ipairs(vim.fn.win_findbuf(view.buffer)) do
-    vim.api.nvim_win_set_cursor(window, { innermost + 1, 0 })
+    vim.api.nvim_win_call(window, function()
+      local indent = 2 * view.nodes[innermost].depth
+      vim.api.nvim_win_set_cursor(0, { innermost, indent })
+      vim.cmd("normal! zz")
+      vim.fn.winrestview({ leftcol = math.max(0, indent - math.floor(vim.api.nvim_win_get_width(0) / 2)) })
+    end)
   end
 end
 
@@ -429,10 +435,10 @@ local function refresh_tree(buffer)
   end)
 end
 
--- The number of the node in the line of the tree's window that the cursor is in: goes to its text.
+-- Goes to the text of the node that the cursor is on in the window of the tree.
 local function go_to_node(buffer)
   local view, client = served[buffer].tree, client_of(buffer)
-  local node = view.nodes[vim.api.nvim_win_get_cursor(0)[1] - 1]
+  local node = view.nodes[vim.api.nvim_win_get_cursor(0)[1]]
   local leaf = node and view.leaves[node.first]
   local window = vim.fn.win_findbuf(buffer)[1]
   if leaf and window and client then
@@ -653,14 +659,10 @@ local function shrink(buffer)
   end
 end
 
--- Opens the window of the tree, or closes it.
-local function toggle_tree(buffer)
-  local state = served[buffer]
-  if state.tree then
-    return vim.api.nvim_buf_delete(state.tree.buffer, { force = true })
-  end
+-- Opens a window for the tree, beside the current one.
+local function open_tree(buffer)
   local own = vim.api.nvim_create_buf(false, true)
-  state.tree = { buffer = own, nodes = {}, leaves = {} }
+  served[buffer].tree = { buffer = own, nodes = {}, leaves = {} }
   vim.bo[own].bufhidden = "wipe"
   local window = vim.api.nvim_get_current_win()
   vim.cmd("rightbelow vertical sbuffer " .. own)
@@ -671,18 +673,52 @@ local function toggle_tree(buffer)
   vim.api.nvim_create_autocmd("BufWipeout", {
     buffer = own,
     callback = function()
-      state.tree = nil
+      if served[buffer] then
+        served[buffer].tree = nil
+      end
     end,
   })
   vim.api.nvim_set_current_win(window)
+end
+
+-- Opens the window of the tree, or closes it.
+local function toggle_tree(buffer)
+  local state = served[buffer]
+  if state.tree then
+    return vim.api.nvim_buf_delete(state.tree.buffer, { force = true })
+  end
   local tokens = ask_now(buffer, "lr/tokens", {})
   if tokens then
     state.tokens, state.tick = tokens, tick_of(buffer)
+    open_tree(buffer)
     refresh_tree(buffer)
   end
 end
 
 -- Buffers.
+
+-- Sends the whole text. Where all lines are deleted Neovim reports the line break that it keeps as deleted too, and from then on
+-- the server's text would lack its last line break.
+local function resend(buffer)
+  local client = client_of(buffer)
+  if not client then
+    return
+  end
+  -- Before a request Neovim sends the changes that it still holds back.
+  ask(buffer, "lr/stats", {}, function() end)
+  local text = table.concat(vim.api.nvim_buf_get_lines(buffer, 0, -1, true), "\n") .. "\n"
+  local document = { uri = vim.uri_from_bufnr(buffer), version = tick_of(buffer) }
+  local params = { textDocument = document, contentChanges = { { text = text } } }
+  if is_new then
+    client:notify("textDocument/didChange", params)
+  else
+    client.notify("textDocument/didChange", params)
+  end
+end
+
+local function is_empty(buffer)
+  return vim.api.nvim_buf_line_count(buffer) == 1 and line_of(buffer, 0) == ""
+end
 
 -- Follows the changes of a buffer.
 local function follow(buffer)
@@ -694,6 +730,11 @@ local function follow(buffer)
       end
       move_folds(buffer, first, last, new_last)
       refresh_soon(buffer)
+      if is_empty(buffer) then
+        vim.schedule(function()
+          resend(buffer)
+        end)
+      end
     end,
     on_reload = function()
       refresh_soon(buffer)

@@ -219,14 +219,72 @@ fn is_even(number) {
     return number % 2 == 0;
 }
 
-let name = "lrls";
-print(name, greatest([1, 8.5, 3]));
+print(greatest([1, 8.5]));
+"""
+KEYWORDS = "LET FN IF ELSE WHILE FOR IN RETURN BREAK AND OR NOT".split()
+CONSTANTS = "NUMBER TRUE FALSE NIL".split()
+COMMENTS = "LINE_COMMENT BLOCK_COMMENT COMMENT".split()
+CLASSES = [
+    (KEYWORDS, "Keyword", "font-lock-keyword-face"),
+    (CONSTANTS, "Constant", "font-lock-constant-face"),
+    (COMMENTS, "Comment", "font-lock-comment-face"),
+    (["STRING"], "String", "font-lock-string-face"),
+    (["NAME"], "Identifier", "font-lock-variable-name-face"),
+]
+NEOVIM_SCRIPT = """local lrls = dofile("{top}/editors/neovim.lua")
+lrls.add({{
+  name = "script",
+  files = "*.script",
+  grammar = "{top}/grammars/script.lr",
+  comment = "// %s",
+  colours = {{ {colours} }},
+}})
+vim.cmd("set noshowcmd noruler nohlsearch background=dark")
+vim.cmd("highlight SignColumn ctermbg=NONE | highlight Folded ctermbg=NONE")
+"""
+EMACS_SCRIPT = """(setq native-comp-deferred-compilation nil native-comp-async-report-warnings-errors nil)
+(setq inhibit-startup-screen t make-backup-files nil auto-save-default nil create-lockfiles nil)
+(setq frame-background-mode 'dark)
+(menu-bar-mode 0)
+(load "{top}/editors/emacs.el")
+(lrls-add-language "script" "\\\\.script\\\\'" "{top}/grammars/script.lr" "//"
+                   '({faces}))
+(setq flymake-no-changes-timeout 0.1)
 """
 
 
-def picture_neovim(folder):
+def written(screen, name, columns):
+    with open(os.path.join(DOCS, name), "w", encoding="utf-8") as file:
+        file.write(screens.picture(screen.cells(), columns))
     return []
+
+
+def picture_neovim(folder):
+    colours = ", ".join(f'{rule} = "{group}"' for rules, group, _ in CLASSES for rule in rules)
+    placed(folder, "init.lua", NEOVIM_SCRIPT.format(top=TOP, colours=colours))
+    placed(folder, "greatest.script", SCRIPT)
+    words = [*neovim_words(), "greatest.script"]
+    with screens.Screen(folder, words, surroundings(folder), 130, 22) as screen:
+        wrong = screen.shows(["print(greatest"]) or ["no colours"] * (not screens.waited(lambda: screen.style_of("fn").front, 60))
+        screen.press("text::LrlsTree", "Enter", "text::vertical resize 69", "Enter", "text:/is_even", "Enter", "text:zc")
+        screen.press("text:/found =", "Enter")
+        wrong = wrong or screen.shows(["NAME  found", "+--  3 lines: fn is_even"])
+        screen.press("text:f;", "text:i + ")
+        wrong = wrong or screen.shows(["unexpected SEMICOLON", "this is the tree before it", "+--  3 lines"])
+        return wrong or written(screen, "neovim.svg", 130)
 
 
 def picture_emacs(folder):
-    return []
+    faces = " ".join(f'("{rule}" . {face})' for rules, _, face in CLASSES for rule in rules)
+    init = placed(folder, "init.el", EMACS_SCRIPT.format(top=TOP, faces=faces))
+    placed(folder, "greatest.script", SCRIPT)
+    words = ["emacs", "-nw", "-q", "-l", init, "greatest.script"]
+    with screens.Screen(folder, words, surroundings(folder), 90, 22) as screen:
+        wrong = screen.shows(["print(greatest", "Flymake"]) or ["no colours"] * (
+            not screens.waited(lambda: screen.style_of("fn").front, 60)
+        )
+        screen.press("C-s", "text:is_even", "Enter", "C-c", "C-f", "C-s", "text:8.5", "Enter", "text:, ")
+        wrong = wrong or screen.shows(["Flymake[1 0]", "fn is_even(number) {..."])
+        screen.press("M-x", "text:flymake-show-buffer-diagnostics", "Enter")
+        wrong = wrong or screen.shows(["unexpected RBRACKET"])
+        return wrong or written(screen, "emacs.svg", 90)

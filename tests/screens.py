@@ -59,6 +59,14 @@ class Screen:
             else:
                 self.tmux("send-keys", key)
 
+    def press_all(self, keys):
+        """The same by one call of tmux, for many keys."""
+        commands = []
+        for key in keys:
+            text = ["-l", "--", key[5:]] if key.startswith("text:") else [key]
+            commands += [*([";"] * bool(commands)), "send-keys", *text]
+        self.tmux(*commands)
+
     def text(self):
         return "\n".join(line.rstrip() for line in self.tmux("capture-pane", "-p").split("\n")).rstrip()
 
@@ -170,10 +178,14 @@ def drawn_run(run, y, paper, ink):
     x, width, found = first * 8, count * 8, []
     if back != paper:
         found.append(f'<rect x="{x}" y="{y}" width="{width}" height="17" fill="{back}"/>')
-    if text.strip():
+    # Not all that draw an SVG keep blanks at the ends of a text.
+    inked = text.strip()
+    if inked:
+        blanks = len(text) - len(text.lstrip())
+        x, width = x + 8 * blanks, width - 8 * (len(text) - len(inked))
         more = ' font-weight="bold"' * style.bold + ' text-decoration="underline"' * style.underlined
         place = f'x="{x}" y="{y + 13}" textLength="{width}" fill="{front}"'
-        found.append(f"<text {place}{more}>{html.escape(text)}</text>")
+        found.append(f"<text {place}{more}>{html.escape(inked)}</text>")
     return found
 
 
@@ -181,8 +193,7 @@ def picture(rows, columns, paper="#1e1e1e", ink="#d4d4d4"):
     """An SVG of a screen."""
     size = f'width="{columns * 8}" height="{len(rows) * 17}"'
     found = [
-        f'<svg xmlns="http://www.w3.org/2000/svg" {size} font-family="monospace" font-size="13">',
-        "<style>text { white-space: pre }</style>",
+        f'<svg xmlns="http://www.w3.org/2000/svg" {size} font-family="monospace" font-size="13" xml:space="preserve">',
         f'<rect {size} fill="{paper}"/>',
     ]
     for number, row in enumerate(rows):
