@@ -53,19 +53,13 @@ class Screen:
 
     def press(self, *keys):
         """Presses keys by tmux's names; `text:` and a text types this text."""
-        for key in keys:
-            if key.startswith("text:"):
-                self.tmux("send-keys", "-l", "--", key[5:])
-            else:
-                self.tmux("send-keys", key)
-
-    def press_all(self, keys):
-        """The same by one call of tmux, for many keys."""
         commands = []
         for key in keys:
-            text = ["-l", "--", key[5:]] if key.startswith("text:") else [key]
-            commands += [*([";"] * bool(commands)), "send-keys", *text]
-        self.tmux(*commands)
+            commands += [*([";"] * bool(commands)), "send-keys"]
+            # A semicolon at the end of a word ends a command of tmux.
+            commands += ["-l", "--", re.sub(";$", r"\\;", key[5:])] if key.startswith("text:") else [key]
+        if commands:
+            self.tmux(*commands)
 
     def text(self):
         return "\n".join(line.rstrip() for line in self.tmux("capture-pane", "-p").split("\n")).rstrip()
@@ -73,7 +67,7 @@ class Screen:
     def cells(self):
         return [cells_of(line) for line in self.tmux("capture-pane", "-p", "-e", "-N").rstrip("\n").split("\n")]
 
-    def shows(self, parts, without=(), seconds=20):
+    def shows(self, parts, without=(), seconds=60):
         """Waits until each of the parts is on the screen, and nothing of what it has to be without. What is wrong at last."""
         end = time.time() + seconds
         while True:
@@ -202,7 +196,7 @@ def picture(rows, columns, paper="#1e1e1e", ink="#d4d4d4"):
     return "\n".join([*found, "</svg>", ""])
 
 
-def waited(is_so, seconds=10):
+def waited(is_so, seconds=60):
     """Whether this becomes so within some seconds."""
     end = time.time() + seconds
     while time.time() < end:

@@ -29,7 +29,7 @@ NEOVIM_INIT = """dofile("{top}/editors/neovim.lua")
 vim.opt.swapfile = false
 vim.api.nvim_create_user_command("Compare", function()
   local params = {{ textDocument = {{ uri = vim.uri_from_bufnr(0) }} }}
-  local answers = vim.lsp.buf_request_sync(0, "lr/text", params, 20000)
+  local answers = vim.lsp.buf_request_sync(0, "lr/text", params, 60000)
   local _, answer = next(answers)
   local text = table.concat(vim.api.nvim_buf_get_lines(0, 0, -1, true), "\\n") .. "\\n"
   local file = io.open("part", "w")
@@ -66,7 +66,7 @@ def compared(screen, folder, keys):
     if os.path.exists(path):
         os.remove(path)
     screen.press(*keys)
-    if not screens.waited(lambda: os.path.exists(path), 60):
+    if not screens.waited(lambda: os.path.exists(path), 300):
         return None
     with open(path, encoding="utf-8") as file:
         return json.load(file)
@@ -94,7 +94,7 @@ def session(name, screen, folder, minutes, some, compare, restart):
         while len(keys) < KEYS_A_MINUTE:
             keys += some(choice)
         for first in range(0, len(keys), 50):
-            screen.press_all(keys[first : first + 50])
+            screen.press(*keys[first : first + 50])
         told = compared(screen, folder, compare)
         if not told or told["editor"] != told["server"]:
             return [f"after {minute} minutes: {told or screen.text()}"]
