@@ -413,8 +413,11 @@ local function mark_node(buffer)
   for _, window in ipairs(vim.fn.win_findbuf(view.buffer)) do
     vim.api.nvim_win_call(window, function()
       local indent = 2 * view.nodes[innermost].depth
+      local is_shown = innermost >= vim.fn.line("w0") and innermost <= vim.fn.line("w$")
       vim.api.nvim_win_set_cursor(0, { innermost, indent })
-      vim.cmd("normal! zz")
+      if not is_shown then
+        vim.cmd("normal! zz")
+      end
       vim.fn.winrestview({ leftcol = math.max(0, indent - math.floor(vim.api.nvim_win_get_width(0) / 2)) })
     end)
   end

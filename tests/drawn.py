@@ -28,7 +28,8 @@ MENDED = AMBIGUOUS.replace("Sum PLUS Sum", "Sum PLUS NUM")
 
 # A text with a fold from its second line to its third one.
 FOLDED = "7+\n(3\n+4)\n+5\n"
-TOO_LARGE = "1+" * 524_288 + "1"
+# More than 1,048,576 bytes.
+TOO_LARGE = ("1+" * 32 + "\n") * 16_200 + "1\n"
 
 NEOVIM_INIT = """local lrls = dofile("{top}/editors/neovim.lua")
 lrls.add({{ name = "ambiguous", files = "*.amb", grammar = "{folder}/ambiguous.lr" }})
@@ -178,7 +179,7 @@ EMACS_STEPS = [
     ("shrunk", ["C-c", "C-s", "F5"], ['selected: "3\n+4"'], []),
     ("shrunk to nothing", ["C-c", "C-s", "C-c", "C-s", "F5"], ["selected: nil"], []),
     ("a lost document", ["C-x", "C-f", "text:large.sum", "Enter"], ["document lost: too large"], []),
-    ("asked about it", ["C-x", "1", "C-c", "C-e"], ["lrls: document lost: too large"], []),
+    ("asked about it", ["C-x", "1", "C-c", "C-e"], ["lrls: document lost: too large"], ["*lrls*"]),
     ("a conflict", ["C-x", "C-f", "text:some.amb", "Enter"], CONFLICT, []),
 ]
 

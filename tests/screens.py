@@ -10,6 +10,7 @@ import html
 import os
 import re
 import subprocess
+import tempfile
 import time
 import unicodedata
 
@@ -30,7 +31,8 @@ class Screen:
     """A program on a terminal, which ends when the `with` block ends."""
 
     def __init__(self, folder, words, environment, columns=100, rows=24):
-        self.socket = os.path.join(folder, "tmux")
+        # One of its own for each, since a server of tmux takes some time to end.
+        self.socket = os.path.join(tempfile.mkdtemp(dir=folder), "tmux")
         self.environment = environment
         configuration = os.path.join(folder, "tmux.conf")
         with open(configuration, "w", encoding="utf-8") as file:
@@ -46,9 +48,10 @@ class Screen:
 
     def tmux(self, *words):
         """What tmux prints."""
-        ran = subprocess.run(
-            ["tmux", "-S", self.socket, *words], env=self.environment, capture_output=True, timeout=60, check=True
-        )
+        words = ["tmux", "-S", self.socket, *words]
+        ran = subprocess.run(words, env=self.environment, capture_output=True, timeout=120, check=False)
+        if ran.returncode != 0:
+            raise RuntimeError(f"{words} ended with status {ran.returncode}: {ran.stderr.decode()}")
         return ran.stdout.decode()
 
     def press(self, *keys):
@@ -68,10 +71,11 @@ class Screen:
         return [cells_of(line) for line in self.tmux("capture-pane", "-p", "-e", "-N").rstrip("\n").split("\n")]
 
     def shows(self, parts, without=(), seconds=60):
-        """Waits until each of the parts is on the screen, and nothing of what it has to be without. What is wrong at last."""
+        """Waits until each of the parts is on the screen, and nothing of what it has to be without. What is wrong at last. Blanks
+        at the beginning of a line don't count, since an editor may have a margin there."""
         end = time.time() + seconds
         while True:
-            text = self.text()
+            text = "\n".join(line.lstrip() for line in self.text().split("\n"))
             missing = [part for part in parts if part not in text]
             missing += [f"not: {part}" for part in without if part in text]
             if not missing or time.time() > end:
