@@ -1,5 +1,5 @@
-"""What Neovim and Emacs draw with the files of editors/: diagnostics, colours, folds, selections, the tree, a lost document, and a
-grammar with a conflict. It is looked at on a terminal (tests/screens.py). Pictures of both are drawn the same way."""
+"""What Neovim and Emacs draw with the files of editors/: diagnostics, colours, folds, selections, the tree, a lost document, and
+a grammar with a conflict. It is looked at on a terminal (tests/screens.py). Pictures of both are drawn the same way."""
 
 import os
 
@@ -78,13 +78,14 @@ NEOVIM_FOLDS = [
     ("mended", ["u", "u"], ["7+\n", "+--  2 lines: (3"], ["unexpected", "+4)"]),
     ("a longer fold", ["j", "z", "o", "A", "text:+1", "Enter", "text:+2", "Escape", "z", "c"], ["+--  3 lines: (3+1"], []),
 ]
-SHOW = ["y", "text::echo getreg()", "Enter"]
+# Takes what is selected over, and shows it in one line.
+SHOWN = ["text:y:echo '<' . substitute(getreg(), nr2char(10), '|', '') . '>'", "Enter"]
 NEOVIM_SELECTIONS = [
-    ("a token", ["text:/3", "Enter", "M-o", "text:y:echo '<' . getreg() . '>'", "Enter"], ["<3>"], []),
-    ("a sum", ["M-o", "M-o", "text:y:echo '<' . substitute(getreg(), nr2char(10), '|', '') . '>'", "Enter"], ["<3|+4>"], []),
-    ("grown and shrunk", ["M-o", "M-o", "M-o", "M-i", "text:y:echo '{' . substitute(getreg(), nr2char(10), '|', '') . '}'", "Enter"],
-     ["{3|+4}"], []),
-    ("shrunk to nothing", ["M-o", "text:", "M-i"], [], ["VISUAL"]),
+    ("a token", ["text:/3", "Enter", "M-o", *SHOWN], ["<3>"], []),
+    ("a sum", ["M-o", "M-o", *SHOWN], ["<3|+4>"], []),
+    ("an atom", ["M-o", "M-o", "M-o", *SHOWN], ["<(3|+4)>"], []),
+    ("grown and shrunk", ["text:/3", "Enter", "M-o", "M-o", "M-o", "M-i", *SHOWN], ["<3|+4>"], []),
+    ("shrunk to nothing", ["M-o", "M-i"], [], ["VISUAL"]),
 ]
 TREE = """Sum
   Sum
@@ -135,7 +136,7 @@ def neovim_tree(screen):
 
 
 def neovim_colours(screen):
-    fronts = lambda: [screen.style_of(text).front for text in ("7", "+\n"[:1], "5")]
+    fronts = lambda: [screen.style_of(text).front for text in ("7", "+", "5")]
     if screens.waited(lambda: fronts() == [1, 2, 1]):
         return []
     return [f"other colours: {fronts()}"]

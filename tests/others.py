@@ -51,7 +51,8 @@ def lsp_mode(folder, draws=False):
 (setq inhibit-startup-screen t make-backup-files nil auto-save-default nil create-lockfiles nil)
 (package-initialize)
 (setq lsp-auto-guess-root t)
-(global-set-key (kbd "<f5>") (lambda () (interactive) (message "selected: %S" (buffer-substring (region-beginning) (region-end)))))
+(defun show () (interactive) (message "selected: %S" (buffer-substring (region-beginning) (region-end))))
+(global-set-key (kbd "<f5>") #'show)
 """
     init = placed(folder, "init.el", before + words_of("Emacs with lsp-mode"))
     steps = [

@@ -115,6 +115,8 @@ def changed(style, numbers):
             style = style._replace(underlined=number == 4)
         elif number in (7, 27):
             style = style._replace(reversed=number == 7)
+        elif number == 58:
+            colour_of(numbers)  # of the line below a text, which is drawn in the text's colour
         elif number in (38, 48):
             style = style._replace(**{"front" if number == 38 else "back": colour_of(numbers)})
         elif number in (39, 49):
@@ -129,11 +131,11 @@ def changed(style, numbers):
 def cells_of(line):
     """The cells of a line with escape sequences."""
     cells, style = [], Style()
-    for numbers, other, character in re.findall(r"\x1b\[([0-9;]*)m|(\x1b[^m]|\x0e|\x0f)|(.)", line):
+    for numbers, other, character in re.findall(r"\x1b\[([0-9;:]*)m|(\x1b[^m]|\x0e|\x0f)|(.)", line):
         if character:
             cells.append((character, style))
         elif not other:
-            style = changed(style, [int(number) for number in numbers.split(";") if number])
+            style = changed(style, [int(number.split(":")[0]) for number in numbers.split(";") if number])
     return cells
 
 

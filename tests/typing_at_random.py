@@ -54,7 +54,8 @@ EMACS_INIT = """(setq native-comp-deferred-compilation nil native-comp-async-rep
   (let ((coding-system-for-write 'utf-8)
         (server (plist-get (lrls--now :lr/text (lrls--document)) :text))
         (editor (buffer-substring-no-properties (point-min) (point-max))))
-    (write-region (json-encode (list :editor editor :server server :changes (buffer-chars-modified-tick))) nil "part" nil 'silent)
+    (write-region (json-encode (list :editor editor :server server :changes (buffer-chars-modified-tick)))
+                  nil "part" nil 'silent)
     (rename-file "part" "compared" t)))
 (global-set-key (kbd "<f5>") #'compare)
 """
@@ -100,7 +101,8 @@ def session(name, screen, folder, minutes, some, compare, restart):
             return [f"after {minute} minutes: {told or screen.text()}"]
         if len(told["editor"]) > 3000:
             screen.press(*restart)
-    print(f"{name}: {minute * KEYS_A_MINUTE} keys at random in {time.time() - begun:.0f} s, changes up to number {told['changes']}")
+    keys, seconds = minute * KEYS_A_MINUTE, time.time() - begun
+    print(f"{name}: {keys} keys at random in {seconds:.0f} s, changes up to number {told['changes']}")
     print(f"{name}: the last text has {len(told['editor'])} characters, and the server has the same")
     return []
 
