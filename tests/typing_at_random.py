@@ -44,7 +44,8 @@ EMACS_COMMANDS = [
     *"M-< M-> C-d BSpace BSpace C-k C-y C-w C-o C-t M-d M-u C-_ C-_ C-_ M-^ C-j".split(),
     *"C-@,C-n,C-w C-@,M-f,M-w C-c,C-e C-c,C-e,C-w C-c,C-e,C-c,C-e,C-c,C-s C-c,C-f".split(),
 ]
-EMACS_INIT = """(setq native-comp-deferred-compilation nil native-comp-async-report-warnings-errors nil ring-bell-function #'ignore)
+EMACS_INIT = """(setq native-comp-deferred-compilation nil native-comp-async-report-warnings-errors nil)
+(setq ring-bell-function #'ignore)
 (setq inhibit-startup-screen t make-backup-files nil auto-save-default nil create-lockfiles nil)
 ;; An error would throw away the keys that wait.
 (setq command-error-function #'ignore)
@@ -62,15 +63,17 @@ EMACS_INIT = """(setq native-comp-deferred-compilation nil native-comp-async-rep
 
 
 def compared(screen, folder, keys):
-    """What the editor writes once these keys are pressed: its text, the server's, and a number that grows with each change."""
+    """What the editor writes once these keys are pressed: its text, the server's, and a number that grows with each change. They
+    are pressed anew where nothing comes, since an editor's client gives up on an answer after some seconds."""
     path = os.path.join(folder, "compared")
     if os.path.exists(path):
         os.remove(path)
-    screen.press(*keys)
-    if not screens.waited(lambda: os.path.exists(path), 300):
-        return None
-    with open(path, encoding="utf-8") as file:
-        return json.load(file)
+    for _ in range(10):
+        screen.press(*keys)
+        if screens.waited(lambda: os.path.exists(path), 30):
+            with open(path, encoding="utf-8") as file:
+                return json.load(file)
+    return None
 
 
 def keys_of(word):
