@@ -17,6 +17,8 @@ import os
 import re
 import subprocess
 
+from serving import PATIENCE
+
 # Heads of tables that only explain.
 SHOWN = [
     ["Line", "Meaning"],
@@ -129,7 +131,7 @@ class Page:
     def run(self, command):
         """What a command of the shell prints on both streams, and its status."""
         ran = subprocess.run(
-            ["sh", "-c", command], cwd=self.folder, env=self.environment, capture_output=True, timeout=60, check=False
+            ["sh", "-c", command], cwd=self.folder, env=self.environment, capture_output=True, timeout=PATIENCE, check=False
         )
         return ran.stdout.decode(), ran.stderr.decode(), ran.returncode
 

@@ -3,10 +3,16 @@
 import json
 import os
 import subprocess
+import threading
+import time
 
 TOP = os.path.dirname(os.path.dirname(os.path.abspath(__file__)))
-START = os.path.join(TOP, "lrls")
-PROGRAM = os.path.join(TOP, "crates", "lrls", "out", "lrls")
+# The program that is run, and what builds it where it isn't built. LRLS_PROGRAM is another program, which is run as it is.
+OTHER = os.environ.get("LRLS_PROGRAM")
+START = os.path.abspath(OTHER) if OTHER else os.path.join(TOP, "lrls")
+PROGRAM = os.path.abspath(OTHER) if OTHER else os.path.join(TOP, "crates", "lrls", "out", "lrls")
+# After so many seconds without its end, or without a reply, a program has failed.
+PATIENCE = int(os.environ.get("LRLS_PATIENCE", "60"))
 SUMS = os.path.join(TOP, "grammars", "g0.lr")
 
 
@@ -47,7 +53,17 @@ class Session:
         self.process = subprocess.Popen(words, stdin=subprocess.PIPE, stdout=subprocess.PIPE, bufsize=0)
         self.input = self.process.stdin
         self.output = os.fdopen(os.dup(self.process.stdout.fileno()), "rb", buffering=1 << 16)
+        self.waits_since = None
+        threading.Thread(target=self.watch, daemon=True).start()
         self.send({"jsonrpc": "2.0", "id": 0, "method": "initialize", "params": {}})
+
+    def watch(self):
+        """Ends a server that hasn't replied for too long. What waits for its reply then meets the end of its output."""
+        while self.process.poll() is None:
+            since = self.waits_since
+            if since is not None and time.monotonic() - since > PATIENCE:
+                self.process.kill()
+            time.sleep(1)
 
     def write(self, frame):
         view = memoryview(frame)
@@ -55,7 +71,10 @@ class Session:
             view = view[self.input.write(view) :]
 
     def receive(self):
-        return received(self.output)
+        self.waits_since = time.monotonic()
+        content = received(self.output)
+        self.waits_since = None
+        return content
 
     def send(self, message, answers=1):
         """Sends a message that has so many answers, and returns the last one of them."""
@@ -88,10 +107,10 @@ class Session:
     def end(self):
         """Closes the input, and returns the status with which the server ends."""
         self.input.close()
-        return self.process.wait(timeout=60)
+        return self.process.wait(timeout=PATIENCE)
 
     def close(self):
         """Ends the server by `shutdown` and `exit`."""
         self.send({"jsonrpc": "2.0", "id": 0, "method": "shutdown"})
         self.write(framed({"jsonrpc": "2.0", "method": "exit"}))
-        return self.process.wait(timeout=60)
+        return self.process.wait(timeout=PATIENCE)
