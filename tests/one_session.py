@@ -75,3 +75,58 @@ SESSION = [
 
 def written(messages):
     return b"".join(framed(message) for message in messages)
+
+
+LOSS = "document lost: no memory"
+
+
+def note(method, params):
+    return {"jsonrpc": "2.0", "method": method, "params": params}
+
+
+def opened(text):
+    document = {"uri": URI, "languageId": "g", "version": 1, "text": text}
+    return note("textDocument/didOpen", {"textDocument": document})
+
+
+def edited(version, *changes):
+    document = {"uri": URI, "version": version}
+    return note("textDocument/didChange", {"textDocument": document, "contentChanges": list(changes)})
+
+
+def asked(method, params=None):
+    about = {"textDocument": {"uri": URI}, **(params or {})}
+    return {"jsonrpc": "2.0", "id": 4, "method": method, "params": about}
+
+
+def replied(result):
+    return {"id": 4, "jsonrpc": "2.0", "result": result}
+
+
+def talk(*messages):
+    """A session: these messages, each with what it is answered, between `initialize` and `shutdown`."""
+    return [SESSION[0], *messages, *SESSION[-2:]]
+
+
+def input_of(session):
+    """The bytes that the program reads of a session."""
+    return b"".join(framed(message) for message, _ in session)
+
+
+def outputs(session):
+    """What a session may write where memory is refused: first all answers, then those where one of its changes has lost the
+    document. Fronts of these are written where the program ends."""
+    yield written(answer for _, answer in session if answer is not None)
+    for place, (message, _) in enumerate(session):
+        if message["method"] != "textDocument/didChange":
+            continue
+        told = [answer for _, answer in session[:place]]
+        told.append(note("textDocument/publishDiagnostics", {"diagnostics": [], "uri": URI}))
+        told.append(note("window/logMessage", {"message": LOSS, "type": 1}))
+        for later, answer in session[place + 1 :]:
+            if later["method"] == "textDocument/didChange":
+                answer = None
+            elif "textDocument" in later.get("params", {}):
+                answer = {"error": {"code": -32803, "message": LOSS}, "id": later["id"], "jsonrpc": "2.0"}
+            told += [] if answer is None else [answer]
+        yield written(told)
