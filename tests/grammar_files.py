@@ -1,7 +1,8 @@
 """Grammar files, and what is printed of them.
 
 `SOUND` are accepted. `FAULTY` tell their first fault. `READ` are grammar files whose productions have a conflict: so their
-lines and names are sound, which is what a row shows. `CONFLICTS` are shown whole.
+lines and names are sound, which is what a row shows. `CONFLICTS` have one on a certain token; what is printed of them has to be
+true, by tests/conflicts.py. `FRONTS` are what one file shows where it is cut.
 """
 
 ONE = "lrgrammar 1\n"
@@ -77,23 +78,29 @@ def filled(size):
     return head + "x" * (size - len(head))
 
 
+def names(letter, first, last):
+    """The names of this letter and the numbers from first to last."""
+    return [f"{letter}{number}" for number in range(first, last + 1)]
+
+
+# Grammar files, and the names that no text uses, in the order of their notes: the tokens, then the nonterminals.
 SOUND = [
-    SUMS,
-    LISTS,
-    NOT_LALR,
-    ONE + 'token X = "x"\nstart token\ntoken = X\n',
-    "lrgrammar 1\r\n\ttoken  X\t=\t\"x\" \t\r\n# S = S\n \nstart S\r\nS = X",
-    HEAD + "S = A* B?\n",
-    EMPTY + rules(256, "X"),
-    ONE + "start S0\n" + lines(256, lambda n: f"S{n} =\n"),
-    ONE + 'start S\nS =\ntoken X = "x"\n' + "S =" + " X" * 16 + "\n",
-    productions(ONE, 1024, ""),
-    filled(65_536),
-    nonterminals(256, "S0 = X\n"),
-    nonterminals(254, "T = X*\n"),
-    long_sides(537),
-    one_pattern(nested(64)),
-    many_states(2_047),
+    (SUMS, []),
+    (LISTS, []),
+    (NOT_LALR, []),
+    (ONE + 'token X = "x"\nstart token\ntoken = X\n', []),
+    ("lrgrammar 1\r\n\ttoken  X\t=\t\"x\" \t\r\n# S = S\n \nstart S\r\nS = X", []),
+    (HEAD + "S = A* B?\n", []),
+    (EMPTY + rules(256, "X"), names("X", 0, 255)),
+    (ONE + "start S0\n" + lines(256, lambda n: f"S{n} =\n"), names("S", 1, 255)),
+    (ONE + 'start S\nS =\ntoken X = "x"\n' + "S =" + " X" * 16 + "\n", []),
+    (productions(ONE, 1024, ""), ["T32"]),
+    (filled(65_536), []),
+    (nonterminals(256, "S0 = X\n"), names("S", 1, 255)),
+    (nonterminals(254, "T = X*\n"), ["X", *names("S", 1, 253), "T"]),
+    (long_sides(537), []),
+    (one_pattern(nested(64)), []),
+    (many_states(2_047), []),
 ]
 
 READ = [
@@ -196,16 +203,102 @@ PATTERNS = [
     ('"a"?', "0: P5"),
 ]
 
+# Grammar files, and the token on which their conflicts are.
 CONFLICTS = [
-    (CHOICES, "conflict on ELSE\nafter: IF IF S\nitem: S = IF S ., ELSE\nitem: S = IF S . ELSE S, end"),
-    (TWO_AHEAD, "conflict on X\nafter: C\nitem: P = C ., X\nitem: Q = C ., X"),
-    (
-        ONE + 'token X = "x"\nstart S\nS = S\nS = X\n',
-        "conflict on end\nafter: S\nitem: (start) = S ., end\nitem: S = S ., end",
-    ),
-    (
-        ONE + 'token N = "1"\ntoken P = "+"\nstart S\nS = S P S\nS = N\n',
-        "conflict on P\nafter: S P S\nitem: S = S P S ., P\nitem: S = S . P S, end",
-    ),
-    (HEAD + "S = A? A\n", "conflict on A\nafter:\nitem: A? = ., A\nitem: A? = . A, A"),
+    (CHOICES, "ELSE"),
+    (TWO_AHEAD, "X"),
+    (ONE + 'token X = "x"\nstart S\nS = S\nS = X\n', "end"),
+    (ONE + 'token X = "x"\nstart S\nS = A\nS = B\nA = X\nB = X\n', "end"),
+    (ONE + 'token N = "1"\ntoken P = "+"\nstart S\nS = S P S\nS = N\n', "P"),
+    (HEAD + "S = A? A\n", "A"),
 ]
+
+NO_START = "lrls: line 0: G7 no start\n"
+NO_ATOM = "lrls: line 8: G8 not a nonterminal: Atom\n"
+UNUSED = "note: unreachable LP\nnote: unreachable RP\nok\n"
+
+
+def bad_line(number):
+    return f"lrls: line {number}: G2 bad line\n"
+
+
+def cut_pattern(number, place):
+    return f"lrls: line {number}: G6 bad pattern at {place}: P1\n"
+
+
+def undefined(number, name):
+    return f"lrls: line {number}: G4 undefined: {name}\n"
+
+
+def one_character(number, name, character):
+    """The pieces of a rule of one character."""
+    return [
+        (f"token {name} ", bad_line(number)),
+        ("= ", cut_pattern(number, 0)),
+        ('"', cut_pattern(number, 1)),
+        (character, cut_pattern(number, 2)),
+        ('"\n', NO_START),
+    ]
+
+
+# The pieces of grammars/g0.lr, and what is printed of the file where it ends anywhere in a piece, after its first byte. `None` stands
+# for a conflict on PLUS.
+FRONTS = [
+    ("lrgrammar ", "lrls: line 1: G1 first line\n"),
+    ("1\n", NO_START),
+    ("token NUM ", bad_line(2)),
+    ("= ", cut_pattern(2, 0)),
+    ("[", cut_pattern(2, 1)),
+    ("0", cut_pattern(2, 2)),
+    ("-", cut_pattern(2, 3)),
+    ("9", cut_pattern(2, 4)),
+    ("]+\n", NO_START),
+    *one_character(3, "PLUS", "+"),
+    *one_character(4, "LP", "("),
+    *one_character(5, "RP", ")"),
+    ("skip WS ", bad_line(6)),
+    ("= ", cut_pattern(6, 0)),
+    # the blank at the end of a line is no part of its pattern, and the place of an escape that is cut off is its backslash
+    ("[ ", cut_pattern(6, 1)),
+    ("\\", cut_pattern(6, 2)),
+    ("t", cut_pattern(6, 4)),
+    ("\\", cut_pattern(6, 4)),
+    ("r", cut_pattern(6, 6)),
+    ("\\", cut_pattern(6, 6)),
+    ("n", cut_pattern(6, 8)),
+    ("]+\n", NO_START),
+    ("start ", bad_line(7)),
+    ("S", "lrls: line 7: G8 not a nonterminal: S\n"),
+    ("u", "lrls: line 7: G8 not a nonterminal: Su\n"),
+    ("m\n", "lrls: line 7: G8 not a nonterminal: Sum\n"),
+    ("fold ", bad_line(8)),
+    ("Atom\n", "lrls: line 7: G8 not a nonterminal: Sum\n"),
+    ("Sum ", bad_line(9)),
+    ("= Sum PLUS Atom\n", NO_ATOM),
+    ("Sum ", bad_line(10)),
+    ("= Atom\n", NO_ATOM),
+    ("Atom ", bad_line(11)),
+    ("= ", "note: unreachable NUM\n" + UNUSED),
+    ("N", undefined(11, "N")),
+    ("U", undefined(11, "NU")),
+    ("M\n", UNUSED),
+    ("Atom ", bad_line(12)),
+    ("= ", UNUSED),
+    ("L", undefined(12, "L")),
+    ("P ", "note: unreachable RP\nok\n"),
+    ("S", undefined(12, "S")),
+    ("u", undefined(12, "Su")),
+    ("m ", None),
+    ("R", undefined(12, "R")),
+    ("P\n", "ok\n"),
+]
+
+
+def fronts():
+    """Each front of grammars/g0.lr, and what is printed of it."""
+    front = ""
+    yield front, FRONTS[0][1]
+    for piece, printed in FRONTS:
+        for letter in piece:
+            front += letter
+            yield front, printed

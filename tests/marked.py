@@ -1,7 +1,8 @@
 """Texts by grammars whose right sides have marked words, and what is printed of them.
 
 `ROWS` are written out. In `PAIRS` each grammar stands twice: with marks, and with the productions of the marked words by
-hand, behind all others. Both give the same tree, but for the names of those nonterminals.
+hand, after all others. Both give the same tree, but for the names of those nonterminals; what the trees are is taken from
+tests/trees.
 """
 
 import re
