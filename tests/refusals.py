@@ -2,9 +2,10 @@
 
 A refused allocation has to end the program with `lrls: no memory`, lose the document in whose change it was, or be done without;
 and all that was written before has to be right. A library that is loaded before all others refuses them, and counts how many
-there are. Of a row with more of them than its `most`, only so many are refused: the first and the last ones, and others between
-them at even distances. tests/program runs this as its group `refusals`, bench/refusals by itself; on two processors that are free
-it takes about two minutes. Needs a C compiler, and a system with LD_PRELOAD and glibc.
+there are. Of a row with more of them than its `most`, only some are refused: the first and the last ones, others between them at
+even distances, and every eighth of the last 200, among which are those of a session's changes. tests/program runs this as its
+group `refusals`, bench/refusals by itself; on four processors it takes half a minute. Needs a C compiler, and a system with
+LD_PRELOAD and glibc.
 """
 
 import concurrent.futures
@@ -119,7 +120,7 @@ def rows(folder):
         ("a session", SUMS, SESSION, SMALL),
         ("quotation marks", lists, quotes(), SMALL),
         ("a document of 1 MiB", SUMS, full, LARGE),
-        ("a sum of 20,001 numbers", SUMS, grown(20_001, 20_000), LARGE * 4),
+        ("a sum of 20,001 numbers", SUMS, grown(20_001, 20_000), LARGE),
         ("a sum of 524,286 numbers", SUMS, grown(524_286, 524_288), LARGE),
     ]:
         yield name, ["serve", grammar], input_of(session), list(outputs(session)), 0, most
@@ -131,7 +132,8 @@ def places(count, most):
         return list(range(1, count + 2))
     third = most // 3
     between = range(third + 1, count - third, max(1, (count - 2 * third) // third))
-    return [*range(1, third + 1), *between, *range(count - third + 1, count + 2)]
+    near_end = range(max(1, count - 200), count - third, 8)
+    return sorted({*range(1, third + 1), *between, *near_end, *range(count - third + 1, count + 2)})
 
 
 def run(words, text, **names):
