@@ -73,7 +73,10 @@ def place_of(text, offset):
 def characters(kind, text):
     """Where a character is typed: at the start of the text, in its middle and at its end."""
     inside = 1 if kind.make is one_token else 0
-    return [(place_of(text, offset), kind.character) for offset in (inside, len(text) // 2, len(text) - inside)]
+    middle = len(text) // 2
+    if kind.mark == "\n":
+        middle = text.index("\n", middle) + 1
+    return [(place_of(text, offset), kind.character) for offset in (inside, middle, len(text) - inside)]
 
 
 def items(kind, text):
