@@ -140,15 +140,18 @@ fn faulty_and_back(rt: HostRuntime) {
     check_by(&rt, rt.alloc(), SUMS, "1+2+3", &rows);
 }
 
-/// Only a number above the last one's keeps what stands.
+/// Only a number above every stamp of the nodes keeps what stands, whatever the last edit's number was.
 #[test]
 fn numbers_that_are_no_new_ones(rt: HostRuntime) {
     let space = (1, 0, " ");
     let rows = [
         (7, space, (4, 2, 4, 0), Told::Tree),
-        (7, space, (4, 2, 4, 4), Told::Tree),
-        (3, space, (4, 2, 4, 4), Told::Tree),
-        (4, space, (4, 2, 4, 0), Told::Tree),
+        (7, space, (4, 2, 4, 0), Told::Tree),
+        (3, space, (4, 2, 4, 0), Told::Tree),
+        (3, (6, 0, "+3"), (6, 3, 6, 4), Told::Tree),
+        (3, space, (6, 2, 6, 6), Told::Tree),
+        (2, space, (6, 2, 6, 6), Told::Tree),
+        (4, space, (6, 2, 6, 0), Told::Tree),
     ];
     check_by(&rt, rt.alloc(), SUMS, "1+2", &rows);
 }

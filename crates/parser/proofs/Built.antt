@@ -1,16 +1,17 @@
 -- The branches that carry an edit's number are those that lie in no kept node, so that their count is what the edit has built.
-use Rattle.std.proofs.Common.{◌≡◌, ◌≢◌, ℕ, ◌+◌, ◌<◌, Bool, true, false, List, [], ◌∷◌, ◌++◌, length, refl, sym, ap, subst, arith, length-append}
+use Rattle.std.proofs.Common.{◌≡◌, ◌≢◌, ℕ, ◌+◌, ◌<◌, Bool, true, false, List, [], ◌∷◌, ◌++◌, length, refl, sym, ap, ◌∙◌, subst, arith, length-append}
 use Rattle.std.specs.Prelude.{◌==◌, if◌then◌else◌}
 use Rattle.std.proofs.lemmas.Bool.{eqb-true}
 use mathlib.Core.List.{tail-eq_of_cons-eq}
 use Rattle.definitions.specs.Trees.{Tree, Forest, Leaf, Branch, trees, yield, yields, all_kinds}
 use Rattle.definitions.specs.Nodes.{StandsIn, Top, Below, Past, place_of, branches, all_branches}
 use Rattle.definitions.specs.TokenEdits.{Splice}
-use Rattle.definitions.specs.TreeEdits.{IsKept, LiesInKept, Built, Nothing, Token, Kept, New, Stamped, StampedLeaf, StampedBranch, StampedForest, StampedNil, StampedCons, StampedIn, StampedTop, StampedBelow, StampedPast, plain, plain_all, stamped_trees}
+use Rattle.definitions.specs.TreeEdits.{IsKept, LiesInKept, Built, Nothing, Token, Kept, New, Stamped, StampedLeaf, StampedBranch, StampedForest, StampedNil, StampedCons, StampedIn, StampedTop, StampedBelow, StampedPast, plain, plain_all, plain_trees, stamped_trees}
 use Rattle.theory.proofs.Made.{stands_inside, stamped_stands}
 use Rattle.theory.proofs.Reused.{stands_branches, branches-append, branches-trees}
-use Rattle.parser.specs.Parses.{branches_of_by}
-use Rattle.parser.proofs.Counts.{other_number, without}
+use Rattle.parser.specs.Parses.{all_branches_by, branches_of_by}
+use Rattle.parser.specs.Stamps.{TellsKept}
+use Rattle.parser.proofs.Counts.{by-forest, other_number, without}
 use Rattle.parser.proofs.Stamping.{plain-stamped}
 
 module _ (s : Splice) (old : List Tree) where
@@ -103,3 +104,35 @@ module _ (s : Splice) (old : List Tree) where
         subst (Built s old place (Leaf k ∷ trees (plain_all fs))) (let c : branches_of_by n fs ≡ 0 + branches_of_by n fs = omega arith in c) (Token (all_built fs (place + 1) (told_rest place (StampedLeaf k) fs h)))
     all_built (StampedCons (StampedBranch q b f) fs) place h =
         branch_told place q b f fs h (λ t. all_built f place t) (all_built fs (place + length (yields (plain_all f))) (told_rest place (StampedBranch q b f) fs h)) (b == n) refl
+
+-- ---- of a list of trees
+
+-- the list as a forest
+abbrev forest_of_list : List Stamped → StampedForest
+forest_of_list [] = StampedNil
+forest_of_list (t ∷ ts) = StampedCons t (forest_of_list ts)
+
+listed : (ts : List Stamped) → stamped_trees (forest_of_list ts) ≡ ts
+listed [] = refl
+listed (t ∷ ts) = ap (λ l. t ∷ l) (listed ts)
+
+pub built_counts : (s : Splice) (old : List Tree) (number : ℕ) (new : List Stamped) → TellsKept number s old new → Built s old 0 (plain_trees new) (all_branches_by number new)
+built_counts s old number new tells =
+    let f = forest_of_list new in
+    let same : stamped_trees f ≡ new = listed new in
+    let plain_is : trees (plain_all f) ≡ plain_trees new = sym (plain-stamped f) ∙ ap plain_trees same in
+    let told : IsTold s old number 0 f = record {
+      new = λ below p born us w e i. (tells below p born us (subst (λ l. StampedIn l below p born us) same w)).0 e (within_lies s old (trees (plain_all f)) (plain_trees new) below (Branch p (plain_all us)) plain_is i);
+      kept = λ below p born us w e. lies_within s old (trees (plain_all f)) (plain_trees new) below (Branch p (plain_all us)) plain_is ((tells below p born us (subst (λ l. StampedIn l below p born us) same w)).1 e);
+    } in
+    subst (λ n. Built s old 0 (plain_trees new) n) (sym (by-forest number f) ∙ ap (all_branches_by number) same) (subst (λ l. Built s old 0 l (branches_of_by number f)) plain_is (all_built s old number f 0 told))
+
+-- one number is built
+pub one_built : {s : Splice} {old new : List Tree} {place m n : ℕ} → Built s old place new m → Built s old place new n → m ≡ n
+one_built Nothing Nothing = refl
+one_built (Token a) (Token b) = one_built a b
+one_built (Kept kept a) (Kept other b) = one_built a b
+one_built (Kept kept a) (New never below b) = absurd (never kept)
+one_built (New never below a) (Kept kept b) = absurd (never kept)
+one_built (New {m = m} {n = n} never below a) (New {m = i} {n = j} other beside b) =
+    ap (λ k. 1 + k + n) (one_built below beside) ∙ ap (λ k. 1 + i + k) (one_built a b)

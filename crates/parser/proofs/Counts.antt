@@ -13,7 +13,7 @@ use Rattle.trees.specs.declared.store.Child.TheVariants.{Token}
 use Rattle.trees.specs.Cells.{Cell}
 use Rattle.parser.specs.Machine.{plain_of}
 use Rattle.parser.specs.Parses.{branches_by, branches_of_by, all_branches_by}
-use Rattle.parser.specs.Run.{AreOlder}
+use Rattle.parser.specs.Stamps.{AreOlder}
 use Rattle.parser.proofs.Reductions.{plain-append}
 use Rattle.parser.proofs.Stamping.{stamped_in_front}
 
@@ -65,3 +65,20 @@ mutual
 
 pub by-none : (n : ℕ) (s : Stamped) → AreOlder n (s ∷ []) → all_branches_by n (s ∷ []) ≡ 0
 by-none n s h = omega (arith, without_tree n s (λ lefts p born us w e. omega (arith, e, h lefts p born us w)))
+
+-- where there are none, no branch carries the number
+pub none_by : (n : ℕ) (ts : List Stamped) → all_branches_by n ts ≡ 0 → HaveNone n ts
+none_by n ts none lefts p born us w = go lefts p born us w none
+  where
+    go : {l : List Stamped} (lefts : List Tree) (p born : ℕ) (us : StampedForest) → StampedIn l lefts p born us → all_branches_by n l ≡ 0 → born ≢ n
+    go lefts p born us StampedTop e same =
+        let here : ◌≡◌ {A = ℕ} (if born == n then 1 else 0) 1 = ap (λ b. if b then 1 else 0) (eq-eqb born n same) in
+        omega (arith, e, here)
+    go lefts p born us (StampedBelow {us = vs} w) e same = go lefts p born us w (omega (arith, e, by-forest n vs)) same
+    go lefts p born us (StampedPast {lefts = inner} w) e same = go inner p born us w (omega (arith, e)) same
+
+-- and older trees have none
+pub older_by : (n : ℕ) (ts : List Stamped) → AreOlder n ts → all_branches_by n ts ≡ 0
+older_by n [] h = refl
+older_by n (t ∷ ts) h =
+    omega (arith, by-none n t (λ lefts p born us w. h lefts p born us (stamped_in_front ts w)), older_by n ts (λ lefts p born us w. h (plain t ∷ lefts) p born us (StampedPast w)))

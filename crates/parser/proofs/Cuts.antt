@@ -2,7 +2,7 @@
 use Rattle.std.proofs.Common.{◌≡◌, ◌⊎◌, ℕ, ◌+◌, ◌<◌, ◌≤◌, min, List, [], ◌∷◌, ◌++◌, length, refl, sym, ap, ◌∙◌, subst, inl, inr, ⊎_elim, arith, append_assoc, length-append}
 use Rattle.definitions.specs.Trees.{Grammar, Tree, Forest, Leaf, Branch, trees, yield, yields, all_kinds}
 use Rattle.definitions.specs.Nodes.{StandsIn, Top, Below, Past, place_of}
-use Rattle.definitions.specs.TreeEdits.{plain}
+use Rattle.definitions.specs.TreeEdits.{plain, plain_trees}
 use Rattle.theory.proofs.Sound.{kinds-append, kinds-trees}
 use Rattle.theory.proofs.Stack.{stands_in_front, stands_behind}
 use Rattle.theory.proofs.Exact.{closed}
@@ -14,12 +14,13 @@ use Rattle.trees.specs.Cells.{Cell, AreBelow, all_trees, most, tree, trees_from}
 use Rattle.trees.proofs.Cells.{all_below-more}
 use Rattle.parser.specs.Machine.{plain_of}
 use Rattle.parser.specs.Input.{AreParts}
-use Rattle.parser.specs.Run.{AreOlder}
+use Rattle.parser.specs.Run.{ComeFrom}
+use Rattle.parser.specs.Stamps.{AreOlder}
 use Rattle.parser.specs.Cuts.{kinds_in, AreChildren, Cut, Here, Used_up, Whole, Opened}
 use Rattle.parser.proofs.Front.{open_parts, weight}
 use Rattle.parser.proofs.Reductions.{below-append, plain-append, plain-children, kids_of}
-use Rattle.parser.proofs.Stamping.{none_behind, none_first, none_in_nothing, stamped_split, trees_of-append}
-use Rattle.parser.proofs.Stamps.{opened_older}
+use Rattle.parser.proofs.Coming.{come_all, come_older, come_on, come_past, opened_came}
+use Rattle.parser.proofs.Stamping.{stamped_behind, stamped_in_front, stamped_split, trees_of-append}
 
 -- the tree at this place of the other list, with as many kinds before it
 abbrev pub Found : List Tree → List Tree → Tree → Type 0
@@ -131,13 +132,22 @@ module _ (cells : List Cell) where
   cut_parts g (Whole e d) h = let r = cut_parts g d h.1 in ((h.0, r.0), r.1)
   cut_parts g (Opened {cs = cs} some less of_id d) h = cut_parts g d (opened_parts of_id g cs h)
 
+  -- each stamped branch of the parts was one of the list
+  pub cut_came : {n : ℕ} {cs front back : List Child} → Cut cells n cs front back → ComeFrom (all_trees cells cs) 0 (all_trees cells front ++ all_trees cells back)
+  cut_came (Here {cs = cs}) = come_all (all_trees cells cs)
+  cut_came Used_up = come_all []
+  cut_came (Whole {c = c} {cs = cs} {front = front} {back = back} e d) = come_past (tree cells c) (all_trees cells cs) (all_trees cells front ++ all_trees cells back) (cut_came d)
+  cut_came (Opened {id = id} {kids = kids} {cs = cs} {front = front} {back = back} some less of_id d) =
+      come_on 0 0 (all_trees cells (Node id ∷ cs)) (all_trees cells (kids ++ cs)) (all_trees cells front ++ all_trees cells back) (opened_came cells kids cs id of_id.production of_id.born of_id.is) (cut_came d)
+
   pub cut_older : (number : ℕ) {n : ℕ} {cs front back : List Child} → Cut cells n cs front back → AreOlder number (all_trees cells cs) → AreOlder number (all_trees cells front) × AreOlder number (all_trees cells back)
-  cut_older number Here h = (none_in_nothing number, h)
-  cut_older number Used_up h = (h, h)
-  cut_older number (Whole {c = c} {cs = cs} {front = front} e d) h =
-      let r = cut_older number d (none_behind number (tree cells c) (all_trees cells cs) h) in
-      (older-append number cells (c ∷ []) front (none_first number (tree cells c) (all_trees cells cs) h) r.0, r.1)
-  cut_older number (Opened {id = id} {kids = kids} {cs = cs} some less of_id d) h = cut_older number d (opened_older number cells kids cs id of_id.production of_id.born of_id.is h)
+  cut_older number {cs = cs} {front = front} {back = back} cut h =
+      let fronts = all_trees cells front in
+      let backs = all_trees cells back in
+      let all = come_older number 0 (all_trees cells cs) (fronts ++ backs) (cut_came cut) h in (
+        (λ lefts p born us w. all lefts p born us (stamped_in_front backs w)),
+        (λ lefts p born us w. all (plain_trees fronts ++ lefts) p born us (stamped_behind fronts w)),
+      )
 
   -- each node of the parts stood in the list
   pub cut_from : {n : ℕ} {cs front back : List Child} → Cut cells n cs front back → FindsAll (plain_of cells front ++ plain_of cells back) (plain_of cells cs)

@@ -24,7 +24,7 @@ use Rattle.parser.specs.Input.{leaves, IsInput}
 use Rattle.parser.specs.Machine.{plain_of}
 use Rattle.parser.specs.Parses.{AreStacked, IsParseOf, Stop, all_branches_by, branches_of_by, last_leaf, verdict_in}
 use Rattle.parser.specs.Run.{AreStampedBy, IsMadeByRun, SoFar}
-use Rattle.parser.proofs.Built.{IsTold, all_built, lies_within, within_lies}
+use Rattle.parser.proofs.Built.{built_counts}
 use Rattle.parser.proofs.Counts.{by-forest}
 use Rattle.parser.proofs.Front.{roots_parts}
 use Rattle.parser.proofs.Running.{kinds_leaves}
@@ -104,12 +104,4 @@ module _ (t : Sets) (accepted : IsAccepted t.grammar) (kinds : List Kind) (whole
 
   -- and their count is what the edit has built
   pub built_exactly : AreStampedExactly number s old new → Built s old 0 (plain_of cells stack) (all_branches_by number new)
-  built_exactly stamps =
-      let f = forest_in cells stack in
-      let same : stamped_trees f ≡ new = stamped-children (trees_from [] cells) stack in
-      let plain_is : trees (plain_all f) ≡ plain_trees new = sym (plain-stamped f) ∙ ap plain_trees same in
-      let told : IsTold s old number 0 f = record {
-        new = λ below p born us w e i. (stamps below p born us (subst (λ l. StampedIn l below p born us) same w)).0 e (within_lies s old (trees (plain_all f)) (plain_trees new) below (Branch p (plain_all us)) plain_is i);
-        kept = λ below p born us w e. lies_within s old (trees (plain_all f)) (plain_trees new) below (Branch p (plain_all us)) plain_is (taken_within below p born us (subst (λ l. StampedIn l below p born us) same w) e);
-      } in
-      subst (λ n. Built s old 0 (plain_trees new) n) (sym (by-forest number f) ∙ ap (all_branches_by number) same) (subst (λ l. Built s old 0 l (branches_of_by number f)) plain_is (all_built s old number f 0 told))
+  built_exactly stamps = built_counts s old number new (λ below p born us w. ((stamps below p born us w).0, taken_within below p born us w))

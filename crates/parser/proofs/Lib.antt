@@ -13,6 +13,7 @@ pub mod Reusing
 pub mod Nearby
 pub mod Running
 pub mod Stamping
+pub mod Coming
 pub mod Plain
 pub mod StackNodes
 pub mod Built

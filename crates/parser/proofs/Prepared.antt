@@ -7,7 +7,7 @@ use Rattle.definitions.specs.declared.Kind.{Kind}
 use Rattle.definitions.specs.Trees.{Tree, Forest, Leaf, Branch, yields, all_kinds}
 use Rattle.definitions.specs.Nodes.{StandsIn, Top, Below, Past, place_of}
 use Rattle.definitions.specs.TokenEdits.{Splice}
-use Rattle.definitions.specs.TreeEdits.{IsKept, IsTouched}
+use Rattle.definitions.specs.TreeEdits.{IsKept, IsMoved, IsTouched}
 use Rattle.theory.specs.Reuse.{IsPrepared}
 use Rattle.theory.proofs.Sound.{kinds-append}
 use Rattle.theory.proofs.Stack.{nowhere, stands_behind, stands_in_front}
@@ -60,6 +60,10 @@ module _ (s : Splice) where
   inside_touched : (start end : ℕ) → s.from ≤ start → start < s.to → start < end → IsTouched s start end
   inside_touched start end ge lt some = inl (start, omega arith, some, ge, lt)
 
+  -- where there is nothing to do, nothing moves
+  pub unmoved : s.from ≡ s.to → length s.kinds ≡ 0 → (place : ℕ) → IsMoved s place place
+  unmoved same none place = ⊎_elim (λ lt. inl (lt, refl)) (λ le. inr (omega (arith, le, same), omega (arith, same, none))) (cases_lt place s.from)
+
   -- where there is nothing to do, the old trees are prepared
   pub prepared_same : (old : List Tree) (ks : List Kind) → s.from ≡ s.to → length s.kinds ≡ 0 → IsPrepared s old (old ++ leaves ks)
   prepared_same old ks same none = record {
@@ -69,7 +73,7 @@ module _ (s : Splice) where
           stood = a;
           not_empty = nonempty;
           untouched = λ t. ⊎_elim (λ k. omega (arith, same, k.3, k.4)) (λ k. k.1 none) t;
-          moved = ⊎_elim (λ lt. inl (lt, refl)) (λ le. inr (omega (arith, le, same), omega (arith, same, none))) (cases_lt (place_of lefts) s.from);
+          moved = unmoved same none (place_of lefts);
         })
         (λ b. absurd (no_branch ks b.1))
         (stands_split old (leaves ks) w);

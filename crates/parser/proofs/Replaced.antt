@@ -5,23 +5,26 @@ use Rattle.std.proofs.lemmas.Bool.{cases_lt}
 use Rattle.std.proofs.lemmas.List.{append-nil}
 use Rattle.definitions.specs.declared.Kind.{Kind}
 use Rattle.definitions.specs.Trees.{Grammar, Tree, Branch, Leaf, all_kinds}
-use Rattle.definitions.specs.TreeEdits.{plain_all}
+use Rattle.definitions.specs.TreeEdits.{plain_all, plain_trees, StampedForest, StampedIn}
 use Rattle.definitions.specs.Nodes.{StandsIn, place_of}
 use Rattle.definitions.specs.TokenEdits.{Splice, spliced}
 use Rattle.theory.specs.Reuse.{IsPrepared}
 use Rattle.theory.proofs.Made.{stamped_stands}
+use Rattle.theory.proofs.Reused.{stands_length}
 use Rattle.theory.proofs.Sound.{kinds-append}
 use Rattle.trees.specs.declared.store.Child.{Child}
 use Rattle.trees.specs.declared.store.Child.TheVariants.{Token}
-use Rattle.trees.specs.Cells.{Cell, AreBelow, all_trees}
+use Rattle.trees.specs.Cells.{Cell, AreBelow, all_trees, trees_from}
 use Rattle.parser.specs.Machine.{plain_of}
 use Rattle.parser.specs.Input.{AreParts, IsInput, before_leaves, input_of, leaves}
-use Rattle.parser.specs.Run.{AreOlder}
+use Rattle.parser.specs.Run.{MoveFrom}
+use Rattle.parser.specs.Stamps.{AreOlder}
 use Rattle.parser.specs.Cuts.{Cut}
 use Rattle.parser.proofs.Running.{kinds_leaves}
 use Rattle.parser.proofs.Front.{parts-append}
 use Rattle.parser.proofs.Reductions.{below-append, plain-append}
-use Rattle.parser.proofs.Cuts.{cut_behind, cut_below, cut_kinds, cut_older, cut_parts, older-append}
+use Rattle.parser.proofs.Stamping.{nowhere_stamped, stamped_behind, stamped_in_front, stamped_split, trees_of-append}
+use Rattle.parser.proofs.Cuts.{cut_behind, cut_below, cut_came, cut_kinds, cut_older, cut_parts, older-append}
 use Rattle.parser.proofs.Prepared.{no_branch, place-append, prepared_short, prepared_within}
 
 -- new has the new kinds in the place of what the splice takes away of the old trees, or what there is of these where they end
@@ -43,8 +46,8 @@ parts-leaves : (g : Grammar) (ks : List Kind) → AreParts g (leaves ks)
 parts-leaves g [] = tt
 parts-leaves g (k ∷ ks) = (tt, parts-leaves g ks)
 
-older-tokens : (n : ℕ) (cells : List Cell) (ks : List Kind) → AreOlder n (all_trees cells (map Token ks))
-older-tokens n cells ks lefts p born us w = absurd (no_branch ks (subst (λ l. StandsIn l lefts (Branch p (plain_all us))) (plain-tokens cells ks) (stamped_stands w)))
+no_stamped : (cells : List Cell) (ks : List Kind) {lefts : List Tree} {p born : ℕ} {us : StampedForest} → StampedIn (all_trees cells (map Token ks)) lefts p born us → ⊥
+no_stamped cells ks {lefts} {p} {born} {us} w = no_branch ks (subst (λ l. StandsIn l lefts (Branch p (plain_all us))) (plain-tokens cells ks) (stamped_stands w))
 
 -- trees whose kinds begin a list are covered by it
 covers_front : (ts : List Tree) (ks tail : List Kind) → ks ≡ all_kinds ts ++ tail → all_kinds (before_leaves ts ks 0) ≡ ks
@@ -83,8 +86,45 @@ module _ (cells : List Cell) (s : Splice) (ordered : s.from ≤ s.to) where
   replaced_older number (Within {front = front} {rest = rest} first reached second fits filled) h =
       let one = cut_older cells number first h in
       let two = cut_older cells number second one.1 in
-      older-append number cells front (map Token s.kinds ++ rest) one.0 (older-append number cells (map Token s.kinds) rest (older-tokens number cells s.kinds) two.1)
+      older-append number cells front (map Token s.kinds ++ rest) one.0 (older-append number cells (map Token s.kinds) rest (λ lefts p born us w. absurd (no_stamped cells s.kinds w)) two.1)
   replaced_older number (Short first short) h = (cut_older cells number first h).0
+
+  -- what stands in front of the splice stays where it is
+  front_moved : {old front back : List Child} → Cut cells s.from old front back → place_of (plain_of cells front) ≤ s.from → MoveFrom s (all_trees cells old) (all_trees cells front)
+  front_moved {back = back} first fits lefts p born us w some =
+      let one = cut_came cells first lefts p born us (stamped_in_front (all_trees cells back) w) in
+      (one.0, one.1, inl (omega (arith, one.2, stands_length (stamped_stands w), some, fits), omega (arith, one.2)))
+
+  -- and what stands behind it goes with the kinds
+  back_moved : {old front back gone rest : List Child} → Cut cells s.from old front back → place_of (plain_of cells front) ≡ s.from → Cut cells (s.to - s.from) back gone rest → (place_of (plain_of cells gone) ≡ s.to - s.from) ⊎ (rest ≡ [])
+      → (lefts : List Tree) (p born : ℕ) (us : StampedForest) → StampedIn (all_trees cells rest) lefts p born us → (at : List Tree) × StampedIn (all_trees cells old) at p born us × (place_of at ≡ s.to + place_of lefts)
+  back_moved {front = front} {gone = gone} {rest = rest} first reached second filled lefts p born us w =
+      let fronts = all_trees cells front in
+      let gones = all_trees cells gone in
+      let two = cut_came cells second (plain_trees gones ++ lefts) p born us (stamped_behind gones w) in
+      let one = cut_came cells first (plain_trees fronts ++ two.0) p born us (stamped_behind fronts two.1) in
+      let all : place_of (plain_of cells gone) ≡ s.to - s.from = ⊎_elim (λ e. e) (λ none. absurd (nowhere_stamped w (ap (all_trees cells) none))) filled in
+      (one.0, one.1, omega (arith, one.2, two.2, place-append (plain_trees fronts) two.0, place-append (plain_trees gones) lefts, reached, all, ordered))
+
+  pub replaced_moved : {old new : List Child} → IsReplaced cells s old new → MoveFrom s (all_trees cells old) (all_trees cells new)
+  replaced_moved {old} (Within {front = front} {rest = rest} first reached second fits filled) lefts p born us w some =
+      let fronts = all_trees cells front in
+      let tokens = all_trees cells (map Token s.kinds) in
+      let rests = all_trees cells rest in
+      let ts = trees_from [] cells in
+      let parts : all_trees cells (front ++ (map Token s.kinds ++ rest)) ≡ fronts ++ (tokens ++ rests) = trees_of-append ts front (map Token s.kinds ++ rest) ∙ ap (λ l. fronts ++ l) (trees_of-append ts (map Token s.kinds) rest) in
+      let long : place_of (plain_trees tokens) ≡ length s.kinds = ap place_of (plain-tokens cells s.kinds) ∙ ap length (kinds_leaves s.kinds) in
+      ⊎_elim
+      (λ a. front_moved first (omega (arith, reached)) lefts p born us a some)
+      (λ b. ⊎_elim
+      (λ c. absurd (no_stamped cells s.kinds c))
+      (λ c.
+      let one = back_moved first reached second filled c.0 p born us c.1 in
+      let place : place_of lefts ≡ s.from + (length s.kinds + place_of c.0) = omega (arith, ap place_of b.2, place-append (plain_trees fronts) b.0, reached, ap place_of c.2, place-append (plain_trees tokens) c.0, long) in
+      (one.0, one.1, inr (omega (arith, one.2), omega (arith, one.2, place))))
+      (stamped_split tokens rests b.1))
+      (stamped_split fronts (tokens ++ rests) (subst (λ l. StampedIn l lefts p born us) parts w))
+  replaced_moved {old} (Short first short) lefts p born us w some = front_moved first (omega (arith, short)) lefts p born us w some
 
   pub replaced_below : (n : ℕ) {old new : List Child} → IsReplaced cells s old new → AreBelow n old → AreBelow n new
   replaced_below n (Within {front = front} {rest = rest} first reached second fits filled) h =

@@ -27,7 +27,9 @@ use Rattle.parser.specs.Machine.{plain_of, HasStates, HasMade}
 use Rattle.parser.specs.Input.{leaves, input_of, AreParts, IsInput, Skips}
 use Rattle.parser.specs.Front.{Offers, IsReusable, BeginsWithNoNode}
 use Rattle.parser.specs.Parses.{AreUpTo, all_branches_by}
-use Rattle.parser.specs.Run.{makes, AreStampedBy, AreOlder, SoFar}
+use Rattle.parser.specs.Run.{makes, AreStampedBy, ComeFrom, SoFar}
+use Rattle.parser.specs.Stamps.{AreOlder}
+use Rattle.parser.proofs.Coming.{come_behind, come_older}
 use Rattle.parser.proofs.Counts.{by-append, by-branch, by-none}
 use Rattle.parser.proofs.Front.{after_drop, dropped, first_fits}
 use Rattle.parser.proofs.Moves.{Reached, states_push}
@@ -98,7 +100,7 @@ module _ (g : Grammar) where
     pub shape : input_of cells now kinds read ≡ Leaf k ∷ input_of cells rest kinds (read + 1)
     pub below : AreBelow (length cells) rest
     pub parts : AreParts g (plain_of cells rest)
-    pub older : (n : ℕ) → AreOlder n (all_trees cells now) → AreOlder n (all_trees cells rest)
+    pub came : ComeFrom (all_trees cells now) 1 (all_trees cells rest)
 
   behind_leaves : (cells : List Cell) (kinds : List Kind) (read : ℕ) (k : Kind) → slice_get kinds read ≡ Some k → Behind cells kinds read [] [] k
   behind_leaves cells kinds read k is =
@@ -108,7 +110,7 @@ module _ (g : Grammar) where
         shape = ap (λ n. leaves (drop n kinds)) here ∙ ap leaves (drop_at kinds read k is) ∙ ap (λ n. Leaf k ∷ leaves (drop n kinds)) there;
         below = tt;
         parts = tt;
-        older = λ n o. o;
+        came = λ lefts p born us w. absurd (nowhere_stamped w refl);
       }
 
   behind_child : (cells : List Cell) (kinds : List Kind) (read : ℕ) (c : Child) (rest : List Child) (k : Kind) → BeginsWithNoNode (c ∷ rest) → IsInput g cells (c ∷ rest) kinds read → slice_get kinds read ≡ Some k → Behind cells kinds read (c ∷ rest) rest k
@@ -121,7 +123,7 @@ module _ (g : Grammar) where
         shape = shape ∙ ap (λ l. Leaf l ∷ input_of cells rest kinds (read + 1)) same;
         below = h.below.1;
         parts = h.parts.1;
-        older = λ n o. none_behind n (tree cells (TokenChild j)) (all_trees cells rest) o;
+        came = come_behind (tree cells (TokenChild j)) (all_trees cells rest);
       }
 
   pub behind_first : (cells : List Cell) (kinds : List Kind) (read : ℕ) (now rest : List Child) (r : Option Child) (k : Kind) → BeginsWithNoNode now → IsInput g cells now kinds read → slice_get kinds read ≡ Some k → MatchOption r ((now ≡ []) × (rest ≡ [])) (λ c. now ≡ c ∷ rest) → Behind cells kinds read now rest k
@@ -210,7 +212,7 @@ module _ (t : Sets) (whole : List Tree) (kinds : List Kind) (before number : ℕ
         stamps = subst (AreStampedBy g (goes_on_join g h.run step) number) (sym (trees_of-append (trees_from [] cells) stack (TokenChild k ∷ []))) (stamps_token g h.run step (λ below x m. m) number (all_trees cells stack) k h.stamps);
         made = omega (arith, ap (all_branches_by number) (trees_of-append (trees_from [] cells) stack (TokenChild k ∷ [])), by-append number (all_trees cells stack) (StampedLeaf k ∷ []), h.made, makes_join g h.run step);
         up_to = subst (AreUpTo number) (sym (trees_of-append (trees_from [] cells) stack (TokenChild k ∷ []))) (up_to-append number (all_trees cells stack) (StampedLeaf k ∷ []) h.up_to (up_to-leaf number k));
-        older = behind.older number older';
+        older = come_older number 1 (all_trees cells now') (all_trees cells rest') behind.came older';
       }
 
   -- a branch is made

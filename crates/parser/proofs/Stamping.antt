@@ -13,7 +13,8 @@ use Rattle.trees.specs.declared.store.Child.{Child}
 use Rattle.trees.specs.Cells.{tree_of, trees_of, forest_of}
 use Rattle.parser.specs.Machine.{IsMadeBy, AreMadeBy}
 use Rattle.parser.specs.Parses.{AreUpTo}
-use Rattle.parser.specs.Run.{AreStampedBy, AreOlder}
+use Rattle.parser.specs.Run.{AreStampedBy}
+use Rattle.parser.specs.Stamps.{AreOlder}
 
 -- a stamped branch of two lists joined
 pub stamped_split : (one two : List Stamped) {lefts : List Tree} {p born : ℕ} {us : StampedForest} → StampedIn (one ++ two) lefts p born us → StampedIn one lefts p born us ⊎ ((more : List Tree) × StampedIn two more p born us × (lefts ≡ plain_trees one ++ more))
@@ -42,17 +43,17 @@ none_in_nothing n lefts p born us w = absurd (nowhere_stamped w refl)
 leaf_is_branch : (k : Kind) (p born : ℕ) (us : StampedForest) → StampedBranch p born us ≡ StampedLeaf k → ⊥
 leaf_is_branch k p born us e = cc e
 
-no_branch_in_leaf : (k : Kind) {l : List Stamped} {lefts : List Tree} {p born : ℕ} {us : StampedForest} → StampedIn l lefts p born us → l ≡ StampedLeaf k ∷ [] → ⊥
+pub no_branch_in_leaf : (k : Kind) {l : List Stamped} {lefts : List Tree} {p born : ℕ} {us : StampedForest} → StampedIn l lefts p born us → l ≡ StampedLeaf k ∷ [] → ⊥
 no_branch_in_leaf k (StampedTop {p = p} {born = born} {us = us}) e = leaf_is_branch k p born us (head-eq_of_cons-eq e)
 no_branch_in_leaf k (StampedBelow {q = q} {other = other} {us = us} w) e = leaf_is_branch k q other us (head-eq_of_cons-eq e)
 no_branch_in_leaf k (StampedPast w) e = nowhere_stamped w (tail-eq_of_cons-eq e)
 
 -- the branch itself, or one below it
-data InBranch (q n : ℕ) (f : StampedForest) : List Tree → ℕ → ℕ → StampedForest → Type 0 where
+pub data InBranch (q n : ℕ) (f : StampedForest) : List Tree → ℕ → ℕ → StampedForest → Type 0 where
   Itself : InBranch q n f [] q n f
   Under : {lefts : List Tree} {p born : ℕ} {us : StampedForest} → StampedIn (stamped_trees f) lefts p born us → InBranch q n f lefts p born us
 
-in_branch : (q n : ℕ) (f : StampedForest) {lefts : List Tree} {p born : ℕ} {us : StampedForest} → StampedIn (StampedBranch q n f ∷ []) lefts p born us → InBranch q n f lefts p born us
+pub in_branch : (q n : ℕ) (f : StampedForest) {lefts : List Tree} {p born : ℕ} {us : StampedForest} → StampedIn (StampedBranch q n f ∷ []) lefts p born us → InBranch q n f lefts p born us
 in_branch q n f StampedTop = Itself
 in_branch q n f (StampedBelow w) = Under w
 in_branch q n f (StampedPast w) = absurd (nowhere_stamped w refl)
@@ -70,23 +71,12 @@ pub plain-stamped : (us : StampedForest) → plain_trees (stamped_trees us) ≡ 
 plain-stamped StampedNil = refl
 plain-stamped (StampedCons t ts) = ap (λ l. plain t ∷ l) (plain-stamped ts)
 
--- of a list whose trees carry no such number, neither does what is behind its first tree, nor what an opened tree leaves
+-- of a list whose trees are older, so is what is behind its first tree, and the first tree
 pub none_behind : (n : ℕ) (s : Stamped) (ts : List Stamped) → AreOlder n (s ∷ ts) → AreOlder n ts
 none_behind n s ts h lefts p born us w = h (plain s ∷ lefts) p born us (StampedPast w)
 
 pub none_first : (n : ℕ) (s : Stamped) (ts : List Stamped) → AreOlder n (s ∷ ts) → AreOlder n (s ∷ [])
 none_first n s ts h lefts p born us w = h lefts p born us (stamped_in_front ts w)
-
-pub none_opened : (n q born : ℕ) (f : StampedForest) (ts : List Stamped) → AreOlder n (StampedBranch q born f ∷ ts) → AreOlder n (stamped_trees f ++ ts)
-none_opened n q other f ts h lefts p born us w =
-    ⊎_elim
-    (λ a. h lefts p born us (StampedBelow a))
-    (λ b. h (Branch q (plain_all f) ∷ b.0) p born us (StampedPast b.1))
-    (stamped_split (stamped_trees f) ts w)
-
-pub none_gone : (n : ℕ) (gone ts : List Stamped) → AreOlder n (gone ++ ts) → AreOlder n ts
-none_gone n [] ts h = h
-none_gone n (s ∷ gone) ts h = none_gone n gone ts (none_behind n s (gone ++ ts) h)
 
 -- stamps up to a number
 pub older_up_to : (n : ℕ) (ts : List Stamped) → AreOlder n ts → AreUpTo n ts

@@ -6,10 +6,8 @@ use Rattle.trees.specs.declared.store.Child.TheVariants.{Node}
 use Rattle.trees.specs.Cells.{Cell, AreBelow, IsGrown, KeepsTrees, tree, trees_from, all_trees, forest_of, forest_in}
 use Rattle.trees.specs.declared.store.NodeId.{NodeId}
 use Rattle.trees.proofs.Cells.{grown-new, grown-tree, all_below-more, take-tree}
-use Rattle.parser.specs.Input.{Skips}
 use Rattle.parser.specs.Machine.{HasMade}
-use Rattle.parser.specs.Run.{AreOlder}
-use Rattle.parser.proofs.Stamping.{none_gone, none_opened, stamped-children, trees_of-append}
+use Rattle.parser.proofs.Stamping.{trees_of-append}
 use Rattle.parser.proofs.Reductions.{below-append, below-front}
 
 -- where the store grows, the trees of children stay
@@ -24,17 +22,6 @@ made_stamped cells new p number under kids id h b =
     let two : all_trees new under ≡ all_trees cells under = ap (λ l. all_trees l under) h.cells_are ∙ trees-stay cells h.cell under b in
     let three : tree new (Node id) ≡ StampedBranch p number (forest_in cells kids) = ap (λ l. tree l (Node id)) h.cells_are ∙ grown-new cells h.cell id h.id_is ∙ (λ j. StampedBranch (h.production_is j) (h.born_is j) (forest_of (trees_from [] cells) (h.children_are j))) in
     one ∙ (λ j. two j ++ (three j ∷ []))
-
-pub opened_older : (n : ℕ) (cells : List Cell) (kids rest : List Child) (id : NodeId) (p b : ℕ) → tree cells (Node id) ≡ StampedBranch p b (forest_of (trees_from [] cells) kids) → AreOlder n (all_trees cells (Node id ∷ rest)) → AreOlder n (all_trees cells (kids ++ rest))
-opened_older n cells kids rest id p b e h =
-    let ts = trees_from [] cells in
-    let one = none_opened n p b (forest_of ts kids) (all_trees cells rest) (subst (λ s. AreOlder n (s ∷ all_trees cells rest)) e h) in
-    subst (AreOlder n) (ap (λ l. l ++ all_trees cells rest) (stamped-children ts kids) ∙ sym (trees_of-append ts kids rest)) one
-
-pub skipped_older : (n : ℕ) (cells : List Cell) (rest rest' : List Child) → Skips cells rest rest' → AreOlder n (all_trees cells rest) → AreOlder n (all_trees cells rest')
-skipped_older n cells rest rest' k h =
-    let parts : all_trees cells rest ≡ all_trees cells k.0 ++ all_trees cells rest' = ap (all_trees cells) k.1 ∙ trees_of-append (trees_from [] cells) k.0 rest' in
-    none_gone n (all_trees cells k.0) (all_trees cells rest') (subst (AreOlder n) parts h)
 
 -- the store has one node more
 pub grown_by_one : (cells : List Cell) (stack : List Child) (p n : ℕ) (new : List Cell) (stack' : List Child) → HasMade cells stack p n new stack' → length new ≡ length cells + 1

@@ -22,7 +22,9 @@ use Rattle.trees.specs.Cells.{Cell, tree}
 use Rattle.tables.specs.Tables.{Sets, IsAccepted}
 use Rattle.parser.specs.declared.parse.Verdict.TheVariants.{Tree as TreeAt, FaultAt as StopsAt, FaultAtEnd as StopsAtEnd}
 use Rattle.parser.specs.Machine.{plain_of}
-use Rattle.parser.specs.Parses.{IsStoppedAt, last_leaf}
+use Rattle.definitions.specs.DocumentNodes.{AreDocumentTrees}
+use Rattle.definitions.specs.Sentences.{Verdict as Answer}
+use Rattle.parser.specs.Parses.{AreStacked, IsStoppedAt, before_fault, last_leaf}
 use Rattle.parser.proofs.Moves.{Reached, top_stands, run_on}
 
 pub last-append : (before : List Kind) (last : Kind) → last_leaf (before ++ (last ∷ [])) ≡ Leaf last ∷ []
@@ -160,3 +162,8 @@ module _ (t : Sets) (accepted : IsAccepted t.grammar) (kinds : List Kind) (cells
             state = top_stands t (plain_of cells stack) states h.has_states;
           },
         )
+
+-- equal verdicts have equal stacks
+pub stacks_once : (g : Grammar) (kinds : List Kind) (v w : Answer) (one two : List Tree) → v ≡ w → ((ts us : List Tree) → AreDocumentTrees g kinds v ts → AreDocumentTrees g kinds w us → ts ≡ us) → AreStacked g kinds v one → AreStacked g kinds w two → one ≡ two
+stacks_once g kinds v w one two same once a b =
+    a.stack_is ∙ (λ i. once a.trees b.trees a.are b.are i ++ last_leaf (before_fault kinds (same i))) ∙ sym b.stack_is

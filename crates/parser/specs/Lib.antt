@@ -3,5 +3,6 @@ pub mod Front
 pub mod Input
 pub mod Machine
 pub mod Parses
+pub mod Stamps
 pub mod Run
 pub mod Compact

@@ -1,16 +1,19 @@
 -- How far a run of the machine over an input of trees has come.
-use Rattle.std.specs.Prelude.{◌≡◌, ◌↔◌, ℕ, ◌+◌, ◌≤◌, ◌<◌, List, [], length, drop}
+use Rattle.std.specs.Prelude.{◌≡◌, ◌≢◌, ◌↔◌, ℕ, ◌+◌, ◌≤◌, ◌<◌, List, [], length, drop}
 use Rattle.definitions.specs.declared.Kind.{Kind}
-use Rattle.definitions.specs.Trees.{Grammar, Tree, Branch, all_kinds}
-use Rattle.definitions.specs.TreeEdits.{Stamped, StampedForest, StampedIn, plain_all}
+use Rattle.definitions.specs.Trees.{Grammar, Tree, Branch, all_kinds, yields}
+use Rattle.definitions.specs.Nodes.{place_of}
+use Rattle.definitions.specs.TokenEdits.{Splice}
+use Rattle.definitions.specs.TreeEdits.{IsMoved, Stamped, StampedForest, StampedIn, plain_all}
 use Rattle.trees.specs.declared.store.Child.{Child}
-use Rattle.trees.specs.Cells.{Cell, AreBelow, all_trees}
+use Rattle.trees.specs.Cells.{Cell, AreBelow, all_trees, trees_from}
 use Rattle.theory.specs.Reuse.{Goes_on, Ends, Reuses, Takes_token, Makes, MakesAt}
 use Rattle.tables.specs.Tables.{Sets}
 use Rattle.parser.specs.Machine.{plain_of, HasStates}
 use Rattle.parser.specs.Input.{input_of, IsInput}
 use Rattle.parser.specs.Front.{Offers}
 use Rattle.parser.specs.Parses.{AreUpTo, all_branches_by}
+use Rattle.parser.specs.Stamps.{AreOlder, all_numbered}
 
 -- how many branches a run makes
 abbrev pub makes : (g : Grammar) {s i s' i' : List Tree} → Goes_on g s i s' i' → ℕ
@@ -23,9 +26,25 @@ makes g (Makes s1 f t n r more) = 1 + makes g more
 abbrev pub AreStampedBy : (g : Grammar) {s i s' i' : List Tree} → Goes_on g s i s' i' → ℕ → List Stamped → Type 0
 AreStampedBy g run number ts = (lefts : List Tree) (p born : ℕ) (us : StampedForest) → StampedIn ts lefts p born us → (born ≡ number) ↔ MakesAt g run lefts (Branch p (plain_all us))
 
--- each of these trees' branches was made by an edit before this one
-abbrev pub AreOlder : ℕ → List Stamped → Type 0
-AreOlder number ts = (lefts : List Tree) (p born : ℕ) (us : StampedForest) → StampedIn ts lefts p born us → born < number
+-- each branch of these trees, which begin at this place, is one of the old trees, at the same place
+abbrev pub ComeFrom : List Stamped → ℕ → List Stamped → Type 0
+ComeFrom old place ts = (lefts : List Tree) (p born : ℕ) (us : StampedForest) → StampedIn ts lefts p born us
+    → (at : List Tree) × StampedIn old at p born us × (place_of at ≡ place + place_of lefts)
+
+-- each branch of nonempty yield is one of the old trees, at a place that the splice moves to its own
+abbrev pub MoveFrom : Splice → List Stamped → List Stamped → Type 0
+MoveFrom s old ts = (lefts : List Tree) (p born : ℕ) (us : StampedForest) → StampedIn ts lefts p born us → 0 < length (yields (plain_all us))
+    → (at : List Tree) × StampedIn old at p born us × IsMoved s (place_of at) (place_of lefts)
+
+-- What is left of the input, and those branches of the stack that don't carry the number, were in the input. The store has added
+-- the others, in the order in which they were made.
+pub record CameFrom (input : List Stamped) (before number : ℕ) (cells : List Cell) (stack : List Child) (read : ℕ) (rest : List Child) : Type 0 where
+  pub place : place_of (plain_of cells stack) ≡ read
+  pub longer : before ≤ length cells
+  pub left : ComeFrom input read (all_trees cells rest)
+  pub kept : (lefts : List Tree) (p born : ℕ) (us : StampedForest) → StampedIn (all_trees cells stack) lefts p born us → born ≢ number
+      → (at : List Tree) × StampedIn input at p born us × (place_of at ≡ place_of lefts)
+  pub added : drop before (trees_from [] cells) ≡ all_numbered number (all_trees cells stack)
 
 -- the machine has come from the whole input, whose kinds these are, to this stack and to what is left of the input. The store
 -- had as many nodes before, and has one more for each branch that was made; these carry the number

@@ -5,11 +5,17 @@ ghost use Rattle.definitions.specs.declared.Kind.{Kind};
 ghost use Rattle.definitions.specs.Answers.{Node};
 ghost use Rattle.definitions.specs.DocumentNodes.{AreDocumentTrees, IsNodeOf};
 ghost use Rattle.definitions.specs.Trees.{Grammar, Tree, all_kinds};
+ghost use Rattle.definitions.specs.Items.{HasNoConflict};
 ghost use Rattle.definitions.specs.Sentences.{IsExpected, IsVerdict, IsViable, Verdict};
+ghost use Rattle.definitions.specs.TokenEdits.{Splice};
+ghost use Rattle.definitions.specs.TreeEdits.{Built, Stamped, plain_trees};
 ghost use Rattle.tables.specs.Decidable.{AreMovesDecided};
 ghost use Rattle.tables.specs.Tables.{IsAccepted};
-ghost use Rattle.parser.specs.Parses.{AreStacked};
+ghost use Rattle.parser.specs.Parses.{AreStacked, all_branches_by};
+ghost use Rattle.parser.specs.Stamps.{TellsKept};
 ghost use Rattle.parser.specs.declared.parse.Verdict.{Verdict as Answer};
+
+use theory::laws::{document_trees_unique, verdict_unique};
 
 /// For a grammar that has tables, each list of kinds has a verdict: a tree, or a fault.
 pub fn each_list_has_a_verdict()
@@ -36,4 +42,24 @@ pub fn stack_has_the_nodes_of_the_document()
         → (trees : List Tree) × AreDocumentTrees g kinds v trees
         × ((n : Node) → IsNodeOf g stack n ↔ IsNodeOf g trees n)
         × (length (all_kinds stack) ≤ length kinds) }
+{}
+
+/// What stands on the stack of a list of kinds is one list of trees.
+pub fn stack_unique()
+    ensures { (g : Grammar) → HasNoConflict g → (kinds : List Kind) (v w : Verdict)
+        (one two : List Tree) → IsVerdict g kinds v → IsVerdict g kinds w
+        → AreStacked g kinds v one → AreStacked g kinds w two → one ≡ two }
+{
+    verdict_unique();
+    document_trees_unique();
+}
+
+/// What an edit builds is the number of the branches that lie in no kept node: those that carry its number, where exactly
+/// these carry it.
+pub fn built_nodes_lie_in_no_kept_one()
+    ensures count { (s : Splice) (old : List Tree) (number : ℕ) (new : List Stamped)
+        → TellsKept number s old new
+        → Built s old 0 (plain_trees new) (all_branches_by number new) }
+    ensures unique { (s : Splice) (old new : List Tree) (m n : ℕ) → Built s old 0 new m
+        → Built s old 0 new n → m ≡ n }
 {}

@@ -5,6 +5,7 @@ mod compact;
 mod input;
 pub mod laws;
 mod machine;
+mod older;
 mod parse;
 mod prepare;
 mod reader;

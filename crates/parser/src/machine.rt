@@ -16,7 +16,7 @@ ghost use Rattle.tables.specs.Tables.{IsAccepted, IsStateOf};
 ghost use Rattle.parser.specs.Machine.{plain_of, HasStates, HasMade};
 ghost use Rattle.parser.specs.Input.{input_of, IsFull, IsInput, IsOpened};
 ghost use Rattle.parser.specs.Front.{Offers, IsReusable, IsOffer};
-ghost use Rattle.parser.specs.Run.{AreOlder, SoFar};
+ghost use Rattle.parser.specs.Run.{CameFrom, ComeFrom, SoFar};
 ghost use Rattle.parser.specs.Parses.{IsStoppedAt};
 
 use crate::Verdict;
@@ -170,9 +170,8 @@ impl Machine {
             IfOk result (λ _. Offers tables.now.grammar stack
             (input_of store.now input.new all self.now.read)
             (input_of store.now input.old all self.now.read)) }
-        ensures older { IfOk result (λ _. (number : ℕ)
-            → AreOlder number (all_trees store.now input.old)
-            → AreOlder number (all_trees store.now input.new)) }
+        ensures came { IfOk result
+            (λ _. ComeFrom (all_trees store.now input.old) 0 (all_trees store.now input.new)) }
         ensures offer { let stack = plain_of store.now self.now.stack.items in
             let all = kinds.old in
             IfOk result (λ f. IsOffer tables.now store.now stack all self.now.read input.new f) }
@@ -254,12 +253,18 @@ impl Machine {
         requires so_far { SoFar tables.now (input_of store.old input kinds.old 0)
             kinds.old (length store.old) number store.old self.old.stack.items
             self.old.states.items self.old.read input }
+        requires came { let whole = all_trees store.old input in
+            CameFrom whole (length store.old) number store.old self.old.stack.items
+            self.old.read input }
         ensures stops { IfOk result
             (λ v. IsStoppedAt tables.now kinds.old store.new v self.new.stack.items
             self.new.states.items) }
         ensures so_far { IfOk result (λ _. (rest : List Child)
             × SoFar tables.now (input_of store.old input kinds.old 0) kinds.old
             (length store.old) number store.new self.new.stack.items self.new.states.items
+            self.new.read rest) }
+        ensures came { let whole = all_trees store.old input in IfOk result (λ _. (rest : List Child)
+            × CameFrom whole (length store.old) number store.new self.new.stack.items
             self.new.read rest) }
         ensures grown { take (length store.old) store.new ≡ store.old }
     {

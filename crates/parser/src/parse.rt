@@ -1,22 +1,25 @@
 //! The parse of a list of kinds.
 
-ghost use Rattle.std.specs.Prelude.{◌≡◌, ◌+◌, ◌<◌, ◌≤◌, List, [], length, min, take, IfOk, OnErr};
+ghost use Rattle.std.specs.Prelude.{◌≡◌, ℕ, ◌+◌, ◌≤◌, List, [], length, min, take, IfOk, OnErr};
 ghost use Rattle.definitions.specs.declared.Kind.{Kind};
 ghost use Rattle.definitions.specs.Nodes.{all_branches};
 ghost use Rattle.definitions.specs.TokenEdits.{IsSpliced, plain_splice};
 ghost use Rattle.definitions.specs.TreeEdits.{AreStampedExactly, Built};
+ghost use Rattle.trees.specs.declared.store.Child.{Child as PlainChild};
 ghost use Rattle.trees.specs.Cells.{AreBelow, Cell, KeepsTrees, all_trees, forest_in, most};
 ghost use Rattle.tables.specs.Tables.{IsAccepted, Sets};
 ghost use Rattle.theory.specs.Reuse.{IsPrepared};
 ghost use Rattle.parser.specs.Machine.{plain_of, AreMadeBy};
 ghost use Rattle.parser.specs.Input.{input_of, IsInput};
-ghost use Rattle.parser.specs.Run.{IsMadeByRun, AreOlder};
+ghost use Rattle.parser.specs.Run.{CameFrom, IsMadeByRun, MoveFrom};
+ghost use Rattle.parser.specs.Stamps.{AddsNumbered, AreOlder, KeepStamps};
 ghost use Rattle.parser.specs.Compact.{IsLonger, IsSameParse, bound, verdict_on};
 ghost use Rattle.parser.specs.Parses.{AreExpectedAt, IsAlone, IsParseOf, verdict_in};
 
 use crate::compact::compact;
 use crate::input::Input;
 use crate::machine::Machine;
+use crate::older::are_older;
 use crate::prepare::prepare;
 use crate::reader::Reader;
 use definitions::KindSplice;
@@ -108,6 +111,9 @@ fn parsed<K: Kinds>(
     ensures run { IfOk result
         (λ p. IsMadeByRun tables.now (input_of store.old input (K.kinds kinds.now) 0)
         (K.kinds kinds.now) (length store.old) number store.new p.stack) }
+    ensures came { let whole = all_trees store.old input in IfOk result
+        (λ p. (read : ℕ) × (rest : List PlainChild)
+        × CameFrom whole (length store.old) number store.new p.stack read rest) }
     ensures grown { take (length store.old) store.new ≡ store.old }
     ensures number { IfOk result (λ p. p.number ≡ number) }
     ensures count { IfOk result (λ p. length store.new ≡ length store.old + p.built) }
@@ -133,7 +139,7 @@ fn parsed<K: Kinds>(
 }
 
 impl Parse {
-    /// The parse of the kinds. Its nodes are made by edit 0, and stand behind all others of the store; none is made in vain.
+    /// The parse of the kinds. Its nodes are made by edit 0, and stand after all others of the store; no others are added.
     ///
     /// After a refusal the store is as before.
     pub fn whole<K: Kinds>(
@@ -147,6 +153,8 @@ impl Parse {
         ensures grown { take (length store.old) store.new ≡ store.old }
         ensures count { IfOk result
             (λ p. length store.new ≡ length store.old + all_branches (plain_of store.new p.stack)) }
+        ensures added { IfOk result
+            (λ p. AddsNumbered 0 store.old store.new (all_trees store.new p.stack)) }
         ensures built { IfOk result (λ p. p.built ≡ all_branches (plain_of store.new p.stack)) }
         ensures number { IfOk result (λ p. p.number ≡ 0) }
         ensures kept { KeepsTrees (length store.old) store.old store.new }
@@ -163,10 +171,12 @@ impl Parse {
     }
 
     /// The parse after a splice of the kinds, as edit `number`. It takes over each old node that the splice leaves as it was,
-    /// where it can stand as it is among the new ones. New nodes carry the number, and stand behind all others of the store.
-    /// Where the number is not above that of the last edit, everything is built anew.
+    /// where it can stand as it is among the new ones, with the stamps that it has. New nodes carry the number, and stand after
+    /// all others of the store; no others are added. Where the number is not above every stamp of the old nodes, everything is
+    /// built anew.
     ///
-    /// After a refusal parse and store are as before.
+    /// The store holds this parse alone: where it would have too many nodes, those of no tree of the stack are given up, and
+    /// the others get other names. After a refusal parse and store are as before.
     pub fn change<K: Kinds>(
         &mut self,
         alloc: Global,
@@ -182,18 +192,23 @@ impl Parse {
             (λ _. IsParseOf tables.now (K.kinds kinds.now) store.new self.new) }
         ensures number { IfOk result (λ _. self.new.number ≡ number) }
         ensures stamps { let change = plain_splice splice in
-            self.old.number < number → IfOk result (λ _. AreStampedExactly number change
-            (plain_of store.old self.old.stack) (all_trees store.new self.new.stack)) }
+            AreOlder number (all_trees store.old self.old.stack) → IfOk result
+            (λ _. AreStampedExactly number change (plain_of store.old self.old.stack)
+            (all_trees store.new self.new.stack)) }
+        ensures older { let change = plain_splice splice in IfOk result
+            (λ _. KeepStamps number change (all_trees store.old self.old.stack)
+            (all_trees store.new self.new.stack)) }
         ensures built { let change = plain_splice splice in
-            self.old.number < number → IfOk result
+            AreOlder number (all_trees store.old self.old.stack) → IfOk result
             (λ _. Built change (plain_of store.old self.old.stack) 0
             (plain_of store.new self.new.stack) self.new.built) }
-        ensures anew { number ≤ self.old.number → IfOk result
+        ensures anew { ¬ AreOlder number (all_trees store.old self.old.stack) → IfOk result
             (λ _. AreMadeBy number (forest_in store.new self.new.stack)) }
         ensures bound { IfOk result (λ _. length store.new ≤ bound self.new.branches) }
         ensures kept { IfOk result (λ _.
             length store.old + self.new.built ≤ bound self.new.branches
-            → IsLonger store.old self.new.built store.new) }
+            → IsLonger store.old self.new.built store.new
+            × AddsNumbered number store.old store.new (all_trees store.new self.new.stack)) }
         ensures refused { OnErr result ((self.new ≡ self.old) × (store.new ≡ store.old)) }
     {
         let before = store.len();
@@ -224,17 +239,22 @@ impl Parse {
         ensures parse { IfOk result (λ p. IsParseOf tables.now (K.kinds kinds.now) store.new p) }
         ensures number { IfOk result (λ p. p.number ≡ number) }
         ensures stamps { let change = plain_splice splice.now in
-            self.now.number < number → IfOk result (λ p. AreStampedExactly number change
-            (plain_of store.old self.now.stack) (all_trees store.new p.stack)) }
+            AreOlder number (all_trees store.old self.now.stack) → IfOk result
+            (λ p. AreStampedExactly number change (plain_of store.old self.now.stack)
+            (all_trees store.new p.stack)) }
+        ensures older { let change = plain_splice splice.now in IfOk result
+            (λ p. KeepStamps number change (all_trees store.old self.now.stack)
+            (all_trees store.new p.stack)) }
         ensures built { let change = plain_splice splice.now in
-            self.now.number < number → IfOk result
+            AreOlder number (all_trees store.old self.now.stack) → IfOk result
             (λ p. Built change (plain_of store.old self.now.stack) 0
             (plain_of store.new p.stack) p.built) }
-        ensures anew { number ≤ self.now.number → IfOk result
+        ensures anew { ¬ AreOlder number (all_trees store.old self.now.stack) → IfOk result
             (λ p. AreMadeBy number (forest_in store.new p.stack)) }
         ensures bound { IfOk result (λ p. length store.new ≤ bound p.branches) }
         ensures kept { IfOk result (λ p. length store.old + p.built ≤ bound p.branches
-            → IsLonger store.old p.built store.new) }
+            → IsLonger store.old p.built store.new
+            × AddsNumbered number store.old store.new (all_trees store.new p.stack)) }
         ensures refused { OnErr result (take (length store.old) store.new ≡ store.old) }
     {
         let input = self.left_by(alloc, store, splice, number)?;
@@ -277,7 +297,7 @@ impl Parse {
     }
 
     /// What the splice leaves of the trees of the stack, with the new kinds between. It is nothing where the number is not above
-    /// that of the last edit.
+    /// every stamp of theirs.
     fn left_by(
         &self,
         alloc: Global,
@@ -291,13 +311,17 @@ impl Parse {
             → IsSpliced (plain_splice splice.now) old new
             → IfOk result (λ input. IsInput t.grammar store.now input new 0) }
         ensures older { IfOk result (λ input. AreOlder number (all_trees store.now input)) }
-        ensures anew { number ≤ self.now.number → IfOk result (λ input. input ≡ []) }
+        ensures moved { let change = plain_splice splice.now in
+            let trees = all_trees store.now self.now.stack in
+            IfOk result (λ input. MoveFrom change trees (all_trees store.now input)) }
+        ensures anew { ¬ AreOlder number (all_trees store.now self.now.stack)
+            → IfOk result (λ input. input ≡ []) }
         ensures prepared { let change = plain_splice splice.now in
             let trees = plain_of store.now self.now.stack in
-            self.now.number < number → (kinds : List Kind)
+            AreOlder number (all_trees store.now self.now.stack) → (kinds : List Kind)
             → IfOk result (λ input. IsPrepared change trees (input_of store.now input kinds 0)) }
     {
-        if number <= self.number {
+        if number <= self.number && !are_older(alloc, store, &self.stack, number)? {
             return Ok(Input::new(alloc));
         }
         prepare(alloc, store, &self.stack, splice)

@@ -11,7 +11,8 @@ ghost use Rattle.theory.specs.Reuse.{IsPrepared};
 ghost use Rattle.parser.specs.Cuts.{Cut, kinds_in};
 ghost use Rattle.parser.specs.Machine.{plain_of};
 ghost use Rattle.parser.specs.Input.{input_of, IsInput};
-ghost use Rattle.parser.specs.Run.{AreOlder};
+ghost use Rattle.parser.specs.Run.{MoveFrom};
+ghost use Rattle.parser.specs.Stamps.{AreOlder};
 
 use crate::input::Input;
 use definitions::{Kind, KindSplice};
@@ -103,6 +104,8 @@ pub fn prepare(
         → IfOk result (λ input. IsPrepared change trees (input_of store.now input kinds 0)) }
     ensures older { (number : ℕ) → AreOlder number (all_trees store.now old.now)
         → IfOk result (λ input. AreOlder number (all_trees store.now input)) }
+    ensures moved { let change = plain_splice splice.now in IfOk result
+        (λ input. MoveFrom change (all_trees store.now old.now) (all_trees store.now input)) }
 {
     let mut input = Input::new(alloc);
     if splice.from == splice.to && splice.kinds.is_empty() {

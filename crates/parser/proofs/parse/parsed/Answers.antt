@@ -1,6 +1,8 @@
 use Rattle.std.proofs.Common.{sym, subst, [], ◌∷◌, length}
 use Rattle.parser.specs.Input.{input_of}
-use Rattle.parser.specs.Run.{SoFar}
+use Rattle.trees.specs.Cells.{all_trees}
+use Rattle.parser.specs.Run.{CameFrom, SoFar}
+use Rattle.parser.proofs.Coming.{came_begins}
 use Rattle.parser.proofs.Running.{begun}
 use Rattle.parser.proofs.parse.parsed.Goals as goal
 
@@ -17,6 +19,19 @@ run-requires-clause-so_far g c =
     let first = begun t kinds n cells start input made.states.1 c.requires.input c.requires.older in
     let whole = input_of cells input kinds 0 in
     subst (λ read_from. SoFar t (input_of cells input read_from 0) read_from (length cells) n cells m.stack.items m.states.items m.read input) (sym c.new-reader.ensures) (subst (λ stack. SoFar t whole kinds (length cells) n cells stack m.states.items m.read input) (sym made.stack) (subst (λ states. SoFar t whole kinds (length cells) n cells [] states m.read input) (sym made.states.2) (subst (λ r. SoFar t whole kinds (length cells) n cells [] (start ∷ []) r input) (sym made.read) first)))
+
+pub run-requires-clause-came : goal.run-requires-clause-came
+run-requires-clause-came g c =
+    let cells = c.args.store.now in
+    let n = c.args.number in
+    let m = c.in_ok-machine.machine in
+    let made = c.in_ok-machine.ensures in
+    let input = c.args.input in
+    let first = came_begins n cells input in
+    subst (λ stack. CameFrom (all_trees cells input) (length cells) n cells stack m.read input) (sym made.stack) (subst (λ r. CameFrom (all_trees cells input) (length cells) n cells [] r input) (sym made.read) first)
+
+pub returns-clause-came : goal.returns-clause-came
+returns-clause-came g c = let there = c.in_ok-verdict.ensures.came in (c.run.new.self.read, there.0, there.1)
 
 pub returns-clause-run : goal.returns-clause-run
 returns-clause-run g c =

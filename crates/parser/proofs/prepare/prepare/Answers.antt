@@ -2,7 +2,9 @@ use Rattle.std.proofs.Common.{◌≡◌, ◌≢◌, ℕ, ◌+◌, ◌-◌, ◌<�
 use Rattle.std.proofs.lemmas.List.{append-nil, take_all}
 use Rattle.definitions.specs.Trees.{all_kinds}
 use Rattle.theory.specs.Reuse.{IsPrepared}
-use Rattle.trees.specs.Cells.{AreBelow}
+use Rattle.definitions.specs.Nodes.{place_of}
+use Rattle.trees.specs.Cells.{AreBelow, all_trees}
+use Rattle.parser.specs.Run.{MoveFrom}
 use Rattle.parser.specs.Machine.{plain_of}
 use Rattle.parser.specs.Input.{input_of}
 use Rattle.parser.proofs.Reductions.{below-drop}
@@ -10,8 +12,8 @@ use Rattle.definitions.specs.TokenEdits.{plain_splice}
 use Rattle.trees.specs.declared.store.Child.{Child}
 use Rattle.trees.specs.declared.store.Child.TheVariants.{Token}
 use Rattle.parser.proofs.Cuts.{cut_below}
-use Rattle.parser.proofs.Prepared.{prepared_same}
-use Rattle.parser.proofs.Replaced.{IsReplaced, replaced_input, replaced_older, replaced_prepared, within, short}
+use Rattle.parser.proofs.Prepared.{prepared_same, unmoved}
+use Rattle.parser.proofs.Replaced.{IsReplaced, replaced_input, replaced_moved, replaced_older, replaced_prepared, within, short}
 use Rattle.parser.proofs.prepare.prepare.Goals as goal
 use Rattle.parser.proofs.prepare.prepare.Goals.{then-missing-eq0+in_ok-take_front+in_ok-put_kinds, else-missing-eq0, else-splice-via-then-splice+else-is_empty, else-splice-via-else-splice}
 
@@ -27,6 +29,15 @@ returns-then-is_empty-clause-prepared c kinds =
     let none : length s.kinds ≡ 0 = search rules in
     let same : c.put_all.new.self ≡ old = c.in_ok-put_all.ensures ∙ ap (λ l. c.of.result ++ l) c.new-input.ensures ∙ append-nil c.of.result ∙ c.of.ensures in
     subst (λ l. IsPrepared s (plain_of cells old) (input_of cells l kinds 0)) (sym same) (prepared_same s (plain_of cells old) (drop (0 + length (all_kinds (plain_of cells old))) kinds) c.if-splice.true none)
+
+pub returns-then-is_empty-clause-moved : goal.returns-then-is_empty-clause-moved
+returns-then-is_empty-clause-moved c =
+    let cells = c.args.store.now in
+    let old = c.args.old.now in
+    let s = plain_splice c.args.splice.now in
+    let none : length s.kinds ≡ 0 = search rules in
+    let same : c.put_all.new.self ≡ old = c.in_ok-put_all.ensures ∙ ap (λ l. c.of.result ++ l) c.new-input.ensures ∙ append-nil c.of.result ∙ c.of.ensures in
+    subst (λ l. MoveFrom s (all_trees cells old) (all_trees cells l)) (sym same) (λ lefts p born us w some. (lefts, w, unmoved s c.if-splice.true none (place_of lefts)))
 
 pub take_front-requires-clause-below : goal.take_front-requires-clause-below
 take_front-requires-clause-below c =
@@ -71,4 +82,5 @@ returns c =
       input = λ g kinds h fits. replaced_input cells s c.requires.ordered g r kinds h;
       prepared = λ kinds. replaced_prepared cells s c.requires.ordered changes r kinds;
       older = λ number h. replaced_older cells s c.requires.ordered number r h;
+      moved = replaced_moved cells s c.requires.ordered r;
     }

@@ -12,9 +12,8 @@ use Rattle.parser.proofs.Inputs.{IsOpening, taken, no_kinds, none_counted, kids_
 use Rattle.parser.specs.Front.{BeginsWithNoNode}
 use Rattle.parser.proofs.Reductions.{below-append}
 use Rattle.parser.proofs.Reusing.{look_first}
-use Rattle.parser.specs.Run.{AreOlder}
-use Rattle.parser.proofs.Stamping.{none_behind}
-use Rattle.parser.proofs.Stamps.{opened_older}
+use Rattle.parser.specs.Run.{ComeFrom}
+use Rattle.parser.proofs.Coming.{come_all, come_behind, come_on, opened_came}
 use Rattle.parser.proofs.machine.Machine.front.Goals as goal
 
 pub passes-requires-clause-root : goal.passes-requires-clause-root
@@ -49,7 +48,7 @@ edge-preserved-in-Continue-1 g c =
     record {
       input = subst (λ l. IsInput gr cells l kinds read) (sym new) made;
       offers = (λ f d. c.edge.invariant.offers f (subst (λ l. Tries gr stack (input_of cells l kinds read) f) (sym old) (step.2 f (subst (λ l. Tries gr stack (input_of cells l kinds read) f) new d))));
-      older = λ n h. subst (λ l. AreOlder n (all_trees cells l)) (sym new) (opened_older n cells kids rest id c.children.ensures.tree.0 c.children.ensures.tree.1 c.children.ensures.tree.2 (subst (λ l. AreOlder n (all_trees cells l)) old (c.edge.invariant.older n h)));
+      came = come_on 0 0 (all_trees cells c.args.input.now) (all_trees cells c.edge.input) (all_trees cells c.put_all.new.self) c.edge.invariant.came (subst (λ l. ComeFrom (all_trees cells c.edge.input) 0 (all_trees cells l)) (sym new) (subst (λ l. ComeFrom (all_trees cells l) 0 (all_trees cells (kids ++ rest))) (sym old) (opened_came cells kids rest id c.children.ensures.tree.0 c.children.ensures.tree.1 c.children.ensures.tree.2)));
       same = c.in_default-passes.ensures.same ∙ c.edge.invariant.same;
       opening = subst (IsOpening cells c.args.input.now) (sym new) (opening_on cells c.args.input.now c.edge.input rest kids (Node id) c.requires.full c.edge.invariant.opening old same);
     }
@@ -89,7 +88,7 @@ edge-preserved g c =
     record {
       input = record { below = inp.below.1; parts = step.0; covers = step.1 };
       offers = (λ f d. c.edge.invariant.offers f (subst (λ l. Tries gr stack (input_of cells l kinds read) f) (sym old) (step.2 f d)));
-      older = λ n h. none_behind n (tree cells (Node id)) (all_trees cells rest) (subst (λ l. AreOlder n (all_trees cells l)) old (c.edge.invariant.older n h));
+      came = come_on 0 0 (all_trees cells c.args.input.now) (all_trees cells c.edge.input) (all_trees cells rest) c.edge.invariant.came (subst (λ l. ComeFrom (all_trees cells l) 0 (all_trees cells rest)) (sym old) (subst (λ n. ComeFrom (all_trees cells (Node id ∷ rest)) n (all_trees cells rest)) empty (come_behind (tree cells (Node id)) (all_trees cells rest))));
       same = c.edge.invariant.same;
       opening = opening_on cells c.args.input.now c.edge.input rest [] (Node id) c.requires.full c.edge.invariant.opening old (sym (no_kinds (yield (plain (tree cells (Node id)))) empty));
     }
@@ -106,4 +105,4 @@ returns-in-Token-clause-offer g c =
     (look_first kinds read k _ inp.covers, subst BeginsWithNoNode (sym token) tt)
 
 pub edge-init : goal.edge-init
-edge-init g c = record { input = c.requires.input; offers = λ f d. d; older = λ n h. h; same = refl; opening = opening_begins c.args.store.now c.args.input.now }
+edge-init g c = record { input = c.requires.input; offers = λ f d. d; came = come_all (all_trees c.args.store.now c.args.input.now); same = refl; opening = opening_begins c.args.store.now c.args.input.now }

@@ -4,7 +4,7 @@ use Rattle.definitions.specs.Items.{HasMove, Shift, Reduce, Accept}
 use Rattle.definitions.specs.Trees.{yield}
 use Rattle.definitions.specs.TreeEdits.{plain as plain_tree}
 use Rattle.definitions.specs.declared.Kind.TheVariants.{Rule as Token}
-use Rattle.trees.specs.Cells.{tree}
+use Rattle.trees.specs.Cells.{all_trees, tree}
 use Rattle.trees.specs.declared.store.Child.TheVariants.{Token as TokenChild, Node}
 use Rattle.theory.specs.Machine.{Reduces}
 use Rattle.tables.specs.Actions.{plain}
@@ -14,12 +14,13 @@ use Rattle.parser.specs.declared.machine.Front.TheVariants.{Tree as OffersTree, 
 use Rattle.parser.specs.Input.{input_of, IsInput}
 use Rattle.parser.specs.Machine.{plain_of}
 use Rattle.parser.specs.Parses.{IsStoppedAt}
-use Rattle.parser.specs.Run.{SoFar}
+use Rattle.parser.specs.Run.{CameFrom, SoFar}
+use Rattle.parser.proofs.Coming.{came_reduced, came_shifted, came_taken, come_older, come_on, front_came, front_from, skipped_came, skipped_left}
 use Rattle.parser.proofs.Inputs.{taken}
 use Rattle.parser.proofs.Moves.{top_stands}
 use Rattle.parser.proofs.Reusing.{counted}
 use Rattle.parser.proofs.Running.{behind_first, reached, reduced_on, shifted_on, skipped_on, taken_on}
-use Rattle.parser.proofs.Stamps.{front_stays, skipped_older}
+use Rattle.parser.proofs.Stamps.{front_stays}
 use Rattle.parser.proofs.Stops.{IsStuck, at_fault, at_end, at_tree, one_on_stack}
 use Rattle.parser.proofs.machine.Machine.run.Goals.{then-self-count, else-self-count}
 use Rattle.parser.proofs.machine.Machine.run.Goals as goal
@@ -42,17 +43,21 @@ moves-preserved-in-Tree g c =
     let input = subst (λ kinds. IsInput t.grammar cells now kinds m.read) c.moves.invariant.same c.in_ok-id.ensures.input in
     let offers : Offers t.grammar trees (input_of cells now kinds m.read) (input_of cells c.moves.input kinds m.read) = λ f d. on.1 trees f (subst (λ kinds. Offers t.grammar trees (input_of cells now kinds m.read) (input_of cells c.skip_empty.new.self kinds m.read)) c.moves.invariant.same c.in_ok-id.ensures.offers f d) in
     let id = c.in-Tree.id in
-    let older = c.in_ok-id.ensures.older c.args.number (skipped_older c.args.number cells c.moves.input c.skip_empty.new.self c.skip_empty.ensures.skips h.older) in
+    let came = front_came (all_trees c.args.store.now c.args.input) cells m.read c.moves.input c.skip_empty.new.self now c.moves.invariant.came.left c.skip_empty.ensures.skips c.in_ok-id.ensures.came in
+    let older = come_older c.args.number 0 (all_trees cells c.moves.input) (all_trees cells now) (front_from cells c.moves.input c.skip_empty.new.self now c.skip_empty.ensures.skips c.in_ok-id.ensures.came) h.older in
     let offer = subst (λ kinds. IsOffer t cells trees kinds m.read now (OffersTree c.in-Tree.id c.in-Tree.next)) c.moves.invariant.same (subst (IsOffer t cells trees c.moves.kinds m.read now) c.in-Tree.is c.in_ok-id.ensures.offer) in
     let rest = c.take.new.self in
     let now_is = taken c.take.result now rest offer.0.0 (Node id) c.take.ensures offer.0.1 in
     let next = taken_on t whole kinds before c.args.number cells m.stack.items m.states.items m.read c.moves.input h now rest id c.in-Tree.next now_is input offers older offer.1 in
     let n = length (yield (plain_tree (tree cells (Node id)))) in
+    let input_now = all_trees c.args.store.now c.args.input in
+    let taken_so = came_taken input_now before c.args.number cells m.stack.items m.read c.moves.input c.moves.invariant.came now rest id now_is came older in
     let count : c.tokens.result ≡ n = c.tokens.ensures.is ∙ counted n (omega (arith, next.within, c.len-count.ensures, c.len-count.type_inv)) in
     let push = c.in_ok-push-in-Tree.ensures in
     let read : m.read + n ≡ c.push.new.self.read + c.tokens.result = omega (arith, push.read, count) in
     record {
       so_far = subst (λ s. SoFar t whole kinds before c.args.number cells s c.push.new.self.states.items (c.push.new.self.read + c.tokens.result) rest) (sym push.stack) (subst (λ s. SoFar t whole kinds before c.args.number cells (m.stack.items ++ (Node id ∷ [])) s (c.push.new.self.read + c.tokens.result) rest) (sym push.states) (subst (λ r. SoFar t whole kinds before c.args.number cells (m.stack.items ++ (Node id ∷ [])) (m.states.items ++ (c.in-Tree.next ∷ [])) r rest) read next));
+      came = subst (λ s. CameFrom input_now before c.args.number cells s (c.push.new.self.read + c.tokens.result) rest) (sym push.stack) (subst (λ r. CameFrom input_now before c.args.number cells (m.stack.items ++ (Node id ∷ [])) r rest) read taken_so);
       grown = c.moves.invariant.grown;
       same = c.in_ok-id.ensures.same ∙ c.moves.invariant.same;
     }
@@ -90,7 +95,8 @@ moves-preserved-in-Some-Shift g c =
     let input = subst (λ kinds. IsInput t.grammar cells now kinds m.read) c.moves.invariant.same c.in_ok-id.ensures.input in
     let offers : Offers t.grammar trees (input_of cells now kinds m.read) (input_of cells c.moves.input kinds m.read) = λ f d. on.1 trees f (subst (λ kinds. Offers t.grammar trees (input_of cells now kinds m.read) (input_of cells c.skip_empty.new.self kinds m.read)) c.moves.invariant.same c.in_ok-id.ensures.offers f d) in
     let offer = subst (λ kinds. IsOffer t cells trees kinds m.read now (OffersNext c.in-Next.look)) c.moves.invariant.same (subst (IsOffer t cells trees c.moves.kinds m.read now) c.in-Next.is c.in_ok-id.ensures.offer) in
-    let older = c.in_ok-id.ensures.older c.args.number (skipped_older c.args.number cells c.moves.input c.skip_empty.new.self c.skip_empty.ensures.skips h.older) in
+    let came = front_came (all_trees c.args.store.now c.args.input) cells m.read c.moves.input c.skip_empty.new.self now c.moves.invariant.came.left c.skip_empty.ensures.skips c.in_ok-id.ensures.came in
+    let older = come_older c.args.number 0 (all_trees cells c.moves.input) (all_trees cells now) (front_from cells c.moves.input c.skip_empty.new.self now c.skip_empty.ensures.skips c.in_ok-id.ensures.came) h.older in
     let k = c.in-Some.kind in
     let is : slice_get kinds m.read ≡ Some k = sym offer.0 ∙ c.in-Some.is in
     let rest = c.take-in-Some-Shift.new.self in
@@ -105,8 +111,11 @@ moves-preserved-in-Some-Shift g c =
     let one = shifted_on t whole kinds before c.args.number cells m.stack.items m.states.items m.read c.moves.input h now rest k a next behind input offers older rule (slice_get_within kinds m.read k is) called goes in
     let push = c.in_ok-push-in-Some-Shift.ensures in
     let m' = c.push-in-Some-Shift.new.self in
+    let input_now = all_trees c.args.store.now c.args.input in
+    let shifted_so = came_shifted input_now before c.args.number cells m.stack.items m.read c.moves.input c.moves.invariant.came rest k (come_on m.read 1 input_now (all_trees cells now) (all_trees cells rest) came behind.came) in
     record {
       so_far = subst (λ s. SoFar t whole kinds before c.args.number cells s m'.states.items (m'.read + 1) rest) (sym push.stack) (subst (λ s. SoFar t whole kinds before c.args.number cells (m.stack.items ++ (TokenChild k ∷ [])) s (m'.read + 1) rest) (sym push.states) (subst (λ r. SoFar t whole kinds before c.args.number cells (m.stack.items ++ (TokenChild k ∷ [])) (m.states.items ++ (next ∷ [])) (r + 1) rest) (sym push.read) one));
+      came = subst (λ s. CameFrom input_now before c.args.number cells s (m'.read + 1) rest) (sym push.stack) (subst (λ r. CameFrom input_now before c.args.number cells (m.stack.items ++ (TokenChild k ∷ [])) (r + 1) rest) (sym push.read) shifted_so);
       grown = c.moves.invariant.grown;
       same = c.in_ok-id.ensures.same ∙ c.moves.invariant.same;
     }
@@ -136,12 +145,31 @@ moves-preserved g c =
     let done = c.in_ok-reduce-in-Some-Reduce.ensures in
     let reduces = subst (λ l. Reduces t.grammar trees l (plain_of new m'.stack.items)) offer.0 (done.reduced c.in-Next.look symbols h.has_states.roots called) in
     let closed = c.in_ok-close-in-Some-Reduce.ensures full c.in_ok-id.ensures.opened c.len-trees.ensures c.first-first.ensures in
-    let one = reduced_on t whole kinds before c.args.number cells m.stack.items m.states.items m.read c.moves.input h now offer.1 offers p new m'.stack.items m'.states.items done.made reduces done.states full on.0 on.1 (skipped_older c.args.number cells c.moves.input full c.skip_empty.ensures.skips h.older) in
+    let one = reduced_on t whole kinds before c.args.number cells m.stack.items m.states.items m.read c.moves.input h now offer.1 offers p new m'.stack.items m'.states.items done.made reduces done.states full on.0 on.1 (come_older c.args.number 0 (all_trees cells c.moves.input) (all_trees cells full) (skipped_came cells c.moves.input full c.skip_empty.ensures.skips) h.older) in
+    let input_now = all_trees c.args.store.now c.args.input in
+    let reduced_so = came_reduced input_now before c.args.number cells m.stack.items m.read c.moves.input c.moves.invariant.came p new m'.stack.items done.made h.below full on.0.below (skipped_left input_now cells m.read c.moves.input full c.moves.invariant.came.left c.skip_empty.ensures.skips) in
     record {
       so_far = subst (λ r. SoFar t whole kinds before c.args.number new m'.stack.items m'.states.items r c.close.new.self) (sym done.read) (subst (SoFar t whole kinds before c.args.number new m'.stack.items m'.states.items m.read) (sym closed) one);
+      came = subst (λ r. CameFrom input_now before c.args.number new m'.stack.items r c.close.new.self) (sym done.read) (subst (CameFrom input_now before c.args.number new m'.stack.items m.read) (sym closed) reduced_so);
       grown = front_stays c.args.store.now cells new c.moves.invariant.grown done.grown;
       same = c.in_ok-id.ensures.same ∙ c.moves.invariant.same;
     }
+
+pub index-requires : goal.index-requires
+index-requires g c =
+    let t = c.args.tables.now in
+    let kinds = c.args.kinds.now in
+    let cells = c.moves.store in
+    let m = c.moves.self in
+    let whole = input_of c.args.store.now c.args.input kinds 0 in
+    let trees = plain_of cells m.stack.items in
+    let offer = subst (λ kinds. IsOffer t cells trees kinds m.read c.front.new.input (OffersNext c.in-Next.look)) c.moves.invariant.same (subst (IsOffer t cells trees c.moves.kinds m.read c.front.new.input) c.in-Next.is c.in_ok-id.ensures.offer) in
+    let here = reached t whole kinds (length c.args.store.now) c.args.number cells m.stack.items m.states.items m.read c.moves.input c.moves.invariant.so_far c.requires.accepted.productive in
+    let symbols = here.has_states.symbols in
+    let there = subst (IsStateOf t symbols) (sym c.state.ensures) (top_stands t trees m.states.items here.has_states) in
+    let called : HasMove t.grammar symbols (slice_get kinds m.read) Accept = subst (λ l. HasMove t.grammar symbols l Accept) offer.0 (subst (λ move. HasMove t.grammar symbols c.in-Next.look (plain move)) c.in-Some-Accept.field-0-is (c.in-Some-Accept.ensures.is symbols there)) in
+    let one = one_on_stack t c.requires.accepted kinds cells m.stack.items m.states.items m.read here called in
+    omega (arith, ap length one.1)
 
 pub returns-in-Node-clause-stops : goal.returns-in-Node-clause-stops
 returns-in-Node-clause-stops g c =

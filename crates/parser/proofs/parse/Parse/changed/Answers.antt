@@ -1,19 +1,26 @@
-use Rattle.std.proofs.Common.{◌≡◌, ◌+◌, drop, length, subst, sym}
+use Rattle.std.proofs.Common.{◌≡◌, ◌+◌, [], ap, arith, ◌∙◌, drop, length, subst, sym, take}
 use Rattle.std.proofs.lemmas.Result.{IfOk-weaker}
 use Rattle.definitions.specs.TokenEdits.{plain_splice}
 use Rattle.definitions.specs.TreeEdits.{AreStampedExactly, Built}
-use Rattle.trees.specs.Cells.{all_trees}
+use Rattle.trees.specs.Cells.{all_trees, trees_from}
 use Rattle.parser.specs.Input.{input_of}
 use Rattle.parser.specs.Machine.{plain_of, AreMadeBy}
 use Rattle.parser.specs.Parses.{all_branches_by, verdict_in}
 use Rattle.parser.specs.Run.{IsMadeByRun}
-use Rattle.parser.proofs.Bounded.{same_plain, same_stamped}
+use Rattle.parser.specs.Stamps.{KeepStamps, all_numbered}
+use Rattle.parser.proofs.Bounded.{same_parse, same_plain, same_stamped}
+use Rattle.parser.proofs.Coming.{keep_stamps}
 use Rattle.parser.proofs.Edits.{built_exactly, stamped_exactly}
 use Rattle.parser.proofs.Plain.{plain_stamps}
 use Rattle.parser.proofs.parse.Parse.changed.Goals as goal
 
 pub parsed-requires-clause-input : goal.parsed-requires-clause-input
 parsed-requires-clause-input g c = c.in_ok-input.ensures.input c.args.tables.now c.requires.0 (g.K.Kinds.kinds c.args.kinds.now) c.requires.1 c.requires.2
+
+pub returns-clause-parse : goal.returns-clause-parse
+returns-clause-parse g c =
+    let kinds = g.K.Kinds.kinds c.args.kinds.now in
+    IfOk-weaker c.bounded.result _ _ (λ q same. same_parse c.parsed.new.store c.in_ok-parse.parse c.bounded.new.store q same c.args.tables.now kinds c.in_ok-parse.ensures.parse) c.bounded.ensures.same
 
 pub returns-clause-stamps : goal.returns-clause-stamps
 returns-clause-stamps g c above =
@@ -27,6 +34,31 @@ returns-clause-stamps g c above =
     let old = plain_of cells c.args.self.now.stack in
     let stamps = stamped_exactly t c.parsed.ensures.accepted kinds (input_of cells c.in_ok-input.input kinds 0) (length cells) c.args.number new p.stack done.run change old (c.in_ok-input.ensures.prepared above kinds) (verdict_in new p.verdict) done.parse.stop.verdict done.parse.stop.stack in
     IfOk-weaker c.bounded.result _ _ (λ q same. subst (AreStampedExactly c.args.number change old) (sym same.trees) stamps) c.bounded.ensures.same
+
+pub returns-clause-older : goal.returns-clause-older
+returns-clause-older g c =
+    let cells = c.args.store.now in
+    let new = c.parsed.new.store in
+    let p = c.in_ok-parse.parse in
+    let came = c.in_ok-parse.ensures.came in
+    let change = plain_splice c.args.splice.now in
+    let old = all_trees cells c.args.self.now.stack in
+    let kept = keep_stamps change old (all_trees cells c.in_ok-input.input) (length cells) c.args.number new p.stack came.0 came.1 came.2 c.in_ok-input.ensures.moved in
+    IfOk-weaker c.bounded.result _ _ (λ q same. subst (KeepStamps c.args.number change old) (sym same.trees) kept) c.bounded.ensures.same
+
+pub returns-clause-kept : goal.returns-clause-kept
+returns-clause-kept g c =
+    let cells = c.args.store.now in
+    let n = c.args.number in
+    let new = c.parsed.new.store in
+    let p = c.in_ok-parse.parse in
+    let done = c.in_ok-parse.ensures in
+    IfOk-weaker c.bounded.result _ _
+    (λ q same fits.
+    let stays : c.bounded.new.store ≡ new = c.bounded.ensures.kept (omega (arith, fits, done.count, same.branches, same.built)) in
+    let longer : take (length cells) c.bounded.new.store ≡ cells = ap (take (length cells)) stays ∙ c.parsed.ensures.grown in
+    ((longer, omega (arith, ap length stays, done.count, same.built)), ap (λ l. drop (length cells) (trees_from [] l)) stays ∙ done.came.2.added ∙ ap (all_numbered n) (sym same.trees)))
+    c.bounded.ensures.same
 
 pub returns-clause-built : goal.returns-clause-built
 returns-clause-built g c above =

@@ -1,7 +1,8 @@
 use Rattle.std.proofs.Common.{◌+◌, arith, drop, length, subst, sym}
 use Rattle.trees.specs.Cells.{all_trees}
 use Rattle.parser.specs.Input.{input_of, IsInput}
-use Rattle.parser.specs.Run.{IsMadeByRun, AreOlder}
+use Rattle.parser.specs.Run.{IsMadeByRun}
+use Rattle.parser.specs.Stamps.{AreOlder}
 use Rattle.parser.proofs.Plain.{plain_count, plain_stamps}
 use Rattle.parser.proofs.Running.{no_input}
 use Rattle.parser.proofs.Stamping.{none_in_nothing}
@@ -43,3 +44,6 @@ returns-in-Ok-clause-built g c =
 
 pub returns-in-Ok-clause-kept : goal.returns-in-Ok-clause-kept
 returns-in-Ok-clause-kept g c = trees_stay c.args.store.now c.parsed.new.store c.parsed.ensures.grown
+
+pub returns-in-Ok-clause-added : goal.returns-in-Ok-clause-added
+returns-in-Ok-clause-added g c = c.in-Ok.ensures.came.2.added

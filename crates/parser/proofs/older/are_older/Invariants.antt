@@ -1,0 +1,18 @@
+use Rattle.std.proofs.Common.{ℕ, length}
+use Rattle.trees.specs.Cells.{AreBelow, all_trees}
+use Rattle.parser.specs.Machine.{plain_of}
+use Rattle.parser.specs.Run.{ComeFrom}
+use Rattle.parser.specs.Stamps.{AreOlder}
+use Rattle.parser.proofs.Front.{weight}
+use Rattle.parser.proofs.older.are_older.Given as goal
+
+-- what is left stands in the trees, and where it is older, so are all of them
+abbrev pub invariant-trees : goal.invariant-trees
+invariant-trees l = record {
+  below : AreBelow (length l.store) l.rest;
+  came : (place : ℕ) × ComeFrom (all_trees l.store l.fn.children) place (all_trees l.store l.rest);
+  so_far : AreOlder l.number (all_trees l.store l.rest) → AreOlder l.number (all_trees l.store l.fn.children);
+}
+
+abbrev pub decreases-trees : goal.decreases-trees
+decreases-trees l = weight (plain_of l.store l.rest)
