@@ -18,15 +18,18 @@ use Rattle.grammar.specs.Grammars.{FileGrammar}
 use Rattle.lexer.specs.Rescans.{significant_kinds}
 use Rattle.lexer.specs.Tokens.{plain as plain_token}
 use Rattle.parser.specs.Machine.{AreMadeBy, IsMadeBy, plain_of}
-use Rattle.parser.specs.Parses.{before_fault, last_leaf, branches_by, branches_of_by, all_branches_by, verdict_in}
+use Rattle.parser.specs.Stamps.{AreOlder}
+use Rattle.parser.proofs.Built.{one_built}
+use Rattle.parser.proofs.Counts.{none_by, older_by}
+use Rattle.parser.specs.Parses.{AreUpTo, before_fault, last_leaf, branches_by, branches_of_by, all_branches_by, verdict_in}
 use Rattle.theory.proofs.Exact.{stands_split}
 use Rattle.theory.proofs.Made.{not_in_leaf}
 use Rattle.theory.proofs.Stack.{nowhere, stands_in_front}
 use Rattle.trees.specs.declared.store.Child.{Child}
-use Rattle.trees.specs.Cells.{forest_in, forest_of, trees_of, tree_of}
+use Rattle.trees.specs.Cells.{all_trees, forest_in, forest_of, trees_of, tree_of}
 use Rattle.docs.specs.declared.doc.Doc.{Doc}
 use Rattle.docs.specs.Answers.{Reading, IsReading, AnswersOnce}
-use Rattle.docs.specs.Edits.{IsNext, Makes, AreStats, TellsLast, CountsOnce, number_of, number_behind, edit_of, without_nodes}
+use Rattle.docs.specs.Edits.{IsNext, Makes, AreStats, TellsLast, CountsOnce, IsAbove, number_of, number_behind, edit_of, without_nodes}
 use Rattle.docs.specs.Docs.{last_edit, open_document, IsCurrent}
 use Rattle.docs.specs.Languages.{LanguageData}
 use Rattle.docs.specs.Texts.{LastEdit, OpenDocument}
@@ -148,6 +151,13 @@ next_positive n m is = by (cases_lt 18_446_744_073_709_551_615 (n + 1))
         omega (arith, is, e)
     by (inr more) = let e = min-eq_left more in omega (arith, is, e)
 
+pub next_later : (n m : ℕ) → m ≡ min (n + 1) 18_446_744_073_709_551_615 → n ≤ 18_446_744_073_709_551_615 → n ≤ m
+next_later n m is fits = grind (arith, is, fits)
+
+-- the number of the edit after the last one
+pub number_after : (d e : Doc) → e.parse.number ≡ min (d.parse.number + 1) 18_446_744_073_709_551_615 → e.parse.number ≡ number_behind (last_edit d)
+number_after d e number = number ∙ ap (λ n. min (n + 1) 18_446_744_073_709_551_615) (sym (told_number d.parse.number d.tokens.scanned d.parse.built))
+
 pub same_edit : (encoding : Encoding) (text : List ℕ) (range : Option Range) (s : List ℕ) (away : ℕ × ℕ) (inserted told number : ℕ) → away ≡ span encoding text range → inserted ≡ length s → told ≡ number
     → record { at = away.0; removed = away.1 - away.0; inserted = inserted; number = told } ≡ edit_of encoding text range s number
 same_edit encoding text range s away inserted told number places long same =
@@ -155,34 +165,61 @@ same_edit encoding text range s away inserted told number places long same =
     let place : first ≡ record { at = (span encoding text range).0; removed = (span encoding text range).1 - (span encoding text range).0; inserted = inserted; number = told } = ap (λ (p : ℕ × ℕ). record { at = p.0; removed = p.1 - p.0; inserted = inserted; number = told }) places in
     place ∙ (ap (λ n. record { at = (span encoding text range).0; removed = (span encoding text range).1 - (span encoding text range).0; inserted = n; number = told }) long ∙ ap (edit_of encoding text range s) same)
 
+-- a number is above every stamp of the nodes exactly where what is told of the last edit says so
+module _ (d : Doc) (number : ℕ) (ts : List Stamped) where
+  older_above : AreUpTo d.parse.number ts → d.parse.built ≡ all_branches_by d.parse.number ts → IsAbove (last_edit d) number → AreOlder number ts
+  older_above up_to built above = by (d.parse.number == 0) refl above
+    where
+      by : (none : Bool) → (d.parse.number == 0) ≡ none → IsAbove (if none then None else Some (told d.parse.number d.tokens.scanned d.parse.built)) number → AreOlder number ts
+      by true e more lefts p born us w = omega (arith, more, up_to lefts p born us w, eqb-true d.parse.number 0 e)
+      by false e more lefts p born us w =
+          ⊎_elim
+          (λ less. omega (arith, less, up_to lefts p born us w))
+          (λ same. omega (arith, same.0, up_to lefts p born us w, none_by d.parse.number ts (sym built ∙ same.1) lefts p born us w))
+          more
+
+  above_older : d.parse.built ≡ all_branches_by d.parse.number ts → d.parse.number ≤ number → 0 < number → AreOlder number ts → IsAbove (last_edit d) number
+  above_older built later some older = by (d.parse.number == 0)
+    where
+      by : (none : Bool) → IsAbove (if none then None else Some (told d.parse.number d.tokens.scanned d.parse.built)) number
+      by true = some
+      by false =
+          ⊎_elim
+          (λ less. inl less)
+          (λ more. let same : d.parse.number ≡ number = omega (arith, later, more) in inr (same, built ∙ older_by d.parse.number ts (subst (λ n. AreOlder n ts) (sym same) older)))
+          (cases_lt d.parse.number number)
+
 -- the kinds before the fault, where there is one
 abbrev before : Doc → List Kind
 before d = before_fault (significant_kinds d.tokens.items) (verdict_in d.store d.parse.verdict)
 
 -- what is kept of a document, and of that which a change made of it
 module _ (l : LanguageData) (d e : Doc) (current : IsCurrent l d) (current_next : IsCurrent l e) where
+  abbrev Older : Type 0
+  Older = AreOlder e.parse.number (all_trees d.store d.parse.stack)
+
   abbrev Spliced : Splice → Type 0
-  Spliced s = d.parse.number < e.parse.number → Built s (plain_of d.store d.parse.stack) 0 (plain_of e.store e.parse.stack) e.parse.built
+  Spliced s = Older → Built s (plain_of d.store d.parse.stack) 0 (plain_of e.store e.parse.stack) e.parse.built
 
   abbrev MadeAnew : Type 0
-  MadeAnew = e.parse.number ≤ d.parse.number → AreMadeBy e.parse.number (forest_in e.store e.parse.stack)
+  MadeAnew = ¬ Older → AreMadeBy e.parse.number (forest_in e.store e.parse.stack)
 
-  nodes_built : (s : Splice) → Spliced s → d.parse.number < e.parse.number → Built s (stacked_trees l d current) 0 (stacked_trees l e current_next) e.parse.built
-  nodes_built s built less =
+  nodes_built : (s : Splice) → Spliced s → Older → Built s (stacked_trees l d current) 0 (stacked_trees l e current_next) e.parse.built
+  nodes_built s built older =
       let was = current.parse.stop.stack in
       let is = current_next.parse.stop.stack in
-      let old = subst (λ (ts : List Tree). Built s ts 0 (plain_of e.store e.parse.stack) e.parse.built) was.stack_is (built less) in
+      let old = subst (λ (ts : List Tree). Built s ts 0 (plain_of e.store e.parse.stack) e.parse.built) was.stack_is (built older) in
       let new = subst (λ (ts : List Tree). Built s (was.trees ++ last_leaf (before d)) 0 ts e.parse.built) is.stack_is old in
       built_before s was.trees (before d) is.trees (before e) new
 
-  pub next_is : (encoding : Encoding) (range : Option Range) (s : List ℕ) (change : Edit) (spliced : Splice) → e.text ≡ changed encoding d.text range s
+  pub next_is : (encoding : Encoding) (range : Option Range) (s : List ℕ) (change : Edit) (spliced : Splice) → d.parse.number ≤ 18_446_744_073_709_551_615 → e.text ≡ changed encoding d.text range s
       → e.parse.number ≡ min (d.parse.number + 1) 18_446_744_073_709_551_615 → change ≡ edit_of encoding d.text range s e.parse.number
       → spliced ≡ splice l.file.skips change (map plain_token d.tokens.items) (map plain_token e.tokens.items)
       → e.tokens.scanned ≡ length (made change (map plain_token d.tokens.items) (map plain_token e.tokens.items)) → Spliced spliced → MadeAnew
       → (next : LastEdit) × (last_edit e ≡ Some next) × IsNext encoding l.file d.text range s (last_edit d) next
-  next_is encoding range s change spliced text number edit same scanned built anew =
+  next_is encoding range s change spliced fits text number edit same scanned built anew =
       let old : number_of (last_edit d) ≡ d.parse.number = told_number d.parse.number d.tokens.scanned d.parse.built in
-      let behind : number_behind (last_edit d) ≡ e.parse.number = ap (λ n. min (n + 1) 18_446_744_073_709_551_615) old ∙ sym number in
+      let behind : number_behind (last_edit d) ≡ e.parse.number = sym (number_after d e number) in
       let so : change ≡ edit_of encoding d.text range s (number_behind (last_edit d)) = edit ∙ ap (edit_of encoding d.text range s) (sym behind) in
       let reading : IsReading l.file (changed encoding d.text range s) (reading_of e (stacked_trees l e current_next)) = subst (λ (t : List ℕ). IsReading l.file t (reading_of e (stacked_trees l e current_next))) text (stacked_reading l e current_next) in (
         record { number = e.parse.number; scanned = e.tokens.scanned; built = e.parse.built },
@@ -195,8 +232,8 @@ module _ (l : LanguageData) (d e : Doc) (current : IsCurrent l d) (current_next 
           makes = record {
             number = sym behind;
             scanned = subst (λ (x : Edit). e.tokens.scanned ≡ length (made x (map plain_token d.tokens.items) (map plain_token e.tokens.items))) so scanned;
-            built = λ less. subst (λ (x : Splice). Built x (stacked_trees l d current) 0 (stacked_trees l e current_next) e.parse.built) (same ∙ ap (λ (x : Edit). splice l.file.skips x (map plain_token d.tokens.items) (map plain_token e.tokens.items)) so) (nodes_built spliced built (omega (arith, less, old, behind)));
-            all_built = λ more. current_next.parse.built ∙ (all_made e.parse.number _ e.parse.stack (anew (omega (arith, more, old, behind))) ∙ (ap all_branches current_next.parse.stop.stack.stack_is ∙ branches_before (stacked_trees l e current_next) (before e)));
+            built = λ above. subst (λ (x : Splice). Built x (stacked_trees l d current) 0 (stacked_trees l e current_next) e.parse.built) (same ∙ ap (λ (x : Edit). splice l.file.skips x (map plain_token d.tokens.items) (map plain_token e.tokens.items)) so) (nodes_built spliced built (older_above d e.parse.number (all_trees d.store d.parse.stack) current.parse.older current.parse.built (subst (IsAbove (last_edit d)) behind above)));
+            all_built = λ below. current_next.parse.built ∙ (all_made e.parse.number _ e.parse.stack (anew (λ older. below (subst (IsAbove (last_edit d)) (sym behind) (above_older d e.parse.number (all_trees d.store d.parse.stack) current.parse.built (next_later d.parse.number e.parse.number number fits) (next_positive d.parse.number e.parse.number number) older)))) ∙ (ap all_branches current_next.parse.stop.stack.stack_is ∙ branches_before (stacked_trees l e current_next) (before e)));
           };
         },
       )
@@ -219,19 +256,24 @@ stats_are l d current stats edit scanned tokens branches built nodes = record {
 
 -- ---- one thing is told
 
-pub one_built : {s : Splice} {old new : List Tree} {place m n : ℕ} → Built s old place new m → Built s old place new n → n ≡ m
-one_built Nothing Nothing = refl
-one_built (Token a) (Token b) = one_built a b
-one_built (Kept kept a) (Kept other b) = one_built a b
-one_built (Kept kept a) (New never below b) = absurd (never kept)
-one_built (New never below a) (Kept kept b) = absurd (never kept)
-one_built (New {m = m} {n = n} never below a) (New {m = i} {n = j} other beside b) =
-    ap (λ k. 1 + k + j) (one_built below beside) ∙ ap (λ k. 1 + m + k) (one_built a b)
+above_or_not : (last : Option LastEdit) (number : ℕ) → IsAbove last number ⊎ (¬ IsAbove last number)
+above_or_not None number = ⊎_elim (λ some. inl some) (λ none. inr (λ some. omega (arith, none, some))) (cases_lt 0 number)
+above_or_not (Some last) number =
+    ⊎_elim
+    (λ less. inl (inl less))
+    (λ more. ⊎_elim
+    (λ apart. inr (λ above. ⊎_elim (λ less. omega (arith, less, more)) (λ same. omega (arith, same.0, apart)) above))
+    (λ most. ⊎_elim
+    (λ some. inr (λ above. ⊎_elim (λ less. omega (arith, less, more)) (λ same. omega (arith, same.1, some)) above))
+    (λ none. inl (inr (omega (arith, more, most), omega (arith, none))))
+    (cases_lt 0 last.built))
+    (cases_lt number last.number))
+    (cases_lt last.number number)
 
 made_once : (encoding : Encoding) (file : FileGrammar) (t : List ℕ) (range : Option Range) (s : List ℕ) (last : Option LastEdit) (r q : Reading) (one other : LastEdit)
     → Makes file (edit_of encoding t range s (number_behind last)) last r q one → Makes file (edit_of encoding t range s (number_behind last)) last r q other → other ≡ one
 made_once encoding file t range s last r q one other a b =
-    same (b.number ∙ sym a.number) (b.scanned ∙ sym a.scanned) (built (cases_lt (number_of last) (number_behind last)))
+    same (b.number ∙ sym a.number) (b.scanned ∙ sym a.scanned) (built (above_or_not last (number_behind last)))
   where
     same : other.number ≡ one.number → other.scanned ≡ one.scanned → other.built ≡ one.built → other ≡ one
     same number scanned built =
@@ -239,9 +281,9 @@ made_once encoding file t range s last r q one other a b =
         ∙ (ap (λ n. record { number = one.number; scanned = n; built = other.built }) scanned
         ∙ ap (λ n. record { number = one.number; scanned = one.scanned; built = n }) built)
 
-    built : (number_of last < number_behind last) ⊎ (number_behind last ≤ number_of last) → other.built ≡ one.built
-    built (inl less) = one_built (a.built less) (b.built less)
-    built (inr more) = b.all_built more ∙ sym (a.all_built more)
+    built : IsAbove last (number_behind last) ⊎ (¬ IsAbove last (number_behind last)) → other.built ≡ one.built
+    built (inl above) = one_built (b.built above) (a.built above)
+    built (inr below) = b.all_built below ∙ sym (a.all_built below)
 
 edits_once : (file : FileGrammar) → AnswersOnce file → (encoding : Encoding) (t : List ℕ) (range : Option Range) (s : List ℕ) (last : Option LastEdit) (one other : LastEdit)
     → IsNext encoding file t range s last one → IsNext encoding file t range s last other → other ≡ one

@@ -5,3 +5,4 @@ mod Trees
 mod Always
 mod Once
 mod Edits
+mod Stamps

@@ -1,7 +1,7 @@
 -- A document, as its callers see it.
 --     open_document d      its unit, version and text, and its last edit
 --     IsCurrent language d      the tokens and the parse that it keeps are those of its text, by this language
-use Rattle.std.specs.Prelude.{◌≡◌, ◌≤◌, ◌==◌, if◌then◌else◌, length, Option, Some, None}
+use Rattle.std.specs.Prelude.{◌≡◌, ◌≤◌, ◌==◌, if◌then◌else◌, length, All, Option, Some, None}
 use Rattle.lexer.specs.Rescans.{significant_kinds}
 use Rattle.lexer.specs.Tokens.{AreTokensOf}
 use Rattle.parser.specs.Compact.{bound}
@@ -20,11 +20,13 @@ last_edit d =
 abbrev pub open_document : Doc → OpenDocument
 open_document d = record { unit = d.unit; version = d.version; text = d.text; last = last_edit d }
 
--- The tables are of the file's grammar. Opening has made all there is, and the store is bounded.
+-- The tables are of the file's grammar. No token was made by an edit after the last one, opening has made all there is, and the
+-- store is bounded.
 pub record IsCurrent (language : LanguageData) (d : Doc) : Type 0 where
   pub tokens : AreTokensOf language.file.patterns language.file.skips d.text d.tokens.items
   pub parse : IsParseOf language.tables (significant_kinds d.tokens.items) d.store d.parse
   pub grammar : language.tables.grammar ≡ language.file.grammar
+  pub born : All (λ x. x.born ≤ d.parse.number) d.tokens.items
   pub scanned : d.parse.number ≡ 0 → d.tokens.scanned ≡ length d.tokens.items
   pub built : d.parse.number ≡ 0 → d.parse.built ≡ d.parse.branches
   pub bounded : length d.store ≤ bound d.parse.branches

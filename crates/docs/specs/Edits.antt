@@ -1,12 +1,13 @@
 -- The edits of a document, and how much they make.
 --     LastEdit      the last edit of a document: its number, and how many tokens and nodes it made
 --     number_behind last      the number of the edit behind the last one
+--     IsAbove last number      the number is above every stamp in the document
 --     edit_of encoding text range s number      a change of a text, as the edit of this number
 --     IsNext encoding file text range s last next      behind the last edit, that change of the text makes this one
 --     AreStats file document stats      how much there is of a document, and how much its last edit made
 --     without_nodes stats      what is told but the count of the nodes in memory
 --     CountsOnce file      of each edit one thing is told, and of each document, but for that count
-use Rattle.std.specs.Prelude.{◌≡◌, ℕ, ◌+◌, ◌-◌, ◌*◌, ◌<◌, ◌≤◌, min, List, length, Option, Some, None}
+use Rattle.std.specs.Prelude.{◌≡◌, ◌⊎◌, ℕ, ◌+◌, ◌-◌, ◌*◌, ◌<◌, ◌≤◌, min, List, length, Option, Some, None}
 use Rattle.definitions.specs.declared.Edit.{Edit}
 use Rattle.definitions.specs.declared.Range.{Range}
 use Rattle.definitions.specs.declared.Stats.{Stats}
@@ -28,17 +29,23 @@ number_of (Some last) = last.number
 abbrev pub number_behind : Option LastEdit → ℕ
 number_behind last = min (number_of last + 1) 18_446_744_073_709_551_615
 
+-- It is, unless the numbers have ended and the last edit has made a node.
+abbrev pub IsAbove : Option LastEdit → ℕ → Type 0
+IsAbove None number = 0 < number
+IsAbove (Some last) number = (last.number < number) ⊎ ((last.number ≡ number) × (last.built ≡ 0))
+
 abbrev pub edit_of : Encoding → List ℕ → Option Range → List ℕ → ℕ → Edit
 edit_of encoding text range s number =
     let away = span encoding text range in
     record { at = away.0; removed = away.1 - away.0; inserted = length s; number = number }
 
--- The tokens that the edit doesn't keep, and the nodes that lie in no kept one. Where the numbers have ended, no node is kept.
+-- The tokens that the edit doesn't keep, and the nodes that lie in no kept one. Where its number isn't above every stamp, no node
+-- is kept.
 pub record Makes (file : FileGrammar) (e : Edit) (last : Option LastEdit) (old new : Reading) (next : LastEdit) : Type 0 where
   pub number : next.number ≡ e.number
   pub scanned : next.scanned ≡ length (made e old.tokens new.tokens)
-  pub built : number_of last < e.number → Built (splice file.skips e old.tokens new.tokens) old.trees 0 new.trees next.built
-  pub all_built : e.number ≤ number_of last → next.built ≡ all_branches new.trees
+  pub built : IsAbove last e.number → Built (splice file.skips e old.tokens new.tokens) old.trees 0 new.trees next.built
+  pub all_built : ¬ IsAbove last e.number → next.built ≡ all_branches new.trees
 
 pub record IsNext (encoding : Encoding) (file : FileGrammar) (text : List ℕ) (range : Option Range) (s : List ℕ) (last : Option LastEdit) (next : LastEdit) : Type 0 where
   pub old : Reading

@@ -4,6 +4,7 @@ pub mod Faults
 pub mod Answers
 pub mod Docs
 pub mod Edits
+pub mod Stamps
 pub use Rattle.views.specs.Diagnostics
 pub use Rattle.views.specs.Told
 pub use Rattle.views.specs.Views

@@ -13,6 +13,7 @@ ghost use Rattle.docs.specs.Answers.{AreSelections, IsOutcome, IsTold, Reads, ro
 ghost use Rattle.docs.specs.Docs.{last_edit, open_document, IsCurrent};
 ghost use Rattle.docs.specs.Edits.{AreStats, IsNext};
 ghost use Rattle.docs.specs.Languages.{LanguageData};
+ghost use Rattle.docs.specs.Stamps.{AreStamped, next_edit};
 ghost use Rattle.docs.specs.Texts.{LastEdit, fits};
 ghost use Rattle.docs.specs.declared.doc.DocFault.TheVariants.{NoMemory};
 ghost use Rattle.docs.specs.Faults.{doc_fault};
@@ -99,8 +100,9 @@ impl Doc {
     }
 
     /// The document after a change (LSP 3.17, "TextDocumentContentChangeEvent"): `new` stands in the place of the range, or of
-    /// the whole text where there is none. The ends of a range may stand in either order. `TooLarge` exactly where the text
-    /// would have more than 1,048,576 bytes in UTF-8. Where it is refused, the document is lost.
+    /// the whole text where there is none. The ends of a range may stand in either order. The change is the edit after the last
+    /// one: tokens and nodes that it keeps have the stamps that they had, all others its number. `TooLarge` exactly where the
+    /// text would have more than 1,048,576 bytes in UTF-8. Where it is refused, the document is lost.
     pub fn change(
         mut self,
         alloc: Global,
@@ -117,6 +119,8 @@ impl Doc {
         ensures last { let last = last_edit self in
             IfOk result (λ d. (next : LastEdit) × (last_edit d ≡ Some next)
             × IsNext self.unit language.now.file self.text range (chars new.now) last next) }
+        ensures stamps { let edit = next_edit self range (chars new.now) in
+            IfOk result (AreStamped language.now.file edit self) }
         ensures current { IfOk result (IsCurrent language.now) }
         ensures too_large { let text = changed self.unit self.text range (chars new.now) in
             (result ≡ Err DocFault.TooLarge) ↔ (fits text ≡ false) }
@@ -142,6 +146,8 @@ impl Doc {
             OnOk result ((next : LastEdit) × (last_edit self.new ≡ Some next)
             × IsNext old.unit language.now.file old.text range (chars new.now) (last_edit old)
             next) }
+        ensures stamps { let edit = next_edit self.old range (chars new.now) in
+            OnOk result (AreStamped language.now.file edit self.old self.new) }
         ensures current { OnOk result (IsCurrent language.now self.new) }
         ensures too_large { let text = changed self.old.unit self.old.text range (chars new.now) in
             (result ≡ Err DocFault.TooLarge) ↔ (fits text ≡ false) }

@@ -1,15 +1,16 @@
 //! The language of a grammar file: its grammar, the automaton of its token rules, and its tables.
 
-ghost use Rattle.std.specs.Prelude.{◌≡◌, ◌<◌, ◌≤◌, ◌+◌, List, length, IfOk, IfErr};
+ghost use Rattle.std.specs.Prelude.{◌≡◌, ◌≤◌, ◌+◌, List, length, All, IfOk, IfErr};
 ghost use Rattle.definitions.specs.declared.Kind.{Kind};
 ghost use Rattle.definitions.specs.TokenEdits.{IsSpliced, made, plain_splice, splice};
-ghost use Rattle.definitions.specs.TreeEdits.{Built};
-ghost use Rattle.lexer.specs.Rescans.{IsEdited, plain_all, significant_kinds};
+ghost use Rattle.definitions.specs.TreeEdits.{AreStampedExactly, Built};
+ghost use Rattle.lexer.specs.Rescans.{AreRescanned, IsEdited, plain_all, significant_kinds};
 ghost use Rattle.lexer.specs.Tokens.{AreTokensOf};
 ghost use Rattle.parser.specs.Compact.{bound};
 ghost use Rattle.parser.specs.Machine.{AreMadeBy, plain_of};
 ghost use Rattle.parser.specs.Parses.{IsParseOf};
-ghost use Rattle.trees.specs.Cells.{forest_in};
+ghost use Rattle.parser.specs.Stamps.{AreOlder, KeepStamps};
+ghost use Rattle.trees.specs.Cells.{all_trees, forest_in};
 ghost use Rattle.docs.specs.Languages.{IsLanguageOf, IsLoadFault};
 ghost use Rattle.docs.specs.Answers.{AlwaysAnswers, AnswersOnce};
 ghost use Rattle.docs.specs.Edits.{CountsOnce};
@@ -123,6 +124,7 @@ impl Language {
     pub(crate) fn scan(&self, alloc: Global, text: &Text) -> Result<Tokens, AllocError>
         ensures tokens { IfOk result (λ r.
             AreTokensOf self.now.file.patterns self.now.file.skips text.now r.items) }
+        ensures born { IfOk result (λ r. All (λ x. x.born ≡ 0) r.items) }
         ensures scanned { IfOk result (λ r. r.scanned ≡ length r.items) }
     {
         // The read opens the invariant of the text.
@@ -173,6 +175,7 @@ impl Language {
         ensures scanned { let old = plain_all tokens.old.items in
             let new = plain_all tokens.new.items in
             IfOk result (λ _. tokens.new.scanned ≡ length (made edit old new)) }
+        ensures kept { IfOk result (λ _. AreRescanned edit tokens.old.items tokens.new.items) }
     {
         // The read opens the invariant of the text.
         let _length = text.len();
@@ -195,11 +198,18 @@ impl Language {
         ensures parse { let kinds = significant_kinds tokens.now.items in
             IfOk result (λ _. IsParseOf self.now.tables kinds store.new parse.new) }
         ensures number { IfOk result (λ _. parse.new.number ≡ number) }
+        ensures stamps { let change = plain_splice splice in
+            AreOlder number (all_trees store.old parse.old.stack) → IfOk result
+            (λ _. AreStampedExactly number change (plain_of store.old parse.old.stack)
+            (all_trees store.new parse.new.stack)) }
+        ensures older { let change = plain_splice splice in IfOk result
+            (λ _. KeepStamps number change (all_trees store.old parse.old.stack)
+            (all_trees store.new parse.new.stack)) }
         ensures built { let change = plain_splice splice in
-            parse.old.number < number → IfOk result
+            AreOlder number (all_trees store.old parse.old.stack) → IfOk result
             (λ _. Built change (plain_of store.old parse.old.stack) 0
             (plain_of store.new parse.new.stack) parse.new.built) }
-        ensures anew { number ≤ parse.old.number → IfOk result
+        ensures anew { ¬ AreOlder number (all_trees store.old parse.old.stack) → IfOk result
             (λ _. AreMadeBy number (forest_in store.new parse.new.stack)) }
         ensures bound { IfOk result (λ _. length store.new ≤ bound parse.new.branches) }
     {
@@ -214,7 +224,7 @@ impl Language {
     }
 
     /// Each text that fits has a reading by the language, and each reading all that can be told of it; of each there is one.
-    /// Of each edit one thing is told.
+    /// Of each edit at most one thing is told.
     pub fn always_answers(&self)
         ensures always { AlwaysAnswers self.now.file }
         ensures once { AnswersOnce self.now.file }

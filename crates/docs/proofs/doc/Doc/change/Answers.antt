@@ -8,6 +8,9 @@ returns-clause-is c = ok_of_and c.edit.result c.edit.new.self c.and.result _ c.a
 pub returns-clause-last : goal.returns-clause-last
 returns-clause-last c = ok_of_and c.edit.result c.edit.new.self c.and.result _ c.and.ensures c.edit.ensures.last
 
+pub returns-clause-stamps : goal.returns-clause-stamps
+returns-clause-stamps c = ok_of_and c.edit.result c.edit.new.self c.and.result _ c.and.ensures c.edit.ensures.stamps
+
 pub returns-clause-current : goal.returns-clause-current
 returns-clause-current c = ok_of_and c.edit.result c.edit.new.self c.and.result (IsCurrent c.args.language.now) c.and.ensures c.edit.ensures.current
 

@@ -1,14 +1,18 @@
 use Rattle.std.proofs.Common.{◌≡◌, ◌<◌, ◌≤◌, ◌+◌, ◌-◌, ℕ, List, length, min, refl, ap, sym, subst, ◌∙◌, arith}
+use Rattle.std.specs.Prelude.{All}
 use Rattle.std.specs.Str.{chars}
 use Rattle.std.proofs.lemmas.Result.{err_from_is_err_and}
 use Rattle.definitions.specs.Text.{edit}
 use Rattle.definitions.proofs.TokensKept.{length-edit}
 use Rattle.parser.specs.Machine.{AreMadeBy}
-use Rattle.trees.specs.Cells.{forest_in}
-use Rattle.docs.specs.Docs.{last_edit, IsCurrent}
+use Rattle.parser.specs.Stamps.{AreOlder}
+use Rattle.trees.specs.Cells.{all_trees, forest_in}
+use Rattle.docs.specs.Docs.{last_edit}
 use Rattle.docs.specs.Texts.{OpenDocument}
 use Rattle.docs.specs.declared.doc.Doc.{Doc}
-use Rattle.docs.proofs.Edits.{next_is, next_positive, same_edit}
+use Rattle.docs.specs.Edits.{edit_of}
+use Rattle.docs.proofs.Edits.{next_is, next_later, next_positive, number_after, same_edit}
+use Rattle.docs.proofs.Stamps.{born_on, stamped_so}
 use Rattle.docs.proofs.Refusals.{IsText-changed, large_edit, large_or_not, passed_on, behind_text, all_made}
 use Rattle.docs.proofs.doc.Doc.edit.Goals as goal
 
@@ -36,26 +40,46 @@ returns-clause-is c =
     let told : List ℕ → OpenDocument = λ t. record { unit = old.unit; version = old.version; text = t; last = last_edit next } in
     ap told (c.in_ok-replace.ensures.edited ∙ sym (c.span-from.ensures.edits (chars c.args.new.now)))
 
+pub returns-clause-current : goal.returns-clause-current
+returns-clause-current c =
+    let old = c.args.self.now in
+    let number = c.in_ok-reparse.ensures.number ∙ (c.saturating_add.ensures ∙ ap (λ n. min (n + 1) 18_446_744_073_709_551_615) c.number.ensures) in
+    let some = next_positive old.parse.number c.reparse.new.parse.number number in
+    let later = next_later old.parse.number c.reparse.new.parse.number number (omega (arith, c.number.type_inv, c.number.ensures)) in
+    let born = born_on _ old.tokens.items c.rescan.new.tokens.items old.parse.number c.in_ok-splice.ensures.kept (subst (λ n. old.parse.number ≤ n) c.in_ok-reparse.ensures.number later) c.requires.born in
+    record {
+      tokens = c.in_ok-splice.ensures.tokens;
+      parse = c.in_ok-reparse.ensures.parse;
+      grammar = c.requires.grammar;
+      born = subst (λ n. All (λ x. x.born ≤ n) c.rescan.new.tokens.items) (sym c.in_ok-reparse.ensures.number) born;
+      scanned = λ none. absurd (omega (arith, some, none));
+      built = λ none. absurd (omega (arith, some, none));
+      bounded = c.in_ok-reparse.ensures.bound;
+    }
+
 pub returns-clause-last : goal.returns-clause-last
 returns-clause-last c =
     let l = c.args.language.now in
     let s = chars c.args.new.now in
+    let old = c.args.self.now in
     let number = c.in_ok-reparse.ensures.number ∙ (c.saturating_add.ensures ∙ ap (λ n. min (n + 1) 18_446_744_073_709_551_615) c.number.ensures) in
-    let some = next_positive c.args.self.now.parse.number c.reparse.new.parse.number number in
-    let next : Doc = record { unit = c.args.self.now.unit; version = c.args.self.now.version; text = c.replace.new.self; tokens = c.rescan.new.tokens; store = c.reparse.new.store; parse = c.reparse.new.parse } in
-    let current : IsCurrent l next = record {
-      tokens = c.in_ok-splice.ensures.tokens;
-      parse = c.in_ok-reparse.ensures.parse;
-      grammar = c.requires.grammar;
-      scanned = λ none. absurd (omega (arith, some, none));
-      built = λ none. absurd (omega (arith, some, none));
-      bounded = c.in_ok-reparse.ensures.bound;
-    } in
+    let next : Doc = record { unit = old.unit; version = old.version; text = c.replace.new.self; tokens = c.rescan.new.tokens; store = c.reparse.new.store; parse = c.reparse.new.parse } in
     let text = c.in_ok-replace.ensures.edited ∙ sym (c.span-from.ensures.edits s) in
-    let long = length-edit c.args.self.now.text s c.span-from.result.0 c.span-from.result.1 c.span-from.ensures.ordered c.span-from.ensures.in_range in
+    let long = length-edit old.text s c.span-from.result.0 c.span-from.result.1 c.span-from.ensures.ordered c.span-from.ensures.in_range in
     let inserted : c.len.result - (c.len-before.result - (c.span-from.result.1 - c.span-from.result.0)) ≡ length s = omega (arith, long, c.len.ensures.count, ap length c.in_ok-replace.ensures.edited, c.len-before.ensures.count, c.span-from.ensures.ordered, c.span-from.ensures.in_range) in
-    let edit = same_edit c.args.self.now.unit c.args.self.now.text c.args.range s c.span-from.result _ c.saturating_add.result c.reparse.new.parse.number c.span-from.ensures.is inserted (sym c.in_ok-reparse.ensures.number) in
-    next_is l c.args.self.now next c.requires current c.args.self.now.unit c.args.range s _ _ text number edit c.in_ok-splice.ensures.splice c.in_ok-splice.ensures.scanned (λ less. c.in_ok-reparse.ensures.built (subst (λ n. c.args.self.now.parse.number < n) c.in_ok-reparse.ensures.number less)) (λ more. subst (λ n. AreMadeBy n (forest_in next.store next.parse.stack)) (sym c.in_ok-reparse.ensures.number) (c.in_ok-reparse.ensures.anew (subst (λ n. n ≤ c.args.self.now.parse.number) c.in_ok-reparse.ensures.number more)))
+    let edit = same_edit old.unit old.text c.args.range s c.span-from.result _ c.saturating_add.result c.reparse.new.parse.number c.span-from.ensures.is inserted (sym c.in_ok-reparse.ensures.number) in
+    next_is l old next c.requires (returns-clause-current c) old.unit c.args.range s _ _ (omega (arith, c.number.type_inv, c.number.ensures)) text number edit c.in_ok-splice.ensures.splice c.in_ok-splice.ensures.scanned (λ older. c.in_ok-reparse.ensures.built (subst (λ n. AreOlder n (all_trees old.store old.parse.stack)) c.in_ok-reparse.ensures.number older)) (λ younger. subst (λ n. AreMadeBy n (forest_in next.store next.parse.stack)) (sym c.in_ok-reparse.ensures.number) (c.in_ok-reparse.ensures.anew (λ older. younger (subst (λ n. AreOlder n (all_trees old.store old.parse.stack)) (sym c.in_ok-reparse.ensures.number) older))))
+
+pub returns-clause-stamps : goal.returns-clause-stamps
+returns-clause-stamps c =
+    let s = chars c.args.new.now in
+    let old = c.args.self.now in
+    let next : Doc = record { unit = old.unit; version = old.version; text = c.replace.new.self; tokens = c.rescan.new.tokens; store = c.reparse.new.store; parse = c.reparse.new.parse } in
+    let number = c.in_ok-reparse.ensures.number ∙ (c.saturating_add.ensures ∙ ap (λ n. min (n + 1) 18_446_744_073_709_551_615) c.number.ensures) in
+    let long = length-edit old.text s c.span-from.result.0 c.span-from.result.1 c.span-from.ensures.ordered c.span-from.ensures.in_range in
+    let inserted : c.len.result - (c.len-before.result - (c.span-from.result.1 - c.span-from.result.0)) ≡ length s = omega (arith, long, c.len.ensures.count, ap length c.in_ok-replace.ensures.edited, c.len-before.ensures.count, c.span-from.ensures.ordered, c.span-from.ensures.in_range) in
+    let edit = same_edit old.unit old.text c.args.range s c.span-from.result _ c.saturating_add.result c.reparse.new.parse.number c.span-from.ensures.is inserted (sym c.in_ok-reparse.ensures.number) ∙ ap (edit_of old.unit old.text c.args.range s) (number_after old next number) in
+    stamped_so c.args.language.now.file _ _ old next c.in_ok-splice.ensures.splice c.in_ok-splice.ensures.kept c.in_ok-reparse.ensures.stamps c.in_ok-reparse.ensures.older c.in_ok-reparse.ensures.anew _ edit
 
 pub returns-in_err-replace-clause-too_large : goal.returns-in_err-replace-clause-too_large
 returns-in_err-replace-clause-too_large c =
