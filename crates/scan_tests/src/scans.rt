@@ -413,6 +413,24 @@ fn reads_few_characters(rt: HostRuntime) {
     assert!(rt; 0 < reads && reads < 100);
 }
 
+/// Three runs of 32 tokens, of each of which 14 are taken away: none is so short that it is joined with another.
+#[test]
+fn tokens_lie_in_few_runs(rt: HostRuntime) {
+    let alloc = rt.alloc();
+    let language = load(&rt, alloc, SUMS);
+    let open = repeated(&rt, alloc, "1+", 48);
+    let mut text = Text::open(alloc, &open).expect(&rt, "a text");
+    let mut tokens = scan(&rt, alloc, &language, &text);
+    assert!(rt; tokens.items().runs() == 3);
+    let last = step_by_7((72, 14, ""), (0, 82), (72, 86, &[]));
+    check_step(&rt, alloc, &language, &mut text, &mut tokens, &last);
+    let middle = step_by_7((40, 14, ""), (0, 68), (40, 54, &[]));
+    check_step(&rt, alloc, &language, &mut text, &mut tokens, &middle);
+    let first = step_by_7((8, 14, ""), (0, 54), (8, 22, &[]));
+    check_step(&rt, alloc, &language, &mut text, &mut tokens, &first);
+    assert!(rt; tokens.items().runs() == 3);
+}
+
 /// So many words in quotes, and the kinds that they have once the quote behind them is taken away.
 fn quoted_words(rt: &impl Abort, alloc: Global, count: usize) -> (String, Vec<Kind>) {
     let mut text = String::from_str(alloc, "\"").expect(rt, "memory");
