@@ -2,3 +2,6 @@ mod Hearing
 mod Replies
 mod Each
 mod Methods
+mod Strings
+mod Values
+mod Texts

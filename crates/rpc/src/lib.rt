@@ -10,7 +10,7 @@ mod reading;
 mod reply;
 
 pub use definitions::{Diagnostic, Position, Range, Stats, Unit};
-pub use laws::{one_hearing, some_hearing};
+pub use laws::{each_text_is_unicode, one_hearing, some_hearing};
 pub use message::{Call, Change, Id, Malformed, Message, Note, RpcFault};
 pub use reading::read;
 pub use reply::{Log, Loss, Refusal, Reply, Row, to_bytes};

@@ -1,0 +1,215 @@
+-- The texts of what is heard are in UTF-8.
+use Rattle.std.proofs.Common.{◌≡◌, ℕ, zero, suc, Bool, true, false, List, [], ◌∷◌, map, All, codes, Option, Some, None, IfSome, option_map, option_and_then, unwrap_or, if◌then◌else◌, ℤ, is_none, is_some, IsUtf8, refl, sym, subst, arith}
+use Rattle.std.proofs.lemmas.List.Elements.{All-append, All-nil}
+use Rattle.std.proofs.lemmas.Str.{IsUtf8-from_is_utf8, scalars-chars, encodes-chars}
+use Rattle.std.specs.Prelude.{⊤}
+use Rattle.std.specs.Ordering.{nat_cmp}
+use Rattle.std.specs.Cmp.Lexicographic.{slice_cmp}
+use Rattle.std.specs.Str.{is_utf8, bytes_eq}
+use Rattle.serde_json.specs.Data.{Data, null, boolean, number, string, Items, no_items, item, array, Members, no_members, member, object}
+use Rattle.serde_json.specs.Find.{get, get_member, as_str, as_array, as_object}
+use Rattle.serde_json.specs.Read.{read}
+use Rattle.definitions.specs.declared.Position.{Position}
+use Rattle.definitions.specs.declared.Range.{Range}
+use Rattle.rpc.specs.Fields.{integer_of, text_at}
+use Rattle.rpc.specs.Messages.{Ident, numbered, Question, its_text, its_tokens, its_tree, its_folds, initialize, shutdown, initialized, exit, ignored, unknown, ChangeSaid, Told, Heard, refused, invalid, params, said, request, notice}
+use Rattle.rpc.specs.Reading.{ident_of, id_at, uri_at, version_at, document_text, maybe_range, change_with, change_of, first_and, changes_of, changes_at, positions_at, unit_at, asked_about, asked_stats, asked_selections, request_of, told_open, opening, told_change, changing, told_close, closing, notice_of, of_method, is_reply, is_invalid, params_at, message_of, value_of, heard_as, Hears}
+use Rattle.rpc.specs.Texts.{IsSpelled, id_texts, told_texts, texts_of}
+use Rattle.rpc.proofs.Strings.{if_map, if_then}
+use Rattle.rpc.proofs.Values.{IsSpelledData, AreSpelledItems, AreSpelledMembers, by_order, read_spelled}
+
+spelled_from : (s : List ℕ) → IsUtf8 s → IsSpelled s
+spelled_from s u = record { scalars = scalars-chars s u; same = encodes-chars s u }
+
+one_spelled : (s : List ℕ) (ss : List (List ℕ)) → IsSpelled s → All IsSpelled ss → All IsSpelled (s ∷ ss)
+one_spelled s ss h hs zero d less = h
+one_spelled s ss h hs (suc k) d less = hs k d (omega arith)
+
+abbrev AreSpelled : Heard → Type 0
+AreSpelled heard = All IsSpelled (texts_of heard)
+
+abbrev IsSpelledId : Ident → Type 0
+IsSpelledId id = All IsSpelled (id_texts id)
+
+-- ---- parts of a value
+
+member_spelled : (k : List ℕ) (ms : Members) → AreSpelledMembers ms → IfSome (get_member k ms) IsSpelledData
+member_spelled k no_members h = tt
+member_spelled k (member l e ms) h =
+    by_order (λ o. IfSome o IsSpelledData) (slice_cmp nat_cmp k l) (get_member k ms) (Some e) (get_member k ms) (member_spelled k ms h.1) h.0 (member_spelled k ms h.1)
+
+get_spelled : (k : List ℕ) (d : Data) → IsSpelledData d → IfSome (get k d) IsSpelledData
+get_spelled k null h = tt
+get_spelled k (boolean b) h = tt
+get_spelled k (number n) h = tt
+get_spelled k (string s) h = tt
+get_spelled k (array ds) h = tt
+get_spelled k (object ms) h = member_spelled k ms h
+
+str_spelled : (d : Data) → IsSpelledData d → IfSome (as_str d) IsSpelled
+str_spelled null h = tt
+str_spelled (boolean b) h = tt
+str_spelled (number n) h = tt
+str_spelled (string s) h = spelled_from s h
+str_spelled (array ds) h = tt
+str_spelled (object ms) h = tt
+
+array_spelled : (d : Data) → IsSpelledData d → IfSome (as_array d) AreSpelledItems
+array_spelled null h = tt
+array_spelled (boolean b) h = tt
+array_spelled (number n) h = tt
+array_spelled (string s) h = tt
+array_spelled (array ds) h = h
+array_spelled (object ms) h = tt
+
+text_spelled : (k : List ℕ) (d : Data) → IsSpelledData d → IfSome (text_at k d) IsSpelled
+text_spelled k d h = if_then IsSpelledData IsSpelled as_str (get k d) str_spelled (get_spelled k d h)
+
+any : {A : Type 0} (o : Option A) → IfSome o (λ _. ⊤)
+any None = tt
+any (Some a) = tt
+
+numbered_spelled : (d : Data) → IfSome (option_map numbered (integer_of d)) IsSpelledId
+numbered_spelled d = if_map (λ _. ⊤) IsSpelledId numbered (integer_of d) (λ z _. All-nil IsSpelled) (any (integer_of d))
+
+ident_spelled : (d : Data) → IsSpelledData d → IfSome (ident_of d) IsSpelledId
+ident_spelled null h = numbered_spelled null
+ident_spelled (boolean b) h = numbered_spelled (boolean b)
+ident_spelled (number n) h = numbered_spelled (number n)
+ident_spelled (string s) h = one_spelled s [] (spelled_from s h) (All-nil IsSpelled)
+ident_spelled (array ds) h = numbered_spelled (array ds)
+ident_spelled (object ms) h = numbered_spelled (object ms)
+
+id_spelled : (d : Data) → IsSpelledData d → IfSome (id_at d) IsSpelledId
+id_spelled d h = if_then IsSpelledData IsSpelledId ident_of (get (codes "id") d) ident_spelled (get_spelled (codes "id") d h)
+
+uri_spelled : (d : Data) → IsSpelledData d → IfSome (uri_at d) IsSpelled
+uri_spelled d h =
+    if_then IsSpelledData IsSpelled (text_at (codes "uri")) (get (codes "textDocument") d) (text_spelled (codes "uri")) (get_spelled (codes "textDocument") d h)
+
+document_spelled : (d : Data) → IsSpelledData d → IfSome (document_text d) IsSpelled
+document_spelled d h =
+    if_then IsSpelledData IsSpelled (text_at (codes "text")) (get (codes "textDocument") d) (text_spelled (codes "text")) (get_spelled (codes "textDocument") d h)
+
+-- ---- changes
+
+abbrev IsSpelledChange : ChangeSaid → Type 0
+IsSpelledChange c = IsSpelled c.text
+
+abbrev AreSpelledChanges : List ChangeSaid → Type 0
+AreSpelledChanges cs = All IsSpelled (map (λ c. c.text) cs)
+
+change_from : (text : Option (List ℕ)) (range : Option (Option Range)) → IfSome text IsSpelled → IfSome (change_with text range) IsSpelledChange
+change_from None range h = tt
+change_from (Some text) None h = tt
+change_from (Some text) (Some range) h = h
+
+more_changes : (c : Option ChangeSaid) (cs : Option (List ChangeSaid)) → IfSome c IsSpelledChange → IfSome cs AreSpelledChanges → IfSome (first_and c cs) AreSpelledChanges
+more_changes None cs h hs = tt
+more_changes (Some c) None h hs = tt
+more_changes (Some c) (Some cs) h hs = one_spelled c.text (map (λ x. x.text) cs) h hs
+
+items_changes : (ds : Items) → AreSpelledItems ds → IfSome (changes_of ds) AreSpelledChanges
+items_changes no_items h = All-nil IsSpelled
+items_changes (item d ds) h =
+    more_changes (change_of d) (changes_of ds) (change_from (text_at (codes "text") d) (maybe_range (get (codes "range") d)) (text_spelled (codes "text") d h.0)) (items_changes ds h.1)
+
+changes_spelled : (d : Data) → IsSpelledData d → IfSome (changes_at d) AreSpelledChanges
+changes_spelled d h =
+    if_then AreSpelledItems AreSpelledChanges changes_of (option_and_then as_array (get (codes "contentChanges") d)) items_changes
+    (if_then IsSpelledData AreSpelledItems as_array (get (codes "contentChanges") d) array_spelled (get_spelled (codes "contentChanges") d h))
+
+-- ---- messages
+
+abbrev IsSpelledTold : Told → Type 0
+IsSpelledTold told = All IsSpelled (told_texts told)
+
+either : (b : Bool) (one two : Heard) → AreSpelled one → AreSpelled two → AreSpelled (if b then one else two)
+either true one two h k = h
+either false one two h k = k
+
+module _ (id : Ident) (hid : IsSpelledId id) where
+  about_spelled : (q : Question) (uri : Option (List ℕ)) → IfSome uri IsSpelled → AreSpelled (asked_about q id uri)
+  about_spelled q None h = hid
+  about_spelled q (Some uri) h = All-append IsSpelled (id_texts id) (uri ∷ []) hid (one_spelled uri [] h (All-nil IsSpelled))
+
+  stats_spelled : (uri : Option (List ℕ)) → IfSome uri IsSpelled → AreSpelled (asked_stats id uri)
+  stats_spelled None h = hid
+  stats_spelled (Some uri) h = All-append IsSpelled (id_texts id) (uri ∷ []) hid (one_spelled uri [] h (All-nil IsSpelled))
+
+  alone : AreSpelled (said (request id shutdown))
+  alone = All-append IsSpelled (id_texts id) [] hid (All-nil IsSpelled)
+
+  selections_spelled : (uri : Option (List ℕ)) (positions : Option (List Position)) → IfSome uri IsSpelled → AreSpelled (asked_selections id uri positions)
+  selections_spelled None positions h = hid
+  selections_spelled (Some uri) None h = hid
+  selections_spelled (Some uri) (Some positions) h = All-append IsSpelled (id_texts id) (uri ∷ []) hid (one_spelled uri [] h (All-nil IsSpelled))
+
+  request_spelled : (method : List ℕ) (d : Data) → IsSpelledData d → AreSpelled (request_of method id d)
+  request_spelled method d h =
+      let u = uri_spelled d h in
+      either (bytes_eq method (codes "initialize")) _ _ (either (is_some (as_object d)) (said (request id (initialize (unit_at d)))) (refused (params id true)) alone hid)
+      (either (bytes_eq method (codes "shutdown")) (said (request id shutdown)) _ alone
+      (either (bytes_eq method (codes "textDocument/foldingRange")) _ _ (about_spelled its_folds (uri_at d) u)
+      (either (bytes_eq method (codes "textDocument/selectionRange")) _ _ (selections_spelled (uri_at d) (positions_at d) u)
+      (either (bytes_eq method (codes "lr/text")) _ _ (about_spelled its_text (uri_at d) u)
+      (either (bytes_eq method (codes "lr/tokens")) _ _ (about_spelled its_tokens (uri_at d) u)
+      (either (bytes_eq method (codes "lr/tree")) _ _ (about_spelled its_tree (uri_at d) u)
+      (either (bytes_eq method (codes "lr/stats")) _ (refused (unknown id)) (stats_spelled (uri_at d) u) hid)))))))
+
+open_spelled : (uri : Option (List ℕ)) (version : Option ℤ) (text : Option (List ℕ)) → IfSome uri IsSpelled → IfSome text IsSpelled → IsSpelledTold (told_open uri version text)
+open_spelled None version text h k = All-nil IsSpelled
+open_spelled (Some uri) None text h k = All-nil IsSpelled
+open_spelled (Some uri) (Some version) None h k = All-nil IsSpelled
+open_spelled (Some uri) (Some version) (Some text) h k = one_spelled uri (text ∷ []) h (one_spelled text [] k (All-nil IsSpelled))
+
+change_spelled : (uri : Option (List ℕ)) (version : Option ℤ) (changes : Option (List ChangeSaid)) → IfSome uri IsSpelled → IfSome changes AreSpelledChanges → IsSpelledTold (told_change uri version changes)
+change_spelled None version changes h k = All-nil IsSpelled
+change_spelled (Some uri) None changes h k = one_spelled uri [] h (All-nil IsSpelled)
+change_spelled (Some uri) (Some version) None h k = one_spelled uri [] h (All-nil IsSpelled)
+change_spelled (Some uri) (Some version) (Some changes) h k = one_spelled uri (map (λ c. c.text) changes) h k
+
+close_spelled : (uri : Option (List ℕ)) → IfSome uri IsSpelled → IsSpelledTold (told_close uri)
+close_spelled None h = All-nil IsSpelled
+close_spelled (Some uri) h = one_spelled uri [] h (All-nil IsSpelled)
+
+notice_spelled : (method : List ℕ) (d : Data) → IsSpelledData d → AreSpelled (notice_of method d)
+notice_spelled method d h =
+    let u = uri_spelled d h in
+    either (bytes_eq method (codes "initialized")) (said (notice initialized)) _ (All-nil IsSpelled)
+    (either (bytes_eq method (codes "exit")) (said (notice exit)) _ (All-nil IsSpelled)
+    (either (bytes_eq method (codes "textDocument/didOpen")) (said (notice (opening d))) _ (open_spelled (uri_at d) (version_at d) (document_text d) u (document_spelled d h))
+    (either (bytes_eq method (codes "textDocument/didChange")) (said (notice (changing d))) _ (change_spelled (uri_at d) (version_at d) (changes_at d) u (changes_spelled d h))
+    (either (bytes_eq method (codes "textDocument/didClose")) (said (notice (closing d))) (said ignored) (close_spelled (uri_at d) u) (All-nil IsSpelled)))))
+
+invalid_spelled : (id : Option Ident) → IfSome id IsSpelledId → AreSpelled (refused (invalid id))
+invalid_spelled None h = All-nil IsSpelled
+invalid_spelled (Some id) h = h
+
+method_spelled : (method : Option (List ℕ)) (id : Option Ident) (d : Data) → IfSome id IsSpelledId → IsSpelledData d → AreSpelled (of_method method id d)
+method_spelled (Some method) (Some id) d h k = request_spelled id h method d k
+method_spelled (Some method) None d h k = notice_spelled method d k
+method_spelled None None d h k = All-nil IsSpelled
+method_spelled None (Some id) d h k = h
+
+params_spelled : (o : Option Data) → IfSome o IsSpelledData → IsSpelledData (unwrap_or o null)
+params_spelled None h = tt
+params_spelled (Some d) h = h
+
+message_spelled : (d : Data) → IsSpelledData d → AreSpelled (message_of d)
+message_spelled d h =
+    either (is_none (as_object d)) (refused (invalid None)) _ (All-nil IsSpelled)
+    (either (is_reply d) (said ignored) _ (All-nil IsSpelled)
+    (either (is_invalid d) (refused (invalid (id_at d))) _ (invalid_spelled (id_at d) (id_spelled d h))
+    (method_spelled (text_at (codes "method") d) (id_at d) (params_at d) (id_spelled d h) (params_spelled (get (codes "params") d) (get_spelled (codes "params") d h)))))
+
+value_spelled : (content : List ℕ) (b : Bool) → b ≡ is_utf8 content → IfSome (if b then read content else None) IsSpelledData
+value_spelled content true e = read_spelled content (IsUtf8-from_is_utf8 content (sym e))
+value_spelled content false e = tt
+
+heard_spelled : (o : Option Data) → IfSome o IsSpelledData → AreSpelled (heard_as o)
+heard_spelled None h = All-nil IsSpelled
+heard_spelled (Some d) h = message_spelled d h
+
+pub each_text_is_spelled : (content : List ℕ) (heard : Heard) → Hears content heard → All IsSpelled (texts_of heard)
+each_text_is_spelled content heard e = subst AreSpelled (sym e) (heard_spelled (value_of content) (value_spelled content (is_utf8 content) refl))

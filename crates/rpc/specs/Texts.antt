@@ -1,0 +1,42 @@
+-- The texts of what is heard.
+--     texts_of heard      all texts in it: the id of a request, the URI of a document, the text that is opened, and that of each change
+--     id_texts id, asked_texts asked, told_texts told      those of its parts
+--     IsSpelled bytes      the characters of the bytes are Unicode scalar values, and the bytes are their UTF-8
+use Rattle.std.specs.Prelude.{◌≡◌, ℕ, true, List, [], ◌∷◌, ◌++◌, map, Some, None, encode_utf8_all}
+use Rattle.std.specs.Str.{all_scalars, chars}
+use Rattle.rpc.specs.Messages.{Ident, named, numbered, Asked, initialize, shutdown, about, stats, Told, initialized, exit, open_text, change_text, close, malformed, unfit_open, unfit_change, unfit_close, request, notice, ignored, invalid, unknown, params, Heard, unread, refused, said}
+
+pub record IsSpelled (bytes : List ℕ) : Type 0 where
+  pub scalars : all_scalars (chars bytes) ≡ true
+  pub same : encode_utf8_all (chars bytes) ≡ bytes
+
+abbrev pub id_texts : Ident → List (List ℕ)
+id_texts (named text) = text ∷ []
+id_texts (numbered z) = []
+
+abbrev pub asked_texts : Asked → List (List ℕ)
+asked_texts (initialize unit) = []
+asked_texts shutdown = []
+asked_texts (about uri question) = uri ∷ []
+asked_texts (stats uri) = uri ∷ []
+
+abbrev pub told_texts : Told → List (List ℕ)
+told_texts initialized = []
+told_texts exit = []
+told_texts (open_text uri version text) = uri ∷ text ∷ []
+told_texts (change_text uri version changes) = uri ∷ map (λ c. c.text) changes
+told_texts (close uri) = uri ∷ []
+told_texts (malformed unfit_open) = []
+told_texts (malformed (unfit_change None)) = []
+told_texts (malformed (unfit_change (Some uri))) = uri ∷ []
+told_texts (malformed unfit_close) = []
+
+abbrev pub texts_of : Heard → List (List ℕ)
+texts_of unread = []
+texts_of (refused (invalid None)) = []
+texts_of (refused (invalid (Some id))) = id_texts id
+texts_of (refused (unknown id)) = id_texts id
+texts_of (refused (params id first)) = id_texts id
+texts_of (said (request id asked)) = id_texts id ++ asked_texts asked
+texts_of (said (notice told)) = told_texts told
+texts_of (said ignored) = []
