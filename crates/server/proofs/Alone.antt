@@ -14,7 +14,7 @@ use Rattle.rpc.specs.Messages.{Ident, Asked, initialize, shutdown, about, stats,
 use Rattle.rpc.specs.Replies.{Answer, told_diagnostics, told_log, told_stats}
 use Rattle.rpc.specs.declared.reply.Log.TheVariants.{Lost}
 use Rattle.rpc.specs.declared.reply.Loss.TheVariants.{TooLarge, MalformedChange, NoMemory}
-use Rattle.server.specs.Alone.{named, LookAlike, LosesMemory, SameFor, EachDocumentIsAlone}
+use Rattle.server.specs.Alone.{named, LookAlike, loses, loses_memory, SameFor, EachDocumentIsAlone}
 use Rattle.server.specs.Answers.{IsAnswer, IsCount, IsPublished, but_nodes}
 use Rattle.server.specs.Documents.{DocumentState, is_open, is_lost, Becomes, IsLastAfter, has_room}
 use Rattle.server.specs.Fresh.{Publishes}
@@ -66,36 +66,36 @@ one_last encoding file counts text (c ∷ cs) last one other a b =
     let same : b.0 ≡ a.0 = counts.edits encoding text c.range (chars c.text) last a.0 b.0 a.1 b.1 in
     one_last encoding file counts (changed encoding text c.range (chars c.text)) cs (Some a.0) one other a.2 (subst (λ (e : LastEdit). IsLastAfter encoding file (changed encoding text c.range (chars c.text)) cs (Some e) other) same b.2)
 
--- what an open document becomes, but for want of memory
-one_becomes : (file : FileGrammar) → CountsOnce file → (version : ℤ) (now : OpenDocument) (changes : List ChangeSaid) (s t : DocumentState) → (s ≡ is_lost NoMemory → ⊥) → (t ≡ is_lost NoMemory → ⊥) → Becomes file version now changes s → Becomes file version now changes t → t ≡ s
-one_becomes file counts version now changes (is_open d) (is_open e) ns nt a b =
+-- what an open document becomes, where memory is refused in both or in neither
+one_becomes : (file : FileGrammar) → CountsOnce file → (version : ℤ) (now : OpenDocument) (changes : List ChangeSaid) (s t : DocumentState) → loses (Some (is_open now)) (Some t) ≡ loses (Some (is_open now)) (Some s) → Becomes file version now changes s → Becomes file version now changes t → t ≡ s
+one_becomes file counts version now changes (is_open d) (is_open e) alike a b =
     let texts : Some e.text ≡ Some d.text = sym b.0 ∙ a.0 in
     let same : e.text ≡ d.text = cc in
     ap (λ u. is_open (record { unit = u; version = e.version; text = e.text; last = e.last })) (b.1 ∙ sym a.1)
     ∙ (ap (λ v. is_open (record { unit = d.unit; version = v; text = e.text; last = e.last })) (b.2 ∙ sym a.2)
     ∙ (ap (λ t. is_open (record { unit = d.unit; version = d.version; text = t; last = e.last })) same
     ∙ ap (λ (l : Option LastEdit). is_open (record { unit = d.unit; version = d.version; text = d.text; last = l })) (one_last now.unit file counts now.text changes now.last d.last e.last a.3 b.3)))
-one_becomes file counts version now changes (is_open d) (is_lost TooLarge) ns nt a b = absurd (let e : Some d.text ≡ None = sym a.0 ∙ b in let f : ⊥ = cc in f)
-one_becomes file counts version now changes (is_lost TooLarge) (is_open e) ns nt a b = absurd (let g : Some e.text ≡ None = sym b.0 ∙ a in let f : ⊥ = cc in f)
-one_becomes file counts version now changes (is_lost TooLarge) (is_lost TooLarge) ns nt a b = refl
-one_becomes file counts version now changes s (is_lost NoMemory) ns nt a b = absurd (nt refl)
-one_becomes file counts version now changes (is_lost NoMemory) t ns nt a b = absurd (ns refl)
-one_becomes file counts version now changes s (is_lost MalformedChange) ns nt a b = absurd b
-one_becomes file counts version now changes (is_lost MalformedChange) t ns nt a b = absurd a
+one_becomes file counts version now changes (is_open d) (is_lost TooLarge) alike a b = absurd (let e : Some d.text ≡ None = sym a.0 ∙ b in let f : ⊥ = cc in f)
+one_becomes file counts version now changes (is_lost TooLarge) (is_open e) alike a b = absurd (let g : Some e.text ≡ None = sym b.0 ∙ a in let f : ⊥ = cc in f)
+one_becomes file counts version now changes (is_lost TooLarge) (is_lost TooLarge) alike a b = refl
+one_becomes file counts version now changes (is_lost NoMemory) (is_lost NoMemory) alike a b = refl
+one_becomes file counts version now changes (is_open d) (is_lost NoMemory) alike a b = absurd (let f : ⊥ = cc in f)
+one_becomes file counts version now changes (is_lost TooLarge) (is_lost NoMemory) alike a b = absurd (let f : ⊥ = cc in f)
+one_becomes file counts version now changes (is_lost NoMemory) (is_open e) alike a b = absurd (let f : ⊥ = cc in f)
+one_becomes file counts version now changes (is_lost NoMemory) (is_lost TooLarge) alike a b = absurd (let f : ⊥ = cc in f)
+one_becomes file counts version now changes s (is_lost MalformedChange) alike a b = absurd b
+one_becomes file counts version now changes (is_lost MalformedChange) t alike a b = absurd a
 
-module _ (file : FileGrammar) (once : AnswersOnce file) (counts : CountsOnce file) (uri : List ℕ) (old two new other : State) (answers other_answers : List Answer) (stop other_stop : Option ℕ) (by_file : old.file ≡ file) (look : LookAlike uri old two) where
+module _ (file : FileGrammar) (once : AnswersOnce file) (counts : CountsOnce file) (uri : List ℕ) (old two new other : State) (answers other_answers : List Answer) (stop other_stop : Option ℕ) (by_file : old.file ≡ file) (held : get two.documents uri ≡ get old.documents uri) (two_file : two.file ≡ file) where
   abbrev Same : Type 0
   Same = SameFor uri answers other_answers stop other_stop new other
-
-  two_file : two.file ≡ file
-  two_file = look.file ∙ by_file
 
   -- nothing changes in either
   both_stay : (told : List Answer) (halt : Option ℕ) → answers ≡ told → other_answers ≡ told → stop ≡ halt → other_stop ≡ halt → new.documents ≡ old.documents → other.documents ≡ two.documents → Same
   both_stay told halt a b s t n o = record {
     sent = ap (map but_nodes) (b ∙ sym a);
     stops = t ∙ sym s;
-    held = ap (λ h. get h uri) o ∙ (look.held ∙ sym (ap (λ h. get h uri) n));
+    held = ap (λ h. get h uri) o ∙ (held ∙ sym (ap (λ h. get h uri) n));
   }
 
   both_reply : (answer : Answer) → Replies old answer answers stop new → Replies two answer other_answers other_stop other → Same
@@ -136,7 +136,7 @@ module _ (file : FileGrammar) (once : AnswersOnce file) (counts : CountsOnce fil
   both_tell unit id question a b =
       let mine : IsAnswer file id (get old.documents uri) question a.0 = subst (λ (f : FileGrammar). IsAnswer f id (get old.documents uri) question a.0) by_file a.1 in
       let theirs : IsAnswer file id (get two.documents uri) question b.0 = subst (λ (f : FileGrammar). IsAnswer f id (get two.documents uri) question b.0) two_file b.1 in
-      let yours : IsAnswer file id (get old.documents uri) question b.0 = subst (λ (o : Option DocumentState). IsAnswer file id o question b.0) look.held theirs in
+      let yours : IsAnswer file id (get old.documents uri) question b.0 = subst (λ (o : Option DocumentState). IsAnswer file id o question b.0) held theirs in
       let same : b.0 ≡ a.0 = both_answer (get old.documents uri) id question a.0 b.0 mine yours in
       both_reply a.0 a.2 (b.2.0 ∙ ap (λ (x : Answer). x ∷ []) same, b.2.1, b.2.2)
 
@@ -150,11 +150,11 @@ module _ (file : FileGrammar) (once : AnswersOnce file) (counts : CountsOnce fil
   both_count unit id a b =
       let mine : IsCount file id (get old.documents uri) a.0 = subst (λ (f : FileGrammar). IsCount f id (get old.documents uri) a.0) by_file a.1 in
       let theirs : IsCount file id (get two.documents uri) b.0 = subst (λ (f : FileGrammar). IsCount f id (get two.documents uri) b.0) two_file b.1 in
-      let yours : IsCount file id (get old.documents uri) b.0 = subst (λ (o : Option DocumentState). IsCount file id o b.0) look.held theirs in
+      let yours : IsCount file id (get old.documents uri) b.0 = subst (λ (o : Option DocumentState). IsCount file id o b.0) held theirs in
       record {
         sent = ap (map but_nodes) b.2.0 ∙ (ap (λ (x : Answer). x ∷ []) (both_counts (get old.documents uri) id a.0 b.0 mine yours) ∙ sym (ap (map but_nodes) a.2.0));
         stops = b.2.1 ∙ sym a.2.1;
-        held = ap (λ (x : State). get x.documents uri) b.2.2 ∙ (look.held ∙ sym (ap (λ (x : State). get x.documents uri) a.2.2));
+        held = ap (λ (x : State). get x.documents uri) b.2.2 ∙ (held ∙ sym (ap (λ (x : State). get x.documents uri) a.2.2));
       }
 
   both_open : (room : Bool) (state : DocumentState) → Opens room old uri state answers stop new → Opens room two uri state other_answers other_stop other → Same
@@ -165,15 +165,15 @@ module _ (file : FileGrammar) (once : AnswersOnce file) (counts : CountsOnce fil
   held_after x y told halt (is_open d) s = ap (λ (z : State). get z.documents uri) s.3.1 ∙ get_inserted x.documents uri (is_open d)
   held_after x y told halt (is_lost loss) s = ap (λ (z : State). get z.documents uri) s.1.1 ∙ get_inserted x.documents uri (is_lost loss)
 
-  both_change : (o : Option DocumentState) (version : ℤ) (changes : List ChangeSaid) → get old.documents uri ≡ o → ¬ LosesMemory uri old new → ¬ LosesMemory uri two other → Changes o old uri version changes answers stop new → Changes o two uri version changes other_answers other_stop other → Same
-  both_change None version changes e mine yours a b = both_reply _ a b
-  both_change (Some (is_lost loss)) version changes e mine yours a b = both_ignore a b
-  both_change (Some (is_open d)) version changes e mine yours a b =
-      let kept : a.0 ≡ is_lost NoMemory → ⊥ = λ lost. mine (d, e, held_after old new answers stop a.0 a.2 ∙ ap (λ (s : DocumentState). Some s) lost) in
-      let kept_too : b.0 ≡ is_lost NoMemory → ⊥ = λ lost. yours (d, look.held ∙ e, held_after two other other_answers other_stop b.0 b.2 ∙ ap (λ (s : DocumentState). Some s) lost) in
+  both_change : (o : Option DocumentState) (version : ℤ) (changes : List ChangeSaid) → get old.documents uri ≡ o → loses_memory uri two other ≡ loses_memory uri old new → Changes o old uri version changes answers stop new → Changes o two uri version changes other_answers other_stop other → Same
+  both_change None version changes e alike a b = both_reply _ a b
+  both_change (Some (is_lost loss)) version changes e alike a b = both_ignore a b
+  both_change (Some (is_open d)) version changes e alike a b =
+      let mine : loses_memory uri old new ≡ loses (Some (is_open d)) (Some a.0) = ap (λ (o : Option DocumentState). loses o (get new.documents uri)) e ∙ ap (loses (Some (is_open d))) (held_after old new answers stop a.0 a.2) in
+      let yours : loses_memory uri two other ≡ loses (Some (is_open d)) (Some b.0) = ap (λ (o : Option DocumentState). loses o (get other.documents uri)) (held ∙ e) ∙ ap (loses (Some (is_open d))) (held_after two other other_answers other_stop b.0 b.2) in
       let mine_now : Becomes file version d changes a.0 = subst (λ (f : FileGrammar). Becomes f version d changes a.0) by_file a.1 in
       let yours_now : Becomes file version d changes b.0 = subst (λ (f : FileGrammar). Becomes f version d changes b.0) two_file b.1 in
-      let same : b.0 ≡ a.0 = one_becomes file counts version d changes a.0 b.0 kept kept_too mine_now yours_now in
+      let same : b.0 ≡ a.0 = one_becomes file counts version d changes a.0 b.0 (sym yours ∙ (alike ∙ mine)) mine_now yours_now in
       both_hold a.0 a.2 (subst (λ (s : DocumentState). Holds two uri s other_answers other_stop other) same b.2)
 
   both_spoil : (o : Option DocumentState) → Spoils o old uri answers stop new → Spoils o two uri other_answers other_stop other → Same
@@ -195,24 +195,24 @@ module _ (file : FileGrammar) (once : AnswersOnce file) (counts : CountsOnce fil
   both_ask_counts (Ready unit) id a b = both_count unit id a b
   both_ask_counts Down id a b = both_reply _ a b
 
-  both_hear_open : (phase : Phase) (version : ℤ) (text : List ℕ) → Tells phase old (open_text uri version text) answers stop new → Tells phase two (open_text uri version text) other_answers other_stop other → Same
-  both_hear_open New version text a b = both_ignore a b
-  both_hear_open (Ready unit) version text a b = both_open (has_room uri old.documents) (opened unit version (chars text)) a (subst (λ (r : Bool). Opens r two uri (opened unit version (chars text)) other_answers other_stop other) look.room b)
-  both_hear_open Down version text a b = both_ignore a b
+  both_hear_open : (phase : Phase) (version : ℤ) (text : List ℕ) → has_room uri two.documents ≡ has_room uri old.documents → Tells phase old (open_text uri version text) answers stop new → Tells phase two (open_text uri version text) other_answers other_stop other → Same
+  both_hear_open New version text room a b = both_ignore a b
+  both_hear_open (Ready unit) version text room a b = both_open (has_room uri old.documents) (opened unit version (chars text)) a (subst (λ (r : Bool). Opens r two uri (opened unit version (chars text)) other_answers other_stop other) room b)
+  both_hear_open Down version text room a b = both_ignore a b
 
-  both_hear_change : (phase : Phase) (version : ℤ) (changes : List ChangeSaid) → ¬ LosesMemory uri old new → ¬ LosesMemory uri two other → Tells phase old (change_text uri version changes) answers stop new → Tells phase two (change_text uri version changes) other_answers other_stop other → Same
-  both_hear_change New version changes mine yours a b = both_ignore a b
-  both_hear_change (Ready unit) version changes mine yours a b = both_change (get old.documents uri) version changes refl mine yours a (subst (λ (o : Option DocumentState). Changes o two uri version changes other_answers other_stop other) look.held b)
-  both_hear_change Down version changes mine yours a b = both_ignore a b
+  both_hear_change : (phase : Phase) (version : ℤ) (changes : List ChangeSaid) → loses_memory uri two other ≡ loses_memory uri old new → Tells phase old (change_text uri version changes) answers stop new → Tells phase two (change_text uri version changes) other_answers other_stop other → Same
+  both_hear_change New version changes alike a b = both_ignore a b
+  both_hear_change (Ready unit) version changes alike a b = both_change (get old.documents uri) version changes refl alike a (subst (λ (o : Option DocumentState). Changes o two uri version changes other_answers other_stop other) held b)
+  both_hear_change Down version changes alike a b = both_ignore a b
 
   both_hear_close : (phase : Phase) → Tells phase old (close uri) answers stop new → Tells phase two (close uri) other_answers other_stop other → Same
   both_hear_close New a b = both_ignore a b
-  both_hear_close (Ready unit) a b = both_close (get old.documents uri) a (subst (λ (o : Option DocumentState). Closes o two uri other_answers other_stop other) look.held b)
+  both_hear_close (Ready unit) a b = both_close (get old.documents uri) a (subst (λ (o : Option DocumentState). Closes o two uri other_answers other_stop other) held b)
   both_hear_close Down a b = both_ignore a b
 
   both_hear_misfit : (phase : Phase) → Tells phase old (malformed (unfit_change (Some uri))) answers stop new → Tells phase two (malformed (unfit_change (Some uri))) other_answers other_stop other → Same
   both_hear_misfit New a b = both_ignore a b
-  both_hear_misfit (Ready unit) a b = both_spoil (get old.documents uri) a (subst (λ (o : Option DocumentState). Spoils o two uri other_answers other_stop other) look.held b)
+  both_hear_misfit (Ready unit) a b = both_spoil (get old.documents uri) a (subst (λ (o : Option DocumentState). Spoils o two uri other_answers other_stop other) held b)
   both_hear_misfit Down a b = both_ignore a b
 
 -- ---- both
@@ -221,39 +221,39 @@ same_name : (one other : List ℕ) → Some one ≡ Some other → one ≡ other
 same_name one other e = let same : one ≡ other = cc in same
 
 module _ (file : FileGrammar) (once : AnswersOnce file) (counts : CountsOnce file) (old two new other : State) (answers other_answers : List Answer) (stop other_stop : Option ℕ) (by_file : old.file ≡ file) where
-  abbrev Alike : List ℕ → Type 0
-  Alike uri = LookAlike uri old two → ¬ LosesMemory uri old new → ¬ LosesMemory uri two other → SameFor uri answers other_answers stop other_stop new other
+  abbrev Alike : Heard → List ℕ → Type 0
+  Alike heard uri = LookAlike uri heard old two → loses_memory uri two other ≡ loses_memory uri old new → SameFor uri answers other_answers stop other_stop new other
 
-  tells_alike : (told : Told) (uri : List ℕ) → named (said (notice told)) ≡ Some uri → Tells old.phase old told answers stop new → Tells two.phase two told other_answers other_stop other → Alike uri
+  tells_alike : (told : Told) (uri : List ℕ) → named (said (notice told)) ≡ Some uri → Tells old.phase old told answers stop new → Tells two.phase two told other_answers other_stop other → Alike (said (notice told)) uri
   tells_alike initialized uri name a b = absurd (let f : ⊥ = cc in f)
   tells_alike exit uri name a b = absurd (let f : ⊥ = cc in f)
   tells_alike (open_text u version text) uri name a b =
       let there = λ (p : Phase). Tells p two (open_text u version text) other_answers other_stop other in
-      subst Alike (same_name u uri name) (λ look mine yours. both_hear_open file once counts u old two new other answers other_answers stop other_stop by_file look old.phase version text a (subst there look.phase b))
+      subst (Alike (said (notice (open_text u version text)))) (same_name u uri name) (λ look alike. both_hear_open file once counts u old two new other answers other_answers stop other_stop by_file look.held (look.file ∙ by_file) old.phase version text look.room a (subst there look.phase b))
   tells_alike (change_text u version changes) uri name a b =
       let there = λ (p : Phase). Tells p two (change_text u version changes) other_answers other_stop other in
-      subst Alike (same_name u uri name) (λ look mine yours. both_hear_change file once counts u old two new other answers other_answers stop other_stop by_file look old.phase version changes mine yours a (subst there look.phase b))
+      subst (Alike (said (notice (change_text u version changes)))) (same_name u uri name) (λ look alike. both_hear_change file once counts u old two new other answers other_answers stop other_stop by_file look.held (look.file ∙ by_file) old.phase version changes alike a (subst there look.phase b))
   tells_alike (close u) uri name a b =
       let there = λ (p : Phase). Tells p two (close u) other_answers other_stop other in
-      subst Alike (same_name u uri name) (λ look mine yours. both_hear_close file once counts u old two new other answers other_answers stop other_stop by_file look old.phase a (subst there look.phase b))
+      subst (Alike (said (notice (close u)))) (same_name u uri name) (λ look alike. both_hear_close file once counts u old two new other answers other_answers stop other_stop by_file look.held (look.file ∙ by_file) old.phase a (subst there look.phase b))
   tells_alike (malformed unfit_open) uri name a b = absurd (let f : ⊥ = cc in f)
   tells_alike (malformed (unfit_change None)) uri name a b = absurd (let f : ⊥ = cc in f)
   tells_alike (malformed (unfit_change (Some u))) uri name a b =
       let there = λ (p : Phase). Tells p two (malformed (unfit_change (Some u))) other_answers other_stop other in
-      subst Alike (same_name u uri name) (λ look mine yours. both_hear_misfit file once counts u old two new other answers other_answers stop other_stop by_file look old.phase a (subst there look.phase b))
+      subst (Alike (said (notice (malformed (unfit_change (Some u)))))) (same_name u uri name) (λ look alike. both_hear_misfit file once counts u old two new other answers other_answers stop other_stop by_file look.held (look.file ∙ by_file) old.phase a (subst there look.phase b))
   tells_alike (malformed unfit_close) uri name a b = absurd (let f : ⊥ = cc in f)
 
-  asks_alike : (id : Ident) (asked : Asked) (uri : List ℕ) → named (said (request id asked)) ≡ Some uri → Asks old.phase old id asked answers stop new → Asks two.phase two id asked other_answers other_stop other → Alike uri
+  asks_alike : (id : Ident) (asked : Asked) (uri : List ℕ) → named (said (request id asked)) ≡ Some uri → Asks old.phase old id asked answers stop new → Asks two.phase two id asked other_answers other_stop other → Alike (said (request id asked)) uri
   asks_alike id (initialize unit) uri name a b = absurd (let f : ⊥ = cc in f)
   asks_alike id shutdown uri name a b = absurd (let f : ⊥ = cc in f)
   asks_alike id (about u question) uri name a b =
       let there = λ (p : Phase). Asks p two id (about u question) other_answers other_stop other in
-      subst Alike (same_name u uri name) (λ look mine yours. both_ask file once counts u old two new other answers other_answers stop other_stop by_file look old.phase id question a (subst there look.phase b))
+      subst (Alike (said (request id (about u question)))) (same_name u uri name) (λ look alike. both_ask file once counts u old two new other answers other_answers stop other_stop by_file look.held (look.file ∙ by_file) old.phase id question a (subst there look.phase b))
   asks_alike id (stats u) uri name a b =
       let there = λ (p : Phase). Asks p two id (stats u) other_answers other_stop other in
-      subst Alike (same_name u uri name) (λ look mine yours. both_ask_counts file once counts u old two new other answers other_answers stop other_stop by_file look old.phase id a (subst there look.phase b))
+      subst (Alike (said (request id (stats u)))) (same_name u uri name) (λ look alike. both_ask_counts file once counts u old two new other answers other_answers stop other_stop by_file look.held (look.file ∙ by_file) old.phase id a (subst there look.phase b))
 
-  step_alike : (heard : Heard) (uri : List ℕ) → named heard ≡ Some uri → Step old heard answers stop new → Step two heard other_answers other_stop other → Alike uri
+  step_alike : (heard : Heard) (uri : List ℕ) → named heard ≡ Some uri → Step old heard answers stop new → Step two heard other_answers other_stop other → Alike heard uri
   step_alike unread uri name a b = absurd (let f : ⊥ = cc in f)
   step_alike (refused why) uri name a b = absurd (let f : ⊥ = cc in f)
   step_alike (said (request id asked)) uri name a b = asks_alike id asked uri name a b
@@ -263,5 +263,5 @@ module _ (file : FileGrammar) (once : AnswersOnce file) (counts : CountsOnce fil
 pub each_document_is_alone : (file : FileGrammar) → AnswersOnce file → CountsOnce file → EachDocumentIsAlone file
 each_document_is_alone file once counts uri heard old answers stop new by_file step = (
   effect_left (named heard) old answers stop new (step_effect old answers stop new heard step) uri,
-  λ name two other_answers other_stop other look theirs mine yours. step_alike file once counts old two new other answers other_answers stop other_stop by_file heard uri name step theirs look mine yours,
+  λ name two other_answers other_stop other look theirs alike. step_alike file once counts old two new other answers other_answers stop other_stop by_file heard uri name step theirs look alike,
 )

@@ -1,27 +1,31 @@
 -- What is sent about a document depends on that document alone.
 --     named heard      the URI of the document that a message names, if it names one
---     LookAlike uri one two      what two states have for a document: their file and phase, what they hold under its URI, and whether it
---         may be held
---     LosesMemory uri old new      the document is lost for want of memory
+--     finds_room uri state heard      there is room for the document, where the message opens it
+--     loses_memory uri old new      memory was refused in a change of the document, which is lost by that
+--     LookAlike uri heard one two      what two states have for a document: their file and phase, what they hold under its URI, and the
+--         room that they have for it, where the message opens it
 --     SayTheSame answers others      the answers are the same, but for the numbers of nodes in memory
---     Tale uri old contents events sent      what a run over the contents hears of a document, and what it sends then
+--     Tale uri old contents answers stop new events sent      a run over the contents, what it hears of a document, and what it sends then
+--     EachRunHasATale      each run is told so, of each document
 --     EachTaleIsTold file      two sessions that hear the same of a document send the same of it
 --     EachDocumentIsAlone file      a message that does not name a document leaves it as it was, and sends no diagnostics of it; what is
 --         sent on one that names it, and what the document becomes, is the same in states that look alike for it
-use Rattle.std.specs.Prelude.{◌≡◌, ◌≢◌, ◌⊎◌, ℕ, Bool, List, [], ◌∷◌, ◌++◌, map, All, Option, Some, None, MatchOption}
+use Rattle.std.specs.Prelude.{◌≡◌, ◌≢◌, ◌⊎◌, ℕ, Bool, true, false, List, [], ◌∷◌, ◌++◌, map, All, Option, Some, None, MatchOption}
 use Rattle.std.specs.FinMap.{get}
-use Rattle.docs.specs.Texts.{OpenDocument}
 use Rattle.docs.specs.Grammars.{FileGrammar}
 use Rattle.rpc.specs.declared.reply.Loss.TheVariants.{NoMemory}
 use Rattle.rpc.specs.Messages.{request, about, stats, notice, open_text, change_text, close, malformed, unfit_change, Heard, said}
 use Rattle.rpc.specs.Reading.{hearing}
 use Rattle.rpc.specs.Replies.{Answer}
 use Rattle.server.specs.Answers.{but_nodes}
-use Rattle.server.specs.Documents.{is_open, is_lost, has_room}
+use Rattle.server.specs.Documents.{DocumentState, is_open, is_lost, has_room}
 use Rattle.server.specs.Fresh.{Publishes}
-use Rattle.server.specs.Steps.{State, first_state, Step}
+use Rattle.server.specs.Runs.{Run}
+use Rattle.server.specs.Steps.{State, first_state, Ignores, Step}
 use Rattle.server.specs.declared.state.Phase.{Phase}
 
+-- A message with parameters that don't fit names no document, whatever URI it has: its answer depends on the phase alone. A malformed
+-- change that has a URI does, since the document is lost by it.
 abbrev pub named : Heard → Option (List ℕ)
 named (said (request id (about uri question))) = Some uri
 named (said (request id (stats uri))) = Some uri
@@ -31,15 +35,24 @@ named (said (notice (close uri))) = Some uri
 named (said (notice (malformed (unfit_change (Some uri))))) = Some uri
 named _ = None
 
-pub record LookAlike (uri : List ℕ) (one two : State) : Type 0 where
+-- a document that is held finds room; no other message asks for any
+abbrev pub finds_room : List ℕ → State → Heard → Bool
+finds_room uri state (said (notice (open_text other version text))) = has_room uri state.documents
+finds_room uri state _ = true
+
+-- an open document is lost for want of memory
+abbrev pub loses : Option DocumentState → Option DocumentState → Bool
+loses (Some (is_open d)) (Some (is_lost NoMemory)) = true
+loses _ _ = false
+
+abbrev pub loses_memory : List ℕ → State → State → Bool
+loses_memory uri old new = loses (get old.documents uri) (get new.documents uri)
+
+pub record LookAlike (uri : List ℕ) (heard : Heard) (one two : State) : Type 0 where
   pub file : two.file ≡ one.file
   pub phase : two.phase ≡ one.phase
   pub held : get two.documents uri ≡ get one.documents uri
-  pub room : has_room uri two.documents ≡ has_room uri one.documents
-
-abbrev pub LosesMemory : List ℕ → State → State → Type 0
-LosesMemory uri old new =
-    (d : OpenDocument) × (get old.documents uri ≡ Some (is_open d)) × (get new.documents uri ≡ Some (is_lost NoMemory))
+  pub room : finds_room uri two heard ≡ finds_room uri one heard
 
 -- these are the same answers, but for what is left free
 abbrev pub SayTheSame : List Answer → List Answer → Type 0
@@ -57,36 +70,48 @@ EachDocumentIsAlone file =
     → old.file ≡ file → Step old heard answers stop new
     → (named heard ≢ Some uri → (get new.documents uri ≡ get old.documents uri) × All (λ a. ¬ Publishes uri a) answers)
     × (named heard ≡ Some uri → (two : State) (other_answers : List Answer) (other_stop : Option ℕ) (other : State)
-    → LookAlike uri old two → Step two heard other_answers other_stop other
-    → ¬ LosesMemory uri old new → ¬ LosesMemory uri two other
+    → LookAlike uri heard old two → Step two heard other_answers other_stop other
+    → loses_memory uri two other ≡ loses_memory uri old new
     → SameFor uri answers other_answers stop other_stop new other)
 
--- a message, the phase in which it is heard, and whether the document that it names may be held
+-- a message, the phase in which it is heard, whether there is room for the document that it opens, and whether memory is refused in
+-- its changes
 pub record Event : Type 0 where
   pub phase : Phase
   pub room : Bool
   pub heard : Heard
+  pub refused : Bool
 
-abbrev pub event_in : List ℕ → State → Heard → Event
-event_in uri state heard = record { phase = state.phase; room = has_room uri state.documents; heard = heard }
+abbrev pub event_in : List ℕ → State → Heard → State → Event
+event_in uri old heard new =
+    record { phase = old.phase; room = finds_room uri old heard; heard = heard; refused = loses_memory uri old new }
 
--- what is heard and sent on one message, before what comes behind it: all where it names the document, and else nothing
-abbrev pub Notes : List ℕ → State → Heard → List Answer → List Event → List Answer → List Event → List Answer → Type 0
-Notes uri old heard first events sent more rest =
-    ((named heard ≡ Some uri) × (events ≡ event_in uri old heard ∷ more) × (sent ≡ first ++ rest))
+-- what is heard and sent on one message, before what comes after it: all where it names the document, and else nothing
+abbrev pub Notes : List ℕ → State → Heard → List Answer → State → List Event → List Answer → List Event → List Answer → Type 0
+Notes uri old heard first new events sent more rest =
+    ((named heard ≡ Some uri) × (events ≡ event_in uri old heard new ∷ more) × (sent ≡ first ++ rest))
     ⊎ ((named heard ≢ Some uri) × (events ≡ more) × (sent ≡ rest))
 
--- Steps on the contents in turn, up to the first that stops the server, none of which loses the document for want of memory.
-abbrev pub Tale : List ℕ → State → List (List ℕ) → List Event → List Answer → Type 0
-Tale uri old [] events sent = (events ≡ []) × (sent ≡ [])
-Tale uri old (content ∷ contents) events sent =
+-- a `Run`, with what it hears of the document and what it sends then
+abbrev pub Tale : List ℕ → State → List (List ℕ) → List Answer → Option ℕ → State → List Event → List Answer → Type 0
+Tale uri old [] answers stop new events sent = Ignores old answers stop new × (events ≡ []) × (sent ≡ [])
+Tale uri old (content ∷ contents) answers stop new events sent =
     (first : List Answer) × (halt : Option ℕ) × (mid : State) × (more : List Event) × (rest : List Answer)
-    × Step old (hearing content) first halt mid × ¬ LosesMemory uri old mid
-    × Notes uri old (hearing content) first events sent more rest
-    × MatchOption halt (Tale uri mid contents more rest) (λ status. (more ≡ []) × (rest ≡ []))
+    × Step old (hearing content) first halt mid × Notes uri old (hearing content) first mid events sent more rest
+    × MatchOption halt
+    ((later : List Answer) × (answers ≡ first ++ later) × Tale uri mid contents later stop new more rest)
+    (λ status. (answers ≡ first) × (stop ≡ Some status) × (new ≡ mid) × (more ≡ []) × (rest ≡ []))
+
+abbrev pub EachRunHasATale : Type 0
+EachRunHasATale =
+    (uri : List ℕ) (old : State) (contents : List (List ℕ)) (answers : List Answer) (stop : Option ℕ) (new : State)
+    → Run old contents answers stop new
+    → (events : List Event) × (sent : List Answer) × Tale uri old contents answers stop new events sent
 
 abbrev pub EachTaleIsTold : FileGrammar → Type 0
 EachTaleIsTold file =
-    (uri : List ℕ) (contents others : List (List ℕ)) (events : List Event) (sent other_sent : List Answer)
-    → Tale uri (first_state file) contents events sent → Tale uri (first_state file) others events other_sent
+    (uri : List ℕ) (contents others : List (List ℕ)) (answers other_answers : List Answer) (stop other_stop : Option ℕ)
+    (new other : State) (events : List Event) (sent other_sent : List Answer)
+    → Tale uri (first_state file) contents answers stop new events sent
+    → Tale uri (first_state file) others other_answers other_stop other events other_sent
     → SayTheSame sent other_sent

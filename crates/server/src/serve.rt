@@ -1,22 +1,26 @@
 //! The loop from bytes to bytes.
 
-ghost use Rattle.std.specs.Prelude.{◌≡◌, ◌↔◌, ◌∷◌, [], Err, map, IfOk, IfErr, OnOk, OnErr, IsErrOf};
+ghost use Rattle.std.specs.Prelude.{◌≡◌, ◌↔◌, ◌∷◌, [], ℕ, List, All, Err, map, IfOk, IfErr, OnOk, OnErr, IsErrOf};
 ghost use Rattle.std.specs.Io.KnownBytes.{Appends, Keeps};
 ghost use Rattle.frames.specs.Contents.{contents};
 ghost use Rattle.frames.specs.Frames.{Open};
 ghost use Rattle.docs.specs.Answers.{AlwaysAnswers};
+ghost use Rattle.rpc.specs.Messages.{Heard};
+ghost use Rattle.rpc.specs.Reading.{Hears};
 ghost use Rattle.rpc.specs.Replies.{reply_view};
+ghost use Rattle.rpc.specs.Texts.{IsSpelled, texts_of};
 ghost use Rattle.server.specs.Steps.{state_view, first_state};
 ghost use Rattle.server.specs.Runs.{bytes_of};
+ghost use Rattle.server.specs.Alone.{EachDocumentIsAlone, EachRunHasATale, EachTaleIsTold};
 ghost use Rattle.server.specs.Fresh.{EveryAnswerIsFresh, EachTextIsItsEdits};
 ghost use Rattle.server.specs.Sessions.{AppendsFront, CanServe, HasServed, Session, IsCutShort, EndsAt, run_fault};
 ghost use Rattle.server.specs.declared.serve.RunFault.TheVariants.{Memory};
 
-use crate::laws::{each_text_is_its_edits, every_answer_is_fresh};
+use crate::laws::{each_document_is_alone, each_text_is_its_edits, every_answer_is_fresh};
 use crate::state::Server;
 use docs::Language;
 use frames::{Decoder, Frame, FrameFault, Input, Output, write_frame};
-use rpc::{Reply, read, to_bytes};
+use rpc::{Reply, each_text_is_unicode, read, to_bytes};
 use std::alloc::{AllocError, Global};
 
 /// Why a session ended without a status.
@@ -198,11 +202,18 @@ pub fn run<R: Input, W: Output>(
     ensures session { let old = W.contents output.old in
         let new = W.contents output.new in
         Session language.file (R.remaining input.old) (R.remaining input.new) old new result }
-    // In each session the one answer about an open document is that of a fresh server on its text, and so are its last
-    // diagnostics.
+    // In each session the one answer to each question about an open document, `lr/stats` aside, is that of a fresh server on
+    // its text, and so are its last diagnostics.
     ensures fresh { EveryAnswerIsFresh language.file }
     // The text of an open document is its edits, applied in turn.
     ensures edits { EachTextIsItsEdits }
+    // What is heard is in UTF-8, so that a document is lost as too large exactly where its text has too many bytes.
+    ensures unicode { (content : List ℕ) (heard : Heard) → Hears content heard →
+        All IsSpelled (texts_of heard) }
+    // What a run sends about a document is a function of what it hears of it, and no other message changes the document.
+    ensures alone { EachDocumentIsAlone language.file }
+    ensures tales { EachRunHasATale }
+    ensures told { EachTaleIsTold language.file }
     // A device fault is answered exactly where the device failed.
     ensures read { IsErrOf result RunFault.Read ↔ R.failures input.new ≡ 1 }
     ensures write { IsErrOf result RunFault.Write ↔ W.failures output.new ≡ 1 }
@@ -210,6 +221,8 @@ pub fn run<R: Input, W: Output>(
     language.always_answers();
     every_answer_is_fresh(&language);
     each_text_is_its_edits();
+    each_document_is_alone(&language);
+    each_text_is_unicode();
     let mut decoder = Decoder::new(alloc);
     let mut server = Server::new(alloc, language);
     serve_input(alloc, &mut decoder, &mut server, input, output)
