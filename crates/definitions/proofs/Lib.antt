@@ -6,6 +6,7 @@ pub mod ExpectedRows
 pub mod FoldRows
 pub mod GrammarRows
 pub mod InLine
+pub mod EqualSplices
 pub mod LawProofs
 pub mod MatchRows
 pub mod Ordered

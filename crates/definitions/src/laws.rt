@@ -4,6 +4,8 @@ ghost use Rattle.std.specs.Prelude.{◌≡◌, ◌↔◌, ◌-◌, ℕ, Bool, Li
 ghost use Rattle.std.specs.Char.{IsScalar};
 ghost use Rattle.definitions.specs.declared.Edit.{Edit};
 ghost use Rattle.definitions.specs.declared.Kind.{Kind};
+ghost use Rattle.definitions.specs.declared.KindSplice.{KindSplice};
+ghost use Rattle.definitions.specs.declared.Stats.{Stats};
 ghost use Rattle.definitions.specs.declared.Position.{Position};
 ghost use Rattle.definitions.specs.declared.Range.{Range};
 ghost use Rattle.definitions.specs.declared.Symbol.{Symbol};
@@ -16,7 +18,7 @@ ghost use Rattle.definitions.specs.Text.{IsCharacter, edit, offset, position};
 ghost use Rattle.definitions.specs.Patterns.{is_in_class};
 ghost use Rattle.definitions.specs.PatternFaults.{is_nothing};
 ghost use Rattle.definitions.specs.Tokens.{Token, Placed, IsToken, AreTokens};
-ghost use Rattle.definitions.specs.TokenEdits.{front, rejoin};
+ghost use Rattle.definitions.specs.TokenEdits.{front, plain_splice, rejoin};
 ghost use Rattle.definitions.specs.Trees.{Grammar, Tree};
 ghost use Rattle.definitions.specs.Sentences.{IsExpected};
 ghost use Rattle.definitions.specs.Answers.{AreFolds, IsSelection};
@@ -107,6 +109,9 @@ pub fn equal_data_is_the_same()
     ensures ranges { (a b : Range) → IsTrue (⟦<crate::Range as PartialEq>⟧.eq a b) ↔ (a ≡ b) }
     ensures units { (a b : Encoding) → IsTrue (⟦<crate::Unit as PartialEq>⟧.eq a b) ↔ (a ≡ b) }
     ensures kinds { (a b : Kind) → IsTrue (⟦<crate::Kind as PartialEq>⟧.eq a b) ↔ (a ≡ b) }
+    ensures splices { (a b : KindSplice) →
+        IsTrue (⟦<crate::KindSplice as PartialEq>⟧.eq a b) ↔ (plain_splice a ≡ plain_splice b) }
+    ensures stats { (a b : Stats) → IsTrue (⟦<crate::Stats as PartialEq>⟧.eq a b) ↔ (a ≡ b) }
     ensures edits { (a b : Edit) → IsTrue (⟦<crate::Edit as PartialEq>⟧.eq a b) ↔ (a ≡ b) }
     ensures symbols { (a b : Symbol) → IsTrue (⟦<crate::Symbol as PartialEq>⟧.eq a b) ↔ (a ≡ b) }
     ensures intervals { (a b : Interval) →

@@ -3,6 +3,7 @@
 
 mod fault;
 mod grammar;
+pub mod laws;
 mod notes;
 mod numbers;
 mod productive;

@@ -3,6 +3,7 @@
 
 mod fault;
 mod file;
+pub mod laws;
 mod line;
 mod name_set;
 mod names;

@@ -15,8 +15,8 @@ pub const SHORTEST_OF_SEVERAL: usize = 509;
 const LONGEST_HALVED: usize = 2_040;
 
 /// The pieces of a text, which joined in order are its characters; none for the empty text. They are few: each has at
-/// least [`SHORTEST_OF_SEVERAL`] bytes where the text has so many, and a text that fits into one piece is one. Refuses for
-/// memory alone.
+/// least [`SHORTEST_OF_SEVERAL`] (509) bytes where the text has so many, and a text of at most [`LONGEST_PIECE`] (1,024) bytes
+/// is one piece. Refuses for memory alone.
 pub fn pieces_of(alloc: Global, text: &str) -> Result<Vec<Piece>, AllocError>
     ensures joined { IfOk result (λ pieces. concat pieces.items ≡ chars text.now) }
     ensures large { IfOk result (λ pieces.
@@ -24,6 +24,7 @@ pub fn pieces_of(alloc: Global, text: &str) -> Result<Vec<Piece>, AllocError>
     ensures one { IfOk result (λ pieces.
         length text.now ≤ LONGEST_PIECE → length pieces.items ≤ 1) }
     ensures shortest { SHORTEST_OF_SEVERAL ≡ 509 }
+    ensures longest { LONGEST_PIECE ≡ 1024 }
 {
     let mut pieces = Vec::new(alloc);
     let mut rest = text;
