@@ -269,7 +269,8 @@ impl Doc {
         ensures told { let file = language.now.file in
             let text = self.now.text in
             IfOk result (λ told. Reads file text (λ reading. (fault : Option Fault)
-            × IsDiagnosis self.now.unit file text reading.tokens reading.verdict fault × IsTold told fault)) }
+            × IsDiagnosis self.now.unit file text reading.tokens reading.verdict fault
+            × IsTold told fault)) }
         ensures tree { IfOk result (λ told.
             told ≡ None → (root : NodeId) × (self.now.parse.verdict ≡ Verdict.Tree root)) }
     {
@@ -363,7 +364,8 @@ impl Doc {
             let trees = trees_of_roots self.now.store self.now.parse.stack in
             let at = offset self.now.unit text position in
             (language : LanguageData) → IsCurrent language self.now
-            → IfOk result (λ ranges. IsSelectionOf self.now.unit language.file text tokens trees at ranges.items) }
+            → IfOk result (λ ranges.
+            IsSelectionOf self.now.unit language.file text tokens trees at ranges.items) }
     {
         stack_has_the_nodes_of_the_document();
         selection(

@@ -84,7 +84,19 @@ impl Model for Grammar {
 
     ghost coded = { Prim.hlevel (codes, e.the_row.coded) };
 
-    ghost view = { λ g. record { names = g.names.items; patterns = g.patterns.items; skips = g.skips.items; nonterminals = g.nonterminals.items; folds = g.folds.items; grammar = record { start = g.start; rules = length g.names.items; productions = g.productions.items }; defined = g.defined.items } };
+    ghost view = { λ g. record {
+      names = g.names.items;
+      patterns = g.patterns.items;
+      skips = g.skips.items;
+      nonterminals = g.nonterminals.items;
+      folds = g.folds.items;
+      grammar = record {
+        start = g.start;
+        rules = length g.names.items;
+        productions = g.productions.items;
+      };
+      defined = g.defined.items;
+    } };
 
     ghost invariant = { λ g. IsGrammar (record { names = g.names.items; patterns = g.patterns.items; skips = g.skips.items; nonterminals = g.nonterminals.items; folds = g.folds.items; grammar = record { start = g.start; rules = length g.names.items; productions = g.productions.items }; defined = g.defined.items }) × AreNotes (record { names = g.names.items; patterns = g.patterns.items; skips = g.skips.items; nonterminals = g.nonterminals.items; folds = g.folds.items; grammar = record { start = g.start; rules = length g.names.items; productions = g.productions.items }; defined = g.defined.items }) g.defined.items g.notes.items };
 }

@@ -38,7 +38,11 @@ impl<'a> Model for Rules<'a> {
 
     ghost Value = { List RuleLine };
 
-    ghost view = { λ r. map (λ x. record { skip = x.skip; name = x.name.now; pattern = x.pattern.now }) r.rules.items };
+    ghost view = { λ r. map (λ x. record {
+      skip = x.skip;
+      name = x.name.now;
+      pattern = x.pattern.now;
+    }) r.rules.items };
 
     ghost invariant = { λ r. AreNumbers (map (λ x. x.name.now) r.rules.items) r.numbers.entries };
 }

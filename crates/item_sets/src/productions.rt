@@ -44,7 +44,14 @@ impl Model for Productions {
 
     ghost Value = { Shape };
 
-    ghost view = { λ a. record { grammar = record { start = a.start; rules = a.rules; productions = a.productions.items }; nonterminals = a.nonterminals } };
+    ghost view = { λ a. record {
+      grammar = record {
+        start = a.start;
+        rules = a.rules;
+        productions = a.productions.items;
+      };
+      nonterminals = a.nonterminals;
+    } };
 }
 
 impl Production {

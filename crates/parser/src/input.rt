@@ -65,7 +65,8 @@ impl Input {
     /// The kind with which the trees after the first one begin, where it is found nearby.
     pub fn second_kind(&self, store: &Store) -> Option<Kind>
         requires { AreBelow (length store.now) self.now }
-        ensures { IfSome result (λ k. (first : Child) × (rest : List Child) × (more : List TokenKind)
+        ensures { IfSome result
+            (λ k. (first : Child) × (rest : List Child) × (more : List TokenKind)
             × (self.now ≡ first ∷ rest) × (all_kinds (plain_of store.now rest) ≡ k ∷ more)) }
     {
         let (_, mut behind) = self.items.split_last()?;

@@ -263,7 +263,8 @@ impl Machine {
             × SoFar tables.now (input_of store.old input kinds.old 0) kinds.old
             (length store.old) number store.new self.new.stack.items self.new.states.items
             self.new.read rest) }
-        ensures came { let whole = all_trees store.old input in IfOk result (λ _. (rest : List Child)
+        ensures came { let whole = all_trees store.old input in
+            IfOk result (λ _. (rest : List Child)
             × CameFrom whole (length store.old) number store.new self.new.stack.items
             self.new.read rest) }
         ensures grown { take (length store.old) store.new ≡ store.old }

@@ -62,7 +62,14 @@ impl Model for Parse {
 
     ghost Value = { Stop };
 
-    ghost view = { λ p. record { verdict = p.verdict; stack = p.stack.items; state = p.state; branches = p.branches; built = p.built; number = p.number } };
+    ghost view = { λ p. record {
+      verdict = p.verdict;
+      stack = p.stack.items;
+      state = p.state;
+      branches = p.branches;
+      built = p.built;
+      number = p.number;
+    } };
 }
 
 /// How many branches the trees of the children have, or 18,446,744,073,709,551,615 where they have more.

@@ -20,7 +20,8 @@ use std::alloc::{AllocError, Global};
 pub fn strip<'a>(words: &'a [Character], sign: char) -> Option<(usize, &'a [Character])>
     ensures { MatchOption result
         (Begins sign (writing words.now) → ⊥)
-        (λ r. (writing words.now ≡ Plain r.0 sign ∷ writing r.1.now) × (length r.1.now < length words.now)) }
+        (λ r. (writing words.now ≡ Plain r.0 sign ∷ writing r.1.now)
+        × (length r.1.now < length words.now)) }
 {
     match words.split_first() {
         Some((Character::Sign { place, code }, rest)) if *code == sign => Some((*place, rest)),
@@ -82,7 +83,8 @@ pub fn literal<'a>(
 fn literal_char<'a>(words: &'a [Character]) -> Option<(char, &'a [Character])>
     ensures { MatchOption result
         (HasNoLiteralChar (writing words.now))
-        (λ r. IsLiteralCharAt r.0 (writing words.now) (writing r.1.now) × (length r.1.now < length words.now)) }
+        (λ r. IsLiteralCharAt r.0 (writing words.now) (writing r.1.now)
+        × (length r.1.now < length words.now)) }
 {
     match words.split_first() {
         Some((Character::Sign { code, .. }, rest)) if *code != '"' => Some((*code, rest)),
@@ -243,7 +245,8 @@ fn range(first: char, last: char) -> Interval
 fn class_char<'a>(words: &'a [Character]) -> Option<(usize, char, &'a [Character])>
     ensures { MatchOption result
         (HasNoClassChar (writing words.now))
-        (λ r. IsClassCharAt r.0 r.1 (writing words.now) (writing r.2.now) × (length r.2.now < length words.now)) }
+        (λ r. IsClassCharAt r.0 r.1 (writing words.now) (writing r.2.now)
+        × (length r.2.now < length words.now)) }
 {
     match words.split_first() {
         Some((Character::Sign { place, code }, rest)) if stands_for_itself(*code) => Some((

@@ -206,7 +206,8 @@ fn skip_blanks(words: &[Character]) -> &[Character]
 fn strip_blank(words: &[Character]) -> Option<(usize, &[Character])>
     ensures { MatchOption result
         (HasNoBlank (writing words.now))
-        (λ r. IsBlankAt (writing words.now) (writing r.1.now) × (length r.1.now < length words.now)) }
+        (λ r. IsBlankAt (writing words.now) (writing r.1.now)
+        × (length r.1.now < length words.now)) }
 {
     match strip(words, ' ') {
         Some(found) => Some(found),

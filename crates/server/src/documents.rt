@@ -39,7 +39,10 @@ impl Model for Documents {
 
     ghost coded = { Prim.hlevel (codes, e.the_row.coded, held_code) };
 
-    ghost view = { λ d. record { language = d.language; documents = documents_of d.by_uri.entries } };
+    ghost view = { λ d. record {
+      language = d.language;
+      documents = documents_of d.by_uri.entries;
+    } };
 
     ghost invariant = { λ d. AreCurrent d.language d.by_uri.entries };
 }

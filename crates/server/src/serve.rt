@@ -82,7 +82,8 @@ fn serve<W: Output>(
     ensures { let old = W.contents output.old in
         let new = W.contents output.new in
         let after = state_view server.new in
-        HasServed old new (W.failures output.new) (state_view server.old) (content.now ∷ []) result after }
+        HasServed old new (W.failures output.new) (state_view server.old) (content.now ∷ [])
+        result after }
 {
     let message = read(alloc, content);
     let out = server.handle(alloc, message)?;
@@ -102,7 +103,8 @@ fn serve_all<W: Output>(
     ensures { let old = W.contents output.old in
         let new = W.contents output.new in
         let after = state_view server.new in
-        HasServed old new (W.failures output.new) (state_view server.old) (contents frames.now) result after }
+        HasServed old new (W.failures output.new) (state_view server.old) (contents frames.now)
+        result after }
 {
     for frame in frames {
         if let Some(status) = serve(alloc, server, output, &frame.content)? {

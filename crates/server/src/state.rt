@@ -244,7 +244,8 @@ impl Server {
         ensures { IfOk result (λ out.
             let replies = map reply_view out.replies.items in
             let old = state_view self.old in
-            Asks self.old.phase old (id_view id) (call_view call) replies out.stop (state_view self.new)) }
+            Asks self.old.phase old (id_view id) (call_view call) replies out.stop
+            (state_view self.new)) }
     {
         let (uri, question) = match (self.phase, call) {
             (Phase::New, Call::Initialize { unit }) => {
@@ -344,7 +345,8 @@ impl Server {
             let changes = map change_view changes.items in
             IfOk result (λ out.
             let replies = map reply_view out.replies.items in
-            Changes (get old.documents uri) old uri version changes replies out.stop (state_view self.new)) }
+            Changes (get old.documents uri) old uri version changes replies out.stop
+            (state_view self.new)) }
     {
         match self.documents.get(uri.as_str()) {
             None => return logged(alloc, Log::ChangeNotOpen),
@@ -406,7 +408,8 @@ impl Server {
     fn tell(&mut self, alloc: Global, note: Note) -> Result<Out, AllocError>
         ensures { IfOk result (λ out.
             let replies = map reply_view out.replies.items in
-            Tells self.old.phase (state_view self.old) (note_view note) replies out.stop (state_view self.new)) }
+            Tells self.old.phase (state_view self.old) (note_view note) replies out.stop
+            (state_view self.new)) }
     {
         match (self.phase, note) {
             (phase, Note::Exit) => Ok(Out {
@@ -434,7 +437,8 @@ impl Server {
     fn step(&mut self, alloc: Global, message: Result<Message, RpcFault>) -> Result<Out, AllocError>
         ensures { IfOk result (λ out.
             let replies = map reply_view out.replies.items in
-            StepOn (heard_of message) (state_view self.old) replies out.stop (state_view self.new)) }
+            StepOn (heard_of message) (state_view self.old) replies out.stop
+            (state_view self.new)) }
     {
         match message {
             Ok(Message::Request(id, call)) => self.ask(alloc, id, call),
@@ -459,7 +463,8 @@ impl Server {
     ) -> Result<Out, AllocError>
         ensures step { IfOk result (λ out.
             let replies = map reply_view out.replies.items in
-            StepOn (heard_of message) (state_view self.old) replies out.stop (state_view self.new)) }
+            StepOn (heard_of message) (state_view self.old) replies out.stop
+            (state_view self.new)) }
         ensures failed { self.old.has_failed ≡ true → IsErr result }
         ensures err { OnErr result (self.new.has_failed ≡ true) }
         ensures ok { OnOk result (self.new.has_failed ≡ false) }

@@ -47,9 +47,11 @@ fn is_in_order(grammar: &AugmentedGrammar, clash: Clash) -> bool
     requires two { IsItem grammar.now clash.two }
     requires differ { Differ grammar.now.grammar clash }
     ensures yes { result ≡ true
-        → IsInOrder (item_of grammar.now.grammar clash.one) (item_of grammar.now.grammar clash.two) }
+        → IsInOrder (item_of grammar.now.grammar clash.one)
+        (item_of grammar.now.grammar clash.two) }
     ensures no { result ≡ false
-        → IsInOrder (item_of grammar.now.grammar clash.two) (item_of grammar.now.grammar clash.one) }
+        → IsInOrder (item_of grammar.now.grammar clash.two)
+        (item_of grammar.now.grammar clash.one) }
 {
     if grammar.next(clash.one).is_some() {
         return false;

@@ -31,7 +31,11 @@ impl Model for Outline {
 
     ghost Value = { Kept };
 
-    ghost view = { λ a. record { rules = a.rules; nonterminals = a.nonterminals; sides = a.sides.items } };
+    ghost view = { λ a. record {
+      rules = a.rules;
+      nonterminals = a.nonterminals;
+      sides = a.sides.items;
+    } };
 }
 
 impl Outline {

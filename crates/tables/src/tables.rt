@@ -65,7 +65,10 @@ impl Model for Tables {
 
     ghost Value = { Sets };
 
-    ghost view = { λ a. record { grammar = a.productions.value.grammar; kernels = a.kernels.value } };
+    ghost view = { λ a. record {
+      grammar = a.productions.value.grammar;
+      kernels = a.kernels.value;
+    } };
 
     ghost invariant = { λ a. AreTables a.productions.value a.kernels.value a.gotos.items a.moves.items × IsOutline a.productions.value a.outline };
 }

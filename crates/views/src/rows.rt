@@ -27,7 +27,8 @@ pub fn token_rows<'a>(
     ensures rows { IfOk result (λ rows.
         map row_of rows.items ≡ rows_of unit grammar.now text.now tokens.now.items) }
     ensures bytes { IfOk result (λ rows.
-        map row_bytes rows.items ≡ map in_utf8 (rows_of unit grammar.now text.now tokens.now.items)) }
+        map row_bytes rows.items
+        ≡ map in_utf8 (rows_of unit grammar.now text.now tokens.now.items)) }
 {
     let mut rows = Vec::with_capacity(alloc, tokens.count())?;
     let mut places = text.places(unit);
