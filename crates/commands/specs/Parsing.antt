@@ -32,4 +32,5 @@ abbrev pub IsParsed : FileGrammar → List ℕ → Printed → Type 0
 IsParsed file bytes printed =
     (¬ IsUtf8 bytes × PrintsNothing printed)
     ⊎ (IsUtf8 bytes × (fits (chars bytes) ≡ false) × PrintsNothing printed)
-    ⊎ (IsUtf8 bytes × (fits (chars bytes) ≡ true) × ((outcome : Outcome) × IsOutcome Utf16 file (chars bytes) outcome × Prints outcome printed))
+    ⊎ (IsUtf8 bytes × (fits (chars bytes) ≡ true)
+    × ((outcome : Outcome) × IsOutcome Utf16 file (chars bytes) outcome × Prints outcome printed))

@@ -5,7 +5,8 @@ use Rattle.std.specs.Prelude.{ℕ}
 use Rattle.server.specs.declared.serve.RunFault.{RunFault}
 use Rattle.server.specs.declared.serve.RunFault.TheVariants as session
 use Rattle.commands.specs.declared.fault.Fault.{Fault}
-use Rattle.commands.specs.declared.fault.Fault.TheVariants.{CommandLine, Grammar, TooManyStates, TooManySets, NotUtf8, TextNotUtf8, TextTooLarge, CannotRead, NoMemory, Frame, Read, Write}
+use Rattle.commands.specs.declared.fault.Fault.TheVariants.{CommandLine, Grammar, TooManyStates, TooManySets, NotUtf8, TextNotUtf8}
+use Rattle.commands.specs.declared.fault.Fault.TheVariants.{TextTooLarge, CannotRead, NoMemory, Frame, Read, Write}
 
 -- 2 for a refused command line or grammar, 1 for what goes wrong outside of them
 abbrev pub status_of : Fault → ℕ

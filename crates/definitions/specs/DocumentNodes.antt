@@ -27,7 +27,8 @@ IsNodeOf g ts n =
 abbrev mutual
   pub tree_text : List (List ℕ) → List (List ℕ) → List ℕ → Tree → List ℕ
   tree_text rules nonterminals left (Leaf k) = kind_name rules k
-  tree_text rules nonterminals left (Branch p us) = node_text (slice_index_or nonterminals (slice_index left p) []) (tree_texts rules nonterminals left us)
+  tree_text rules nonterminals left (Branch p us) = node_text (slice_index_or nonterminals (slice_index left p) [])
+      (tree_texts rules nonterminals left us)
 
   pub tree_texts : List (List ℕ) → List (List ℕ) → List ℕ → Forest → List (List ℕ)
   tree_texts rules nonterminals left Nil = []

@@ -32,7 +32,8 @@ pub record AllProductive (g : Grammar) : Type 0 where
 -- some derivation from the start uses the symbol
 pub data IsUsed (g : Grammar) : Symbol → Type 0 where
   The_start : IsUsed g (Nonterminal g.start)
-  On_right : (p n : ℕ) (before : List Symbol) {s : Symbol} (after : List Symbol) → IsUsed g (Nonterminal n) → HasProduction g p n (before ++ (s ∷ after)) → IsUsed g s
+  On_right : (p n : ℕ) (before : List Symbol) {s : Symbol} (after : List Symbol) → IsUsed g (Nonterminal n)
+      → HasProduction g p n (before ++ (s ∷ after)) → IsUsed g s
 
 pub data Verdict : Type 0 where
   HasTree : Tree → Verdict

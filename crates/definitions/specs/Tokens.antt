@@ -7,7 +7,8 @@
 --     Leads rules t tokens      these are its first tokens
 --     placed o tokens, boundaries o tokens      the tokens with their starts, the first one at o; the starts and the end
 --     kinds skips tokens      the kinds of those that aren't skipped
-use Rattle.std.specs.Prelude.{◌≡◌, ℕ, ◌+◌, ◌≤◌, ◌⊎◌, not, false, Bool, List, [], ◌∷◌, length, take, drop, map, filter, slice_get, slice_index_or, IsSomeAnd}
+use Rattle.std.specs.Prelude.{◌≡◌, ℕ, ◌+◌, ◌≤◌, ◌⊎◌, not, false, Bool, List, [], ◌∷◌, length, take, drop, map, filter, slice_get}
+use Rattle.std.specs.Prelude.{slice_index_or, IsSomeAnd}
 use Rattle.definitions.specs.declared.Kind.{Kind}
 use Rattle.definitions.specs.declared.Kind.TheVariants.{Rule, Invalid}
 use Rattle.definitions.specs.declared.expression.Expression.{Expression}

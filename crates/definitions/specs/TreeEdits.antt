@@ -11,7 +11,8 @@ use Rattle.definitions.specs.Nodes.{StandsIn, place_of}
 
 -- the kinds start..end hold one that gives way, or new ones come in between them
 abbrev pub IsTouched : Splice → ℕ → ℕ → Type 0
-IsTouched s start end = ((k : ℕ) × (start ≤ k) × (k < end) × (s.from ≤ k) × (k < s.to)) ⊎ ((s.from ≡ s.to) × (length s.kinds ≢ 0) × (start < s.from) × (s.from < end))
+IsTouched s start end = ((k : ℕ) × (start ≤ k) × (k < end) × (s.from ≤ k) × (k < s.to))
+    ⊎ ((s.from ≡ s.to) × (length s.kinds ≢ 0) × (start < s.from) × (s.from < end))
 
 -- where a kind that stays stands after the splice
 abbrev pub IsMoved : Splice → ℕ → ℕ → Type 0
@@ -41,8 +42,10 @@ pub record LiesInKept (s : Splice) (old new below : List Tree) (w : Tree) : Type
 pub data Built (s : Splice) (old : List Tree) : ℕ → List Tree → ℕ → Type 0 where
   Nothing : {place : ℕ} → Built s old place [] 0
   Token : {place : ℕ} {k : Kind} {ts : List Tree} {n : ℕ} → Built s old (place + 1) ts n → Built s old place (Leaf k ∷ ts) n
-  Kept : {place p : ℕ} {us : Forest} {ts : List Tree} {n : ℕ} → IsKept s old place p us → Built s old (place + length (yields us)) ts n → Built s old place (Branch p us ∷ ts) n
-  New : {place p : ℕ} {us : Forest} {ts : List Tree} {m n : ℕ} → ¬ IsKept s old place p us → Built s old place (trees us) m → Built s old (place + length (yields us)) ts n → Built s old place (Branch p us ∷ ts) (1 + m + n)
+  Kept : {place p : ℕ} {us : Forest} {ts : List Tree} {n : ℕ} → IsKept s old place p us → Built s old (place + length (yields us)) ts n
+      → Built s old place (Branch p us ∷ ts) n
+  New : {place p : ℕ} {us : Forest} {ts : List Tree} {m n : ℕ} → ¬ IsKept s old place p us → Built s old place (trees us) m
+      → Built s old (place + length (yields us)) ts n → Built s old place (Branch p us ∷ ts) (1 + m + n)
 
 mutual
   -- a tree whose branches carry the number of the edit that made them
@@ -75,9 +78,12 @@ plain_trees (t ∷ ts) = plain t ∷ plain_trees ts
 -- a stamped branch of the list, with its left siblings
 pub data StampedIn : List Stamped → List Tree → (p born : ℕ) → StampedForest → Type 0 where
   StampedTop : {p born : ℕ} {us : StampedForest} {ts : List Stamped} → StampedIn (StampedBranch p born us ∷ ts) [] p born us
-  StampedBelow : {q other : ℕ} {us : StampedForest} {ts : List Stamped} {lefts : List Tree} {p born : ℕ} {vs : StampedForest} → StampedIn (stamped_trees us) lefts p born vs → StampedIn (StampedBranch q other us ∷ ts) lefts p born vs
-  StampedPast : {t : Stamped} {ts : List Stamped} {lefts : List Tree} {p born : ℕ} {us : StampedForest} → StampedIn ts lefts p born us → StampedIn (t ∷ ts) (plain t ∷ lefts) p born us
+  StampedBelow : {q other : ℕ} {us : StampedForest} {ts : List Stamped} {lefts : List Tree} {p born : ℕ} {vs : StampedForest}
+      → StampedIn (stamped_trees us) lefts p born vs → StampedIn (StampedBranch q other us ∷ ts) lefts p born vs
+  StampedPast : {t : Stamped} {ts : List Stamped} {lefts : List Tree} {p born : ℕ} {us : StampedForest} → StampedIn ts lefts p born us
+      → StampedIn (t ∷ ts) (plain t ∷ lefts) p born us
 
 -- the branches that carry edit n's number are exactly those that lie in no kept node
 abbrev pub AreStampedExactly : ℕ → Splice → List Tree → List Stamped → Type 0
-AreStampedExactly n s old new = (below : List Tree) (p born : ℕ) (us : StampedForest) → StampedIn new below p born us → (born ≡ n) ↔ (¬ LiesInKept s old (plain_trees new) below (Branch p (plain_all us)))
+AreStampedExactly n s old new = (below : List Tree) (p born : ℕ) (us : StampedForest) → StampedIn new below p born us
+    → (born ≡ n) ↔ (¬ LiesInKept s old (plain_trees new) below (Branch p (plain_all us)))

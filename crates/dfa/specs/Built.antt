@@ -1,5 +1,6 @@
 -- What holds while the states of an automaton are made. A state is a set of positions, and 0 is the start.
-use Rattle.std.specs.Prelude.{◌≡◌, ◌≢◌, ℕ, ◌+◌, ◌*◌, ◌<◌, ◌≤◌, ◌⊎◌, Bool, List, [], ◌∷◌, ◌++◌, length, map, filter, slice_index_or, Option, None, Vec, All, Contains}
+use Rattle.std.specs.Prelude.{◌≡◌, ◌≢◌, ℕ, ◌+◌, ◌*◌, ◌<◌, ◌≤◌, ◌⊎◌, Bool, List, [], ◌∷◌, ◌++◌, length, map, filter, slice_index_or}
+use Rattle.std.specs.Prelude.{Option, None, Vec, All, Contains}
 use Rattle.std.specs.declared.alloc.Global.{Global}
 use Rattle.definitions.specs.declared.expression.Expression.{Expression}
 use Rattle.definitions.specs.Text.{IsText, IsCharacter}
@@ -53,16 +54,21 @@ pub record IsStateOf (rules : List Expression) (sets : List (List ℕ)) (s : ℕ
 
 -- the state s leads to the state n at each character of the part k
 abbrev pub LeadsTo : List Expression → List ℕ → List (List ℕ) → ℕ → ℕ → ℕ → Type 0
-LeadsTo rules starts sets s k n = (n < length sets) × ((c : ℕ) (u : List ℕ) → IsCharacter c → part starts c ≡ k → IsStateOf rules sets s u → IsSetOf rules (u ++ c ∷ []) (slice_index_or sets n []))
+LeadsTo rules starts sets s k n = (n < length sets)
+    × ((c : ℕ) (u : List ℕ) → IsCharacter c → part starts c ≡ k → IsStateOf rules sets s u
+    → IsSetOf rules (u ++ c ∷ []) (slice_index_or sets n []))
 
 -- the rows of the first states
-pub record AreRows (rules : List Expression) (starts : List ℕ) (sets : List (List ℕ)) (next : List ℕ) (accepts : List (Option ℕ)) : Type 0 where
+pub record AreRows (rules : List Expression) (starts : List ℕ) (sets : List (List ℕ)) (next : List ℕ)
+    (accepts : List (Option ℕ)) : Type 0 where
   pub states : AreStates rules sets
   pub bound : length sets ≤ 4096
   pub rows : length accepts ≤ length sets
   pub filled : length next ≡ length accepts * (length starts + 1)
-  pub entries : (s k : ℕ) → s < length accepts → k ≤ length starts → LeadsTo rules starts sets s k (slice_index_or next (s * (length starts + 1) + k) 0)
-  pub accepting : (s : ℕ) (u : List ℕ) → s < length accepts → 1 ≤ length u → IsStateOf rules sets s u → IsFirst rules u (slice_index_or accepts s None)
+  pub entries : (s k : ℕ) → s < length accepts → k ≤ length starts
+      → LeadsTo rules starts sets s k (slice_index_or next (s * (length starts + 1) + k) 0)
+  pub accepting : (s : ℕ) (u : List ℕ) → s < length accepts → 1 ≤ length u → IsStateOf rules sets s u
+      → IsFirst rules u (slice_index_or accepts s None)
 
 -- the holders of the parts of the alphabet that begin at these characters
 pub record ArePartsOf (rules : List Expression) (starts : List ℕ) (parts : List (List ℕ)) : Type 0 where

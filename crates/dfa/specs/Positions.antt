@@ -49,4 +49,5 @@ HaveSamePositions rules one two = (p : ℕ) → StandsAt rules p one ↔ StandsA
 
 -- there are texts with n different nonempty sets of positions, which with the start are more than n
 abbrev pub HasMoreStatesThan : List Expression → ℕ → Type 0
-HasMoreStatesThan rules n = (texts : List (List ℕ)) × (n ≤ length texts) × All (HasPosition rules) texts × AllPairs (λ one two. ¬ HaveSamePositions rules one two) texts
+HasMoreStatesThan rules n = (texts : List (List ℕ)) × (n ≤ length texts) × All (HasPosition rules) texts
+    × AllPairs (λ one two. ¬ HaveSamePositions rules one two) texts

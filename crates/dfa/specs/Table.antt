@@ -3,7 +3,8 @@
 --     state_after table u      the state after the text u, from the first one on
 --     IsTable table      the numbers of the table are in range
 --     IsAutomaton rules table      the table tells which texts begin a text of a rule, and the first rule that has a text
-use Rattle.std.specs.Prelude.{◌≡◌, ℕ, zero, suc, ◌+◌, ◌*◌, ◌<◌, ◌≤◌, nat_le, List, [], ◌∷◌, length, slice_index_or, Option, Some, None, MatchOption}
+use Rattle.std.specs.Prelude.{◌≡◌, ℕ, zero, suc, ◌+◌, ◌*◌, ◌<◌, ◌≤◌, nat_le, List, [], ◌∷◌, length, slice_index_or, Option, Some, None}
+use Rattle.std.specs.Prelude.{MatchOption}
 use Rattle.std.specs.List.{prefix_len}
 use Rattle.definitions.specs.declared.expression.Expression.{Expression}
 use Rattle.definitions.specs.declared.Kind.{Kind}
@@ -56,14 +57,17 @@ IsFirst rules u (Some k) = RuleMatches rules k u × ((j : ℕ) → j < k → ¬ 
 
 -- A nonempty text has a state exactly where it begins a text of a rule. The state tells the first rule that has the text.
 pub record IsAutomaton (rules : List Expression) (table : Table) : Type 0 where
-  pub tells : (u : List ℕ) → IsText u → 1 ≤ length u → MatchOption (state_after table u) (¬ IsRuleFront rules u) (λ s. IsRuleFront rules u × IsFirst rules u (slice_index_or table.accepts s None))
+  pub tells : (u : List ℕ) → IsText u → 1 ≤ length u
+      → MatchOption (state_after table u) (¬ IsRuleFront rules u)
+      (λ s. IsRuleFront rules u × IsFirst rules u (slice_index_or table.accepts s None))
 
 -- a table whose numbers are in range
 pub record IsTable (table : Table) : Type 0 where
   pub begins : 0 < length table.accepts
   pub bound : length table.accepts ≤ 4096
   pub filled : length table.next ≡ length table.accepts * width table
-  pub inside : (s k : ℕ) → s < length table.accepts → k < width table → slice_index_or table.next (s * width table + k) 0 < length table.accepts
+  pub inside : (s k : ℕ) → s < length table.accepts → k < width table
+      → slice_index_or table.next (s * width table + k) 0 < length table.accepts
   pub ordered : IsAscending table.starts
 
 -- the kind of a token that matches this rule, or none

@@ -72,14 +72,16 @@ IsOutcome encoding file text (comes.Fault told) =
 
 pub record AlwaysAnswers (file : FileGrammar) : Type 0 where
   pub readings : (t : List ℕ) → fits t ≡ true → (r : Reading) × IsReading file t r
-  pub faults : (encoding : Encoding) (t : List ℕ) (r : Reading) → IsReading file t r → (fault : Option Diagnostic) × IsDiagnosis encoding file t r.tokens r.verdict fault
+  pub faults : (encoding : Encoding) (t : List ℕ) (r : Reading) → IsReading file t r
+      → (fault : Option Diagnostic) × IsDiagnosis encoding file t r.tokens r.verdict fault
   pub folds : (t : List ℕ) (r : Reading) → IsReading file t r → (pairs : List (ℕ × ℕ)) × AreFoldsOf file t r.tokens r.trees pairs
   pub selections : (encoding : Encoding) (t : List ℕ) (r : Reading) → IsReading file t r → (positions : List Position)
       → (selections : List (List Range)) × AreSelections encoding file t r positions selections
 
 pub record AnswersOnce (file : FileGrammar) : Type 0 where
   pub readings : (t : List ℕ) (r s : Reading) → IsReading file t r → IsReading file t s → s ≡ r
-  pub faults : (encoding : Encoding) (t : List ℕ) (r : Reading) (one other : Option Diagnostic) → IsDiagnosis encoding file t r.tokens r.verdict one
+  pub faults : (encoding : Encoding) (t : List ℕ) (r : Reading) (one other : Option Diagnostic)
+      → IsDiagnosis encoding file t r.tokens r.verdict one
       → IsDiagnosis encoding file t r.tokens r.verdict other → other ≡ one
   pub folds : (t : List ℕ) (r : Reading) (one other : List (ℕ × ℕ)) → AreFoldsOf file t r.tokens r.trees one
       → AreFoldsOf file t r.tokens r.trees other → other ≡ one

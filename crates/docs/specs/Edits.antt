@@ -47,7 +47,8 @@ pub record Makes (file : FileGrammar) (e : Edit) (last : Option LastEdit) (old n
   pub built : IsAbove last e.number → Built (splice file.skips e old.tokens new.tokens) old.trees 0 new.trees next.built
   pub all_built : ¬ IsAbove last e.number → next.built ≡ all_branches new.trees
 
-pub record IsNext (encoding : Encoding) (file : FileGrammar) (text : List ℕ) (range : Option Range) (s : List ℕ) (last : Option LastEdit) (next : LastEdit) : Type 0 where
+pub record IsNext (encoding : Encoding) (file : FileGrammar) (text : List ℕ) (range : Option Range) (s : List ℕ) (last : Option LastEdit)
+    (next : LastEdit) : Type 0 where
   pub old : Reading
   pub new : Reading
   pub was : IsReading file text old

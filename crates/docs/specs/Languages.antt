@@ -30,7 +30,8 @@ abbrev pub IsLoadFault : List ℕ → LoadFault → Type 0
 IsLoadFault text (load.Grammar fault) = (cause : Cause) × (public_cause fault.cause ≡ Some cause) × IsFault text fault.line cause
 IsLoadFault text load.TooManyStates = (file : FileGrammar) × IsGrammarOf text file × HasMoreStatesThan file.patterns 4096
 IsLoadFault text load.TooManySets = (file : FileGrammar) × HasAutomaton text file × HasMoreSetsThan file.grammar 8192
-IsLoadFault text (load.Conflict file conflict) = HasAutomaton text file × (HasMoreSetsThan file.grammar 8192 → ⊥) × IsReport file.grammar conflict
+IsLoadFault text (load.Conflict file conflict) = HasAutomaton text file × (HasMoreSetsThan file.grammar 8192 → ⊥)
+    × IsReport file.grammar conflict
 IsLoadFault text load.NoMemory = Unit {0}
 
 pub record LanguageData : Type 0 where

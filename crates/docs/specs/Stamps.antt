@@ -27,6 +27,8 @@ splice_between file e old new = splice file.skips e (plain_all old.tokens.items)
 pub record AreStamped (file : FileGrammar) (e : Edit) (old new : Doc) : Type 0 where
   pub tokens : AreRescanned e old.tokens.items new.tokens.items
   pub nodes : AreOlder e.number (all_trees old.store old.parse.stack)
-      → AreStampedExactly e.number (splice_between file e old new) (plain_of old.store old.parse.stack) (all_trees new.store new.parse.stack)
-  pub older : KeepStamps e.number (splice_between file e old new) (all_trees old.store old.parse.stack) (all_trees new.store new.parse.stack)
+      → AreStampedExactly e.number (splice_between file e old new) (plain_of old.store old.parse.stack)
+      (all_trees new.store new.parse.stack)
+  pub older : KeepStamps e.number (splice_between file e old new) (all_trees old.store old.parse.stack)
+      (all_trees new.store new.parse.stack)
   pub anew : ¬ AreOlder e.number (all_trees old.store old.parse.stack) → AreMadeBy e.number (forest_in new.store new.parse.stack)

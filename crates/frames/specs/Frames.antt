@@ -1,5 +1,6 @@
 -- A stream of frames (LSP 3.17, "Base Protocol").
-use Rattle.std.specs.Prelude.{◌≡◌, ◌≢◌, ℕ, ◌+◌, ◌<◌, nat_lt, if◌then◌else◌, List, [], ◌∷◌, ◌++◌, length, take, drop, Option, Some, None, Result, Ok, Err}
+use Rattle.std.specs.Prelude.{◌≡◌, ◌≢◌, ℕ, ◌+◌, ◌<◌, nat_lt, if◌then◌else◌, List, [], ◌∷◌, ◌++◌, length, take, drop, Option, Some, None}
+use Rattle.std.specs.Prelude.{Result, Ok, Err}
 use Rattle.frames.specs.declared.fault.FrameFault.{FrameFault}
 use Rattle.frames.specs.declared.fault.FrameFault.TheVariants.{Truncated, Memory, LongHeader}
 use Rattle.frames.specs.declared.header.Start.{Start}
@@ -57,7 +58,8 @@ pub record BeginsWith (bytes content : List ℕ) (size : ℕ) : Type 0 where
 -- the stream is whole frames of these contents, and then the tail
 abbrev pub Splits : List ℕ → List (List ℕ) → Tail → Type 0
 Splits bytes [] tail = IsTail bytes tail
-Splits bytes (content ∷ contents) tail = (size : ℕ) × BeginsWith bytes content size × Splits (drop (size + length content) bytes) contents tail
+Splits bytes (content ∷ contents) tail = (size : ℕ) × BeginsWith bytes content size
+    × Splits (drop (size + length content) bytes) contents tail
 
 -- the stream is whole frames and a tail
 abbrev pub HasSplit : List ℕ → Type 0
@@ -74,7 +76,8 @@ Continues (Faulty fault) piece contents new = (contents ≡ []) × (new ≡ Faul
 
 -- Of each stream with the old tail: it goes on with the piece, and these contents are whole then, behind the ones before.
 abbrev pub GoesOn : Tail → List ℕ → List (List ℕ) → Tail → Type 0
-GoesOn old piece contents new = (bytes : List ℕ) (before : List (List ℕ)) → Splits bytes before old → Splits (bytes ++ piece) (before ++ contents) new
+GoesOn old piece contents new = (bytes : List ℕ) (before : List (List ℕ)) → Splits bytes before old
+    → Splits (bytes ++ piece) (before ++ contents) new
 
 abbrev pub IsOpen : Tail → Type 0
 IsOpen (Open rest) = Unit {0}

@@ -1,5 +1,7 @@
 -- The header part of a frame (LSP 3.17, "Header Part").
-use Rattle.std.specs.Prelude.{◌≡◌, ℕ, suc, ◌+◌, ◌-◌, ◌<◌, ◌≤◌, ◌⊎◌, ◌&&◌, ◌||◌, ◌==◌, Bool, true, false, not, nat_eq, nat_le, if◌then◌else◌, List, [], ◌∷◌, ◌++◌, length, take, drop, map, position, All, Any, codes, Option, Some, None, is_some, option_map, option_and_then, Result, Ok, Err}
+use Rattle.std.specs.Prelude.{◌≡◌, ℕ, suc, ◌+◌, ◌-◌, ◌<◌, ◌≤◌, ◌⊎◌, ◌&&◌, ◌||◌, ◌==◌, Bool, true, false, not, nat_eq, nat_le}
+use Rattle.std.specs.Prelude.{if◌then◌else◌, List, [], ◌∷◌, ◌++◌, length, take, drop, map, position, All, Any, codes, Option, Some}
+use Rattle.std.specs.Prelude.{None, is_some, option_map, option_and_then, Result, Ok, Err}
 use Rattle.std.specs.List.{starts_with, list_all, list_any, flat_map, prefix_len, suffix_len}
 use Rattle.std.specs.Char.{is_ascii_digit, is_ascii_alphanumeric, to_ascii_lowercase}
 use Rattle.std.specs.Option.{ok_or, option_or, option_map_or}
@@ -60,7 +62,8 @@ is_content_type name = bytes_eq (map to_ascii_lowercase name) (codes "content-ty
 
 -- the two types of content that name UTF-8
 abbrev pub is_utf8_type : List ℕ → Bool
-is_utf8_type value = bytes_eq value (codes "application/vscode-jsonrpc; charset=utf-8") || bytes_eq value (codes "application/vscode-jsonrpc; charset=utf8")
+is_utf8_type value = bytes_eq value (codes "application/vscode-jsonrpc; charset=utf-8")
+    || bytes_eq value (codes "application/vscode-jsonrpc; charset=utf8")
 
 abbrev pub is_name : List ℕ → Bool
 is_name name = not (length name == 0) && list_all is_name_byte name
@@ -117,12 +120,14 @@ onto_first_line b (line ∷ lines) = (b ∷ line) ∷ lines
 abbrev pub lines_of : List ℕ → List (List ℕ)
 lines_of [] = []
 lines_of (b ∷ []) = []
-lines_of (b ∷ c ∷ bytes) = if starts_with nat_eq (b ∷ c ∷ bytes) line_end then [] ∷ lines_of bytes else onto_first_line b (lines_of (c ∷ bytes))
+lines_of (b ∷ c ∷ bytes) = if starts_with nat_eq (b ∷ c ∷ bytes) line_end
+    then [] ∷ lines_of bytes else onto_first_line b (lines_of (c ∷ bytes))
 
 -- the length that lines tell behind ones that told this, or their fault: the first faulty line decides
 abbrev pub lines_length : Option ℕ → List (List ℕ) → Result ℕ FrameFault
 lines_length told [] = ok_or told NoLength
-lines_length told (line ∷ lines) = option_map_or Err (line_fault (is_some told) line) (lines_length (option_or told (line_length line)) lines)
+lines_length told (line ∷ lines) = option_map_or Err (line_fault (is_some told) line)
+    (lines_length (option_or told (line_length line)) lines)
 
 -- the length that a whole header part tells, or its fault: the last CR LF ends no field line
 abbrev pub header_length : List ℕ → Result ℕ FrameFault
@@ -139,12 +144,14 @@ tells_length lines = list_any (λ line. is_some (line_length line)) lines
 
 -- no line is faulty, behind those before it
 abbrev pub AreFaultless : List (List ℕ) → Type 0
-AreFaultless lines = (before after : List (List ℕ)) (line : List ℕ) → lines ≡ before ++ line ∷ after → line_fault (tells_length before) line ≡ None
+AreFaultless lines = (before after : List (List ℕ)) (line : List ℕ) → lines ≡ before ++ line ∷ after
+    → line_fault (tells_length before) line ≡ None
 
 -- the first faulty line has this fault
 abbrev pub IsFirstFault : List (List ℕ) → FrameFault → Type 0
 IsFirstFault lines fault =
-    (before after : List (List ℕ)) × (line : List ℕ) × (lines ≡ before ++ line ∷ after) × AreFaultless before × (line_fault (tells_length before) line ≡ Some fault)
+    (before after : List (List ℕ)) × (line : List ℕ) × (lines ≡ before ++ line ∷ after) × AreFaultless before
+    × (line_fault (tells_length before) line ≡ Some fault)
 
 -- What field lines tell: the first fault; where there is none, the length of the one `Content-Length`, or that it is missing.
 abbrev pub Tell : List (List ℕ) → Result ℕ FrameFault → Type 0

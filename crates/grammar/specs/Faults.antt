@@ -25,10 +25,14 @@ pub record IsFirstUnproductive (ss : List Statement) (n : ℕ) : Type 0 where
 -- the first statement that is a production of w has this number
 abbrev pub IsFirstProduction : List Statement → Word → ℕ → Type 0
 IsFirstProduction ss w n =
-    (before after : List Statement) × ((s : Statement) × (ss ≡ before ++ (s ∷ after)) × (n ≡ s.number) × (list_any (λ r. is_production_of w r.says) before ≡ false) × (is_production_of w s.says ≡ true))
+    (before after : List Statement)
+    × ((s : Statement) × (ss ≡ before ++ (s ∷ after)) × (n ≡ s.number) × (list_any (λ r. is_production_of w r.says) before ≡ false)
+    × (is_production_of w s.says ≡ true))
 
 -- The first fault of a file: one of those that its lines and names tell; else an unproductive nonterminal of the statements in
 -- which its marked words are written out, at its first production.
 pub data IsFault (text : List ℕ) : ℕ → Cause → Type 0 where
   file_fault : (n : ℕ) (c : Cause) → IsFileFault text n c → IsFault text n c
-  unproductive : (n k : ℕ) (w : Word) → IsWhole text → HaveReferents (statements text) (statements text) → IsFirstUnproductive (written_out (statements text)) k → slice_get (nonterminals (written_out (statements text))) k ≡ Some w → IsFirstProduction (written_out (statements text)) w n → IsFault text n (Unproductive w)
+  unproductive : (n k : ℕ) (w : Word) → IsWhole text → HaveReferents (statements text) (statements text)
+      → IsFirstUnproductive (written_out (statements text)) k → slice_get (nonterminals (written_out (statements text))) k ≡ Some w
+      → IsFirstProduction (written_out (statements text)) w n → IsFault text n (Unproductive w)

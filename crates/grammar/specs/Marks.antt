@@ -20,7 +20,8 @@ is_ready marks x = are_marked marks x.right && not (slice_index_or marks x.left 
 
 -- each left side of a production over marked symbols is marked
 abbrev pub IsClosed : List Production → List Bool → Type 0
-IsClosed ps marks = (p : ℕ) (x : Production) → slice_get ps p ≡ Some x → are_marked marks x.right ≡ true → slice_index_or marks x.left false ≡ true
+IsClosed ps marks = (p : ℕ) (x : Production) → slice_get ps p ≡ Some x → are_marked marks x.right ≡ true
+    → slice_index_or marks x.left false ≡ true
 
 -- n is not marked, and has a production over marked symbols
 pub record IsNext (ps : List Production) (marks : List Bool) (n : ℕ) : Type 0 where

@@ -35,5 +35,6 @@ pub record IsGrammarOf (text : List ℕ) (f : FileGrammar) : Type 0 where
   pub whole : IsWhole text
   pub referents : HaveReferents (statements text) (statements text)
   pub patterns : ArePatterns (rules (statements text)) f.patterns
-  pub productive : (n : ℕ) → n < length (nonterminals (written_out (statements text))) → IsProductive (grammar_of (written_out (statements text))) (Nonterminal n)
+  pub productive : (n : ℕ) → n < length (nonterminals (written_out (statements text)))
+      → IsProductive (grammar_of (written_out (statements text))) (Nonterminal n)
   pub is : f ≡ file_grammar (statements text) f.patterns

@@ -14,7 +14,8 @@ is_skip f (Nonterminal n) = false
 -- the second list has those of the first, in order, that are neither skipped nor used
 pub data AreNotes (f : FileGrammar) : List Symbol → List Symbol → Type 0 where
   none : AreNotes f [] []
-  told : {s : Symbol} {ss ns : List Symbol} → is_skip f s ≡ false → (IsUsed f.grammar s → ⊥) → AreNotes f ss ns → AreNotes f (s ∷ ss) (s ∷ ns)
+  told : {s : Symbol} {ss ns : List Symbol} → is_skip f s ≡ false → (IsUsed f.grammar s → ⊥) → AreNotes f ss ns
+      → AreNotes f (s ∷ ss) (s ∷ ns)
   skipped : {s : Symbol} {ss ns : List Symbol} → is_skip f s ≡ true → AreNotes f ss ns → AreNotes f (s ∷ ss) ns
   used : {s : Symbol} {ss ns : List Symbol} → IsUsed f.grammar s → AreNotes f ss ns → AreNotes f (s ∷ ss) ns
 

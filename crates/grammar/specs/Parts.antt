@@ -18,7 +18,8 @@ AreProductive ss = (n : ℕ) → n < length (nonterminals ss) → IsProductive (
 -- the cause is the first nonterminal that isn't, and the line that of its first production
 abbrev pub IsUnproductive : List Statement → ℕ → Cause → Type 0
 IsUnproductive ss line c =
-    (n : ℕ) × ((w : Word) × (slice_get (nonterminals ss) n ≡ Some w) × (c ≡ Unproductive w) × IsFirstUnproductive ss n × IsFirstProduction ss w line)
+    (n : ℕ) × ((w : Word) × (slice_get (nonterminals ss) n ≡ Some w) × (c ≡ Unproductive w) × IsFirstUnproductive ss n
+    × IsFirstProduction ss w line)
 
 -- the parts are those of the grammar
 pub record AreParts (parts : Parts) (f : FileGrammar) : Type 0 where

@@ -1,10 +1,12 @@
 -- The causes that callers are told, in the words of the definitions.
 use Rattle.std.specs.Prelude.{◌≡◌, ℕ, List, Option, Some, None, codes, string_bytes}
 use Rattle.definitions.specs.declared.expression.PatternCause.{PatternCause}
-use Rattle.definitions.specs.declared.expression.PatternCause.TheVariants.{Syntax, EmptyClass, ReversedRange, EmptyLiteral, MatchesEmpty, Memory as NoMemory}
+use Rattle.definitions.specs.declared.expression.PatternCause.TheVariants.{Syntax, EmptyClass, ReversedRange, EmptyLiteral}
+use Rattle.definitions.specs.declared.expression.PatternCause.TheVariants.{MatchesEmpty, Memory as NoMemory}
 use Rattle.grammar_file.specs.declared.fault.Refusal.{Refusal}
 use Rattle.grammar_file.specs.declared.fault.Refusal.TheVariants.{Fault, Memory}
-use Rattle.grammar_file.specs.Faults.{Cause, FirstLine, BadLine, NoStart, SecondStart, DefinedTwice, Undefined, Reserved, NotANonterminal, Unproductive, SkipInProduction, BadPattern, Passed}
+use Rattle.grammar_file.specs.Faults.{Cause, FirstLine, BadLine, NoStart, SecondStart, DefinedTwice, Undefined, Reserved}
+use Rattle.grammar_file.specs.Faults.{NotANonterminal, Unproductive, SkipInProduction, BadPattern, Passed}
 use Rattle.grammar_file.specs.Told.{cause_of}
 use Rattle.grammar.specs.declared.fault.GrammarCause.{GrammarCause}
 use Rattle.grammar.specs.declared.fault.GrammarCause.TheVariants as p

@@ -8,7 +8,8 @@ use Rattle.grammar.specs.Marks.{are_marked}
 
 -- what stands on the right side of a production whose left side is marked is marked
 abbrev pub IsSpread : List Production → List Bool → Type 0
-IsSpread ps marks = (p : ℕ) (x : Production) → slice_get ps p ≡ Some x → slice_index_or marks x.left false ≡ true → are_marked marks x.right ≡ true
+IsSpread ps marks = (p : ℕ) (x : Production) → slice_get ps p ≡ Some x → slice_index_or marks x.left false ≡ true
+    → are_marked marks x.right ≡ true
 
 -- n is one of these symbols, and not marked
 pub record IsUnmarkedIn (marks : List Bool) (symbols : List Symbol) (n : ℕ) : Type 0 where
@@ -30,11 +31,13 @@ AreWithin ps count = (p : ℕ) (x : Production) (k n : ℕ) → slice_get ps p �
 
 -- what is marked is used in the grammar of these productions
 abbrev pub AreOnlyUsed : ℕ → List Production → List Bool → Type 0
-AreOnlyUsed start ps marks = (g : Grammar) (n : ℕ) → g.start ≡ start → g.productions ≡ ps → slice_index_or marks n false ≡ true → IsUsed g (Nonterminal n)
+AreOnlyUsed start ps marks = (g : Grammar) (n : ℕ) → g.start ≡ start → g.productions ≡ ps → slice_index_or marks n false ≡ true
+    → IsUsed g (Nonterminal n)
 
 -- and what is used is marked
 abbrev pub AreAllUsed : ℕ → List Production → List Bool → Type 0
-AreAllUsed start ps marks = (g : Grammar) (n : ℕ) → g.start ≡ start → g.productions ≡ ps → IsUsed g (Nonterminal n) → slice_index_or marks n false ≡ true
+AreAllUsed start ps marks = (g : Grammar) (n : ℕ) → g.start ≡ start → g.productions ≡ ps → IsUsed g (Nonterminal n)
+    → slice_index_or marks n false ≡ true
 
 pub record AreUsed (start : ℕ) (ps : List Production) (marks : List Bool) : Type 0 where
   pub only : AreOnlyUsed start ps marks

@@ -1,5 +1,6 @@
 -- The first fault of a grammar file that its lines and names tell.
-use Rattle.std.specs.Prelude.{◌≡◌, ℕ, ◌+◌, ◌*◌, ◌<◌, ◌≤◌, ◌⊎◌, ◌&&◌, ◌||◌, Bool, not, nat_lt, true, false, if◌then◌else◌, List, [], ◌∷◌, ◌++◌, length, map, take, slice_get, Option, Some, None}
+use Rattle.std.specs.Prelude.{◌≡◌, ℕ, ◌+◌, ◌*◌, ◌<◌, ◌≤◌, ◌⊎◌, ◌&&◌, ◌||◌, Bool, not, nat_lt, true, false, if◌then◌else◌, List, [], ◌∷◌}
+use Rattle.std.specs.Prelude.{◌++◌, length, map, take, slice_get, Option, Some, None}
 use Rattle.std.specs.List.{list_any}
 use Rattle.std.specs.Str.{bytes_eq, chars}
 use Rattle.std.specs.Str.Lines.{lines}
@@ -116,7 +117,8 @@ AreFaultless ss = (k : ℕ) (s : Statement) → slice_get ss k ≡ Some s → Is
 -- the first line that has a fault has this number, and its fault this cause
 abbrev pub IsFirstLineFault : List Statement → ℕ → Cause → Type 0
 IsFirstLineFault ss n c =
-    (before after : List Statement) × ((s : Statement) × (ss ≡ before ++ (s ∷ after)) × (n ≡ s.number) × AreFaultless before × IsLineFault before s.says c)
+    (before after : List Statement)
+    × ((s : Statement) × (ss ≡ before ++ (s ∷ after)) × (n ≡ s.number) × AreFaultless before × IsLineFault before s.says c)
 
 -- the rule of this name is a skip rule
 abbrev pub is_skip_rule : Word → RuleLine → Bool
@@ -148,7 +150,9 @@ HaveReferents ss some = (k : ℕ) (s : Statement) → slice_get some k ≡ Some 
 -- the first line that uses a name wrongly has this number, and its fault this cause
 abbrev pub IsFirstReferenceFault : List Statement → ℕ → Cause → Type 0
 IsFirstReferenceFault ss n c =
-    (before after : List Statement) × ((s : Statement) × (ss ≡ before ++ (s ∷ after)) × (n ≡ s.number) × HaveReferents ss before × (reference_fault ss s.says ≡ Some c))
+    (before after : List Statement)
+    × ((s : Statement) × (ss ≡ before ++ (s ∷ after)) × (n ≡ s.number) × HaveReferents ss before
+    × (reference_fault ss s.says ≡ Some c))
 
 -- what the lines behind the first one say has no fault of its own, and there is a start
 pub record IsWhole (text : List ℕ) : Type 0 where
@@ -162,6 +166,8 @@ pub record IsWhole (text : List ℕ) : Type 0 where
 pub data IsFileFault (text : List ℕ) : ℕ → Cause → Type 0 where
   too_large : 65536 < length text → IsFileFault text 0 (Passed File)
   first_line : length text ≤ 65536 → is_headed (lines text) ≡ false → IsFileFault text 1 FirstLine
-  line : (n : ℕ) (c : Cause) → length text ≤ 65536 → is_headed (lines text) ≡ true → IsFirstLineFault (statements text) n c → IsFileFault text n c
-  no_start : length text ≤ 65536 → is_headed (lines text) ≡ true → AreFaultless (statements text) → nat_lt 0 (length (starts (statements text))) ≡ false → IsFileFault text 0 NoStart
+  line : (n : ℕ) (c : Cause) → length text ≤ 65536 → is_headed (lines text) ≡ true → IsFirstLineFault (statements text) n c
+      → IsFileFault text n c
+  no_start : length text ≤ 65536 → is_headed (lines text) ≡ true → AreFaultless (statements text)
+      → nat_lt 0 (length (starts (statements text))) ≡ false → IsFileFault text 0 NoStart
   reference : (n : ℕ) (c : Cause) → IsWhole text → IsFirstReferenceFault (statements text) n c → IsFileFault text n c

@@ -4,7 +4,8 @@ use Rattle.grammar_file.specs.declared.fault.Cause.{Cause as Borrowed}
 use Rattle.grammar_file.specs.declared.fault.Cause.TheVariants as b
 use Rattle.grammar_file.specs.declared.fault.Refusal.{Refusal}
 use Rattle.grammar_file.specs.declared.fault.Refusal.TheVariants.{Fault, Memory}
-use Rattle.grammar_file.specs.Faults.{Cause, FirstLine, BadLine, NoStart, SecondStart, DefinedTwice, Undefined, Reserved, NotANonterminal, Unproductive, SkipInProduction, BadPattern, Passed}
+use Rattle.grammar_file.specs.Faults.{Cause, FirstLine, BadLine, NoStart, SecondStart, DefinedTwice, Undefined, Reserved}
+use Rattle.grammar_file.specs.Faults.{NotANonterminal, Unproductive, SkipInProduction, BadPattern, Passed}
 
 abbrev pub cause_of : Borrowed → Cause
 cause_of b.FirstLine = FirstLine

@@ -33,7 +33,8 @@ IsReached g kernel = (prefix : List Symbol) × HasKernel g kernel prefix × HasI
 -- the state s was reached from an earlier one
 pub record IsLed (g : Grammar) (t : Found) (s : ℕ) : Type 0 where
   pub earlier : (origin_at t.origins s).from < s
-  pub leads : (prefix : List Symbol) → HasKernel g (kernel_at t.kernels (origin_at t.origins s).from) prefix → HasKernel g (kernel_at t.kernels s) (prefix ++ (origin_at t.origins s).symbol ∷ [])
+  pub leads : (prefix : List Symbol) → HasKernel g (kernel_at t.kernels (origin_at t.origins s).from) prefix
+      → HasKernel g (kernel_at t.kernels s) (prefix ++ (origin_at t.origins s).symbol ∷ [])
 
 -- the set of the empty prefix and others, each once and each the set of some prefix
 pub record AreStates (g : Shape) (t : Found) : Type 0 where
@@ -48,7 +49,9 @@ pub record AreStates (g : Shape) (t : Found) : Type 0 where
 
 -- the states are the old ones, and this one at most
 abbrev pub Placed : Found → Found → List Item → ℕ → Symbol → Type 0
-Placed old new kernel from symbol = (new ≡ old) ⊎ ((new.kernels ≡ old.kernels ++ kernel ∷ []) × (new.origins ≡ old.origins ++ record { from = from; symbol = symbol } ∷ []) × IsAbsent old.kernels kernel)
+Placed old new kernel from symbol = (new ≡ old)
+    ⊎ ((new.kernels ≡ old.kernels ++ kernel ∷ []) × (new.origins ≡ old.origins ++ record { from = from; symbol = symbol } ∷ [])
+    × IsAbsent old.kernels kernel)
 
 -- the list goes on from the old one
 pub record GoesOn (old new : List (List Item)) : Type 0 where
@@ -60,7 +63,8 @@ abbrev pub IsStep : Grammar → List (List Item) → ℕ → Symbol → Option �
 IsStep g kernels s symbol to =
     MatchOption to
     ((prefix : List Symbol) → HasKernel g (kernel_at kernels s) prefix → HasItem g (prefix ++ symbol ∷ []) → ⊥)
-    (λ t. (t < length kernels) × ((prefix : List Symbol) → HasKernel g (kernel_at kernels s) prefix → HasKernel g (kernel_at kernels t) (prefix ++ symbol ∷ [])))
+    (λ t. (t < length kernels)
+    × ((prefix : List Symbol) → HasKernel g (kernel_at kernels s) prefix → HasKernel g (kernel_at kernels t) (prefix ++ symbol ∷ [])))
 
 -- where each symbol leads from the state s
 pub record IsRow (g : Shape) (kernels : List (List Item)) (s : ℕ) (row : List (Option ℕ)) : Type 0 where

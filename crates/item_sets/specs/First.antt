@@ -17,7 +17,8 @@ vanish_by marks (Nonterminal n ∷ ss) = slice_index_or marks n false && vanish_
 abbrev pub begin_by : ℕ → List Bool → List Bool → List Symbol → Bool
 begin_by a vanishing marks [] = false
 begin_by a vanishing marks (Terminal b ∷ ss) = a == b
-begin_by a vanishing marks (Nonterminal n ∷ ss) = slice_index_or marks n false || (slice_index_or vanishing n false && begin_by a vanishing marks ss)
+begin_by a vanishing marks (Nonterminal n ∷ ss) = slice_index_or marks n false
+    || (slice_index_or vanishing n false && begin_by a vanishing marks ss)
 
 -- with None that the symbols vanish, with Some a that they begin with the rule a
 abbrev pub holds_by : Option ℕ → List Bool → List Bool → List Symbol → Bool
@@ -34,7 +35,8 @@ AreTrue g look marks = (n : ℕ) → slice_index_or marks n false ≡ true → M
 
 -- no production gives a mark that is not there
 abbrev pub AreClosed : Grammar → Option ℕ → List Bool → List Bool → Type 0
-AreClosed g look vanishing marks = (p n : ℕ) (right : List Symbol) → HasProduction g p n right → holds_by look vanishing marks right ≡ true → slice_index_or marks n false ≡ true
+AreClosed g look vanishing marks = (p n : ℕ) (right : List Symbol) → HasProduction g p n right
+    → holds_by look vanishing marks right ≡ true → slice_index_or marks n false ≡ true
 
 -- the marked nonterminals are those of which it is true
 pub record AreExact (g : Grammar) (look : Option ℕ) (marks : List Bool) : Type 0 where

@@ -6,7 +6,9 @@ use Rattle.item_sets.specs.Productions.{Shape}
 use Rattle.item_sets.specs.Sets.{IsItem}
 
 abbrev pub Below : Item → Item → Type 0
-Below i j = (j.at < i.at) ⊎ ((i.at ≡ j.at) × ((rank i.production < rank j.production) ⊎ ((rank i.production ≡ rank j.production) × (rank i.look < rank j.look))))
+Below i j = (j.at < i.at)
+    ⊎ ((i.at ≡ j.at) × ((rank i.production < rank j.production)
+    ⊎ ((rank i.production ≡ rank j.production) × (rank i.look < rank j.look))))
 
 abbrev pub IsRising : List Item → Type 0
 IsRising items = AllPairs Below items

@@ -30,4 +30,6 @@ pub record IsItem (g : Shape) (i : Item) : Type 0 where
 -- the items of the set with this kernel
 pub data IsIn (g : Grammar) (kernel : List Item) : Item → Type 0 where
   Kernel : {i : Item} → Contains kernel i → IsIn g kernel i
-  Closed : {i : Item} (n : ℕ) (rest : List Symbol) (p : ℕ) (a : Option ℕ) → IsIn g kernel i → behind g i ≡ Nonterminal n ∷ rest → p < length g.productions → left_of g p ≡ n → MayFollow g rest i.look a → IsIn g kernel (record { production = Some p; at = 0; look = a })
+  Closed : {i : Item} (n : ℕ) (rest : List Symbol) (p : ℕ) (a : Option ℕ) → IsIn g kernel i → behind g i ≡ Nonterminal n ∷ rest
+      → p < length g.productions → left_of g p ≡ n → MayFollow g rest i.look a
+      → IsIn g kernel (record { production = Some p; at = 0; look = a })

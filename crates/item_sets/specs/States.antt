@@ -31,8 +31,11 @@ pub record Shifted (g : Grammar) (items : List Item) (s : Symbol) (kernel : List
 -- the same of the items in front of a place, in order
 pub record ShiftsUpTo (g : Grammar) (items : List Item) (at : ℕ) (s : Symbol) (kernel : List Item) : Type 0 where
   pub rising : IsRising kernel
-  pub each : (i : Item) → Contains kernel i → (k : ℕ) × (k < at) × (k < length items) × (first (behind g (slice_index_or items k i)) ≡ Some s) × (step (slice_index_or items k i) ≡ i)
-  pub all : (k : ℕ) (d : Item) → k < at → first (behind g (slice_index_or items k d)) ≡ Some s → Contains kernel (step (slice_index_or items k d))
+  pub each : (i : Item) → Contains kernel i
+      → (k : ℕ) × (k < at) × (k < length items) × (first (behind g (slice_index_or items k i)) ≡ Some s)
+      × (step (slice_index_or items k i) ≡ i)
+  pub all : (k : ℕ) (d : Item) → k < at → first (behind g (slice_index_or items k d)) ≡ Some s
+      → Contains kernel (step (slice_index_or items k d))
 
 -- the items, in order, of the set of each prefix with this kernel
 pub record IsSetOf (g : Shape) (kernel items : List Item) : Type 0 where

@@ -42,21 +42,24 @@ pub record Grows (old new : Wants) : Type 0 where
 
 -- some item of the set stands before n, with a behind it
 abbrev pub IsWanted : Grammar → List Item → ℕ → Option ℕ → Type 0
-IsWanted g kernel n a = (i : Item) × (rest : List Symbol) × IsIn g kernel i × (behind g i ≡ Nonterminal n ∷ rest) × MayFollow g rest i.look a
+IsWanted g kernel n a = (i : Item) × (rest : List Symbol) × IsIn g kernel i × (behind g i ≡ Nonterminal n ∷ rest)
+    × MayFollow g rest i.look a
 
 abbrev pub AreWanted : Grammar → List Item → List (List Bool) → Type 0
 AreWanted g kernel rows = (n k : ℕ) → marked rows n k ≡ true → IsWanted g kernel n (lookahead_at k)
 
 -- what these symbols want is marked
 abbrev pub Asks : Shape → List (List Bool) → List Symbol → Option ℕ → Type 0
-Asks g rows symbols look = (n k : ℕ) (rest : List Symbol) → symbols ≡ Nonterminal n ∷ rest → k < g.grammar.rules + 1 → MayFollow g.grammar rest look (lookahead_at k) → marked rows n k ≡ true
+Asks g rows symbols look = (n k : ℕ) (rest : List Symbol) → symbols ≡ Nonterminal n ∷ rest → k < g.grammar.rules + 1
+    → MayFollow g.grammar rest look (lookahead_at k) → marked rows n k ≡ true
 
 abbrev pub beginning_of : ℕ → ℕ → Item
 beginning_of p k = record { production = Some p; at = 0; look = lookahead_at k }
 
 -- what the productions of a wanted nonterminal want is marked
 abbrev pub Expands : Shape → List (List Bool) → ℕ → ℕ → Type 0
-Expands g rows n k = (p : ℕ) → p < length g.grammar.productions → left_of g.grammar p ≡ n → Asks g rows (right_of g.grammar p) (lookahead_at k)
+Expands g rows n k = (p : ℕ) → p < length g.grammar.productions → left_of g.grammar p ≡ n
+    → Asks g rows (right_of g.grammar p) (lookahead_at k)
 
 -- these symbols want n, with the lookahead at k behind it
 abbrev pub IsAsked : Grammar → List Symbol → Option ℕ → ℕ → ℕ → Type 0
@@ -74,5 +77,7 @@ IsBeginning rows n p i = (k : ℕ) × (marked rows n k ≡ true) × (beginning_o
 pub record HaveBeginnings (g : Shape) (kernel : List Item) (rows : List (List Bool)) (items : List Item) : Type 0 where
   pub rising : IsRising items
   pub kept : (i : Item) → Contains kernel i → Contains items i
-  pub added : (p k : ℕ) → p < length g.grammar.productions → k < g.grammar.rules + 1 → marked rows (left_of g.grammar p) k ≡ true → Contains items (beginning_of p k)
-  pub only : (i : Item) → Contains items i → Contains kernel i ⊎ ((p : ℕ) × (p < length g.grammar.productions) × IsBeginning rows (left_of g.grammar p) p i)
+  pub added : (p k : ℕ) → p < length g.grammar.productions → k < g.grammar.rules + 1 → marked rows (left_of g.grammar p) k ≡ true
+      → Contains items (beginning_of p k)
+  pub only : (i : Item) → Contains items i
+      → Contains kernel i ⊎ ((p : ℕ) × (p < length g.grammar.productions) × IsBeginning rows (left_of g.grammar p) p i)

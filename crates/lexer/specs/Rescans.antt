@@ -1,5 +1,6 @@
 -- What a rescan asks of a text, and what it makes.
-use Rattle.std.specs.Prelude.{◌≡◌, ℕ, ◌+◌, ◌-◌, ◌<◌, ◌≤◌, Bool, true, false, List, [], filter, if◌then◌else◌, length, map, take, drop, count_by, slice_get, slice_range, All, IsSomeAnd}
+use Rattle.std.specs.Prelude.{◌≡◌, ℕ, ◌+◌, ◌-◌, ◌<◌, ◌≤◌, Bool, true, false, List, [], filter, if◌then◌else◌, length, map, take, drop}
+use Rattle.std.specs.Prelude.{count_by, slice_get, slice_range, All, IsSomeAnd}
 use Rattle.definitions.specs.declared.Edit.{Edit}
 use Rattle.definitions.specs.declared.Kind.{Kind}
 use Rattle.definitions.specs.declared.expression.Expression.{Expression}
@@ -28,7 +29,8 @@ front_end e items = characters (take (front e (plain_all items)) items)
 
 -- some token that is made reaches past offset i
 abbrev pub IsReachedByMade : Edit → List PlainToken → List PlainToken → ℕ → Type 0
-IsReachedByMade e old new i = (k : ℕ) × (front e old ≤ k) × (k < rejoin e old new) × IsSomeAnd (slice_get (placed 0 new) k) (λ x. i < x.start + x.token.reach)
+IsReachedByMade e old new i = (k : ℕ) × (front e old ≤ k) × (k < rejoin e old new)
+    × IsSomeAnd (slice_get (placed 0 new) k) (λ x. i < x.start + x.token.reach)
 
 -- offset i of the new text u lies between the end of the kept front and the greatest start and reach of a token made
 pub record IsNeeded (rules : List Expression) (e : Edit) (items : List Token) (u : List ℕ) (i : ℕ) : Type 0 where
@@ -39,7 +41,8 @@ pub record IsNeeded (rules : List Expression) (e : Edit) (items : List Token) (u
 -- The kept tokens are the old ones, with their stamps. The others are made, with the number of the edit.
 pub record AreRescanned (e : Edit) (old new : List Token) : Type 0 where
   pub front_kept : take (front e (plain_all old)) new ≡ take (front e (plain_all old)) old
-  pub rest_kept : drop (rejoin e (plain_all old) (plain_all new)) new ≡ drop (length old - (length new - rejoin e (plain_all old) (plain_all new))) old
+  pub rest_kept : drop (rejoin e (plain_all old) (plain_all new)) new ≡ drop
+      (length old - (length new - rejoin e (plain_all old) (plain_all new))) old
   pub stamped : All (λ x. x.born ≡ e.number) (slice_range new (front e (plain_all old)) (rejoin e (plain_all old) (plain_all new)))
 
 -- the kinds of the significant ones
@@ -50,10 +53,13 @@ significant_kinds items = map (λ x. x.kind) (filter is_significant items)
 abbrev pub change : List Token → ℕ → ℕ → List Kind → Splice
 change items front to after =
     let from = count_by is_significant (take front items) in
-    if same_kinds (significant_kinds (slice_range items front to)) after then record { from = from; to = from; kinds = [] } else record { from = from; to = count_by is_significant (take to items); kinds = after }
+    if same_kinds (significant_kinds (slice_range items front to)) after
+    then record { from = from; to = from; kinds = [] }
+    else record { from = from; to = count_by is_significant (take to items); kinds = after }
 
 -- These tokens are made behind the kept front, up to the first place of rejoining, which is that of the old token numbered `to`.
-pub record IsRemade (rules : List Expression) (skips : List Bool) (e : Edit) (items : List Token) (u : List ℕ) (made : List Token) (to : ℕ) : Type 0 where
+pub record IsRemade (rules : List Expression) (skips : List Bool) (e : Edit) (items : List Token) (u : List ℕ) (made : List Token)
+    (to : ℕ) : Type 0 where
   pub leads : Leads rules (drop (front_end e items) u) (plain_all made)
   pub marked : All (λ x. x.skipped ≡ is_skipped skips x.kind) made
   pub stamped : All (λ x. x.born ≡ e.number) made

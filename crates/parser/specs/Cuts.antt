@@ -23,5 +23,7 @@ pub record AreChildren (cells : List Cell) (id : NodeId) (children : List Child)
 pub data Cut (cells : List Cell) : ℕ → List Child → List Child → List Child → Type 0 where
   Here : {cs : List Child} → Cut cells 0 cs [] cs
   Used_up : {n : ℕ} → Cut cells n [] [] []
-  Whole : {m n : ℕ} {c : Child} {cs front back : List Child} → kinds_in cells c + m ≡ n → Cut cells m cs front back → Cut cells n (c ∷ cs) (c ∷ front) back
-  Opened : {n : ℕ} {id : NodeId} {kids cs front back : List Child} → 0 < n → n < kinds_in cells (Node id) → AreChildren cells id kids → Cut cells n (kids ++ cs) front back → Cut cells n (Node id ∷ cs) front back
+  Whole : {m n : ℕ} {c : Child} {cs front back : List Child} → kinds_in cells c + m ≡ n → Cut cells m cs front back
+      → Cut cells n (c ∷ cs) (c ∷ front) back
+  Opened : {n : ℕ} {id : NodeId} {kids cs front back : List Child} → 0 < n → n < kinds_in cells (Node id) → AreChildren cells id kids
+      → Cut cells n (kids ++ cs) front back → Cut cells n (Node id ∷ cs) front back

@@ -19,7 +19,8 @@ abbrev pub Offers : Grammar → List Tree → List Tree → List Tree → Type 0
 Offers g stack one two = (f : Front) → Tries g stack one f → Tries g stack two f
 
 -- the tree of a node can be taken over, with this state behind it
-pub record IsReusable (t : Sets) (cells : List Cell) (stack : List Tree) (kinds : List Kind) (read : ℕ) (id : NodeId) (next : ℕ) : Type 0 where
+pub record IsReusable (t : Sets) (cells : List Cell) (stack : List Tree) (kinds : List Kind) (read : ℕ) (id : NodeId)
+    (next : ℕ) : Type 0 where
   pub left : ℕ
   pub is : IsTree t.grammar (plain (tree cells (Node id))) (Nonterminal left)
   pub goes : (symbols : List Symbol) → HaveRoots t.grammar stack symbols → IsStateOf t (symbols ++ (Nonterminal left ∷ [])) next
@@ -33,5 +34,6 @@ BeginsWithNoNode (Node id ∷ rest) = ⊥
 
 -- the offer is what stands in front
 abbrev pub IsOffer : Sets → List Cell → List Tree → List Kind → ℕ → List Child → Offer → Type 0
-IsOffer t cells stack kinds read now (OffersTree id next) = ((rest : List Child) × (now ≡ Node id ∷ rest)) × IsReusable t cells stack kinds read id next
+IsOffer t cells stack kinds read now (OffersTree id next) = ((rest : List Child) × (now ≡ Node id ∷ rest))
+    × IsReusable t cells stack kinds read id next
 IsOffer t cells stack kinds read now (OffersNext look) = (look ≡ slice_get kinds read) × BeginsWithNoNode now

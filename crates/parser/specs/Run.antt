@@ -24,7 +24,8 @@ makes g (Makes s1 f t n r more) = 1 + makes g more
 
 -- of these trees' branches, those that the run makes carry the number, and no others
 abbrev pub AreStampedBy : (g : Grammar) {s i s' i' : List Tree} → Goes_on g s i s' i' → ℕ → List Stamped → Type 0
-AreStampedBy g run number ts = (lefts : List Tree) (p born : ℕ) (us : StampedForest) → StampedIn ts lefts p born us → (born ≡ number) ↔ MakesAt g run lefts (Branch p (plain_all us))
+AreStampedBy g run number ts = (lefts : List Tree) (p born : ℕ) (us : StampedForest) → StampedIn ts lefts p born us
+    → (born ≡ number) ↔ MakesAt g run lefts (Branch p (plain_all us))
 
 -- each branch of these trees, which begin at this place, is one of the old trees, at the same place
 abbrev pub ComeFrom : List Stamped → ℕ → List Stamped → Type 0
@@ -33,12 +34,14 @@ ComeFrom old place ts = (lefts : List Tree) (p born : ℕ) (us : StampedForest) 
 
 -- each branch of nonempty yield is one of the old trees, at a place that the splice moves to its own
 abbrev pub MoveFrom : Splice → List Stamped → List Stamped → Type 0
-MoveFrom s old ts = (lefts : List Tree) (p born : ℕ) (us : StampedForest) → StampedIn ts lefts p born us → 0 < length (yields (plain_all us))
+MoveFrom s old ts = (lefts : List Tree) (p born : ℕ) (us : StampedForest) → StampedIn ts lefts p born us
+    → 0 < length (yields (plain_all us))
     → (at : List Tree) × StampedIn old at p born us × IsMoved s (place_of at) (place_of lefts)
 
 -- What is left of the input, and those branches of the stack that don't carry the number, were in the input. The store has added
 -- the others, in the order in which they were made.
-pub record CameFrom (input : List Stamped) (before number : ℕ) (cells : List Cell) (stack : List Child) (read : ℕ) (rest : List Child) : Type 0 where
+pub record CameFrom (input : List Stamped) (before number : ℕ) (cells : List Cell) (stack : List Child) (read : ℕ)
+    (rest : List Child) : Type 0 where
   pub place : place_of (plain_of cells stack) ≡ read
   pub longer : before ≤ length cells
   pub left : ComeFrom input read (all_trees cells rest)
@@ -48,7 +51,8 @@ pub record CameFrom (input : List Stamped) (before number : ℕ) (cells : List C
 
 -- the machine has come from the whole input, whose kinds these are, to this stack and to what is left of the input. The store
 -- had as many nodes before, and has one more for each branch that was made; these carry the number
-pub record SoFar (t : Sets) (whole : List Tree) (kinds : List Kind) (before number : ℕ) (cells : List Cell) (stack : List Child) (states : List ℕ) (read : ℕ) (rest : List Child) : Type 0 where
+pub record SoFar (t : Sets) (whole : List Tree) (kinds : List Kind) (before number : ℕ) (cells : List Cell) (stack : List Child)
+    (states : List ℕ) (read : ℕ) (rest : List Child) : Type 0 where
   pub has_states : HasStates t (plain_of cells stack) states
   pub below : AreBelow (length cells) stack
   pub within : read ≤ length kinds
@@ -67,7 +71,8 @@ pub record SoFar (t : Sets) (whole : List Tree) (kinds : List Kind) (before numb
   pub older : AreOlder number (all_trees cells rest)
 
 -- a run over the whole input has come to this stack
-pub record IsMadeByRun (t : Sets) (whole : List Tree) (kinds : List Kind) (before number : ℕ) (cells : List Cell) (stack : List Child) : Type 0 where
+pub record IsMadeByRun (t : Sets) (whole : List Tree) (kinds : List Kind) (before number : ℕ) (cells : List Cell)
+    (stack : List Child) : Type 0 where
   pub states : List ℕ
   pub read : ℕ
   pub rest : List Child

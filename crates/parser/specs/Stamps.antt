@@ -8,7 +8,8 @@ use Rattle.std.specs.Prelude.{◌≡◌, ◌≢◌, ℕ, ◌<◌, ◌==◌, if�
 use Rattle.definitions.specs.Trees.{Tree, Branch, yields}
 use Rattle.definitions.specs.Nodes.{place_of}
 use Rattle.definitions.specs.TokenEdits.{Splice}
-use Rattle.definitions.specs.TreeEdits.{IsMoved, LiesInKept, Stamped, StampedLeaf, StampedBranch, StampedForest, StampedNil, StampedCons, StampedIn, plain_all, plain_trees}
+use Rattle.definitions.specs.TreeEdits.{IsMoved, LiesInKept, Stamped, StampedLeaf, StampedBranch, StampedForest, StampedNil}
+use Rattle.definitions.specs.TreeEdits.{StampedCons, StampedIn, plain_all, plain_trees}
 use Rattle.trees.specs.Cells.{Cell, trees_from}
 
 abbrev pub AreOlder : ℕ → List Stamped → Type 0

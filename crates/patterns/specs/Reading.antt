@@ -7,7 +7,8 @@ use Rattle.definitions.specs.declared.expression.Expression.TheVariants.{Sequenc
 use Rattle.definitions.specs.declared.expression.PatternCause.{PatternCause}
 use Rattle.definitions.specs.declared.expression.PatternFault.{PatternFault}
 use Rattle.definitions.specs.PatternText.{Written, Plain, Escaped, BadEscape}
-use Rattle.definitions.specs.Spelling.{Level, Rep, Atom, SpellsAt, Place, IsBlank, IsSign, IsClassChar, IsLiteralChar, IsLiteralRest, IsItem, IsClassRest}
+use Rattle.definitions.specs.Spelling.{Level, Rep, Atom, SpellsAt, Place, IsBlank, IsSign, IsClassChar, IsLiteralChar, IsLiteralRest}
+use Rattle.definitions.specs.Spelling.{IsItem, IsClassRest}
 use Rattle.patterns.specs.declared.characters.Character.{Character}
 use Rattle.patterns.specs.declared.characters.Character.TheVariants.{Sign, Escape, Broken}
 use Rattle.patterns.specs.declared.refusals.Refusal.{Refusal}

@@ -14,7 +14,8 @@ front_of encoding t =
       ends_with_return = ends_with carriage_return t;
     }
 
--- a character behind the front stands in its last line, and has one unit in each encoding: it is one of ASCII, and neither it nor the front ends a line
+-- a character behind the front stands in its last line, and has one unit in each encoding: it is one of ASCII, and neither it nor the
+-- front ends a line
 abbrev pub goes_on : Front → ℕ → Bool
 goes_on front c =
     (nat_lt carriage_return c && nat_lt c 0x80) && not front.ends_with_return

@@ -11,7 +11,8 @@ use Rattle.pieces.specs.declared.sums.Units.{Units}
 use Rattle.pieces.specs.declared.sums.Counts.{Counts}
 use Rattle.pieces.specs.declared.sums.Sums.{Sums}
 use Rattle.pieces.specs.declared.sums.Sums.TheVariants.{Empty, Filled}
-use Rattle.pieces.specs.Sums.{most, sum, units_joined, count_of, later_breaks, behind_joined, counts_joined, joined, is_after_character, is_after_position}
+use Rattle.pieces.specs.Sums.{most, sum, units_joined, count_of, later_breaks, behind_joined, counts_joined, joined, is_after_character}
+use Rattle.pieces.specs.Sums.{is_after_position}
 
 sum_assoc : (a b c : ℕ) → sum (sum a b) c ≡ sum a (sum b c)
 sum_assoc a b c = saturated-assoc most a b c
@@ -20,7 +21,11 @@ sum_ge : (a b : ℕ) → a ≤ sum a b
 sum_ge a b = omega arith
 
 units_assoc : (a b c : Units) → units_joined (units_joined a b) c ≡ units_joined a (units_joined b c)
-units_assoc a b c = λ i. record { utf8 = sum_assoc a.utf8 b.utf8 c.utf8 i; utf16 = sum_assoc a.utf16 b.utf16 c.utf16 i; utf32 = sum_assoc a.utf32 b.utf32 c.utf32 i }
+units_assoc a b c = λ i. record {
+  utf8 = sum_assoc a.utf8 b.utf8 c.utf8 i;
+  utf16 = sum_assoc a.utf16 b.utf16 c.utf16 i;
+  utf32 = sum_assoc a.utf32 b.utf32 c.utf32 i;
+}
 
 -- where a number of breaks is not 0, what lies behind the last one is of the second part
 pub behind_later : (n : ℕ) (a b : Units) → 1 ≤ n → behind_joined n a b ≡ b
@@ -34,10 +39,14 @@ behind_assoc m (suc n) a b c = sym (behind_later (sum m (suc n)) a c (omega arit
 
 counts_assoc : (a b c : Counts) → counts_joined (counts_joined a b) c ≡ counts_joined a (counts_joined b c)
 counts_assoc a b c =
-    let more : later_breaks a (counts_joined b c) ≡ sum (later_breaks a b) (later_breaks b c) = sym (sum_assoc (if a.ends_with_return && not b.begins_with_feed then 1 else 0) b.breaks (later_breaks b c)) in
-    let breaks : sum (sum a.breaks (later_breaks a b)) (later_breaks b c) ≡ sum a.breaks (later_breaks a (counts_joined b c)) = sum_assoc a.breaks (later_breaks a b) (later_breaks b c) ∙ ap (sum a.breaks) (sym more) in
-    let behind : behind_joined (later_breaks b c) (behind_joined (later_breaks a b) a.behind b.behind) c.behind ≡ behind_joined (later_breaks a (counts_joined b c)) a.behind (behind_joined (later_breaks b c) b.behind c.behind) =
-    behind_assoc (later_breaks a b) (later_breaks b c) a.behind b.behind c.behind ∙ ap (λ n. behind_joined n a.behind (behind_joined (later_breaks b c) b.behind c.behind)) (sym more) in
+    let more : later_breaks a (counts_joined b c) ≡ sum (later_breaks a b) (later_breaks b c) = sym
+    (sum_assoc (if a.ends_with_return && not b.begins_with_feed then 1 else 0) b.breaks (later_breaks b c)) in
+    let breaks : sum (sum a.breaks (later_breaks a b)) (later_breaks b c) ≡ sum a.breaks
+    (later_breaks a (counts_joined b c)) = sum_assoc a.breaks (later_breaks a b) (later_breaks b c) ∙ ap (sum a.breaks) (sym more) in
+    let behind : behind_joined (later_breaks b c) (behind_joined (later_breaks a b) a.behind b.behind) c.behind ≡ behind_joined
+    (later_breaks a (counts_joined b c)) a.behind (behind_joined (later_breaks b c) b.behind c.behind) =
+    behind_assoc (later_breaks a b) (later_breaks b c) a.behind b.behind c.behind
+    ∙ ap (λ n. behind_joined n a.behind (behind_joined (later_breaks b c) b.behind c.behind)) (sym more) in
     λ i. record {
       characters = sum_assoc a.characters b.characters c.characters i;
       bytes = sum_assoc a.bytes b.bytes c.bytes i;
@@ -63,7 +72,8 @@ sums_laws = record { left_unit = λ x. refl; right_unit = right_unit; assoc = jo
 pub after_character_stays : StaysReached joined is_after_character
 after_character_stays g Empty r h = absurd (false≢true h)
 after_character_stays g (Filled a) Empty h = h
-after_character_stays g (Filled a) (Filled b) h = let p = ltb-true g.offset a.characters h in lt-ltb _ _ (let q = sum_ge a.characters b.characters in omega arith)
+after_character_stays g (Filled a) (Filled b) h = let p = ltb-true g.offset a.characters h in lt-ltb _ _
+    (let q = sum_ge a.characters b.characters in omega arith)
 
 count_of-ge : (unit : Encoding) (a b : Units) → count_of unit a ≤ count_of unit (units_joined a b)
 count_of-ge Utf8 a b = sum_ge a.utf8 b.utf8
@@ -72,7 +82,8 @@ count_of-ge Utf32 a b = sum_ge a.utf32 b.utf32
 
 -- the end of a part with more behind it has no lesser position
 later : (unit : Encoding) (line character breaks m : ℕ) (a b : Units) → breaks ≡ line → line < most → character < count_of unit a
-    → (nat_lt line (sum breaks m) || ((sum breaks m == line && nat_lt line most) && nat_lt character (count_of unit (behind_joined m a b)))) ≡ true
+    → (nat_lt line (sum breaks m)
+    || ((sum breaks m == line && nat_lt line most) && nat_lt character (count_of unit (behind_joined m a b)))) ≡ true
 later unit line character breaks zero a b same few more =
     let stays : sum breaks 0 ≡ line = saturated-zero_right most breaks ∙ same in
     let up : character < count_of unit (units_joined a b) = omega (arith, more, count_of-ge unit a b) in
@@ -86,11 +97,14 @@ after_position_stays g Empty r h = absurd (false≢true h)
 after_position_stays g (Filled a) Empty h = h
 after_position_stays g (Filled a) (Filled b) h = go (or_cases _ _ h)
   where
-    go : (nat_lt g.position.line a.breaks ≡ true) ⊎ (((a.breaks == g.position.line && nat_lt g.position.line most) && nat_lt g.position.character (count_of g.unit a.behind)) ≡ true) → is_after_position g (Filled (counts_joined a b)) ≡ true
+    go : (nat_lt g.position.line a.breaks ≡ true)
+        ⊎ (((a.breaks == g.position.line && nat_lt g.position.line most)
+        && nat_lt g.position.character (count_of g.unit a.behind)) ≡ true) → is_after_position g (Filled (counts_joined a b)) ≡ true
     go (inl p) =
         let up : g.position.line < sum a.breaks (later_breaks a b) = omega (arith, ltb-true _ _ p, sum_ge a.breaks (later_breaks a b)) in
         or_left _ _ (lt-ltb _ _ up)
     go (inr p) =
         let parts = and_parts _ _ p in
         let line = and_parts _ _ parts.0 in
-        later g.unit g.position.line g.position.character a.breaks (later_breaks a b) a.behind b.behind (eqb-true _ _ line.0) (ltb-true _ _ line.1) (ltb-true _ _ parts.1)
+        later g.unit g.position.line g.position.character a.breaks (later_breaks a b) a.behind b.behind (eqb-true _ _ line.0)
+        (ltb-true _ _ line.1) (ltb-true _ _ parts.1)

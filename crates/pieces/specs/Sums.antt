@@ -1,7 +1,8 @@
 -- What a part of a text adds up to, by the definitions of lines and positions, and what the sums of two parts join to.
 --     sums_of t      the sum of the text t
 --     joined a b      the sum of what has the sum a and, behind it, of what has the sum b
-use Rattle.std.specs.Prelude.{ℕ, zero, suc, ◌+◌, ◌-◌, ◌≤◌, ◌^◌, Bool, false, not, ◌||◌, ◌&&◌, ◌==◌, nat_lt, if◌then◌else◌, List, [], ◌∷◌, ◌++◌, length}
+use Rattle.std.specs.Prelude.{ℕ, zero, suc, ◌+◌, ◌-◌, ◌≤◌, ◌^◌, Bool, false, not, ◌||◌, ◌&&◌, ◌==◌, nat_lt, if◌then◌else◌, List, []}
+use Rattle.std.specs.Prelude.{◌∷◌, ◌++◌, length}
 use Rattle.seqtree.specs.Saturated.{saturated}
 use Rattle.definitions.specs.declared.Position.{Position}
 use Rattle.definitions.specs.declared.Unit.{Unit as Encoding}
@@ -31,7 +32,11 @@ counts_of t =
       bytes = units Utf8 t;
       breaks = (end_before_feed Utf8 t).line;
       behind =
-          record { utf8 = (end_before_feed Utf8 t).character; utf16 = (end_before_feed Utf16 t).character; utf32 = (end_before_feed Utf32 t).character };
+          record {
+            utf8 = (end_before_feed Utf8 t).character;
+            utf16 = (end_before_feed Utf16 t).character;
+            utf32 = (end_before_feed Utf32 t).character;
+          };
       begins_with_feed = begins_with line_feed t;
       ends_with_return = ends_with carriage_return t;
     }
@@ -111,7 +116,14 @@ abbrev pub line_sums : Units → Sums
 line_sums a =
     if is_none a
     then Empty
-    else Filled (record { characters = a.utf32; bytes = a.utf8; breaks = 0; behind = a; begins_with_feed = false; ends_with_return = false })
+    else Filled (record {
+      characters = a.utf32;
+      bytes = a.utf8;
+      breaks = 0;
+      behind = a;
+      begins_with_feed = false;
+      ends_with_return = false;
+    })
 
 abbrev pub is_after_character : AfterCharacter → Sums → Bool
 is_after_character g Empty = false

@@ -3,10 +3,12 @@
 --     value_of content      the JSON value that it is, where it is one
 --     message_of d      what a JSON value is heard as: the tests, in their order
 --     request_of method id params, notice_of method params      what a request and a notification of a method are heard as
---     id_at, uri_at, version_at, document_text, position_of, positions_at, range_of, change_of, changes_at      parts of a value, where they fit
+--     id_at, uri_at, version_at, document_text, position_of, positions_at, range_of, change_of, changes_at      parts of a value, where
+--         they fit
 --     unit_at d      the unit that positions are to count, of those that a client names
 --     Gives result heard      what a function returned is that, where memory was not refused
-use Rattle.std.specs.Prelude.{◌≡◌, ℕ, ℤ, ◌&&◌, ◌||◌, Bool, true, false, not, if◌then◌else◌, List, [], ◌∷◌, codes, Option, Some, None, Result, IfSome, option_map, option_and_then, unwrap_or, is_some, is_none}
+use Rattle.std.specs.Prelude.{◌≡◌, ℕ, ℤ, ◌&&◌, ◌||◌, Bool, true, false, not, if◌then◌else◌, List, [], ◌∷◌, codes, Option, Some, None}
+use Rattle.std.specs.Prelude.{Result, IfSome, option_map, option_and_then, unwrap_or, is_some, is_none}
 use Rattle.std.specs.Option.{option_or}
 use Rattle.std.specs.Str.{is_utf8, bytes_eq}
 use Rattle.serde_json.specs.Data.{Data, null, string, Items, no_items, item}
@@ -19,7 +21,10 @@ use Rattle.definitions.specs.declared.Unit.TheVariants.{Utf8, Utf16, Utf32}
 use Rattle.rpc.specs.declared.message.Message.{Message}
 use Rattle.rpc.specs.declared.message.RpcFault.{RpcFault}
 use Rattle.rpc.specs.Fields.{integer_of, text_at, integer_at, natural_at, has_key}
-use Rattle.rpc.specs.Messages.{Ident, named, numbered, Question, its_text, its_tokens, its_tree, its_folds, its_selections, initialize, shutdown, about, stats, ChangeSaid, unfit_open, unfit_change, unfit_close, Told, initialized, exit, open_text, change_text, close, malformed, request, notice, ignored, invalid, unknown, params, Heard, unread, refused, said, heard_of}
+use Rattle.rpc.specs.Messages.{Ident, named, numbered, Question, its_text, its_tokens, its_tree, its_folds, its_selections, initialize}
+use Rattle.rpc.specs.Messages.{shutdown, about, stats, ChangeSaid, unfit_open, unfit_change, unfit_close, Told, initialized, exit}
+use Rattle.rpc.specs.Messages.{open_text, change_text, close, malformed, request, notice, ignored, invalid, unknown, params, Heard}
+use Rattle.rpc.specs.Messages.{unread, refused, said, heard_of}
 
 -- ---- parts of a value
 

@@ -12,7 +12,8 @@ use Rattle.rpc.specs.declared.reply.Loss.TheVariants.{TooLarge, MalformedChange,
 use Rattle.rpc.specs.declared.reply.Log.{Log as Event}
 use Rattle.rpc.specs.declared.reply.Log.TheVariants as event
 use Rattle.rpc.specs.declared.reply.Refusal.{Refusal}
-use Rattle.rpc.specs.declared.reply.Refusal.TheVariants.{ParseError, InvalidRequest, MethodNotFound, InvalidParams, DocumentNotOpen, DocumentLost, NotInitialized}
+use Rattle.rpc.specs.declared.reply.Refusal.TheVariants.{ParseError, InvalidRequest, MethodNotFound, InvalidParams, DocumentNotOpen}
+use Rattle.rpc.specs.declared.reply.Refusal.TheVariants.{DocumentLost, NotInitialized}
 use Rattle.definitions.specs.declared.Diagnostic.{Diagnostic}
 use Rattle.definitions.specs.declared.Position.{Position}
 use Rattle.definitions.specs.declared.Range.{Range}
@@ -21,10 +22,12 @@ use Rattle.definitions.specs.declared.Unit.{Unit as Encoding}
 use Rattle.definitions.specs.declared.Unit.TheVariants.{Utf8, Utf16, Utf32}
 use Rattle.rpc.specs.declared.reply.Row.{Row}
 use Rattle.rpc.specs.declared.reply.Reply.{Reply}
-use Rattle.rpc.specs.declared.reply.Reply.TheVariants.{Capabilities, Null, Text, Tokens, Tree, Stats as StatsReply, Folds, Selections, Error, Diagnostics, Log}
+use Rattle.rpc.specs.declared.reply.Reply.TheVariants.{Capabilities, Null, Text, Tokens, Tree, Stats as StatsReply, Folds, Selections}
+use Rattle.rpc.specs.declared.reply.Reply.TheVariants.{Error, Diagnostics, Log}
 use Rattle.rpc.specs.Messages.{Ident, named, numbered, id_view}
 
--- Replies begin with the id of their request. That to `initialize` tells the unit of positions. Folds are pairs of lines; each selection is its ranges from inner to outer. Diagnostics
+-- Replies begin with the id of their request. That to `initialize` tells the unit of positions. Folds are pairs of lines; each selection
+-- is its ranges from inner to outer. Diagnostics
 -- are those of a URI, of the version that is told, if one is: a range and a message, or none.
 pub data Answer : Type 0 where
   told_capabilities : Ident → Encoding → Answer

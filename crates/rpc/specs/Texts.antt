@@ -4,7 +4,9 @@
 --     IsSpelled bytes      the characters of the bytes are Unicode scalar values, and the bytes are their UTF-8
 use Rattle.std.specs.Prelude.{◌≡◌, ℕ, true, List, [], ◌∷◌, ◌++◌, map, Some, None, encode_utf8_all}
 use Rattle.std.specs.Str.{all_scalars, chars}
-use Rattle.rpc.specs.Messages.{Ident, named, numbered, Asked, initialize, shutdown, about, stats, Told, initialized, exit, open_text, change_text, close, malformed, unfit_open, unfit_change, unfit_close, request, notice, ignored, invalid, unknown, params, Heard, unread, refused, said}
+use Rattle.rpc.specs.Messages.{Ident, named, numbered, Asked, initialize, shutdown, about, stats, Told, initialized, exit, open_text}
+use Rattle.rpc.specs.Messages.{change_text, close, malformed, unfit_open, unfit_change, unfit_close, request, notice, ignored, invalid}
+use Rattle.rpc.specs.Messages.{unknown, params, Heard, unread, refused, said}
 
 pub record IsSpelled (bytes : List ℕ) : Type 0 where
   pub scalars : all_scalars (chars bytes) ≡ true

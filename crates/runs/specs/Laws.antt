@@ -17,5 +17,6 @@ counted_laws zero op laws = record {
 saturated_ge : (a b : ℕ) → a ≤ saturated most a b
 saturated_ge a b = omega arith
 
-pub after_item_stays : {S : Type 0} (op : S → S → S) (offset : ℕ) (s r : Counted S) → nat_lt offset s.items ≡ true → nat_lt offset (joined op s r).items ≡ true
+pub after_item_stays : {S : Type 0} (op : S → S → S) (offset : ℕ) (s r : Counted S) → nat_lt offset s.items ≡ true
+    → nat_lt offset (joined op s r).items ≡ true
 after_item_stays op offset s r h = lt-ltb _ _ (let p = ltb-true offset s.items h in let q = saturated_ge s.items r.items in omega arith)

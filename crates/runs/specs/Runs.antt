@@ -30,7 +30,8 @@ pub record IsStored {A : Type 0} (runs : List (List A)) : Type 0 where
   pub short : All IsShort runs
   pub small : count_by is_small runs ≤ 1
 
--- Before the cut lie whole runs, `run` in number, and the front of the next one, and behind it the back of that one and all further ones. That run is the one with the item at the offset.
+-- Before the cut lie whole runs, `run` in number, and the front of the next one, and behind it the back of that one and all further
+-- ones. That run is the one with the item at the offset.
 pub record IsCut {A : Type 0} (runs : List (List A)) (offset run : ℕ) (front back : List A) : Type 0 where
   pub within : run ≤ length runs
   pub before : take offset (flattened runs) ≡ flattened (take run runs) ++ front

@@ -23,7 +23,8 @@ abbrev pub IsLow : ℕ → ℕ → Type 0
 IsLow h n = (k : ℕ) → n < 2 ^ k → h ≤ 2 * k
 
 -- what holds of a node with the sides l and r and the item x, which stores its number of items, its height and its sum
-pub record IsNode {A M : Type 0} (zero : M) (join : M → M → M) (measure : A → M) (l r : Option (Box (List A × ℕ) Global)) (x : A) (len tall : ℕ) (all : M) : Type 0 where
+pub record IsNode {A M : Type 0} (zero : M) (join : M → M → M) (measure : A → M) (l r : Option (Box (List A × ℕ) Global)) (x : A)
+    (len tall : ℕ) (all : M) : Type 0 where
   pub len_is : len ≡ length (items_of l) + 1 + length (items_of r)
   pub tall_is : tall ≡ max (height_of l) (height_of r) + 1
   pub balanced : DifferByAtMost 1 (height_of l) (height_of r)

@@ -15,7 +15,8 @@ use Rattle.docs.specs.Texts.{OpenDocument}
 use Rattle.docs.specs.Grammars.{FileGrammar}
 use Rattle.rpc.specs.declared.reply.Refusal.TheVariants.{DocumentNotOpen, DocumentLost}
 use Rattle.rpc.specs.Messages.{Ident, Question, its_text, its_tokens, its_tree, its_folds, its_selections}
-use Rattle.rpc.specs.Replies.{Answer, told_null, told_text, told_tokens, told_tree, told_stats, told_folds, told_selections, told_error, told_diagnostics}
+use Rattle.rpc.specs.Replies.{Answer, told_null, told_text, told_tokens, told_tree, told_stats, told_folds, told_selections, told_error}
+use Rattle.rpc.specs.Replies.{told_diagnostics}
 use Rattle.docs.specs.Told.{AreFoldsOf, IsDiagnosis}
 use Rattle.server.specs.declared.answers.Question.{Question as Put}
 use Rattle.server.specs.declared.answers.Question.TheVariants as put

@@ -3,7 +3,8 @@
 --         positions, and then opened this text, and the diagnostics that it published
 --     RepliesOnly state heard answer      on what was heard there is one reply, this one, and nothing changes
 --     EveryAnswerIsFresh file      whatever was read before: a fresh server exists with the unit of the session and the version
---         and the text of an open document, and to each question about the document it and the server have one answer, the same; and the diagnostics that it published
+--         and the text of an open document, and to each question about the document it and the server have one answer, the same; and the
+-- diagnostics that it published
 --         are those that the server published last
 --     EachTextIsItsEdits      a document's text after a change is its text before, edited, unless it is lost for want of memory; no other
 --         document changes
@@ -21,7 +22,8 @@ use Rattle.server.specs.declared.state.Phase.TheVariants.{Ready}
 use Rattle.server.specs.Steps.{State, first_state, Replies, Step}
 use Rattle.server.specs.Runs.{Run}
 
-pub record IsFresh (file : FileGrammar) (unit : Encoding) (uri : List ℕ) (version : ℤ) (text : List ℕ) (published : Answer) (state : State) : Type 0 where
+pub record IsFresh (file : FileGrammar) (unit : Encoding) (uri : List ℕ) (version : ℤ) (text : List ℕ) (published : Answer)
+    (state : State) : Type 0 where
   pub id : Ident
   pub bytes : List ℕ
   pub mid : State

@@ -54,7 +54,8 @@ Ends (Err Write) left tail stop = Unit {0}
 Ends (Err Memory) left tail stop = Unit {0}
 
 -- The bytes that were read are whole frames and a tail. What was written are the frames of the answers of a run over their contents.
-pub record Session (file : FileGrammar) (input_old input_new output_old output_new : Option (List ℕ)) (outcome : Result ℕ RunFault) : Type 0 where
+pub record Session (file : FileGrammar) (input_old input_new output_old output_new : Option (List ℕ))
+    (outcome : Result ℕ RunFault) : Type 0 where
   pub bytes : List ℕ
   pub contents : List (List ℕ)
   pub tail : Tail
@@ -92,7 +93,8 @@ pub record CanServe (state : State) : Type 0 where
 
 -- all answers to these contents are written, and the output hasn't failed; or a front of them, because a write failed or memory was
 -- refused
-pub record HasServed (old new : Option (List ℕ)) (failures : ℕ) (before : State) (contents : List (List ℕ)) (result : Result (Option ℕ) RunFault) (after : State) : Type 0 where
+pub record HasServed (old new : Option (List ℕ)) (failures : ℕ) (before : State) (contents : List (List ℕ))
+    (result : Result (Option ℕ) RunFault) (after : State) : Type 0 where
   pub written : IfOk result (λ stop. Served old new before contents stop after)
   pub part : OnErr result (ServedInPart old new before contents)
   pub device : MatchResult result (λ _. failures ≡ 0) (λ e. IsCutShort e failures)

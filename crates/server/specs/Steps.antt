@@ -13,9 +13,12 @@ use Rattle.docs.specs.Grammars.{FileGrammar}
 use Rattle.rpc.specs.declared.reply.Refusal.{Refusal}
 use Rattle.rpc.specs.declared.reply.Refusal.TheVariants.{ParseError, InvalidRequest, MethodNotFound, InvalidParams, NotInitialized}
 use Rattle.rpc.specs.declared.reply.Log.{Log}
-use Rattle.rpc.specs.declared.reply.Log.TheVariants.{OpenMalformed, ChangeMalformed, CloseMalformed, ChangeNotOpen, CloseNotOpen, TooManyDocuments, Lost}
+use Rattle.rpc.specs.declared.reply.Log.TheVariants.{OpenMalformed, ChangeMalformed, CloseMalformed, ChangeNotOpen, CloseNotOpen}
+use Rattle.rpc.specs.declared.reply.Log.TheVariants.{TooManyDocuments, Lost}
 use Rattle.rpc.specs.declared.reply.Loss.TheVariants.{TooLarge, MalformedChange}
-use Rattle.rpc.specs.Messages.{Ident, Asked, initialize, shutdown, about, stats, Told, exit, open_text, change_text, close, malformed, Unfit, unfit_open, unfit_change, unfit_close, request, notice, ignored, invalid, unknown, params, ChangeSaid, Heard, unread, refused, said}
+use Rattle.rpc.specs.Messages.{Ident, Asked, initialize, shutdown, about, stats, Told, exit, open_text, change_text, close, malformed}
+use Rattle.rpc.specs.Messages.{Unfit, unfit_open, unfit_change, unfit_close, request, notice, ignored, invalid, unknown, params}
+use Rattle.rpc.specs.Messages.{ChangeSaid, Heard, unread, refused, said}
 use Rattle.rpc.specs.Replies.{Answer, told_capabilities, told_null, told_error, told_diagnostics, told_log}
 use Rattle.server.specs.Documents.{DocumentState, is_open, is_lost, Held, Becomes, has_room}
 use Rattle.server.specs.Answers.{IsAnswer, IsCount, IsPublished}

@@ -25,7 +25,8 @@ plain Accept = LrAccept
 
 -- a shift leads to the state of the longer prefix
 abbrev pub LeadsOn : Grammar → List (List Item) → List Symbol → Option ℕ → Move → Type 0
-LeadsOn g kernels prefix look (Shift to) = (a : ℕ) × (look ≡ Some a) × (to < length kernels) × HasKernel g (kernel_at kernels to) (prefix ++ Terminal a ∷ [])
+LeadsOn g kernels prefix look (Shift to) = (a : ℕ) × (look ≡ Some a) × (to < length kernels)
+    × HasKernel g (kernel_at kernels to) (prefix ++ Terminal a ∷ [])
 LeadsOn g kernels prefix look (Reduce p) = Unit {0}
 LeadsOn g kernels prefix look Accept = Unit {0}
 
@@ -41,14 +42,16 @@ IsMoveAt g kernels prefix look (Some m) = IsOnlyMove g prefix look (plain m) × 
 -- the moves of the state s
 pub record AreMoves (g : Grammar) (kernels : List (List Item)) (s : ℕ) (moves : List (Option Move)) : Type 0 where
   pub filled : length moves ≡ g.rules + 1
-  pub each : (k : ℕ) → k < length moves → (prefix : List Symbol) → HasKernel g (kernel_at kernels s) prefix → IsMoveAt g kernels prefix (lookahead_at k) (slice_index_or moves k None)
+  pub each : (k : ℕ) → k < length moves → (prefix : List Symbol) → HasKernel g (kernel_at kernels s) prefix
+      → IsMoveAt g kernels prefix (lookahead_at k) (slice_index_or moves k None)
 
 -- two items of a state that conflict
 pub record IsClashAt (g : Shape) (kernels : List (List Item)) (f : ClashAt) : Type 0 where
   pub below : f.state < length kernels
   pub one : IsItem g f.clash.one
   pub two : IsItem g f.clash.two
-  pub conflict : (prefix : List Symbol) → HasKernel g.grammar (kernel_at kernels f.state) prefix → IsConflict g.grammar prefix (kind_of f.clash.look) (item_of g.grammar f.clash.one) (item_of g.grammar f.clash.two)
+  pub conflict : (prefix : List Symbol) → HasKernel g.grammar (kernel_at kernels f.state) prefix
+      → IsConflict g.grammar prefix (kind_of f.clash.look) (item_of g.grammar f.clash.one) (item_of g.grammar f.clash.two)
 
 -- the gotos and moves made so far, and the first conflict
 pub record Made : Type 0 where
@@ -59,7 +62,9 @@ pub record Made : Type 0 where
 -- the moves of a state more, or a conflict
 abbrev pub AddsMoves : Made → Made → Decided → Type 0
 AddsMoves old new (Moves moves) = (new.moves ≡ old.moves ++ moves ∷ []) × (new.clash ≡ old.clash)
-AddsMoves old new (AClash clash) = (new.moves ≡ old.moves) × (((f : ClashAt) × (old.clash ≡ Some f) × (new.clash ≡ Some f)) ⊎ ((old.clash ≡ None) × (new.clash ≡ Some (record { state = length old.gotos; clash = clash }))))
+AddsMoves old new (AClash clash) = (new.moves ≡ old.moves)
+    × (((f : ClashAt) × (old.clash ≡ Some f) × (new.clash ≡ Some f))
+    ⊎ ((old.clash ≡ None) × (new.clash ≡ Some (record { state = length old.gotos; clash = clash }))))
 
 -- each state has its moves
 pub record AreAllMoves (g : Grammar) (kernels : List (List Item)) (t : Made) : Type 0 where

@@ -18,4 +18,5 @@ pub record IsOutline (g : Shape) (o : Kept) : Type 0 where
   pub rules : o.rules ≡ g.grammar.rules
   pub nonterminals : o.nonterminals ≡ g.nonterminals
   pub filled : length o.sides ≡ length g.grammar.productions
-  pub each : (p : ℕ) → p < length o.sides → slice_index_or o.sides p no_side ≡ record { left = left_of g.grammar p; length = length (right_of g.grammar p) }
+  pub each : (p : ℕ) → p < length o.sides
+      → slice_index_or o.sides p no_side ≡ record { left = left_of g.grammar p; length = length (right_of g.grammar p) }

@@ -20,7 +20,8 @@ pub record IsInOrder (one two : LrItem) : Type 0 where
 
 -- the two items call for different moves
 abbrev pub Differ : Grammar → Clash → Type 0
-Differ g c = (m : Move) × (n : Move) × CallsFor (item_of g c.one) (kind_of c.look) m × CallsFor (item_of g c.two) (kind_of c.look) n × (m ≢ n)
+Differ g c = (m : Move) × (n : Move) × CallsFor (item_of g c.one) (kind_of c.look) m × CallsFor (item_of g c.two) (kind_of c.look) n
+    × (m ≢ n)
 
 -- what is told is a conflict, with its items in order, and each item's place is within its right side
 pub record IsReport (g : Grammar) (c : Conflict) : Type 0 where

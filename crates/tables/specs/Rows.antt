@@ -22,7 +22,8 @@ chosen row look ToAccept = Some Accept
 
 -- the move that the items call for, or none
 abbrev pub IsChosen : Grammar → List Item → List (Option ℕ) → Option ℕ → Option Move → Type 0
-IsChosen g items row look m = (IsDecision g items look Nothing × (m ≡ None)) ⊎ ((c : Call) × IsDecision g items look (Agreed c) × (m ≡ chosen row look c))
+IsChosen g items row look m = (IsDecision g items look Nothing × (m ≡ None))
+    ⊎ ((c : Call) × IsDecision g items look (Agreed c) × (m ≡ chosen row look c))
 
 -- the moves that the items call for, in each column
 pub record AreChosen (g : Grammar) (items : List Item) (row : List (Option ℕ)) (moves : List (Option Move)) : Type 0 where

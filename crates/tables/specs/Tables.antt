@@ -35,7 +35,8 @@ pub record IsAccepted (g : Grammar) : Type 0 where
   pub productive : AllProductive g
 
 -- the gotos and moves of all states, of which the first is that of the empty prefix
-pub record AreTables (g : Shape) (kernels : List (List Item)) (rows : List (List (Option ℕ))) (actions : List (List (Option Move))) : Type 0 where
+pub record AreTables (g : Shape) (kernels : List (List Item)) (rows : List (List (Option ℕ)))
+    (actions : List (List (Option Move))) : Type 0 where
   pub sound : IsSound g
   pub begins : 0 < length kernels
   pub start : HasKernel g.grammar (kernel_at kernels 0) []

@@ -16,7 +16,8 @@ pub record IsGap (pieces : List (List ℕ)) (t : List ℕ) (gap : Gap) : Type 0 
 -- its text is small only where no other piece is
 abbrev pub HasRoom : List (List ℕ) → Gap → Type 0
 HasRoom pieces gap =
-    length (string_bytes gap.text) < SHORTEST_OF_SEVERAL → count_by is_small (take gap.from pieces) + count_by is_small (drop gap.to pieces) ≡ 0
+    length (string_bytes gap.text) < SHORTEST_OF_SEVERAL
+    → count_by is_small (take gap.from pieces) + count_by is_small (drop gap.to pieces) ≡ 0
 
 -- with its pieces in their place, the pieces are the text t, and at most one of them is small
 pub record IsSplice (pieces : List (List ℕ)) (t : List ℕ) (splice : Splice) : Type 0 where

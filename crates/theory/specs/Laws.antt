@@ -11,17 +11,20 @@ use Rattle.theory.specs.Reuse.{Goes_on, MakesAt, IsPrepared}
 
 -- a root that some derivation from the start uses, and a yield, have at most one tree
 abbrev pub HasOneTreeEach : Grammar → Type 0
-HasOneTreeEach g = (n : ℕ) → IsUsed g (Nonterminal n) → (t u : Tree) → IsTree g t (Nonterminal n) → IsTree g u (Nonterminal n) → yield t ≡ yield u → t ≡ u
+HasOneTreeEach g = (n : ℕ) → IsUsed g (Nonterminal n) → (t u : Tree) → IsTree g t (Nonterminal n) → IsTree g u (Nonterminal n)
+    → yield t ≡ yield u → t ≡ u
 
 -- of the branches of these trees, exactly those that the run has made carry the number n
 abbrev pub AreStampedByRun : (g : Grammar) → ℕ → List Stamped → {s i s' i' : List Tree} → Goes_on g s i s' i' → Type 0
-AreStampedByRun g n new run = (below : List Tree) (p born : ℕ) (us : StampedForest) → StampedIn new below p born us → (born ≡ n) ↔ MakesAt g run below (Branch p (plain_all us))
+AreStampedByRun g n new run = (below : List Tree) (p born : ℕ) (us : StampedForest) → StampedIn new below p born us
+    → (born ≡ n) ↔ MakesAt g run below (Branch p (plain_all us))
 
 -- what a parse answers for the kinds: their one tree; or what the kinds before a fault settle, and the last of these kinds
 abbrev pub AreAnswer : Grammar → List Kind → List Tree → Type 0
 AreAnswer g kinds new =
     ((t : Tree) × IsTreeOf g kinds t × (new ≡ t ∷ []))
-    ⊎ ((x : List Kind) × (rest : List Kind) × (settled : List Tree) × (h : IsSettledIn g x settled) × (kinds ≡ x ++ rest) × (new ≡ settled ++ (Leaf h.last ∷ [])))
+    ⊎ ((x : List Kind) × (rest : List Kind) × (settled : List Tree) × (h : IsSettledIn g x settled) × (kinds ≡ x ++ rest)
+    × (new ≡ settled ++ (Leaf h.last ∷ [])))
 
 -- After an edit that replaces kinds of the old trees by a splice, the incremental machine reads the prepared input, and stamps
 -- what it makes. If it comes to the answer for these kinds, the stamps are exact.

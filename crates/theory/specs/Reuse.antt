@@ -47,15 +47,20 @@ pub data Tries (g : Grammar) (stack : List Tree) : List Tree → Front → Type 
   Nothing_left : Tries g stack [] AtEnd
   Dropped : {t : Tree} {ts : List Tree} {f : Front} → yield t ≡ [] → Tries g stack ts f → Tries g stack (t ∷ ts) f
   Passed : {t : Tree} {ts : List Tree} → CanReuse g stack t (all_kinds ts) → Tries g stack (t ∷ ts) (Take t ts)
-  Opened : {p : ℕ} {us : Forest} {ts : List Tree} {f : Front} → (CanReuse g stack (Branch p us) (all_kinds ts) → ⊥) → Tries g stack (trees us ++ ts) f → Tries g stack (Branch p us ∷ ts) f
+  Opened : {p : ℕ} {us : Forest} {ts : List Tree} {f : Front} → (CanReuse g stack (Branch p us) (all_kinds ts) → ⊥)
+      → Tries g stack (trees us ++ ts) f → Tries g stack (Branch p us ∷ ts) f
   At_token : {k : Kind} {ts : List Tree} → Tries g stack (Leaf k ∷ ts) (AtToken k ts)
 
 -- its moves: the front subtree is tried before any reduction, and again after each
 pub data Goes_on (g : Grammar) : List Tree → List Tree → List Tree → List Tree → Type 0 where
   Ends : {stack input : List Tree} → Goes_on g stack input stack input
-  Reuses : {stack input stack' input' : List Tree} (t : Tree) (ts : List Tree) → Tries g stack input (Take t ts) → CanReuse g stack t (all_kinds ts) → Goes_on g (stack ++ (t ∷ [])) ts stack' input' → Goes_on g stack input stack' input'
-  Takes_token : {stack input stack' input' : List Tree} (k : Kind) (ts : List Tree) → Tries g stack input (AtToken k ts) → Shifts g stack k → Goes_on g (stack ++ (Leaf k ∷ [])) ts stack' input' → Goes_on g stack input stack' input'
-  Makes : {stack input stack' input' : List Tree} (stack1 : List Tree) (f : Front) → Tries g stack input f → IsNoTree f → Reduces g stack (look_at (all_kinds input) None) stack1 → Goes_on g stack1 input stack' input' → Goes_on g stack input stack' input'
+  Reuses : {stack input stack' input' : List Tree} (t : Tree) (ts : List Tree) → Tries g stack input (Take t ts)
+      → CanReuse g stack t (all_kinds ts) → Goes_on g (stack ++ (t ∷ [])) ts stack' input' → Goes_on g stack input stack' input'
+  Takes_token : {stack input stack' input' : List Tree} (k : Kind) (ts : List Tree) → Tries g stack input (AtToken k ts)
+      → Shifts g stack k → Goes_on g (stack ++ (Leaf k ∷ [])) ts stack' input' → Goes_on g stack input stack' input'
+  Makes : {stack input stack' input' : List Tree} (stack1 : List Tree) (f : Front) → Tries g stack input f → IsNoTree f
+      → Reduces g stack (look_at (all_kinds input) None) stack1 → Goes_on g stack1 input stack' input'
+      → Goes_on g stack input stack' input'
 
 -- the run makes this branch, at this stack
 abbrev pub MakesAt : (g : Grammar) {s i s' i' : List Tree} → Goes_on g s i s' i' → List Tree → Tree → Type 0
@@ -67,5 +72,7 @@ MakesAt g (Makes s1 f t n r more) below w = ((r.below ≡ below) × (Branch r.nu
 -- the input holds the old nodes that the splice has not touched, at the places that they move to, and no other branches of
 -- nonempty yield
 pub record IsPrepared (s : Splice) (old input : List Tree) : Type 0 where
-  pub from_old : (lefts : List Tree) (p : ℕ) (us : Forest) → StandsIn input lefts (Branch p us) → 0 < length (yields us) → IsKept s old (place_of lefts) p us
-  pub all_old : (place p : ℕ) (us : Forest) → IsKept s old place p us → (lefts : List Tree) × StandsIn input lefts (Branch p us) × (place_of lefts ≡ place)
+  pub from_old : (lefts : List Tree) (p : ℕ) (us : Forest) → StandsIn input lefts (Branch p us) → 0 < length (yields us)
+      → IsKept s old (place_of lefts) p us
+  pub all_old : (place p : ℕ) (us : Forest) → IsKept s old place p us
+      → (lefts : List Tree) × StandsIn input lefts (Branch p us) × (place_of lefts ≡ place)

@@ -39,7 +39,8 @@ pub record IsMarking (children : List Child) (old new : List Bool) : Type 0 wher
   pub kept : (c : Child) → IsMarked old c → IsMarked new c
   pub marked : AreMarked new children
   pub behind : (n i : ℕ) → AreBelow n children → n ≤ i → slice_index_or new i false ≡ slice_index_or old i false
-  pub weighs : (cells : List Cell) (n : ℕ) → AreBelow n children → weigh (weight cells n) new ≤ weigh (weight cells n) old + sizes cells children
+  pub weighs : (cells : List Cell) (n : ℕ) → AreBelow n children
+      → weigh (weight cells n) new ≤ weigh (weight cells n) old + sizes cells children
 
 -- the children of each marked node are marked, from node n on
 abbrev pub AreClosedFrom : ℕ → List Cell → List Bool → Type 0

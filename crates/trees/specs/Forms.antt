@@ -6,5 +6,17 @@ use Rattle.trees.specs.Cells.{Cell}
 use Rattle.trees.specs.Packing.{unpacked}
 
 abbrev pub cell_in : Form → Cell
-cell_in (Narrow n) = record { production = n.production; born = n.born; tokens = n.tokens; size = n.size; children = map unpacked n.children.items }
-cell_in (Wide w) = record { production = w.value.label.production; born = w.value.label.born; tokens = w.value.label.tokens; size = w.value.label.size; children = w.value.children.items }
+cell_in (Narrow n) = record {
+  production = n.production;
+  born = n.born;
+  tokens = n.tokens;
+  size = n.size;
+  children = map unpacked n.children.items;
+}
+cell_in (Wide w) = record {
+  production = w.value.label.production;
+  born = w.value.label.born;
+  tokens = w.value.label.tokens;
+  size = w.value.label.size;
+  children = w.value.children.items;
+}

@@ -7,7 +7,8 @@
 --     IsBranchAround cells children from point branch      the branch found among these children
 --     offsets_of parts s      the offsets of a span of places
 --     inside w rs      the spans rs without the first one, where that is w
-use Rattle.std.specs.Prelude.{ℕ, ◌+◌, ◌-◌, ◌^◌, ◌≡◌, true, ◌<◌, ◌≤◌, ◌↔◌, Bool, ◌&&◌, ◌==◌, nat_lt, if◌then◌else◌, List, [], ◌∷◌, ◌++◌, length, map, slice_index, Option, Some, None}
+use Rattle.std.specs.Prelude.{ℕ, ◌+◌, ◌-◌, ◌^◌, ◌≡◌, true, ◌<◌, ◌≤◌, ◌↔◌, Bool, ◌&&◌, ◌==◌, nat_lt, if◌then◌else◌, List, [], ◌∷◌, ◌++◌}
+use Rattle.std.specs.Prelude.{length, map, slice_index, Option, Some, None}
 use Rattle.definitions.specs.Answers.{end_of}
 use Rattle.definitions.specs.Tokens.{Placed}
 use Rattle.definitions.specs.TreeEdits.{plain}
@@ -74,7 +75,8 @@ pub record IsBranchAround (cells : List Cell) (children : List Child) (from : �
   pub around : is_around point.reached point.first branch.from branch.to ≡ true
   pub to : branch.to ≡ branch.from + length (yield (plain (tree cells (Node branch.id))))
   pub fits : branch.to < 2 ^ 64
-  pub spans : spans_all point.reached point.first from (trees_of_roots cells children) ≡ spans_of point.reached point.first branch.from (plain (tree cells (Node branch.id)))
+  pub spans : spans_all point.reached point.first from (trees_of_roots cells children) ≡ spans_of point.reached point.first branch.from
+      (plain (tree cells (Node branch.id)))
 
 -- a span of some of the first n tokens
 pub record IsSpanOf (n : ℕ) (s : ℕ × ℕ) : Type 0 where

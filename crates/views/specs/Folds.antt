@@ -5,7 +5,8 @@
 --     IsFold folds lines n p      the node folds and spans these lines
 --     AreSpanned g folds lines trees pairs      the lines of the nodes that fold, in some order
 --     with_own folds pair pairs      the lines so far and those of a node, where it folds
-use Rattle.std.specs.Prelude.{◌≡◌, ℕ, ◌-◌, ◌<◌, ◌≤◌, Bool, false, if◌then◌else◌, List, [], ◌∷◌, ◌++◌, map, slice_index_or, IsTrue, AllPairs, Contains}
+use Rattle.std.specs.Prelude.{◌≡◌, ℕ, ◌-◌, ◌<◌, ◌≤◌, Bool, false, if◌then◌else◌, List, [], ◌∷◌, ◌++◌, map, slice_index_or, IsTrue}
+use Rattle.std.specs.Prelude.{AllPairs, Contains}
 use Rattle.definitions.specs.Text.{line_of}
 use Rattle.definitions.specs.Tokens.{Placed}
 use Rattle.definitions.specs.Trees.{Grammar, Tree}

@@ -4,7 +4,8 @@
 --     IsDiagnosis encoding file t tokens verdict told      the fault that the verdict tells, if it tells one
 --     AreFoldsOf file t tokens trees pairs      the lines that can be folded, in ascending order
 --     IsSelectionOf encoding file t tokens trees o ranges      what can be selected around an offset, from inner to outer
---     AreRootsOf file cells tokens roots      the roots are trees of the grammar, and cover some of the significant tokens, from the first one on
+--     AreRootsOf file cells tokens roots      the roots are trees of the grammar, and cover some of the significant tokens, from the
+--         first one on
 use Rattle.std.specs.Prelude.{◌≡◌, ℕ, ◌≤◌, Bool, if◌then◌else◌, List, [], ◌∷◌, ◌++◌, length, map, take, reverse, Option, Some, None}
 use Rattle.definitions.specs.declared.Kind.{Kind}
 use Rattle.definitions.specs.declared.Kind.TheVariants.{Rule}
