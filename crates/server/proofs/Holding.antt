@@ -1,7 +1,7 @@
 -- A document that came to stand otherwise.
 use Rattle.std.proofs.Common.{◌≡◌, ℕ, ℤ, Bool, true, List, [], ◌∷◌, ap, ◌∙◌, sym, subst}
 use Rattle.std.specs.Prelude.{Option, Some, None}
-use Rattle.std.specs.FinMap.{get, insert, remove}
+use Rattle.std.specs.FinMap.{get, insert}
 use Rattle.docs.specs.Docs.{open_document}
 use Rattle.docs.specs.declared.doc.Doc.{Doc}
 use Rattle.docs.specs.Grammars.{FileGrammar}
@@ -28,18 +28,18 @@ holds_open old uri made d e published answers stop new is told stays same =
     let here : new ≡ state_of old.file old.phase (insert old.documents uri (entry_view (entry.Open d))) = same ∙ ap (λ (x : Entry). state_of old.file old.phase (insert old.documents uri (entry_view x))) e in
     subst (λ (x : Entry). Holds old uri (entry_view x) answers stop new) (sym e) (published, is, told, (stays, here))
 
--- one that was taken out before
-pub holds_again : (old mid : State) (uri : List ℕ) (state : DocumentState) (answers : List Answer) (stop : Option ℕ) (new : State) → mid ≡ state_of old.file old.phase (remove old.documents uri) → Holds mid uri state answers stop new → Holds old uri state answers stop new
-holds_again old mid uri state answers stop new same h = by state (subst (λ (m : State). Holds m uri state answers stop new) same h)
+-- one that stood otherwise in between
+pub holds_again : (old mid : State) (uri : List ℕ) (before state : DocumentState) (answers : List Answer) (stop : Option ℕ) (new : State) → mid ≡ state_of old.file old.phase (insert old.documents uri before) → Holds mid uri state answers stop new → Holds old uri state answers stop new
+holds_again old mid uri before state answers stop new same h = by state (subst (λ (m : State). Holds m uri state answers stop new) same h)
   where
-    by : (s : DocumentState) → Holds (state_of old.file old.phase (remove old.documents uri)) uri s answers stop new → Holds old uri s answers stop new
-    by (is_open d) g = (g.0, g.1, g.2, (g.3.0, g.3.1 ∙ ap (λ (x : Held). state_of old.file old.phase x) (inserted_again old.documents uri (is_open d))))
-    by (is_lost loss) g = (g.0, (g.1.0, g.1.1 ∙ ap (λ (x : Held). state_of old.file old.phase x) (inserted_again old.documents uri (is_lost loss))))
+    by : (s : DocumentState) → Holds (state_of old.file old.phase (insert old.documents uri before)) uri s answers stop new → Holds old uri s answers stop new
+    by (is_open d) g = (g.0, g.1, g.2, (g.3.0, g.3.1 ∙ ap (λ (x : Held). state_of old.file old.phase x) (inserted_again old.documents uri before (is_open d))))
+    by (is_lost loss) g = (g.0, (g.1.0, g.1.1 ∙ ap (λ (x : Held). state_of old.file old.phase x) (inserted_again old.documents uri before (is_lost loss))))
 
 -- a change of an open document
-pub changes_open : (old mid : State) (uri : List ℕ) (d : Doc) (version : ℤ) (changes : List ChangeSaid) (state : DocumentState) (answers : List Answer) (stop : Option ℕ) (new : State) → get old.documents uri ≡ Some (is_open (open_document d)) → mid ≡ state_of old.file old.phase (remove old.documents uri) → Becomes old.file version (open_document d) changes state → Holds mid uri state answers stop new → Changes (get old.documents uri) old uri version changes answers stop new
-changes_open old mid uri d version changes state answers stop new held same becomes holds =
-    subst (λ (o : Option DocumentState). Changes o old uri version changes answers stop new) (sym held) (state, becomes, holds_again old mid uri state answers stop new same holds)
+pub changes_open : (old mid : State) (uri : List ℕ) (before : DocumentState) (d : Doc) (version : ℤ) (changes : List ChangeSaid) (state : DocumentState) (answers : List Answer) (stop : Option ℕ) (new : State) → get old.documents uri ≡ Some (is_open (open_document d)) → mid ≡ state_of old.file old.phase (insert old.documents uri before) → Becomes old.file version (open_document d) changes state → Holds mid uri state answers stop new → Changes (get old.documents uri) old uri version changes answers stop new
+changes_open old mid uri before d version changes state answers stop new held same becomes holds =
+    subst (λ (o : Option DocumentState). Changes o old uri version changes answers stop new) (sym held) (state, becomes, holds_again old mid uri before state answers stop new same holds)
 
 -- nothing is held that could be closed
 pub closes_none : (old : State) (uri : List ℕ) (answers : List Answer) (stop : Option ℕ) (new : State) → get old.documents uri ≡ None → answers ≡ told_log CloseNotOpen ∷ [] → stop ≡ None → new ≡ old → Closes (get old.documents uri) old uri answers stop new

@@ -33,14 +33,14 @@ get_removed documents uri = get-remove nat_list_cmp_total documents uri uri ∙ 
 pub get_other_removed : (documents : Held) (uri other : List ℕ) → other ≢ uri → get (remove documents uri) other ≡ get documents other
 get_other_removed documents uri other apart = get-remove nat_list_cmp_total documents uri other ∙ ap (λ b. cond b None (get documents other)) (other_uri uri other apart)
 
--- what is taken out and put back otherwise
-pub inserted_again : (documents : Held) (uri : List ℕ) (state : DocumentState) → insert (remove documents uri) uri state ≡ insert documents uri state
-inserted_again documents uri state = same_map nat_list_cmp_total (slice_cmp-IsAntisymmetric nat_cmp-IsAntisymmetric) _ _ (λ q.
-    get-insert nat_list_cmp_total (remove documents uri) uri state q
-    ∙ (ap (cond (eq_by_cmp (slice_cmp nat_cmp) q uri) (Some state)) (get-remove nat_list_cmp_total documents uri q)
+-- what is put in the place of another
+pub inserted_again : (documents : Held) (uri : List ℕ) (before state : DocumentState) → insert (insert documents uri before) uri state ≡ insert documents uri state
+inserted_again documents uri before state = same_map nat_list_cmp_total (slice_cmp-IsAntisymmetric nat_cmp-IsAntisymmetric) _ _ (λ q.
+    get-insert nat_list_cmp_total (insert documents uri before) uri state q
+    ∙ (ap (cond (eq_by_cmp (slice_cmp nat_cmp) q uri) (Some state)) (get-insert nat_list_cmp_total documents uri before q)
     ∙ (twice (eq_by_cmp (slice_cmp nat_cmp) q uri) (get documents q) ∙ sym (get-insert nat_list_cmp_total documents uri state q))))
   where
-    twice : (b : Bool) (o : Option DocumentState) → cond b (Some state) (cond b None o) ≡ cond b (Some state) o
+    twice : (b : Bool) (o : Option DocumentState) → cond b (Some state) (cond b (Some before) o) ≡ cond b (Some state) o
     twice true o = refl
     twice false o = refl
 

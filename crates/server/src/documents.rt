@@ -1,6 +1,6 @@
 //! The documents that a server holds.
 
-ghost use Rattle.std.specs.Prelude.{◌≡◌, ◌||◌, nat_lt, is_some, option_map, IfSome, OnOk, OnErr, string_bytes};
+ghost use Rattle.std.specs.Prelude.{◌≡◌, ◌||◌, Some, None, nat_lt, is_some, option_map, IfSome, IfOk, IfErr, OnOk, OnErr, string_bytes};
 ghost use Rattle.std.specs.FinMap as map;
 ghost use Rattle.server.specs.Documents.{has_room, entry_view, IsEntryOf};
 
@@ -9,6 +9,7 @@ use rpc::Loss;
 use std::alloc::{AllocError, Global};
 use std::collections::BTreeMap;
 use std::marker::Model;
+use std::mem::replace;
 
 /// How many documents are held at most, lost ones among them.
 pub const MOST_DOCUMENTS: usize = 64;
@@ -82,17 +83,39 @@ impl Documents {
         self.by_uri.contains_key(uri)
     }
 
-    /// Holds the entry under this URI, in the place of the one before.
+    /// Holds the entry under this URI, in the place of the one before. Refuses for memory alone, and only where nothing was held
+    /// under it.
     pub fn insert(&mut self, uri: String, entry: Entry) -> Result<(), AllocError>
         requires { IsEntryOf self.old.language entry }
         ensures ok { let old = self.old.documents in
             let held = map.insert old (string_bytes uri) (entry_view entry) in
             OnOk result (self.new.documents ≡ held) }
         ensures err { OnErr result (self.new.documents ≡ self.old.documents) }
+        ensures absent { OnErr result (map.get self.old.documents (string_bytes uri) ≡ None) }
         ensures language { self.new.language ≡ self.old.language }
     {
         self.by_uri.insert(uri, entry)?;
         Ok(())
+    }
+
+    /// Holds the entry in the place of what is held under this URI, and hands that back; where nothing is, the entry comes back.
+    /// It takes no memory.
+    pub fn replace(&mut self, uri: &str, entry: Entry) -> Result<Entry, Entry>
+        requires { IsEntryOf self.old.language entry }
+        ensures held { let held = map.get self.old.documents uri.now in
+            IfOk result (λ e. held ≡ Some (entry_view e)) }
+        ensures current { IfOk result (IsEntryOf self.old.language) }
+        ensures documents { let held = map.insert self.old.documents uri.now (entry_view entry) in
+            OnOk result (self.new.documents ≡ held) }
+        ensures absent { IfErr result (λ e. e ≡ entry) }
+        ensures nothing { OnErr result ((map.get self.old.documents uri.now ≡ None)
+            × (self.new.documents ≡ self.old.documents)) }
+        ensures language { self.new.language ≡ self.old.language }
+    {
+        match self.by_uri.get_mut(uri) {
+            Some(held) => Ok(replace(held, entry)),
+            None => Err(entry),
+        }
     }
 
     /// Takes out what is held under this URI, if anything is.

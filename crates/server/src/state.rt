@@ -353,7 +353,9 @@ impl Server {
             Some(Entry::Lost(_)) => return Ok(nothing(alloc)),
             Some(Entry::Open(_)) => {}
         }
-        let Some(Entry::Open(doc)) = self.documents.remove(uri.as_str()) else {
+        // what is held stays under its URI, so that no memory is needed for the document that comes back
+        let lost = Entry::Lost(Loss::NoMemory);
+        let Ok(Entry::Open(doc)) = self.documents.replace(uri.as_str(), lost) else {
             unreachable!();
         };
         let entry = changed(alloc, self.documents.language(), doc, version, &changes);

@@ -1,9 +1,9 @@
-use Rattle.std.proofs.Common.{ap, sym, subst, ◌∙◌, string_bytes}
-use Rattle.std.specs.Prelude.{Some}
-use Rattle.std.specs.FinMap.{insert}
-use Rattle.std.proofs.lemmas.Map.Text.{btree_map_updates_text}
+use Rattle.std.proofs.Common.{ap, refl, sym, subst, ◌∙◌, string_bytes}
+use Rattle.std.specs.Prelude.{Some, Result, Ok, Err, OnErr, option_map}
+use Rattle.std.specs.FinMap.{get, insert}
+use Rattle.std.proofs.lemmas.Map.Text.{btree_map_text_same, btree_map_updates_text}
 use Rattle.server.specs.Documents.{entry_view, IsEntryOf, AreCurrent}
-use Rattle.server.proofs.Held.{insert_held, insert_current}
+use Rattle.server.proofs.Held.{get_held, insert_held, insert_current}
 use Rattle.server.proofs.documents.Documents.insert.Goals as goal
 
 pub returns-clause-ok : goal.returns-clause-ok
@@ -21,3 +21,13 @@ invariant_of-self-2 c =
 
 pub invariant_of-self : goal.invariant_of-self
 invariant_of-self c = subst (λ entries. AreCurrent c.self.inside.language entries) (sym c.in_err-insert.ensures.err) c.self.invariant
+
+pub returns-in_err-insert-clause-absent : goal.returns-in_err-insert-clause-absent
+returns-in_err-insert-clause-absent c =
+    let entries = c.self.inside.by_uri.entries in
+    let uri = string_bytes c.args.uri in
+    on_err c.from_residual.result (ap (λ h. get h.documents uri) (sym c.self.view_is) ∙ (get_held entries uri ∙ ap (option_map entry_view) (sym (btree_map_text_same c.args.uri uri entries refl).0 ∙ c.in_err-insert.ensures.absent)))
+  where
+    on_err : {T E P : Type 0} (r : Result T E) → P → OnErr r P
+    on_err (Ok x) p = tt
+    on_err (Err e) p = p
