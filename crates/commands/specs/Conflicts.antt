@@ -3,8 +3,9 @@
 --     item_line file item      `item: LEFT = SYMBOLS . SYMBOLS, LOOKAHEAD`, the dot at the item's place
 --     conflict_text file conflict      four lines: the lookahead at which two items call for different moves, the symbols behind which they
 --         do, and the two items
---     IsRefused bytes printed      the fault of a grammar file of these bytes is printed: of a conflict its text
-use Rattle.std.specs.Prelude.{◌≡◌, ℕ, ◌++◌, List, [], take, drop, flat_map, codes, encode_utf8_all, Option, Some, None}
+--     Tells fault printed      the fault is printed on standard error, and the status is 2: of a conflict its four lines, else the fault's text
+--     IsRefused bytes printed      a file of these bytes is refused: as no UTF-8, or for its fault, which is told
+use Rattle.std.specs.Prelude.{◌≡◌, ◌⊎◌, ℕ, ◌++◌, List, [], take, drop, flat_map, codes, encode_utf8_all, Option, Some, None}
 use Rattle.std.specs.Str.{IsUtf8}
 use Rattle.definitions.specs.declared.Symbol.{Symbol}
 use Rattle.definitions.specs.declared.Symbol.TheVariants.{Rule as Terminal, Nonterminal}
@@ -16,7 +17,9 @@ use Rattle.grammar.specs.Notes.{symbol_name}
 use Rattle.tables.specs.Sets.{side}
 use Rattle.tables.specs.declared.conflict.Conflict.{Conflict}
 use Rattle.tables.specs.Item.{Item}
+use Rattle.commands.specs.declared.fault.Fault.TheVariants.{Grammar, TooManyStates, TooManySets, NotUtf8}
 use Rattle.commands.specs.declared.printed.Printed.{Printed}
+use Rattle.commands.specs.Texts.{PrintsFault}
 
 -- in UTF-8
 abbrev pub name_bytes : FileGrammar → Symbol → List ℕ
@@ -49,13 +52,16 @@ conflict_text file c =
     codes "lrls: conflict on " ++ (look_name file c.look ++ (codes "\nafter:" ++ (spaced file c.prefix.items
     ++ (codes "\n" ++ (item_line file c.first ++ item_line file c.second)))))
 
-abbrev pub TellsConflict : LoadFault → Printed → Type 0
-TellsConflict (load.Conflict file conflict) printed = printed.err.items ≡ conflict_text file conflict
-TellsConflict load.NoMemory printed = ⊥
-TellsConflict _ printed = Unit {0}
+-- want of memory is told by no text
+abbrev pub Tells : LoadFault → Printed → Type 0
+Tells (load.Grammar fault) printed = PrintsFault (Grammar fault) printed
+Tells load.TooManyStates printed = PrintsFault TooManyStates printed
+Tells load.TooManySets printed = PrintsFault TooManySets printed
+Tells (load.Conflict file conflict) printed =
+    (printed.out.items ≡ []) × (printed.err.items ≡ conflict_text file conflict) × (printed.status ≡ 2)
+Tells load.NoMemory printed = ⊥
 
--- nothing is printed on standard output, and the status is 2
-pub record IsRefused (bytes : List ℕ) (printed : Printed) : Type 0 where
-  pub out : printed.out.items ≡ []
-  pub status : printed.status ≡ 2
-  pub fault : IsUtf8 bytes → (fault : LoadFault) × IsLoadFault bytes fault × TellsConflict fault printed
+abbrev pub IsRefused : List ℕ → Printed → Type 0
+IsRefused bytes printed =
+    (¬ IsUtf8 bytes × PrintsFault NotUtf8 printed)
+    ⊎ (IsUtf8 bytes × ((fault : LoadFault) × IsLoadFault bytes fault × Tells fault printed))

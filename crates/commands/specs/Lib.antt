@@ -2,3 +2,4 @@ pub mod Conflicts
 pub mod Parsing
 pub mod Reporting
 pub mod Status
+pub mod Texts

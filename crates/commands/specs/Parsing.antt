@@ -1,7 +1,7 @@
 -- What `lrls parse` prints of a text.
 --     fault_line d      `L:C-L:C: MESSAGE` and the end of the line
---     IsParsed file bytes printed      a file of these bytes comes to this: refused as no UTF-8 or as too large, or the text of its tree,
---         or its fault. Positions count UTF-16 units.
+--     IsParsed file bytes printed      a file of these bytes comes to this: it is refused as no UTF-8 or as too large, or the text of its tree
+--         or its fault is printed on standard output, and nothing on standard error. Positions count UTF-16 units.
 use Rattle.std.specs.Prelude.{◌≡◌, ◌⊎◌, ℕ, ◌++◌, true, false, List, [], codes, decimal, string_bytes}
 use Rattle.std.specs.Str.{IsUtf8, chars}
 use Rattle.definitions.specs.declared.Diagnostic.{Diagnostic}
@@ -12,7 +12,9 @@ use Rattle.docs.specs.declared.doc.Outcome.{Outcome}
 use Rattle.docs.specs.declared.doc.Outcome.TheVariants.{Tree, Fault}
 use Rattle.docs.specs.Answers.{IsOutcome}
 use Rattle.docs.specs.Texts.{fits}
+use Rattle.commands.specs.declared.fault.Fault.TheVariants.{TextNotUtf8, TextTooLarge}
 use Rattle.commands.specs.declared.printed.Printed.{Printed}
+use Rattle.commands.specs.Texts.{PrintsFault}
 
 abbrev pub place_text : Position → List ℕ
 place_text p = decimal p.line ++ (codes ":" ++ decimal p.character)
@@ -22,15 +24,12 @@ fault_line d =
     place_text d.range.start ++ (codes "-" ++ (place_text d.range.end ++ (codes ": " ++ (string_bytes d.message ++ codes "\n"))))
 
 abbrev pub Prints : Outcome → Printed → Type 0
-Prints (Tree text) printed = (printed.out.items ≡ string_bytes text ++ codes "\n") × (printed.status ≡ 0)
-Prints (Fault d) printed = (printed.out.items ≡ fault_line d) × (printed.status ≡ 1)
-
-abbrev pub PrintsNothing : Printed → Type 0
-PrintsNothing printed = (printed.out.items ≡ []) × (printed.status ≡ 1)
+Prints (Tree text) printed = (printed.out.items ≡ string_bytes text ++ codes "\n") × (printed.err.items ≡ []) × (printed.status ≡ 0)
+Prints (Fault d) printed = (printed.out.items ≡ fault_line d) × (printed.err.items ≡ []) × (printed.status ≡ 1)
 
 abbrev pub IsParsed : FileGrammar → List ℕ → Printed → Type 0
 IsParsed file bytes printed =
-    (¬ IsUtf8 bytes × PrintsNothing printed)
-    ⊎ (IsUtf8 bytes × (fits (chars bytes) ≡ false) × PrintsNothing printed)
+    (¬ IsUtf8 bytes × PrintsFault TextNotUtf8 printed)
+    ⊎ (IsUtf8 bytes × (fits (chars bytes) ≡ false) × PrintsFault TextTooLarge printed)
     ⊎ (IsUtf8 bytes × (fits (chars bytes) ≡ true)
     × ((outcome : Outcome) × IsOutcome Utf16 file (chars bytes) outcome × Prints outcome printed))

@@ -1,7 +1,8 @@
 -- What `lrls check` prints of a grammar.
 --     note_line name, report names      the line of a name, in UTF-8; a line for each of these names, and `ok`
---     IsChecked file printed      the names are those that no derivation from the start uses, in file order
-use Rattle.std.specs.Prelude.{◌≡◌, ℕ, ◌++◌, List, codes, encode_utf8_all, flat_map, map}
+--     IsChecked file printed      the names are those that no derivation from the start uses, in file order, and nothing is printed on standard
+--         error
+use Rattle.std.specs.Prelude.{◌≡◌, ℕ, ◌++◌, List, [], codes, encode_utf8_all, flat_map, map}
 use Rattle.definitions.specs.declared.Symbol.{Symbol}
 use Rattle.grammar.specs.Grammars.{FileGrammar}
 use Rattle.grammar.specs.Notes.{AreNotes, symbol_name}
@@ -17,4 +18,5 @@ pub record IsChecked (file : FileGrammar) (printed : Printed) : Type 0 where
   pub notes : List Symbol
   pub are : AreNotes file file.defined notes
   pub out : printed.out.items ≡ report (map (symbol_name file) notes)
+  pub err : printed.err.items ≡ []
   pub status : printed.status ≡ 0

@@ -1,45 +1,65 @@
 //! Why the program ends with a fault.
 
-ghost use Rattle.std.specs.Prelude.{◌≡◌};
+ghost use Rattle.std.specs.Prelude.{◌≡◌, Some};
 ghost use Rattle.commands.specs.Status.{status_of, fault_of};
+ghost use Rattle.commands.specs.Texts.{text_of};
 ghost use Rattle.commands.specs.declared.fault.Fault.TheVariants.{NoMemory};
 
+use crate::texts::{CauseText, frame_code};
 use frames::FrameFault;
 use grammar::GrammarFault;
 use server::RunFault;
 use std::alloc::AllocError;
+use std::fmt;
 use thiserror::Error;
 
 /// A fault that the program prints on standard error.
 #[derive(Debug, Drop, PartialEq, Eq, Error)]
 pub enum Fault {
-    #[error("usage: lrls check GRAMMAR | parse GRAMMAR TEXT | serve GRAMMAR")]
     CommandLine,
     /// The first fault of the grammar's file.
-    #[error("lrls: {0}")]
     Grammar(GrammarFault),
-    #[error("lrls: over 4096 automaton states")]
     TooManyStates,
-    #[error("lrls: over 8192 table states")]
     TooManySets,
-    #[error("lrls: grammar is not UTF-8")]
     NotUtf8,
-    #[error("lrls: text is not UTF-8")]
     TextNotUtf8,
     /// The text has more than 1,048,576 bytes.
-    #[error("lrls: text too large")]
     TextTooLarge,
     /// The file of this path can't be read.
-    #[error("lrls: cannot read {0}")]
     CannotRead(String),
-    #[error("lrls: no memory")]
     NoMemory,
-    #[error("lrls: frame fault {0}")]
     Frame(FrameFault),
-    #[error("lrls: read fault")]
     Read,
-    #[error("lrls: write fault")]
     Write,
+}
+
+impl fmt::Display for Fault {
+    ghost output = { λ fault. Some (text_of fault) };
+
+    fn fmt<W: fmt::Write>(&self, f: &mut fmt::Formatter<W>) -> fmt::Result {
+        match self {
+            Fault::CommandLine => {
+                write!(
+                    f,
+                    "usage: lrls check GRAMMAR | parse GRAMMAR TEXT | serve GRAMMAR"
+                )
+            }
+            Fault::Grammar(fault) => {
+                let cause = CauseText(&fault.cause);
+                write!(f, "lrls: line {}: {cause}", fault.line)
+            }
+            Fault::TooManyStates => write!(f, "lrls: over 4096 automaton states"),
+            Fault::TooManySets => write!(f, "lrls: over 8192 table states"),
+            Fault::NotUtf8 => write!(f, "lrls: grammar is not UTF-8"),
+            Fault::TextNotUtf8 => write!(f, "lrls: text is not UTF-8"),
+            Fault::TextTooLarge => write!(f, "lrls: text too large"),
+            Fault::CannotRead(path) => write!(f, "lrls: cannot read {path}"),
+            Fault::NoMemory => write!(f, "lrls: no memory"),
+            Fault::Frame(fault) => write!(f, "lrls: frame fault {}", frame_code(*fault)),
+            Fault::Read => write!(f, "lrls: read fault"),
+            Fault::Write => write!(f, "lrls: write fault"),
+        }
+    }
 }
 
 impl Fault {

@@ -5,6 +5,7 @@ mod command_line;
 mod conflicts;
 mod fault;
 mod printed;
+mod texts;
 
 pub use command_line::{Task, words};
 pub use fault::Fault;

@@ -1,16 +1,16 @@
 //! What the commands do, over the bytes of files.
 
 ghost use Rattle.std.specs.Prelude.{◌≡◌, ℕ, ◌++◌, List, [], IfOk, IfErr, OnOk, string_bytes};
-ghost use Rattle.std.specs.Str.{chars};
+ghost use Rattle.std.specs.Str.{IsUtf8, chars};
 ghost use Rattle.docs.specs.Answers.{IsOutcome};
 ghost use Rattle.docs.specs.Docs.{IsCurrent};
 ghost use Rattle.docs.specs.Languages.{IsLanguageOf, IsLoadFault};
 ghost use Rattle.docs.specs.declared.doc.Outcome.{Outcome};
 ghost use Rattle.tables.specs.Reports.{IsReport};
-ghost use Rattle.commands.specs.Conflicts.{IsRefused, TellsConflict, conflict_text};
+ghost use Rattle.commands.specs.Conflicts.{IsRefused, Tells, conflict_text};
 ghost use Rattle.commands.specs.Parsing.{IsParsed, Prints, fault_line, place_text};
 ghost use Rattle.commands.specs.Reporting.{IsChecked, note_line};
-ghost use Rattle.commands.specs.Status.{status_of};
+ghost use Rattle.commands.specs.Texts.{PrintsFault};
 
 use crate::conflicts::conflict_text;
 use crate::fault::Fault;
@@ -28,10 +28,22 @@ pub struct Printed {
     pub status: u8,
 }
 
+/// This text on standard output alone.
+fn output(alloc: Global, text: String, status: u8) -> Printed
+    ensures out { result.out.items ≡ string_bytes text }
+    ensures err { result.err.items ≡ [] }
+    ensures status { result.status ≡ status }
+{
+    Printed {
+        out: text.into_bytes(),
+        err: Vec::new(alloc),
+        status,
+    }
+}
+
 /// What is printed of a fault.
 fn refusal(alloc: Global, fault: &Fault) -> Result<Printed, AllocError>
-    ensures status { IfOk result (λ printed. printed.status ≡ status_of fault.now) }
-    ensures out { IfOk result (λ printed. printed.out.items ≡ []) }
+    ensures { IfOk result (PrintsFault fault.now) }
 {
     Ok(Printed {
         out: Vec::new(alloc),
@@ -55,12 +67,10 @@ fn shown(alloc: Global, grammar: &Grammar, conflict: &Conflict) -> Result<Printe
     })
 }
 
-/// What is printed of the fault of a grammar file. Refuses for memory alone.
+/// What is printed of the fault of a grammar file, with status 2. Refuses for memory alone.
 fn refused(alloc: Global, fault: LoadFault) -> Result<Printed, AllocError>
     requires { (text : List ℕ) × IsLoadFault text fault }
-    ensures out { IfOk result (λ printed. printed.out.items ≡ []) }
-    ensures status { IfOk result (λ printed. printed.status ≡ 2) }
-    ensures conflict { IfOk result (TellsConflict fault) }
+    ensures { IfOk result (Tells fault) }
 {
     match fault {
         LoadFault::Grammar(fault) => refusal(alloc, &Fault::Grammar(fault)),
@@ -71,9 +81,10 @@ fn refused(alloc: Global, fault: LoadFault) -> Result<Printed, AllocError>
     }
 }
 
-/// The language of a grammar file of these bytes, or what is printed, with status 2, where it defines none: of a conflict the four
-/// lines that show it. Refuses for memory alone.
+/// The language of a grammar file of these bytes, or what is printed, with status 2, where it defines none: that it isn't UTF-8, the
+/// four lines that show a conflict, or else the text of its first fault. Refuses for memory alone.
 pub fn load(alloc: Global, bytes: &[u8]) -> Result<Result<Language, Printed>, AllocError>
+    ensures utf8 { IfOk result (λ loaded. IfOk loaded (λ _. IsUtf8 bytes.now)) }
     ensures language { IfOk result (λ loaded. IfOk loaded (λ l. IsLanguageOf bytes.now l.file)) }
     ensures refused { IfOk result (λ loaded. IfErr loaded (IsRefused bytes.now)) }
 {
@@ -97,8 +108,8 @@ fn write_note(out: &mut String, name: &str) -> Result<(), AllocError>
     Ok(())
 }
 
-/// What `lrls check` prints of a grammar: a line for each name that no derivation from the start uses, and `ok`. Refuses for
-/// memory alone.
+/// What `lrls check` prints of a grammar: a line for each name that no derivation from the start uses, and `ok`, all of it on
+/// standard output. Refuses for memory alone.
 pub fn check(alloc: Global, language: &Language) -> Result<Printed, AllocError>
     ensures { IfOk result (IsChecked language.now.file) }
 {
@@ -107,11 +118,7 @@ pub fn check(alloc: Global, language: &Language) -> Result<Printed, AllocError>
         write_note(&mut out, name)?;
     }
     out.push_str("ok\n")?;
-    Ok(Printed {
-        out: out.into_bytes(),
-        err: Vec::new(alloc),
-        status: 0,
-    })
+    Ok(output(alloc, out, 0))
 }
 
 /// A position, as `L:C`.
@@ -142,11 +149,7 @@ fn outcome(alloc: Global, outcome: Outcome) -> Result<Printed, AllocError>
         }
         Outcome::Fault(fault) => (fault_line(alloc, &fault)?, 1),
     };
-    Ok(Printed {
-        out: line.into_bytes(),
-        err: Vec::new(alloc),
-        status,
-    })
+    Ok(output(alloc, line, status))
 }
 
 /// What is printed of an open document. Refuses for memory alone.
@@ -158,9 +161,9 @@ fn parsed(alloc: Global, language: &Language, doc: &Doc) -> Result<Printed, Allo
     outcome(alloc, doc.outcome(alloc, language)?)
 }
 
-/// What `lrls parse` prints of a text of these bytes: the text of its tree, or its fault, with status 1. Positions count
-/// UTF-16 units. A text that isn't UTF-8 or has more than 1,048,576 bytes is refused with status 1. Refuses for memory
-/// alone.
+/// What `lrls parse` prints of a text of these bytes: on standard output the text of its tree, or its fault, with status 1.
+/// Positions count UTF-16 units. A text that isn't UTF-8 or has more than 1,048,576 bytes is refused with status 1, which standard
+/// error tells. Refuses for memory alone.
 pub fn parse(alloc: Global, language: &Language, bytes: &[u8]) -> Result<Printed, AllocError>
     ensures { IfOk result (IsParsed language.now.file bytes.now) }
 {

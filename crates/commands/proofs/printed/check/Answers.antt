@@ -1,4 +1,4 @@
-use Rattle.std.proofs.Common.{◌≡◌, ◌++◌, ◌∷◌, [], List, ℕ, map, flat_map, string_bytes, sym, ap, subst, ◌∙◌, refl, append_assoc, codes}
+use Rattle.std.proofs.Common.{◌≡◌, ◌++◌, ◌∷◌, [], List, ℕ, map, flat_map, string_bytes, sym, ap, subst, ◌∙◌, append_assoc, codes}
 use Rattle.std.specs.Str.{chars}
 use Rattle.grammar.specs.Grammars.{FileGrammar}
 use Rattle.grammar.specs.Notes.{AreNotes, symbol_name}
@@ -29,10 +29,10 @@ pub returns : goal.returns
 returns c =
     let h = c.loop-name.invariant in
     let end : string_bytes c.push_str.new.self ≡ string_bytes c.loop-name.out ++ report [] = c.in_ok-push_str.ensures.bytes in
-    let out : c.into_bytes.result.items ≡ string_bytes c.push_str.new.self = ap (λ v. v.items) c.into_bytes.ensures.value in
     record {
       notes = h.0;
       are = h.1;
-      out = out ∙ (end ∙ (ap (λ names. string_bytes c.loop-name.out ++ report names) (sym c.in-None.ensures.steps.0) ∙ h.2));
-      status = refl;
+      out = c.output.ensures.out ∙ (end ∙ (ap (λ names. string_bytes c.loop-name.out ++ report names) (sym c.in-None.ensures.steps.0) ∙ h.2));
+      err = c.output.ensures.err;
+      status = c.output.ensures.status;
     }
