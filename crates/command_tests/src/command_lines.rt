@@ -40,8 +40,37 @@ fn commands_name_their_grammar(rt: HostRuntime) {
         ("serve grammars/g0.lr", "serve by grammars/g0.lr"),
         ("check grammars/g0.lr", "check of grammars/g0.lr"),
         ("parse g0.lr a/sum.txt", "parse by g0.lr of a/sum.txt"),
+        ("check -", "check of -"),
+        ("check -- -h", "check of -h"),
+        ("parse g0.lr -- --", "parse by g0.lr of --"),
+        ("serve g0.lr --", "serve by g0.lr"),
     ] {
         asks(&rt, rt.alloc(), line, wanted);
+    }
+}
+
+/// The words of the line ask for nothing.
+fn asks_for_nothing(rt: &impl Abort, alloc: Global, line: &str) {
+    let given = split(rt, alloc, line);
+    let task = words(alloc, &given).expect(rt, "words");
+    assert!(rt; task.is_none(), "{line}");
+}
+
+#[test]
+fn other_words_are_refused(rt: HostRuntime) {
+    for line in [
+        "",
+        "-h",
+        "-V",
+        "help check",
+        "chec g0.lr",
+        "-- check g0.lr",
+        "check -h",
+        "check -g",
+        "parse g0.lr",
+        "serve g0.lr -- more",
+    ] {
+        asks_for_nothing(&rt, rt.alloc(), line);
     }
 }
 

@@ -4,3 +4,7 @@ use Rattle.std.specs.Prelude.{Result, Ok, Err, IfOk}
 pub if_ok : {T E : Type 0} {P Q : T → Type 0} (r : Result T E) → ((x : T) → P x → Q x) → IfOk r P → IfOk r Q
 if_ok (Ok x) f p = f x p
 if_ok (Err e) f p = tt
+
+pub if_ok_both : {T E : Type 0} {P Q R : T → Type 0} (r : Result T E) → ((x : T) → P x → Q x → R x) → IfOk r P → IfOk r Q → IfOk r R
+if_ok_both (Ok x) f p q = f x p q
+if_ok_both (Err e) f p q = tt

@@ -1,1 +1,5 @@
 mod Cases
+mod Commands
+mod Flags
+mod Lines
+mod Read

@@ -1,3 +1,5 @@
+pub mod Arguments
+pub mod CommandLines
 pub mod Conflicts
 pub mod Parsing
 pub mod Reporting
