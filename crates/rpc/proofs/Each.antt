@@ -1,12 +1,12 @@
--- What is made of each item of a list, item by item.
-use Rattle.std.proofs.Common.{◌≡◌, ℕ, ◌+◌, ◌<◌, ◌≤◌, List, [], ◌∷◌, ◌++◌, Vec, map, length, take, take_all, drop, get_or, refl, sym, ap, ◌∙◌}
-use Rattle.std.proofs.lemmas.List.{at_drop_more, at_drop_all, take_more, map-append, append_assoc, append-nil}
+-- What is read of each item of a list, and what is sent of it, item by item.
+use Rattle.std.proofs.Common.{◌≡◌, ℕ, suc, ◌+◌, ◌<◌, ◌≤◌, List, [], ◌∷◌, ◌++◌, length, drop, get_or, refl, sym, ap, ◌∙◌, subst}
+use Rattle.std.proofs.lemmas.List.{at_drop_more, at_drop_all, drop_more, drop_all, append_assoc, append-nil}
 use Rattle.std.specs.Prelude.{Option, Some, None, option_map}
-use Rattle.std.specs.declared.alloc.Global.{Global}
-use Rattle.serde_json.specs.declared.value.Value.{Value, Array}
+use Rattle.serde.specs.Event.{Log, Logs, seq_begins, seq_ends}
+use Rattle.serde_json.specs.declared.value.Value.{Value}
 use Rattle.serde_json.specs.Data.{Data, Items, no_items, item, array}
-use Rattle.serde_json.specs.View.{view, items_of, items_view}
-use Rattle.serde_json.proofs.Views.{view-Array}
+use Rattle.serde_json.specs.Events.{items_len, SendsValue, SendsItems}
+use Rattle.serde_json.specs.View.{view, items_view}
 use Rattle.rpc.specs.Reading.{first_and}
 
 -- a reading of items, where each item is read as `one` does
@@ -45,21 +45,22 @@ module _ {Y : Type 0} (one : Data → Option Y) (all : Items → Option (List Y)
       ∙ ap (option_map (λ rest. ys ++ rest)) (at_drop_all (λ l. all (items_view l)) values k past ∙ none_left)
       ∙ ap (λ l. Some l) (append-nil ys))
 
--- one more value of an array, where f tells the value of a row
-pub made_more : {A : Type 0} (f : A → Data) (values after : List Value) (v : Value) (rows : List A) (k : ℕ) (d : A) → k < length rows → view v ≡ f (get_or rows k d) → after ≡ values ++ v ∷ []
-    → map view values ≡ map f (take k rows) → map view after ≡ map f (take (k + 1) rows)
-made_more f values after v rows k d within made pushed so_far =
-    ap (map view) pushed
-    ∙ map-append view values (v ∷ [])
-    ∙ ap (λ ds. ds ++ view v ∷ []) so_far
-    ∙ ap (λ told. map f (take k rows) ++ told ∷ []) made
-    ∙ sym (ap (map f) (take_more rows k d within) ∙ map-append f (take k rows) (get_or rows k d ∷ []))
+-- a sending of items, each by what `one` tells of it
+module _ {A : Type 0} (one : A → Data) (all : List A → Items) (none_left : all [] ≡ no_items) (one_left : (x : A) (xs : List A) → all (x ∷ xs) ≡ item (one x) (all xs)) where
+  -- where the item at place k was sent, and then those after it, those from k on were sent
+  pub sent_more : (xs : List A) (k : ℕ) (d : A) (before mid end : Log) → k < length xs → SendsValue (one (get_or xs k d)) before mid → SendsItems (all (drop (k + 1) xs)) mid end → SendsItems (all (drop k xs)) before end
+  sent_more xs k d before mid end within first rest =
+      subst (λ ds. SendsItems ds before end) (sym (ap all (drop_more xs k d within) ∙ one_left (get_or xs k d) (drop (k + 1) xs))) (mid, first, rest)
 
--- the array of all of them
-pub array_made : {A : Type 0} (f : A → Data) (values : Vec Value Global) (rows : List A) (k : ℕ) → length rows ≤ k → map view values.items ≡ map f (take k rows) → view (Array values) ≡ array (items_of (map f rows))
-array_made f values rows k past made = view-Array values ∙ ap (λ ds. array (items_of ds)) (made ∙ ap (map f) (take_all k rows past))
+  len_of : (xs : List A) → items_len (all xs) ≡ length xs
+  len_of [] = ap items_len none_left
+  len_of (x ∷ xs) = ap items_len (one_left x xs) ∙ ap suc (len_of xs)
 
--- f of what g tells of each
-pub map-map : {A B C : Type 0} (f : B → C) (g : A → B) (xs : List A) → map (λ x. f (g x)) xs ≡ map f (map g xs)
-map-map f g [] = refl
-map-map f g (x ∷ xs) = ap (λ ys. f (g x) ∷ ys) (map-map f g xs)
+  -- the array of all of them, where whatever sends those from k on sends all, and there are none
+  pub all_sent : (xs : List A) (k : ℕ) (old first before end : Log) → length xs ≤ k → Logs old first (seq_begins (Some (length xs))) → Logs before end seq_ends
+      → ((e : Log) → SendsItems (all (drop k xs)) before e → SendsItems (all xs) first e) → SendsValue (array (all xs)) old end
+  all_sent xs k old first before end past begun ended so_far = (
+    first,
+    subst (λ n. Logs old first (seq_begins (Some n))) (sym (len_of xs)) begun,
+    so_far end (subst (λ ds. SendsItems ds before end) (sym (ap all (drop_all k xs past) ∙ none_left)) ended),
+  )

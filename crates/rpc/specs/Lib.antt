@@ -2,6 +2,7 @@ pub mod Fields
 pub mod Messages
 pub mod Reading
 pub mod Replies
+pub mod Sending
 pub mod Texts
 pub use Rattle.definitions.specs.declared.Diagnostic
 pub use Rattle.definitions.specs.declared.Range
