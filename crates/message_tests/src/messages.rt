@@ -2,8 +2,8 @@
 //! shows.
 
 use rpc::{
-    Call, Change, Diagnostic, Id, Log, Loss, Message, Note, Position, Range, Refusal, Reply, Stats,
-    one_hearing, read, some_hearing, to_bytes,
+    Call, Change, Diagnostic, Id, Log, Loss, Message, Note, Position, Range, Refusal, Reply, Row,
+    RpcFault, Stats, each_text_is_unicode, one_hearing, read, some_hearing, to_bytes,
 };
 use std::alloc::Global;
 use std::process::Abort;
@@ -79,6 +79,71 @@ fn replies_have_their_bytes(rt: HostRuntime) {
     has_bytes(&rt, alloc, Reply::Log { log }, content);
 }
 
+/// The token of this name from the start of the line up to a character.
+fn row(rt: &impl Abort, alloc: Global, name: &str, end: u32) -> Row {
+    let range = Range {
+        start: before(0),
+        end: before(end),
+    };
+    let name = String::from_str(alloc, name).expect(rt, "memory");
+    Row { name, range }
+}
+
+/// A range in another, and no ranges.
+fn two_selections(rt: &impl Abort, alloc: Global) -> Vec<Vec<Range>> {
+    let inner = Range {
+        start: before(1),
+        end: before(2),
+    };
+    let outer = Range {
+        start: before(0),
+        end: before(3),
+    };
+    let nested = Vec::from_array(alloc, [inner, outer]).expect(rt, "memory");
+    Vec::from_array(alloc, [nested, Vec::new(alloc)]).expect(rt, "memory")
+}
+
+#[test]
+fn lists_have_their_bytes(rt: HostRuntime) {
+    let alloc = rt.alloc();
+    let named = [row(&rt, alloc, r#"a"b"#, 3), row(&rt, alloc, "WS", 4)];
+    let rows = Vec::from_array(alloc, named).expect(&rt, "memory");
+    let content = r#"{"id":-5,"jsonrpc":"2.0","result":[["a\"b",0,0,0,3],["WS",0,0,0,4]]}"#;
+    has_bytes(
+        &rt,
+        alloc,
+        Reply::Tokens {
+            id: Id::Number(-5),
+            rows,
+        },
+        content,
+    );
+    let pairs = Vec::from_array(alloc, [(1, 2), (0, 3)]).expect(&rt, "memory");
+    let content =
+        r#"{"id":2147483647,"jsonrpc":"2.0","result":[{"endLine":2,"startLine":1},{"endLine":3,"startLine":0}]}"#;
+    has_bytes(
+        &rt,
+        alloc,
+        Reply::Folds {
+            id: Id::Number(i32::MAX),
+            pairs,
+        },
+        content,
+    );
+    let selections = two_selections(&rt, alloc);
+    let content =
+        r#"{"id":0,"jsonrpc":"2.0","result":[{"parent":{"range":{"end":{"character":3,"line":0},"start":{"character":0,"line":0}}},"range":{"end":{"character":2,"line":0},"start":{"character":1,"line":0}}},null]}"#;
+    has_bytes(
+        &rt,
+        alloc,
+        Reply::Selections {
+            id: Id::Number(0),
+            selections,
+        },
+        content,
+    );
+}
+
 /// Checks `12` in the place of a character, and `3` in the place of the whole text.
 fn check_changes(rt: &impl Abort, changes: &[Change]) {
     let range = Range {
@@ -128,8 +193,37 @@ fn a_request_for_selections_is_told(rt: HostRuntime) {
     assert!(rt; positions.as_slice() == [first, before(1)].as_slice());
 }
 
+/// What a text of a document between these quotes is heard as, where the content is a message.
+fn heard_text(rt: &impl Abort, alloc: Global, quoted: &str) -> Option<String> {
+    let content = format!(in alloc;
+        r#"{{"jsonrpc":"2.0","method":"textDocument/didOpen","params":{{"textDocument":{{"uri":"a:x","version":1,"text":{quoted}}}}}}}"#
+    );
+    let content = content.expect(rt, "memory");
+    match read(alloc, content.as_bytes()) {
+        Ok(Message::Notice(Note::DidOpen { text, .. })) => Some(text),
+        Err(RpcFault::Parse) => None,
+        _ => panic!(rt; "no document at {quoted}"),
+    }
+}
+
+#[test]
+fn surrogates_stand_in_pairs(rt: HostRuntime) {
+    let alloc = rt.alloc();
+    let pair = heard_text(&rt, alloc, r#""\ud83d\ude00""#);
+    assert!(rt; pair.as_ref().map(String::as_str) == Some("\u{1f600}"));
+    for quoted in [
+        r#""\ud83d""#,
+        r#""\ude00""#,
+        r#""\ude00\ud83d""#,
+        r#""\ud83dx""#,
+    ] {
+        assert!(rt; heard_text(&rt, alloc, quoted).is_none(), "at {quoted}");
+    }
+}
+
 #[test]
 fn laws_hold(_rt: HostRuntime) {
     one_hearing();
     some_hearing();
+    each_text_is_unicode();
 }
