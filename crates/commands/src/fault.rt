@@ -5,7 +5,7 @@ ghost use Rattle.commands.specs.Status.{status_of, fault_of};
 ghost use Rattle.commands.specs.Texts.{text_of};
 ghost use Rattle.commands.specs.declared.fault.Fault.TheVariants.{NoMemory};
 
-use crate::texts::{CauseText, frame_code};
+use crate::texts::frame_code;
 use frames::FrameFault;
 use grammar::GrammarFault;
 use server::RunFault;
@@ -44,10 +44,7 @@ impl fmt::Display for Fault {
                     "usage: lrls check GRAMMAR | parse GRAMMAR TEXT | serve GRAMMAR"
                 )
             }
-            Fault::Grammar(fault) => {
-                let cause = CauseText(&fault.cause);
-                write!(f, "lrls: line {}: {cause}", fault.line)
-            }
+            Fault::Grammar(fault) => write!(f, "lrls: {fault}"),
             Fault::TooManyStates => write!(f, "lrls: over 4096 automaton states"),
             Fault::TooManySets => write!(f, "lrls: over 8192 table states"),
             Fault::NotUtf8 => write!(f, "lrls: grammar is not UTF-8"),

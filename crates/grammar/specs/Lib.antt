@@ -3,6 +3,7 @@ pub mod Faults
 pub mod Grammars
 pub mod Marks
 pub mod Told
+pub mod Texts
 pub mod Meaning
 pub mod Uses
 pub mod Notes

@@ -1,19 +1,20 @@
 //! Why a text is no grammar file.
 
-ghost use Rattle.std.specs.Prelude.{◌≡◌, IfOk};
+ghost use Rattle.std.specs.Prelude.{◌≡◌, Some, IfOk};
 ghost use Rattle.grammar_file.specs.Told.{cause_of};
+ghost use Rattle.grammar.specs.Texts.{cause_text, fault_text, limit_name};
 ghost use Rattle.grammar.specs.Told.{public_cause, pattern_code, TellsCause, IsFor};
 
 use definitions::{PatternCause, PatternFault};
 use grammar_file::{Cause, Limit, Refusal};
 use std::alloc::{AllocError, Global};
+use std::fmt;
 use thiserror::Error;
 
 /// The first fault of a grammar file: the number of its line, the first one's being 1, and the cause.
 ///
 /// The line is 0 where the whole file is at fault: its size, or that it has no start.
 #[derive(Debug, PartialEq, Eq, Drop, Error)]
-#[error("line {line}: {cause}")]
 pub struct GrammarFault {
     pub line: usize,
     pub cause: GrammarCause,
@@ -23,48 +24,83 @@ pub struct GrammarFault {
 #[derive(Debug, PartialEq, Eq, Drop, Error)]
 pub enum GrammarCause {
     /// The first line is neither `lrgrammar 1` nor `lrgrammar 2`.
-    #[error("G1 first line")]
     FirstLine,
     /// The line is none of those that there are.
-    #[error("G2 bad line")]
     BadLine,
     /// A name of two rules, or of a rule and a left side; or the left side of a production that is there twice.
-    #[error("G3 defined twice: {0}")]
     DefinedTwice(String),
     /// A name on a right side that is no rule's and no nonterminal's.
-    #[error("G4 undefined: {0}")]
     Undefined(String),
     /// A reserved name that is defined or used.
-    #[error("G5 reserved: {0}")]
     Reserved(String),
     /// The pattern of a rule is none.
-    #[error("G6 bad pattern at {}: {}", .0.at, pattern_cause(.0.cause))]
     BadPattern(PatternFault),
     /// No line names the start.
-    #[error("G7 no start")]
     NoStart,
     /// A second line names the start.
-    #[error("G7 second start")]
     SecondStart,
     /// The name behind `start` or `fold` is no nonterminal's.
-    #[error("G8 not a nonterminal: {0}")]
     NotANonterminal(String),
     /// No text is derived from the nonterminal.
-    #[error("G9 unproductive: {0}")]
     Unproductive(String),
     /// The name of a `skip` rule on a right side.
-    #[error("G10 skip token in a production: {0}")]
     SkipInProduction(String),
     /// There are too many of these.
-    #[error("G11 limit passed: {0}")]
     Limit(Limit),
     /// Memory was refused.
-    #[error("no memory")]
     Memory,
 }
 
+impl fmt::Display for GrammarFault {
+    ghost output = { λ fault. Some (fault_text fault) };
+
+    fn fmt<W: fmt::Write>(&self, f: &mut fmt::Formatter<W>) -> fmt::Result {
+        write!(f, "line {}: {}", self.line, self.cause)
+    }
+}
+
+impl fmt::Display for GrammarCause {
+    ghost output = { λ cause. Some (cause_text cause) };
+
+    fn fmt<W: fmt::Write>(&self, f: &mut fmt::Formatter<W>) -> fmt::Result {
+        match self {
+            GrammarCause::FirstLine => write!(f, "G1 first line"),
+            GrammarCause::BadLine => write!(f, "G2 bad line"),
+            GrammarCause::DefinedTwice(name) => write!(f, "G3 defined twice: {name}"),
+            GrammarCause::Undefined(name) => write!(f, "G4 undefined: {name}"),
+            GrammarCause::Reserved(name) => write!(f, "G5 reserved: {name}"),
+            GrammarCause::BadPattern(fault) => {
+                let code = pattern_code(fault.cause);
+                write!(f, "G6 bad pattern at {}: {code}", fault.at)
+            }
+            GrammarCause::NoStart => write!(f, "G7 no start"),
+            GrammarCause::SecondStart => write!(f, "G7 second start"),
+            GrammarCause::NotANonterminal(name) => write!(f, "G8 not a nonterminal: {name}"),
+            GrammarCause::Unproductive(name) => write!(f, "G9 unproductive: {name}"),
+            GrammarCause::SkipInProduction(name) => {
+                write!(f, "G10 skip token in a production: {name}")
+            }
+            GrammarCause::Limit(limit) => write!(f, "G11 limit passed: {}", limit_name(*limit)),
+            GrammarCause::Memory => write!(f, "no memory"),
+        }
+    }
+}
+
+/// What a grammar file has too many of.
+fn limit_name(limit: Limit) -> &'static str
+    ensures { result.now ≡ limit_name limit }
+{
+    match limit {
+        Limit::File => "file",
+        Limit::Tokens => "tokens",
+        Limit::Nonterminals => "nonterminals",
+        Limit::Productions => "productions",
+        Limit::Symbols => "symbols",
+    }
+}
+
 /// The code under which the fault of a pattern is printed.
-fn pattern_cause(cause: PatternCause) -> &'static str
+fn pattern_code(cause: PatternCause) -> &'static str
     ensures { result.now ≡ pattern_code cause }
 {
     match cause {
