@@ -3,7 +3,8 @@
 --     item_line file item      `item: LEFT = SYMBOLS . SYMBOLS, LOOKAHEAD`, the dot at the item's place
 --     conflict_text file conflict      four lines: the lookahead at which two items call for different moves, the symbols behind which they
 --         do, and the two items
---     Tells fault printed      the fault is printed on standard error, and the status is 2: of a conflict its four lines, else the fault's text
+--     Tells fault printed      the fault is printed on standard error, and the status is 2: of a conflict its four lines, else the
+--         fault's text
 --     IsRefused bytes printed      a file of these bytes is refused: as no UTF-8, or for its fault, which is told
 use Rattle.std.specs.Prelude.{◌≡◌, ◌⊎◌, ℕ, ◌++◌, List, [], take, drop, flat_map, codes, encode_utf8_all, Option, Some, None}
 use Rattle.std.specs.Str.{IsUtf8}

@@ -1,13 +1,15 @@
 -- The texts of faults, in UTF-8.
 --     frame_code fault      `F1` to `F8`
 --     text_of fault      the line that is printed of a fault, without its end
---     PrintsFault fault printed      nothing is printed on standard output, on standard error the fault's line, and the status is the fault's
+--     PrintsFault fault printed      nothing is printed on standard output, on standard error the fault's line, and the status is the
+--         fault's
 use Rattle.std.specs.Prelude.{◌≡◌, ℕ, ◌++◌, List, [], codes, string_bytes}
 use Rattle.frames.specs.declared.fault.FrameFault.{FrameFault}
 use Rattle.frames.specs.declared.fault.FrameFault.TheVariants as frame
 use Rattle.grammar.specs.Texts.{fault_text}
 use Rattle.commands.specs.declared.fault.Fault.{Fault}
-use Rattle.commands.specs.declared.fault.Fault.TheVariants.{CommandLine, Grammar, TooManyStates, TooManySets, NotUtf8, TextNotUtf8, TextTooLarge, CannotRead, NoMemory, Frame, Read, Write}
+use Rattle.commands.specs.declared.fault.Fault.TheVariants.{CommandLine, Grammar, TooManyStates, TooManySets, NotUtf8, TextNotUtf8}
+use Rattle.commands.specs.declared.fault.Fault.TheVariants.{TextTooLarge, CannotRead, NoMemory, Frame, Read, Write}
 use Rattle.commands.specs.declared.printed.Printed.{Printed}
 use Rattle.commands.specs.Status.{status_of}
 
