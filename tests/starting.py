@@ -17,6 +17,11 @@ NO_RT = (
     "lrls: building the program needs `rt`, the command of Rattle's kit, and no folder of PATH has it\n"
     "lrls: add the kit's folder bin to PATH; {top}/README.md names the kit's version, under \"Run it\"\n"
 )
+UNBUILT = (
+    "lrls: the program isn't built yet; each of these proves and builds it first, which takes half an hour or more\n"
+    "lrls: for an answer in a minute or two, without a proof: lrls --unproved check GRAMMAR, or parse GRAMMAR TEXT\n"
+    "lrls: for a copy of the built program: lrls install FOLDER\n"
+)
 UNPROVED = "lrls: nothing is proved yet: building without a proof takes a minute or two, a large grammar some more\n"
 UNPROVED_USAGE = "lrls: usage: lrls --unproved check GRAMMAR | parse GRAMMAR TEXT\n"
 NO_SERVER = (
@@ -109,7 +114,7 @@ class Checkout:
 def without_rt(cases, checkout, refused, usage):
     checkout.stand_in(None)
     for words in refused:
-        cases.check(f"unbuilt, words {words}", ("", usage, 2), checkout.run(*words))
+        cases.check(f"unbuilt, words {words}", ("", usage + UNBUILT, 2), checkout.run(*words))
     missing = ("", NO_RT.format(top=checkout.top), 1)
     for words in [["check", "x"], ["check", "--", "--x"], ["parse", "x", "y"], ["--unproved", "check", "x"]]:
         cases.check(f"no rt, words {words}", missing, checkout.run(*words))
