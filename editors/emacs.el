@@ -45,8 +45,15 @@
   "The file that SERVER writes its errors to."
   (car (last (process-command (jsonrpc--process server)))))
 
+(defun lrls--log-nothing (server)
+  "Keep what SERVER sends out of the buffer of events: to print all tokens of a long text takes seconds."
+  (if (slot-exists-p server '-events-buffer-config)
+      (setf (slot-value server '-events-buffer-config) '(:size 0))
+    (setf (slot-value server '-events-buffer-scrollback-size) 0)))
+
 (cl-defmethod initialize-instance :after ((server lrls-server) &rest _)
   "Have the end of SERVER reported in its own words."
+  (lrls--log-nothing server)
   (let ((errors (lrls--errors server)))
     (add-function :before (process-sentinel (jsonrpc--process server))
                   (lambda (process _event)
@@ -127,15 +134,24 @@
         (eglot-reconnect server)
       (eglot-ensure))))
 
-;; Places.
+;; Places.  Whoever looks for many goes through the text once, since each search for a line goes through all lines before it.
 
-(defun lrls--point (line character)
-  "The place of LINE and CHARACTER, as the server counts them."
-  (eglot--lsp-position-to-point (list :line line :character character)))
+(defun lrls--go (lines character)
+  "Go LINES ahead and to CHARACTER, as the server counts them, and return this place."
+  (forward-line lines)
+  (let ((tab-width 1))
+    (funcall (if (boundp 'eglot-move-to-linepos-function) eglot-move-to-linepos-function eglot-move-to-column-function) character))
+  (point))
 
-(defun lrls--line-end (line)
-  "The end of LINE, counted from 0."
-  (save-excursion (goto-char (point-min)) (forward-line line) (line-end-position)))
+(defun lrls--line-ends (lines)
+  "The ends of LINES, counted from 0, in a hash table."
+  (let ((ends (make-hash-table)) (here 0))
+    (save-excursion
+      (goto-char (point-min))
+      (dolist (line (sort (copy-sequence lines) #'<) ends)
+        (forward-line (- line here))
+        (setq here line)
+        (puthash line (line-end-position) ends)))))
 
 ;; Folds.
 
@@ -145,12 +161,14 @@ While the text has a FAULT in this line the server knows only what is before it:
 it, stay as they were."
   (save-restriction
     (widen)
-    (let ((stay (and fault (cl-remove-if (lambda (fold) (< (cdr fold) (lrls--line-end fault))) lrls--folds)))
-          (new (mapcar (lambda (range)
-                         (cons (copy-marker (lrls--line-end (plist-get range :startLine)))
-                               (copy-marker (lrls--line-end (plist-get range :endLine)))))
-                       ranges)))
-      (setq lrls--folds (cl-union new stay :test #'equal)))))
+    (let* ((first-lines (mapcar (lambda (range) (plist-get range :startLine)) ranges))
+           (last-lines (mapcar (lambda (range) (plist-get range :endLine)) ranges))
+           (ends (lrls--line-ends (append (and fault (list fault)) first-lines last-lines)))
+           (place (lambda (line) (copy-marker (gethash line ends))))
+           (reaches-fault (lambda (fold) (and fault (>= (cdr fold) (gethash fault ends)))))
+           (new (cl-mapcar (lambda (first last) (cons (funcall place first) (funcall place last))) first-lines last-lines))
+           (old (cl-remove-if-not reaches-fault lrls--folds)))
+      (setq lrls--folds (append (cl-set-difference old (cl-remove-if-not reaches-fault new) :test #'equal) new)))))
 
 (defun lrls--fold-at-point ()
   "The innermost fold around the line of point."
@@ -201,18 +219,37 @@ it, stay as they were."
           (setq high middle))))
     low))
 
+(defun lrls--extend (overlay is-done first last &optional _)
+  "Have the OVERLAY of a token take in the letters that a text from FIRST up to LAST begins with, once its insertion IS-DONE.
+The text stands after the token, and the server's answer comes later."
+  (when is-done
+    (save-excursion
+      (goto-char first)
+      (skip-chars-forward "[:alnum:]_" last)
+      (move-overlay overlay (overlay-start overlay) (point)))))
+
+(defun lrls--colour (first last face)
+  "Have the token from FIRST up to LAST shown in FACE."
+  (let ((overlay (make-overlay first last nil t)))
+    (overlay-put overlay 'lrls-token t)
+    (overlay-put overlay 'evaporate t)
+    (overlay-put overlay 'insert-behind-hooks '(lrls--extend))
+    (overlay-put overlay 'face face)))
+
 (defun lrls--paint (first last)
   "Colour the tokens from the line FIRST up to LAST, and no others."
   (remove-overlays nil nil 'lrls-token t)
-  (let ((at (lrls--first-token first)) token)
-    (while (and (< at (length lrls--tokens)) (<= (aref (setq token (aref lrls--tokens at)) 1) last))
-      (let ((face (cdr (assoc (aref token 0) lrls-faces))))
-        (when face
-          (let ((overlay (make-overlay (lrls--point (aref token 1) (aref token 2)) (lrls--point (aref token 3) (aref token 4)))))
-            (overlay-put overlay 'lrls-token t)
-            (overlay-put overlay 'evaporate t)
-            (overlay-put overlay 'face face))))
-      (setq at (1+ at)))))
+  (save-excursion
+    (goto-char (point-min))
+    (let ((at (lrls--first-token first)) (here 0) token)
+      (while (and (< at (length lrls--tokens)) (<= (aref (setq token (aref lrls--tokens at)) 1) last))
+        (let ((face (cdr (assoc (aref token 0) lrls-faces))))
+          (when face
+            (lrls--colour (lrls--go (- (aref token 1) here) (aref token 2))
+                          (lrls--go (- (aref token 3) (aref token 1)) (aref token 4))
+                          face)
+            (setq here (aref token 3))))
+        (setq at (1+ at))))))
 
 (defun lrls--paint-windows (&rest _)
   "Colour what windows show of the current buffer."

@@ -298,15 +298,26 @@ local function first_token(tokens, line)
   return low
 end
 
+-- Makes a mark of a colour between two places, or moves the one of this number there.
+local function set_colour(buffer, line, byte, last_line, last_byte, colour, number)
+  local place = { end_row = last_line, end_col = last_byte, hl_group = colour, priority = 90, id = number }
+  -- A token may reach beyond the buffer where the text has changed since.
+  pcall(vim.api.nvim_buf_set_extmark, buffer, marks, line, byte, place)
+end
+
 local function colour_token(buffer, token, colour, encoding)
   local first, last = line_of(buffer, token[2]), line_of(buffer, token[4])
-  -- A token may reach beyond the buffer where the text has changed since.
-  pcall(vim.api.nvim_buf_set_extmark, buffer, marks, token[2], byte_of(first, token[3], encoding), {
-    end_row = token[4],
-    end_col = byte_of(last, token[5], encoding),
-    hl_group = colour,
-    priority = 90,
-  })
+  set_colour(buffer, token[2], byte_of(first, token[3], encoding), token[4], byte_of(last, token[5], encoding), colour)
+end
+
+-- Has the colour of a token take in the letters that were typed after it, since the server's answer comes later.
+local function extend_colour(buffer, line, byte, count)
+  local letters = line_of(buffer, line):sub(byte + 1, byte + count):match("^[%w_\128-\255]+")
+  local before = { details = true, limit = 1 }
+  local mark = vim.api.nvim_buf_get_extmarks(buffer, marks, { line, byte }, { line, 0 }, before)[1]
+  if letters and mark and mark[4].end_row == line and mark[4].end_col == byte then
+    set_colour(buffer, line, mark[3], line, byte + #letters, mark[4].hl_group, mark[1])
+  end
 end
 
 local function paint(buffer)
@@ -451,7 +462,8 @@ local function go_to_node(buffer)
   end
 end
 
--- Refreshing: after a change, once the text has rested for as long as the last answers took.
+-- Refreshing: after a change, once the text has rested for three times as long as the last answers took, so that hardly a key
+-- waits while Neovim takes them in.
 
 local function refresh(buffer)
   local state, tick, begun = served[buffer], tick_of(buffer), vim.loop.hrtime()
@@ -471,7 +483,7 @@ local function refresh(buffer)
         refresh_tree(buffer)
       end
     end
-    state.pause = math.min(1000, math.max(50, (vim.loop.hrtime() - begun) / 1e6))
+    state.pause = math.min(1000, math.max(50, 3 * (vim.loop.hrtime() - begun) / 1e6))
   end)
 end
 
@@ -736,6 +748,16 @@ local function follow(buffer)
       if is_empty(buffer) then
         vim.schedule(function()
           resend(buffer)
+        end)
+      end
+    end,
+    on_bytes = function(_, _, _, line, byte, _, old_lines, old_bytes, _, lines, bytes)
+      if old_lines + old_bytes + lines == 0 then
+        -- The marks have not moved yet.
+        vim.schedule(function()
+          if vim.api.nvim_buf_is_loaded(buffer) then
+            extend_colour(buffer, line, byte, bytes)
+          end
         end)
       end
     end,

@@ -28,6 +28,8 @@ MENDED = AMBIGUOUS.replace("Sum PLUS Sum", "Sum PLUS NUM")
 
 # A text with a fold from its second line to its third one.
 FOLDED = "7+\n(3\n+4)\n+5\n"
+# A text with two folds from its first line on, and one after them.
+NESTED = "7+((1\n+2)\n+3)\n+(4\n+5)\n"
 # More than 1,048,576 bytes.
 TOO_LARGE = ("1+" * 32 + "\n") * 16_200 + "1\n"
 
@@ -43,12 +45,18 @@ EMACS_INIT = """(setq native-comp-deferred-compilation nil native-comp-async-rep
   (interactive)
   (message "selected: %S" (and (use-region-p) (buffer-substring-no-properties (region-beginning) (region-end)))))
 (global-set-key (kbd "<f5>") #'trial-region)
+(defun trial-fold-all ()
+  (interactive)
+  (while (not lrls--folds) (accept-process-output nil 0.1))
+  (lrls-fold-all))
+(global-set-key (kbd "<f6>") #'trial-fold-all)
 """
 
 
 def prepared(folder):
     placed(folder, "faulty.sum", "1+(2\n")
     placed(folder, "folded.sum", FOLDED)
+    placed(folder, "nested.sum", NESTED)
     placed(folder, "large.sum", TOO_LARGE)
     placed(folder, "some.amb", "1+2\n")
     placed(folder, "ambiguous.lr", AMBIGUOUS)
@@ -179,6 +187,7 @@ EMACS_STEPS = [
     ("an atom", ["C-c", "C-e", "F5"], ['selected: "(3\n+4)"'], []),
     ("shrunk", ["C-c", "C-s", "F5"], ['selected: "3\n+4"'], []),
     ("shrunk to nothing", ["C-c", "C-s", "C-c", "C-s", "F5"], ["selected: nil"], []),
+    ("nested folds", ["C-x", "C-f", "text:nested.sum", "Enter", "F6"], ["7+((1...\n+(4..."], ["+2)", "+5)"]),
     ("a lost document", ["C-x", "C-f", "text:large.sum", "Enter"], ["document lost: too large"], []),
     ("asked about it", ["C-x", "1", "C-c", "C-e"], ["lrls: document lost: too large"], ["*lrls*"]),
     ("a conflict", ["C-x", "C-f", "text:some.amb", "Enter"], CONFLICT, []),
