@@ -3,9 +3,8 @@
 --         positions, and then opened this text, and the diagnostics that it published
 --     RepliesOnly state heard answer      on what was heard there is one reply, this one, and nothing changes
 --     EveryAnswerIsFresh file      whatever was read before: a fresh server exists with the unit of the session and the version
---         and the text of an open document, and to each question about the document it and the server have one answer, the same; and the
--- diagnostics that it published
---         are those that the server published last
+--         and the text of an open document, and to each question about the document it and the server have one answer, the same;
+--         and the diagnostics that it published are those that the server published last
 --     EachTextIsItsEdits      a document's text after a change is its text before, edited, unless it is lost for want of memory; no other
 --         document changes
 use Rattle.std.specs.Prelude.{◌≡◌, ◌≢◌, ◌⊎◌, ℕ, ℤ, List, [], ◌∷◌, ◌++◌, All, Option, Some, None}
