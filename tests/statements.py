@@ -1,8 +1,8 @@
 """What a reader of the theorem has to believe, counted from the files, and what the pages say of it.
 
 The words of the theorem are the names from `specs/` in the clauses of `server::run`. They rest on other definitions, and these on
-others: each of them has to stand on docs/DEFINITIONS.md, and docs/THEOREM.md has to tell their number. It is a reading by patterns
-and not by the prover, so it can take too many names for definitions that are rested on, and never too few of those that are
+others: each of them has to have a row on docs/DEFINITIONS.md, and docs/THEOREM.md has to tell their number. It is a reading by
+patterns and not by the prover, so it can take too many names for definitions that are rested on, and never too few of those that are
 written out.
 """
 
@@ -17,6 +17,8 @@ WORD = re.compile(r"[A-Za-z_][\w'\-]*")
 IMPORT = re.compile(r"^(?:ghost )?(?:pub )?use Rattle\.(\w+)\.specs\.([\w.]+?)(?:\.\{([^}]*)\}| as (\w+))?;?$", re.M)
 HEAD = re.compile(r"^\s*(?:abbrev |unfoldable |opaque )*(?:pub )?(?:abbrev )?(?:record |data )?([^\s:(]+)")
 MUTUAL = re.compile(r"^(?:abbrev |unfoldable )?mutual")
+FILE_ABOVE = re.compile(r"`crates/(\w+/(?:specs|src)/[\w/]+)\.\w+`")
+DELIMITER = re.compile(r"\|(?:-+\|)+$")
 CLAUSE = re.compile(r"^\s*(?:ensures|requires|invariant|ghost view)\b")
 
 
@@ -140,9 +142,57 @@ def words_of_run(top, definitions):
     return {definitions.found(*names[word]) for word in words if word in names} - {None}
 
 
-def listed_on(page):
-    """The names that the page has a row of: the first word of what stands in backquotes."""
-    return {words.split()[0] for words in re.findall(r"`([^`]+)`", page) if words.split()}
+def cells_of(line):
+    """The cells of a row of a table: an escaped bar is no border."""
+    return [cell.strip() for cell in re.split(r"(?<!\\)\|", line)[1:-1]]
+
+
+def rows_on(text):
+    """The rows of the page's tables: each with its first cell, and the file that its last cell names or that stands above the table."""
+    rows, above, head = [], "", None
+    for line in text.split("\n"):
+        if line.startswith("#"):
+            above = ""
+        if FILE_ABOVE.match(line):
+            above = FILE_ABOVE.match(line)[1]
+        if not line.startswith("|"):
+            head = None
+        elif head is None:
+            head = cells_of(line)
+        elif not DELIMITER.match(line):
+            cells = cells_of(line)
+            rows.append((cells[0], cells[-1] if head[-1] == "Stands in" else above))
+    return rows
+
+
+def name_in(cell):
+    """The name that a first cell has, if it has one alone: the first word of all that stands in backquotes."""
+    found = re.fullmatch(r"`([^`\s]+)[^`]*`", cell)
+    return found and found[1]
+
+
+def definition_of(definitions, place, name):
+    """The definition of this name in a file of `specs/`, or the data that this is a constructor of."""
+    crate, _, module = place.partition("/specs/")
+    return definitions.found(crate, module.replace("/", "."), name)
+
+
+def is_law(top, place, name):
+    """Whether a file of `src/` has a public function of this name."""
+    path = os.path.join(top, "crates", place + ".rt")
+    return os.path.exists(path) and any(re.match(rf"pub fn {re.escape(name)}\b", line) for line in lines_of(path))
+
+
+def listed_on(rows, definitions):
+    """The definitions that the page has a row of, each in its own file."""
+    return {definition_of(definitions, place, name_in(cell)) for cell, place in rows if name_in(cell)}
+
+
+def strange_rows(top, rows, definitions):
+    """The rows whose file doesn't have what they name, as a definition, a constructor or a law."""
+    named = [(place, name_in(cell)) for cell, place in rows if name_in(cell)]
+    strange = [it for it in named if not definition_of(definitions, *it) and not is_law(top, *it)]
+    return sorted(f"{place}: {name}" for place, name in strange)
 
 
 def wide_clauses(top):
@@ -182,9 +232,12 @@ def check(cases, top):
     """The pages say what can be counted, and no line of a statement is too wide."""
     definitions = Definitions(top)
     rest = definitions.rest(words_of_run(top, definitions))
-    listed = listed_on(page(top, "docs/DEFINITIONS.md"))
-    missing = sorted(".".join(key) for key in rest if key[2] not in listed)
-    cases.check("each definition under `run` stands on docs/DEFINITIONS.md", [], missing)
+    rows = rows_on(page(top, "docs/DEFINITIONS.md"))
+    missing = sorted(".".join(key) for key in rest - listed_on(rows, definitions))
+    cases.check("each definition under `run` has a row of docs/DEFINITIONS.md", [], missing)
+    crowded = sorted(cell for cell, _ in rows if not name_in(cell))
+    cases.check("each row of docs/DEFINITIONS.md has one name", [], crowded)
+    cases.check("the file of each row of docs/DEFINITIONS.md has its name", [], strange_rows(top, rows, definitions))
     theorem = page(top, "docs/THEOREM.md")
     files = len({key[:2] for key in rest})
     said = re.search(r"rests on (\d+) definitions in (\d+) files of `specs/`, ([\d,]+) lines", theorem)
