@@ -1,8 +1,7 @@
 -- What `lrls parse` prints of a text.
 --     fault_line d      `L:C-L:C: MESSAGE` and the end of the line
 --     IsParsed file bytes printed      a file of these bytes comes to this: it is refused as no UTF-8 or as too large, or the text of
---         its tree
---         or its fault is printed on standard output, and nothing on standard error. Positions count UTF-16 units.
+--         its tree or its fault is printed on standard output, and nothing on standard error. Positions count UTF-16 units.
 use Rattle.std.specs.Prelude.{◌≡◌, ◌⊎◌, ℕ, ◌++◌, true, false, List, [], codes, decimal, string_bytes}
 use Rattle.std.specs.Str.{IsUtf8, chars}
 use Rattle.definitions.specs.declared.Diagnostic.{Diagnostic}

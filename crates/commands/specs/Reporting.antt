@@ -1,8 +1,7 @@
 -- What `lrls check` prints of a grammar.
 --     note_line name, report names      the line of a name, in UTF-8; a line for each of these names, and `ok`
 --     IsChecked file printed      the names are those that no derivation from the start uses, in file order, and nothing is printed on
---         standard
---         error
+--         standard error
 use Rattle.std.specs.Prelude.{◌≡◌, ℕ, ◌++◌, List, [], codes, encode_utf8_all, flat_map, map}
 use Rattle.definitions.specs.declared.Symbol.{Symbol}
 use Rattle.grammar.specs.Grammars.{FileGrammar}

@@ -2,8 +2,8 @@
 --     status_of fault      its exit status
 --     fault_of e      the fault that ends the program where a session ends with e
 use Rattle.std.specs.Prelude.{ℕ}
-use Rattle.server.specs.declared.serve.RunFault.{RunFault}
-use Rattle.server.specs.declared.serve.RunFault.TheVariants as session
+use Rattle.frames.specs.declared.fault.RunFault.{RunFault}
+use Rattle.frames.specs.declared.fault.RunFault.TheVariants as session
 use Rattle.commands.specs.declared.fault.Fault.{Fault}
 use Rattle.commands.specs.declared.fault.Fault.TheVariants.{CommandLine, Grammar, TooManyStates, TooManySets, NotUtf8, TextNotUtf8}
 use Rattle.commands.specs.declared.fault.Fault.TheVariants.{TextTooLarge, CannotRead, NoMemory, Frame, Read, Write}

@@ -6,9 +6,8 @@ ghost use Rattle.commands.specs.Texts.{text_of};
 ghost use Rattle.commands.specs.declared.fault.Fault.TheVariants.{NoMemory};
 
 use crate::texts::frame_code;
-use frames::FrameFault;
+use frames::{FrameFault, RunFault};
 use grammar::GrammarFault;
-use server::RunFault;
 use std::alloc::AllocError;
 use std::fmt;
 use thiserror::Error;

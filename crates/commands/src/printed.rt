@@ -15,8 +15,8 @@ ghost use Rattle.commands.specs.Texts.{PrintsFault};
 use crate::conflicts::conflict_text;
 use crate::fault::Fault;
 use definitions::{Diagnostic, Position, Unit};
+use docs::{Doc, DocFault, Language, LoadFault, Outcome};
 use grammar::Grammar;
-use server::{Doc, DocFault, Language, LoadFault, Outcome};
 use std::alloc::{AllocError, Global};
 use tables::Conflict;
 

@@ -10,7 +10,7 @@ mod source;
 mod write;
 
 pub use decoder::{Decoder, Frame};
-pub use fault::{DeviceFault, FrameFault};
+pub use fault::{DeviceFault, FrameFault, RunFault};
 pub use laws::{first_fault_decides, one_split, shortest_header_part};
 pub use sink::{Output, WriteOutput};
 pub use source::{Input, ReadInput};

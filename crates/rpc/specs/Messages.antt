@@ -36,8 +36,7 @@ pub data Question : Type 0 where
   its_selections : List Position → Question
 
 -- what a request asks; `initialize` has the unit that positions are to count; about a document it has the document's URI; `stats` asks
--- for how much there is of a document, and what its
--- last edit made
+-- for how much there is of a document, and what its last edit made
 pub data Asked : Type 0 where
   initialize : Encoding → Asked
   shutdown : Asked

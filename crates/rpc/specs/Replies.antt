@@ -27,8 +27,8 @@ use Rattle.rpc.specs.declared.reply.Reply.TheVariants.{Error, Diagnostics, Log}
 use Rattle.rpc.specs.Messages.{Ident, named, numbered, id_view}
 
 -- Replies begin with the id of their request. That to `initialize` tells the unit of positions. Folds are pairs of lines; each selection
--- is its ranges from inner to outer. Diagnostics
--- are those of a URI, of the version that is told, if one is: a range and a message, or none.
+-- is its ranges from inner to outer. Diagnostics are those of a URI, of the version that is told, if one is: a range and a message, or
+-- none.
 pub data Answer : Type 0 where
   told_capabilities : Ident → Encoding → Answer
   told_null : Ident → Answer

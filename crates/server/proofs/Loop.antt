@@ -7,8 +7,8 @@ use Rattle.frames.specs.declared.fault.FrameFault.TheVariants as frame
 use Rattle.frames.specs.Frames.{Tail, Open, Faulty, Splits, IsOpen, GoesOn, fault_of, finish_of}
 use Rattle.docs.specs.Grammars.{FileGrammar}
 use Rattle.docs.specs.Answers.{AlwaysAnswers}
-use Rattle.server.specs.declared.serve.RunFault.{RunFault}
-use Rattle.server.specs.declared.serve.RunFault.TheVariants.{Frame, Read, Write, Memory}
+use Rattle.frames.specs.declared.fault.RunFault.{RunFault}
+use Rattle.frames.specs.declared.fault.RunFault.TheVariants.{Frame, Read, Write, Memory}
 use Rattle.server.specs.Steps.{State, first_state}
 use Rattle.server.specs.Sessions.{Served, ServedInPart, CanServe, Session, IsCutShort, EndsAt, Ends, run_fault}
 use Rattle.server.proofs.Runs.{served_then, served_nothing}

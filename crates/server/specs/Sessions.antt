@@ -12,8 +12,8 @@ use Rattle.frames.specs.declared.fault.FrameFault.{FrameFault}
 use Rattle.frames.specs.declared.fault.FrameFault.TheVariants as frame
 use Rattle.docs.specs.Grammars.{FileGrammar}
 use Rattle.rpc.specs.Replies.{Answer}
-use Rattle.server.specs.declared.serve.RunFault.{RunFault}
-use Rattle.server.specs.declared.serve.RunFault.TheVariants.{Frame, Read, Write, Memory}
+use Rattle.frames.specs.declared.fault.RunFault.{RunFault}
+use Rattle.frames.specs.declared.fault.RunFault.TheVariants.{Frame, Read, Write, Memory}
 use Rattle.docs.specs.Answers.{AlwaysAnswers}
 use Rattle.docs.specs.Texts.{OpenDocument, fits}
 use Rattle.server.specs.Documents.{is_open, Held}

@@ -8,6 +8,7 @@ mod serve;
 mod state;
 
 pub use docs::{Doc, DocFault, Language, LoadFault, Outcome};
+pub use frames::RunFault;
 pub use laws::{each_document_is_alone, each_text_is_its_edits, every_answer_is_fresh};
-pub use serve::{RunFault, run};
+pub use serve::run;
 pub use state::{Out, Phase, Server};

@@ -14,35 +14,13 @@ ghost use Rattle.server.specs.Runs.{bytes_of};
 ghost use Rattle.server.specs.Alone.{EachDocumentIsAlone, EachRunHasATale, EachTaleIsTold};
 ghost use Rattle.server.specs.Fresh.{EveryAnswerIsFresh, EachTextIsItsEdits};
 ghost use Rattle.server.specs.Sessions.{AppendsFront, CanServe, HasServed, Session, IsCutShort, EndsAt, run_fault};
-ghost use Rattle.server.specs.declared.serve.RunFault.TheVariants.{Memory};
 
 use crate::laws::{each_document_is_alone, each_text_is_its_edits, every_answer_is_fresh};
 use crate::state::Server;
 use docs::Language;
-use frames::{Decoder, Frame, FrameFault, Input, Output, write_frame};
+use frames::{Decoder, Frame, FrameFault, Input, Output, RunFault, write_frame};
 use rpc::{Reply, each_text_is_unicode, read, to_bytes};
-use std::alloc::{AllocError, Global};
-
-/// Why a session ended without a status.
-#[derive(Clone, Copy, Debug, PartialEq, Eq)]
-pub enum RunFault {
-    /// The stream is no sequence of frames, or ends within one.
-    Frame(FrameFault),
-    /// The input failed.
-    Read,
-    /// The output failed.
-    Write,
-    /// Memory was refused.
-    Memory,
-}
-
-impl From<AllocError> for RunFault {
-    ghost from_gives = { λ _ e. e ≡ Memory };
-
-    fn from(_e: AllocError) -> RunFault {
-        RunFault::Memory
-    }
-}
+use std::alloc::Global;
 
 /// How many bytes are read at once.
 const BUFFER_LEN: usize = 4096;

@@ -3,7 +3,7 @@ use Rattle.std.proofs.lemmas.Result.{err_from_is_err_and}
 use Rattle.rpc.specs.Messages.{heard_of}
 use Rattle.rpc.specs.Reading.{hearing}
 use Rattle.rpc.specs.Replies.{reply_view}
-use Rattle.server.specs.declared.serve.RunFault.{RunFault}
+use Rattle.frames.specs.declared.fault.RunFault.{RunFault}
 use Rattle.server.specs.Steps.{state_view}
 use Rattle.server.specs.Sessions.{ServedInPart, IsCutShort}
 use Rattle.server.proofs.Runs.{step_heard, one_run}

@@ -2,7 +2,7 @@ use Rattle.std.proofs.Common.{◌≡◌, ◌+◌, ◌++◌, ℕ, List, [], ◌�
 use Rattle.std.specs.Prelude.{Option, Some, None}
 use Rattle.std.proofs.lemmas.Result.{err_from_is_err_and}
 use Rattle.frames.specs.Contents.{contents}
-use Rattle.server.specs.declared.serve.RunFault.{RunFault}
+use Rattle.frames.specs.declared.fault.RunFault.{RunFault}
 use Rattle.server.specs.Steps.{state_view}
 use Rattle.server.specs.Sessions.{Served, ServedInPart, IsCutShort}
 use Rattle.server.proofs.Fits.{run_serves}

@@ -4,7 +4,7 @@ use Rattle.std.specs.Io.KnownBytes.{Consumes}
 use Rattle.std.proofs.lemmas.Result.{err_from_is_err_and}
 use Rattle.frames.specs.declared.decoder.Frame.{Frame}
 use Rattle.frames.specs.Contents.{contents}
-use Rattle.server.specs.declared.serve.RunFault.{RunFault}
+use Rattle.frames.specs.declared.fault.RunFault.{RunFault}
 use Rattle.server.specs.Steps.{state_view}
 use Rattle.server.specs.Sessions.{Served, ServedInPart, Session, IsCutShort}
 use Rattle.server.proofs.Loop.{at_start, can_serve, fed, read_fails, input_ends, exits, stream_fails, answering_fails, feeding_fails, is_open}
