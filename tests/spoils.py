@@ -1,8 +1,9 @@
 """Wrong programs: the program with one thing spoiled. tests/wrong_programs runs them.
 
 `SPOILS` has for each its name, the groups of tests/program of which each has to fail, and the spoiling: a function of the words
-of the command and of what is written, which returns what is written in its place. `run` is what a wrong program does: it runs the
-right one, and passes each reply on as soon as it is there, or, where the program doesn't serve, all that it wrote.
+of the command and of what is written, which returns what is written in its place. In `NOTHING` nothing is spoiled. `run` is what
+a wrong program does: it runs the right one, and passes each reply on as soon as it is there, or, where the program doesn't serve,
+all that it wrote.
 """
 
 import os
@@ -59,6 +60,8 @@ SPOILS = [
     Spoil("nodes too many are counted", ["counts", "transcript_rows"], reply=replaced(rb'"built":', b'"built":1')),
     Spoil("all is scanned again", ["nesting"], reply=replaced(rb'"scanned":\d+', b'"scanned":200001')),
 ]
+# `devices` isn't among these groups: Python itself doesn't start on one of its inputs, which is a folder.
+NOTHING = [Spoil("nothing", sorted({group for spoil in SPOILS for group in spoil.groups} - {"devices"}))]
 
 # A program in C that runs the right one, and does something else where that one says that memory was refused. It takes little
 # memory itself, and none by malloc.
@@ -82,6 +85,8 @@ int main(int count, char **words) {
         _exit(9);
     }
     close(ends[1]);
+    // Only the right program's allocations are counted.
+    unsetenv("COUNTED");
     while (size < sizeof text && (more = read(ends[0], text + size, sizeof text - size)) > 0) size += more;
     waitpid(child, &status, 0);
     if (size >= 16 && !memcmp(text + size - 16, "lrls: no memory\\n", 16)) { WRONG }
@@ -96,6 +101,7 @@ WRONG_AT_REFUSALS = {
     "ends well at a refused allocation": "return 0;",
     "says nothing of a refused allocation": "return 1;",
 }
+NOTHING_AT_REFUSALS = {"nothing at a refused allocation": ""}
 
 
 def read_frame(stream):
@@ -141,7 +147,7 @@ def pass_replies(spoil, child, feeder):
 
 def run(name, right):
     """Is the wrong program of this name, by the right one that is there."""
-    spoil = next(spoil for spoil in SPOILS if spoil.name == name)
+    spoil = next(spoil for spoil in SPOILS + NOTHING if spoil.name == name)
     words = sys.argv[1:]
     stream = None if "device" in name else subprocess.PIPE
     child = subprocess.Popen([right, *words], bufsize=0, stdin=subprocess.PIPE, stdout=stream, stderr=subprocess.PIPE)
