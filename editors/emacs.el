@@ -140,7 +140,8 @@
   "Go LINES ahead and to CHARACTER, as the server counts them, and return this place."
   (forward-line lines)
   (let ((tab-width 1))
-    (funcall (if (boundp 'eglot-move-to-linepos-function) eglot-move-to-linepos-function eglot-move-to-column-function) character))
+    (funcall (if (boundp 'eglot-move-to-linepos-function) eglot-move-to-linepos-function eglot-move-to-column-function)
+             character))
   (point))
 
 (defun lrls--line-ends (lines)

@@ -1,9 +1,9 @@
 """How long a key takes to show and to be coloured in a file of 5,000 lines, in Neovim and in Emacs with the files of editors/.
 
-A name in the middle of the file is typed on a terminal, letter by letter, so that each key makes a token longer that has a colour.
-First each key comes alone, and the letter's first drawing and its first one in colour are timed; then the keys come at random
-distances, so that some come while the editor is busy with an earlier one. The same keys are typed into the same editor without
-the files of editors/.
+A name in the middle of the file is typed on a terminal, letter by letter, so that each key makes a token longer that has a
+colour. First each key comes alone, and the letter's first drawing and its first one in colour are timed; then the keys come at
+random distances, so that some come while the editor is busy with an earlier one. The same keys are typed into the same editor
+without the files of editors/.
 """
 
 import bisect
