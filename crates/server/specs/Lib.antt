@@ -5,3 +5,4 @@ pub mod Runs
 pub mod Sessions
 pub mod Fresh
 pub mod Alone
+pub mod Sent

@@ -11,7 +11,7 @@ use Rattle.docs.specs.declared.doc.DocFault.TheVariants.{TooLarge, NoMemory}
 use Rattle.rpc.specs.Messages.{change_view}
 use Rattle.server.specs.Documents.{IsLastAfter}
 use Rattle.server.proofs.Edits.{after, ends_there, goes_on, last_goes_on, may_lose}
-use Rattle.server.proofs.state.changed.Goals as goal
+use Rattle.server.proofs.notifications.changed.Goals as goal
 
 -- a test that doesn't fail holds
 unless : (b : Bool) → (b ≡ false → ⊥) → b ≡ true

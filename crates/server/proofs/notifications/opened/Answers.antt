@@ -9,7 +9,7 @@ use Rattle.rpc.specs.Unit.{Unit as Encoding}
 use Rattle.rpc.specs.declared.reply.Loss.TheVariants.{TooLarge}
 use Rattle.server.specs.Documents.{is_open, is_lost}
 use Rattle.server.specs.Steps.{opened}
-use Rattle.server.proofs.state.opened.Goals as goal
+use Rattle.server.proofs.notifications.opened.Goals as goal
 
 abbrev first : Encoding → ℤ → List ℕ → OpenDocument
 first unit version text = record { unit = unit; version = version; text = text; last = None }

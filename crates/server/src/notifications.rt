@@ -1,0 +1,224 @@
+//! What a notification does to the documents.
+
+ghost use Rattle.std.specs.Prelude.{◌≡◌, map, IfOk, string_bytes};
+ghost use Rattle.std.specs.Str.{chars};
+ghost use Rattle.std.specs.FinMap.{get, insert};
+ghost use Rattle.docs.specs.Docs.{open_document, IsCurrent};
+ghost use Rattle.rpc.specs.Messages.{note_view, malformed_view, change_view};
+ghost use Rattle.server.specs.Documents.{entry_view, has_room, Becomes, IsEntryOf};
+ghost use Rattle.server.specs.Sent.{sent};
+ghost use Rattle.server.specs.Steps.{State, state_view, opened, exit_status, Changes, Closes, Holds, Misses, Opens, Spoils, Tells};
+
+use crate::answers::{cleared, published};
+use crate::documents::Entry;
+use crate::out::{Out, logged, nothing, one_reply, reply_and_log};
+use crate::state::{Phase, Server};
+use docs::{Doc, DocFault, Language};
+use rpc::{Change, Log, Loss, Malformed, Note, Unit};
+use std::alloc::{AllocError, Global};
+
+fn exit_status(phase: Phase) -> u8
+    ensures { result ≡ exit_status phase }
+{
+    match phase {
+        Phase::New | Phase::Ready(_) => 1,
+        Phase::Down => 0,
+    }
+}
+
+/// A document of this text, or how it is lost. Refuses for memory alone.
+fn opened(
+    alloc: Global,
+    language: &Language,
+    unit: Unit,
+    version: i32,
+    text: &str,
+) -> Result<Entry, AllocError>
+    ensures is { IfOk result (λ e. entry_view e ≡ opened unit version (chars text.now)) }
+    ensures current { IfOk result (IsEntryOf language.now) }
+{
+    match Doc::open(alloc, language, unit, version, text) {
+        Ok(doc) => Ok(Entry::Open(doc)),
+        Err(DocFault::TooLarge) => Ok(Entry::Lost(Loss::TooLarge)),
+        Err(DocFault::NoMemory) => Err(AllocError),
+    }
+}
+
+/// The document after the changes in turn, or how it is lost by the first of them that is refused.
+fn changed(
+    alloc: Global,
+    language: &Language,
+    mut doc: Doc,
+    version: i32,
+    changes: &[Change],
+) -> Entry
+    requires { IsCurrent language.now doc }
+    ensures becomes { let changes = map change_view changes.now in
+        Becomes language.now.file version (open_document doc) changes (entry_view result) }
+    ensures current { IsEntryOf language.now result }
+{
+    for change in changes {
+        match doc.change(alloc, language, change.range, change.text.as_str()) {
+            Ok(next) => doc = next,
+            Err(DocFault::TooLarge) => return Entry::Lost(Loss::TooLarge),
+            Err(DocFault::NoMemory) => return Entry::Lost(Loss::NoMemory),
+        }
+    }
+    doc.set_version(version);
+    Entry::Open(doc)
+}
+
+impl Server {
+    /// What is sent of a document that comes to stand so: the diagnostics of an open one, or that it is lost.
+    fn announced(&self, alloc: Global, uri: &str, entry: &Entry) -> Result<Out, AllocError>
+        requires { IsEntryOf self.now.documents.language entry.now }
+        ensures { let old = state_view self.now in
+            let state = entry_view entry.now in
+            let held = insert old.documents uri.now state in
+            let new : State = record { file = old.file; phase = old.phase; documents = held } in
+            IfOk result (λ out.
+            Holds old uri.now state (sent out) out.stop new) }
+    {
+        match entry {
+            Entry::Open(doc) => {
+                let language = self.documents.language();
+                one_reply(alloc, published(alloc, language, doc, uri)?)
+            }
+            Entry::Lost(loss) => reply_and_log(alloc, cleared(alloc, uri)?, Log::Lost(*loss)),
+        }
+    }
+
+    /// Holds what a document became, and tells it.
+    fn hold(&mut self, alloc: Global, uri: String, entry: Entry) -> Result<Out, AllocError>
+        requires { IsEntryOf self.old.documents.language entry }
+        ensures { let state = entry_view entry in
+            IfOk result (λ out.
+            let old = state_view self.old in
+            Holds old (string_bytes uri) state (sent out) out.stop (state_view self.new)) }
+    {
+        let out = self.announced(alloc, uri.as_str(), &entry)?;
+        self.documents.insert(uri, entry)?;
+        Ok(out)
+    }
+
+    /// `textDocument/didOpen`, where positions count this unit.
+    fn open(
+        &mut self,
+        alloc: Global,
+        unit: Unit,
+        uri: String,
+        version: i32,
+        text: String,
+    ) -> Result<Out, AllocError>
+        ensures { let old = state_view self.old in
+            let room = has_room (string_bytes uri) old.documents in
+            let state = opened unit version (chars (string_bytes text)) in
+            IfOk result (λ out.
+            Opens room old (string_bytes uri) state (sent out) out.stop (state_view self.new)) }
+    {
+        if !self.documents.has_room(uri.as_str()) {
+            return logged(alloc, Log::TooManyDocuments);
+        }
+        let language = self.documents.language();
+        let entry = opened(alloc, language, unit, version, text.as_str())?;
+        self.hold(alloc, uri, entry)
+    }
+
+    /// `textDocument/didChange`.
+    fn change(
+        &mut self,
+        alloc: Global,
+        uri: String,
+        version: i32,
+        changes: Vec<Change>,
+    ) -> Result<Out, AllocError>
+        ensures { let old = state_view self.old in
+            let uri = string_bytes uri in
+            let changes = map change_view changes.items in
+            IfOk result (λ out.
+            Changes (get old.documents uri) old uri version changes (sent out) out.stop
+            (state_view self.new)) }
+    {
+        match self.documents.get(uri.as_str()) {
+            None => return logged(alloc, Log::ChangeNotOpen),
+            Some(Entry::Lost(_)) => return Ok(nothing(alloc)),
+            Some(Entry::Open(_)) => {}
+        }
+        // what is held stays under its URI, so that no memory is needed for the document that comes back
+        let lost = Entry::Lost(Loss::NoMemory);
+        let Ok(Entry::Open(doc)) = self.documents.replace(uri.as_str(), lost) else {
+            unreachable!();
+        };
+        let entry = changed(alloc, self.documents.language(), doc, version, &changes);
+        self.hold(alloc, uri, entry)
+    }
+
+    /// A `textDocument/didChange` of this document that doesn't fit: an open document is lost.
+    fn spoil(&mut self, alloc: Global, uri: String) -> Result<Out, AllocError>
+        ensures { let old = state_view self.old in
+            let uri = string_bytes uri in
+            IfOk result (λ out.
+            Spoils (get old.documents uri) old uri (sent out) out.stop (state_view self.new)) }
+    {
+        match self.documents.get(uri.as_str()) {
+            None => logged(alloc, Log::ChangeNotOpen),
+            Some(Entry::Lost(_)) => Ok(nothing(alloc)),
+            Some(Entry::Open(_)) => self.hold(alloc, uri, Entry::Lost(Loss::MalformedChange)),
+        }
+    }
+
+    /// `textDocument/didClose`.
+    fn close(&mut self, alloc: Global, uri: String) -> Result<Out, AllocError>
+        ensures { let old = state_view self.old in
+            let uri = string_bytes uri in
+            IfOk result (λ out.
+            Closes (get old.documents uri) old uri (sent out) out.stop (state_view self.new)) }
+    {
+        if self.documents.remove(uri.as_str()).is_none() {
+            return logged(alloc, Log::CloseNotOpen);
+        }
+        one_reply(alloc, cleared(alloc, uri.as_str())?)
+    }
+
+    /// A notification whose parameters don't fit.
+    fn miss(&mut self, alloc: Global, malformed: Malformed) -> Result<Out, AllocError>
+        ensures { IfOk result (λ out.
+            let unfit = malformed_view malformed in
+            Misses (state_view self.old) unfit (sent out) out.stop (state_view self.new)) }
+    {
+        match malformed {
+            Malformed::DidOpen => logged(alloc, Log::OpenMalformed),
+            Malformed::DidChange { uri: None } => logged(alloc, Log::ChangeMalformed),
+            Malformed::DidChange { uri: Some(uri) } => self.spoil(alloc, uri),
+            Malformed::DidClose => logged(alloc, Log::CloseMalformed),
+        }
+    }
+
+    /// A notification that fits its method, or one that doesn't.
+    pub(crate) fn on_notification(&mut self, alloc: Global, note: Note) -> Result<Out, AllocError>
+        ensures { IfOk result (λ out.
+            Tells self.old.phase (state_view self.old) (note_view note) (sent out) out.stop
+            (state_view self.new)) }
+    {
+        match (self.phase, note) {
+            (phase, Note::Exit) => Ok(Out {
+                replies: Vec::new(alloc),
+                stop: Some(exit_status(phase)),
+            }),
+            (Phase::Ready(unit), Note::DidOpen { uri, version, text }) => {
+                self.open(alloc, unit, uri, version, text)
+            }
+            (
+                Phase::Ready(_),
+                Note::DidChange {
+                    uri,
+                    version,
+                    changes,
+                },
+            ) => self.change(alloc, uri, version, changes),
+            (Phase::Ready(_), Note::DidClose { uri }) => self.close(alloc, uri),
+            (Phase::Ready(_), Note::Malformed(malformed)) => self.miss(alloc, malformed),
+            _ => Ok(nothing(alloc)),
+        }
+    }
+}

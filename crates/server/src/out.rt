@@ -1,0 +1,68 @@
+//! What a message is answered with.
+
+ghost use Rattle.std.specs.Prelude.{◌≡◌, [], ◌∷◌, None, option_map, IfOk};
+ghost use Rattle.rpc.specs.Messages.{id_view};
+ghost use Rattle.rpc.specs.Replies.{reply_view, told_error, told_log};
+ghost use Rattle.server.specs.Sent.{sent};
+
+use rpc::{Id, Log, Refusal, Reply};
+use std::alloc::{AllocError, Global};
+
+/// What a message is answered with, in order, and the status with which the session stops, if it does.
+#[derive(Debug, Drop)]
+pub struct Out {
+    pub replies: Vec<Reply>,
+    pub stop: Option<u8>,
+}
+
+/// No answers.
+pub(crate) fn nothing(alloc: Global) -> Out
+    ensures replies { sent result ≡ [] }
+    ensures stop { result.stop ≡ None }
+{
+    Out {
+        replies: Vec::new(alloc),
+        stop: None,
+    }
+}
+
+/// One answer. Refuses for memory alone, as all that follow.
+pub(crate) fn one_reply(alloc: Global, reply: Reply) -> Result<Out, AllocError>
+    ensures replies { IfOk result (λ out. sent out ≡ reply_view reply ∷ []) }
+    ensures stop { IfOk result (λ out. out.stop ≡ None) }
+{
+    let mut replies = Vec::new(alloc);
+    replies.push(reply)?;
+    Ok(Out {
+        replies,
+        stop: None,
+    })
+}
+
+/// An error reply, to the request with this id.
+pub(crate) fn refused(alloc: Global, id: Option<Id>, refusal: Refusal) -> Result<Out, AllocError>
+    ensures replies { IfOk result (λ out.
+        sent out ≡ told_error (option_map id_view id) refusal ∷ []) }
+    ensures stop { IfOk result (λ out. out.stop ≡ None) }
+{
+    one_reply(alloc, Reply::Error { id, refusal })
+}
+
+/// One log message.
+pub(crate) fn logged(alloc: Global, log: Log) -> Result<Out, AllocError>
+    ensures replies { IfOk result (λ out. sent out ≡ told_log log ∷ []) }
+    ensures stop { IfOk result (λ out. out.stop ≡ None) }
+{
+    one_reply(alloc, Reply::Log { log })
+}
+
+/// An answer, and a log message after it.
+pub(crate) fn reply_and_log(alloc: Global, reply: Reply, log: Log) -> Result<Out, AllocError>
+    ensures replies { IfOk result
+        (λ out. sent out ≡ reply_view reply ∷ told_log log ∷ []) }
+    ensures stop { IfOk result (λ out. out.stop ≡ None) }
+{
+    let mut out = one_reply(alloc, reply)?;
+    out.replies.push(Reply::Log { log })?;
+    Ok(out)
+}
