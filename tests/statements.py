@@ -224,6 +224,18 @@ def wrong_edits(top):
     return sum(name.endswith(".edit") for folder in folders if os.path.isdir(folder) for name in os.listdir(folder))
 
 
+def sizes(top):
+    """The lines of the program's crates in `src`, `specs` and `proofs`, and all those of the other crates, which no program stands on."""
+    text = "\n".join(lines_of(os.path.join(top, "crates.txt")))
+    apart = set(re.findall(r"^(\w+):", text[text.index("# What tests share") :], re.M))
+    lines = {"src": 0, "specs": 0, "proofs": 0, "apart": 0}
+    for folder in ("src", "specs", "proofs"):
+        for path in files_of(top, folder, ".rt") + files_of(top, folder, ".antt"):
+            crate = os.path.relpath(path, os.path.join(top, "crates")).split(os.sep)[0]
+            lines["apart" if crate in apart else folder] += len(lines_of(path)) - 1
+    return [f"{count:,}" for count in lines.values()]
+
+
 def page(top, name):
     return "\n".join(lines_of(os.path.join(top, name)))
 
@@ -245,6 +257,8 @@ def check(cases, top):
     cases.check("docs/THEOREM.md tells what `run` rests on", awaited, said and said.groups())
     edits = re.findall(r"(\d+) files", theorem)
     cases.check("docs/THEOREM.md tells the number of wrong edits", True, str(wrong_edits(top)) in edits)
+    told = re.findall(r"^\|.*\| ([\d,]+) \|$", theorem, re.M)
+    cases.check("docs/THEOREM.md tells the lines of the crates", sizes(top), told)
     cases.check("no line of a contract is too wide", [], wide_clauses(top))
     cases.check("no line of a definition is too wide", [], wide_definitions(top))
     cases.check("README.md has at most 1,800 words", True, len(page(top, "README.md").split()) <= 1_800)
