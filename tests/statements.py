@@ -13,6 +13,9 @@ import re
 WIDTH_OF_CONTRACTS = 100
 WIDTH_OF_DEFINITIONS = 140
 
+# What follows the names on docs/DEFINITIONS.md that `run` rests on.
+MARK = "•"
+
 WORD = re.compile(r"[A-Za-z_][\w'\-]*")
 IMPORT = re.compile(r"^(?:ghost )?(?:pub )?use Rattle\.(\w+)\.specs\.([\w.]+?)(?:\.\{([^}]*)\}| as (\w+))?;?$", re.M)
 HEAD = re.compile(r"^\s*(?:abbrev |unfoldable |opaque )*(?:pub )?(?:abbrev )?(?:record |data )?([^\s:(]+)")
@@ -166,8 +169,8 @@ def rows_on(text):
 
 
 def name_in(cell):
-    """The name that a first cell has, if it has one alone: the first word of all that stands in backquotes."""
-    found = re.fullmatch(r"`([^`\s]+)[^`]*`", cell)
+    """The name that a first cell has, if it has one alone: the first word of all that stands in backquotes. A mark may follow."""
+    found = re.fullmatch(rf"`([^`\s]+)[^`]*`(?: {MARK})?", cell)
     return found and found[1]
 
 
@@ -186,6 +189,12 @@ def is_law(top, place, name):
 def listed_on(rows, definitions):
     """The definitions that the page has a row of, each in its own file."""
     return {definition_of(definitions, place, name_in(cell)) for cell, place in rows if name_in(cell)}
+
+
+def badly_marked(rows, definitions, rest):
+    """The rows with a mark that `run` doesn't rest on, and those without one that it does."""
+    named = [(cell, definition_of(definitions, place, name_in(cell))) for cell, place in rows if name_in(cell)]
+    return sorted(cell for cell, key in named if (key in rest) != cell.endswith(MARK))
 
 
 def strange_rows(top, rows, definitions):
@@ -250,6 +259,7 @@ def check(cases, top):
     crowded = sorted(cell for cell, _ in rows if not name_in(cell))
     cases.check("each row of docs/DEFINITIONS.md has one name", [], crowded)
     cases.check("the file of each row of docs/DEFINITIONS.md has its name", [], strange_rows(top, rows, definitions))
+    cases.check("what `run` rests on is marked on docs/DEFINITIONS.md", [], badly_marked(rows, definitions, rest))
     theorem = page(top, "docs/THEOREM.md")
     files = len({key[:2] for key in rest})
     said = re.search(r"rests on (\d+) definitions in (\d+) files of `specs/`, ([\d,]+) lines", theorem)
