@@ -72,7 +72,7 @@ fn path_of(alloc: Global, matches: &ArgMatches, name: &str) -> Result<Option<Str
 }
 
 /// The command that was matched.
-fn matched(alloc: Global, matches: &ArgMatches) -> Result<Option<Task>, AllocError>
+fn matched_task(alloc: Global, matches: &ArgMatches) -> Result<Option<Task>, AllocError>
     ensures one { IfOk result (λ task. (name g : Text) (rows : List Row)
         → (name ≡ codes "check") ⊎ (name ≡ codes "serve")
         → subcommand_rows_of matches.now ≡ Some (name, rows)
@@ -84,14 +84,14 @@ fn matched(alloc: Global, matches: &ArgMatches) -> Result<Option<Task>, AllocErr
 {
     match matches.subcommand() {
         Some(("check", check)) => Ok(path_of(alloc, check, "GRAMMAR")?.map(Task::Check)),
-        Some(("parse", parse)) => parsing(alloc, parse),
+        Some(("parse", parse)) => parse_task(alloc, parse),
         Some(("serve", serve)) => Ok(path_of(alloc, serve, "GRAMMAR")?.map(Task::Serve)),
         _ => Ok(None),
     }
 }
 
 /// The two paths that `parse` was given.
-fn parsing(alloc: Global, matches: &ArgMatches) -> Result<Option<Task>, AllocError>
+fn parse_task(alloc: Global, matches: &ArgMatches) -> Result<Option<Task>, AllocError>
     ensures { IfOk result (λ task. (g x : Text)
         → grammar_in (rows_of (found_of matches.now)) ≡ Some g
         → text_in (rows_of (found_of matches.now)) ≡ Some x
@@ -112,7 +112,7 @@ fn task_of(alloc: Global, line: &[&str]) -> Result<Option<Task>, AllocError>
         → map (λ s. s.now) line.now ≡ codes "lrls" ∷ words → All IsUtf8 words → IsRead words task) }
 {
     match command(alloc)?.try_get_matches_from(line) {
-        Ok(matches) => matched(alloc, &matches),
+        Ok(matches) => matched_task(alloc, &matches),
         Err(error) if error.kind() == ErrorKind::OutOfMemory => Err(AllocError),
         Err(_) => Ok(None),
     }

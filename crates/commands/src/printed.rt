@@ -28,72 +28,101 @@ pub struct Printed {
     pub status: u8,
 }
 
-/// This text on standard output alone.
-fn output(alloc: Global, text: String, status: u8) -> Printed
-    ensures out { result.out.items ≡ string_bytes text }
-    ensures err { result.err.items ≡ [] }
-    ensures status { result.status ≡ status }
-{
-    Printed {
-        out: text.into_bytes(),
-        err: Vec::new(alloc),
-        status,
+impl Printed {
+    /// This text on standard output alone.
+    fn text(alloc: Global, text: String, status: u8) -> Printed
+        ensures out { result.out.items ≡ string_bytes text }
+        ensures err { result.err.items ≡ [] }
+        ensures status { result.status ≡ status }
+    {
+        Printed {
+            out: text.into_bytes(),
+            err: Vec::new(alloc),
+            status,
+        }
+    }
+
+    /// What is printed of a fault.
+    fn fault(alloc: Global, fault: &Fault) -> Result<Printed, AllocError>
+        ensures { IfOk result (PrintsFault fault.now) }
+    {
+        Ok(Printed {
+            out: Vec::new(alloc),
+            err: format!(in alloc; "{fault}\n")?.into_bytes(),
+            status: fault.status(),
+        })
+    }
+
+    /// What is printed of a conflict of a grammar. Refuses for memory alone.
+    fn conflict(
+        alloc: Global,
+        grammar: &Grammar,
+        conflict: &Conflict,
+    ) -> Result<Printed, AllocError>
+        requires { IsReport grammar.now.grammar conflict.now }
+        ensures out { IfOk result (λ printed. printed.out.items ≡ []) }
+        ensures status { IfOk result (λ printed. printed.status ≡ 2) }
+        ensures conflict { IfOk result (λ printed.
+            printed.err.items ≡ conflict_text grammar.now conflict.now) }
+    {
+        Ok(Printed {
+            out: Vec::new(alloc),
+            err: conflict_text(alloc, grammar, conflict)?.into_bytes(),
+            status: 2,
+        })
+    }
+
+    /// What is printed of the fault of a grammar file, with status 2. Refuses for memory alone.
+    fn load_fault(alloc: Global, fault: LoadFault) -> Result<Printed, AllocError>
+        requires { (text : List ℕ) × IsLoadFault text fault }
+        ensures { IfOk result (Tells fault) }
+    {
+        match fault {
+            LoadFault::Grammar(fault) => Printed::fault(alloc, &Fault::Grammar(fault)),
+            LoadFault::TooManyStates => Printed::fault(alloc, &Fault::TooManyStates),
+            LoadFault::TooManySets => Printed::fault(alloc, &Fault::TooManySets),
+            LoadFault::Conflict(grammar, conflict) => Printed::conflict(alloc, &grammar, &conflict),
+            LoadFault::NoMemory => Err(AllocError),
+        }
+    }
+
+    /// What is printed of what a text comes to.
+    fn outcome(alloc: Global, outcome: Outcome) -> Result<Printed, AllocError>
+        ensures { IfOk result (λ printed. Prints outcome printed) }
+    {
+        let (line, status) = match outcome {
+            Outcome::Tree(mut text) => {
+                text.push('\n')?;
+                (text, 0)
+            }
+            Outcome::Fault(fault) => (fault_line(alloc, &fault)?, 1),
+        };
+        Ok(Printed::text(alloc, line, status))
+    }
+
+    /// What is printed of an open document. Refuses for memory alone.
+    fn document(alloc: Global, language: &Language, doc: &Doc) -> Result<Printed, AllocError>
+        requires { IsCurrent language.now doc.now }
+        ensures { IfOk result (λ printed. (come : Outcome)
+            × IsOutcome doc.now.unit language.now.file doc.now.text come × Prints come printed) }
+    {
+        Printed::outcome(alloc, doc.outcome(alloc, language)?)
     }
 }
 
-/// What is printed of a fault.
-fn refusal(alloc: Global, fault: &Fault) -> Result<Printed, AllocError>
-    ensures { IfOk result (PrintsFault fault.now) }
-{
-    Ok(Printed {
-        out: Vec::new(alloc),
-        err: format!(in alloc; "{fault}\n")?.into_bytes(),
-        status: fault.status(),
-    })
-}
-
-/// What is printed of a conflict of a grammar. Refuses for memory alone.
-fn shown(alloc: Global, grammar: &Grammar, conflict: &Conflict) -> Result<Printed, AllocError>
-    requires { IsReport grammar.now.grammar conflict.now }
-    ensures out { IfOk result (λ printed. printed.out.items ≡ []) }
-    ensures status { IfOk result (λ printed. printed.status ≡ 2) }
-    ensures conflict { IfOk result (λ printed.
-        printed.err.items ≡ conflict_text grammar.now conflict.now) }
-{
-    Ok(Printed {
-        out: Vec::new(alloc),
-        err: conflict_text(alloc, grammar, conflict)?.into_bytes(),
-        status: 2,
-    })
-}
-
-/// What is printed of the fault of a grammar file, with status 2. Refuses for memory alone.
-fn refused(alloc: Global, fault: LoadFault) -> Result<Printed, AllocError>
-    requires { (text : List ℕ) × IsLoadFault text fault }
-    ensures { IfOk result (Tells fault) }
-{
-    match fault {
-        LoadFault::Grammar(fault) => refusal(alloc, &Fault::Grammar(fault)),
-        LoadFault::TooManyStates => refusal(alloc, &Fault::TooManyStates),
-        LoadFault::TooManySets => refusal(alloc, &Fault::TooManySets),
-        LoadFault::Conflict(grammar, conflict) => shown(alloc, &grammar, &conflict),
-        LoadFault::NoMemory => Err(AllocError),
-    }
-}
-
-/// The language of a grammar file of these bytes, or what is printed, with status 2, where it defines none: that it isn't UTF-8, the
-/// four lines that show a conflict, or else the text of its first fault. Refuses for memory alone.
+/// The language of a grammar file of these bytes, or what is printed, with status 2, where it defines none: that it isn't UTF-8,
+/// the four lines that show a conflict, or else the text of its first fault. Refuses for memory alone.
 pub fn load(alloc: Global, bytes: &[u8]) -> Result<Result<Language, Printed>, AllocError>
     ensures utf8 { IfOk result (λ loaded. IfOk loaded (λ _. IsUtf8 bytes.now)) }
     ensures language { IfOk result (λ loaded. IfOk loaded (λ l. IsLanguageOf bytes.now l.file)) }
     ensures refused { IfOk result (λ loaded. IfErr loaded (IsRefused bytes.now)) }
 {
     let Ok(text) = str::from_utf8(bytes) else {
-        return Ok(Err(refusal(alloc, &Fault::NotUtf8)?));
+        return Ok(Err(Printed::fault(alloc, &Fault::NotUtf8)?));
     };
     match Language::load(alloc, text) {
         Ok(language) => Ok(Ok(language)),
-        Err(fault) => Ok(Err(refused(alloc, fault)?)),
+        Err(fault) => Ok(Err(Printed::load_fault(alloc, fault)?)),
     }
 }
 
@@ -118,7 +147,7 @@ pub fn check(alloc: Global, language: &Language) -> Result<Printed, AllocError>
         write_note(&mut out, name)?;
     }
     out.push_str("ok\n")?;
-    Ok(output(alloc, out, 0))
+    Ok(Printed::text(alloc, out, 0))
 }
 
 /// A position, as `L:C`.
@@ -138,29 +167,6 @@ fn fault_line(alloc: Global, fault: &Diagnostic) -> Result<String, AllocError>
     format!(in alloc; "{start}-{end}: {message}\n")
 }
 
-/// What is printed of what a text comes to.
-fn outcome(alloc: Global, outcome: Outcome) -> Result<Printed, AllocError>
-    ensures { IfOk result (λ printed. Prints outcome printed) }
-{
-    let (line, status) = match outcome {
-        Outcome::Tree(mut text) => {
-            text.push('\n')?;
-            (text, 0)
-        }
-        Outcome::Fault(fault) => (fault_line(alloc, &fault)?, 1),
-    };
-    Ok(output(alloc, line, status))
-}
-
-/// What is printed of an open document. Refuses for memory alone.
-fn parsed(alloc: Global, language: &Language, doc: &Doc) -> Result<Printed, AllocError>
-    requires { IsCurrent language.now doc.now }
-    ensures { IfOk result (λ printed. (come : Outcome)
-        × IsOutcome doc.now.unit language.now.file doc.now.text come × Prints come printed) }
-{
-    outcome(alloc, doc.outcome(alloc, language)?)
-}
-
 /// What `lrls parse` prints of a text of these bytes: on standard output the text of its tree, or its fault, with status 1.
 /// Positions count UTF-16 units. A text that isn't UTF-8 or has more than 1,048,576 bytes is refused with status 1, which standard
 /// error tells. Refuses for memory alone.
@@ -168,11 +174,11 @@ pub fn parse(alloc: Global, language: &Language, bytes: &[u8]) -> Result<Printed
     ensures { IfOk result (IsParsed language.now.file bytes.now) }
 {
     let Ok(text) = str::from_utf8(bytes) else {
-        return refusal(alloc, &Fault::TextNotUtf8);
+        return Printed::fault(alloc, &Fault::TextNotUtf8);
     };
     match Doc::open(alloc, language, Unit::Utf16, 0, text) {
-        Ok(doc) => parsed(alloc, language, &doc),
-        Err(DocFault::TooLarge) => refusal(alloc, &Fault::TextTooLarge),
+        Ok(doc) => Printed::document(alloc, language, &doc),
+        Err(DocFault::TooLarge) => Printed::fault(alloc, &Fault::TextTooLarge),
         Err(DocFault::NoMemory) => Err(AllocError),
     }
 }

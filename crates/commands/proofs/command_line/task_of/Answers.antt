@@ -9,9 +9,9 @@ pub returns-in-Ok : goal.returns-in-Ok
 returns-in-Ok c =
     let app = app_of c.in_ok-command.field-0 in
     let simple : is_simple_and_free app ≡ true = ap is_simple_and_free c.in_ok-command.ensures ∙ simple_and_free in
-    if_ok_both c.matched.result (λ task one two words begins utf8.
+    if_ok_both c.matched_task.result (λ task one two words begins utf8.
     read_of_taken app (map (λ s. s.now) c.args.line.now) words c.in-Ok.matches task c.in_ok-command.ensures begins utf8 c.in-Ok.ensures.matches (c.in-Ok.ensures.kinds simple) one two)
-    c.matched.ensures.one c.matched.ensures.two
+    c.matched_task.ensures.one c.matched_task.ensures.two
 
 pub returns-in-Err-2 : goal.returns-in-Err-2
 returns-in-Err-2 c words begins utf8 =

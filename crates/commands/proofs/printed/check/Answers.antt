@@ -32,7 +32,7 @@ returns c =
     record {
       notes = h.0;
       are = h.1;
-      out = c.output.ensures.out ∙ (end ∙ (ap (λ names. string_bytes c.loop-name.out ++ report names) (sym c.in-None.ensures.steps.0) ∙ h.2));
-      err = c.output.ensures.err;
-      status = c.output.ensures.status;
+      out = c.text.ensures.out ∙ (end ∙ (ap (λ names. string_bytes c.loop-name.out ++ report names) (sym c.in-None.ensures.steps.0) ∙ h.2));
+      err = c.text.ensures.err;
+      status = c.text.ensures.status;
     }
