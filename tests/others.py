@@ -69,7 +69,9 @@ VIM = ["vim", "-n", "-i", "NONE", "-u", "vimrc", "faulty.sum"]
 
 
 def vim_ale(folder, draws=False):
-    placed(folder, "vimrc", f"set nocompatible\nlet g:ale_virtualtext_cursor = 1\npackadd! ale\n{words_of('Vim with ALE')}")
+    # The sign isn't the same in all versions.
+    before = "set nocompatible\nlet g:ale_virtualtext_cursor = 1\nlet g:ale_sign_error = '>>'\npackadd! ale\n"
+    placed(folder, "vimrc", before + words_of("Vim with ALE"))
     steps = [
         (["text:3G"], [">>)+5", "unexpected RP; expected NUM, LP"], []),
         (["text:2G$x"], ["+4\n"], [">>"]),
