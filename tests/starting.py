@@ -179,8 +179,19 @@ def installs(cases, checkout):
     cases.check("install again", ("", f"lrls: installed as {into}/lrls\n", 0), checkout.run("install", into))
 
 
+def newer_files(cases, checkout):
+    """What the script does where a file is newer than the program, which was built, and `rt` is missing."""
+    ran, missing = ("ran check x\n", "", 7), ("", NO_RT.format(top=checkout.top), 1)
+    for folder, awaited in [("crates/other/src", ran), ("crates/lrls/must-fail", ran), ("crates/lrls/src/part", missing)]:
+        os.makedirs(os.path.join(checkout.top, folder))
+        later = checkout.placed(f"{folder}/later", "")
+        os.utime(later, (2_000_000_000, 2_000_000_000))
+        cases.check(f"a newer file in {folder}", awaited, checkout.run("check", "x"))
+
+
 def run(cases, folder, refused, usage):
     checkout = Checkout(folder)
     without_rt(cases, checkout, refused, usage)
     unproved(cases, checkout)
     installs(cases, checkout)
+    newer_files(cases, checkout)
