@@ -16,7 +16,7 @@ use Rattle.server.specs.Alone.{named}
 use Rattle.server.specs.Answers.{IsAnswer, IsCount, tree_answer}
 use Rattle.server.specs.Documents.{DocumentState, is_open, is_lost, Becomes, Held, has_room}
 use Rattle.server.specs.Fresh.{Publishes}
-use Rattle.server.specs.Sessions.{AllFit}
+use Rattle.server.specs.Loop.{AllFit}
 use Rattle.server.specs.Steps.{State, Asks, Changes, Closes, Forgets, Holds, Misses, Opens, Replies, Spoils, Step, Tells, opened}
 use Rattle.server.proofs.Edits.{IsFit, becomes_fit}
 

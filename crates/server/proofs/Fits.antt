@@ -13,7 +13,7 @@ use Rattle.rpc.specs.Reading.{hearing}
 use Rattle.rpc.specs.Replies.{Answer}
 use Rattle.server.specs.Documents.{DocumentState, is_open, is_lost, Held}
 use Rattle.server.specs.Runs.{Run}
-use Rattle.server.specs.Sessions.{AllFit, CanServe}
+use Rattle.server.specs.Loop.{AllFit, CanServe}
 use Rattle.server.specs.Steps.{State, first_state, Step}
 use Rattle.server.specs.declared.state.Phase.TheVariants.{New}
 use Rattle.server.proofs.Effects.{AreOfPhase, IsOfPhase, Effect, stays, stands, goes, step_effect}

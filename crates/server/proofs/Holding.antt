@@ -12,7 +12,8 @@ use Rattle.server.specs.declared.documents.Entry.TheVariants as entry
 use Rattle.server.specs.declared.state.Phase.{Phase}
 use Rattle.server.specs.Answers.{IsPublished}
 use Rattle.rpc.specs.Messages.{ChangeSaid}
-use Rattle.server.specs.Documents.{DocumentState, Held, is_open, is_lost, entry_view, Becomes}
+use Rattle.server.specs.Documents.{DocumentState, Held, is_open, is_lost, Becomes}
+use Rattle.server.specs.Holding.{entry_view}
 use Rattle.server.specs.Steps.{State, Changes, Closes, Holds, Opens}
 use Rattle.server.proofs.LookUps.{inserted_again}
 

@@ -10,7 +10,8 @@ use Rattle.docs.specs.Answers.{AlwaysAnswers}
 use Rattle.frames.specs.declared.fault.RunFault.{RunFault}
 use Rattle.frames.specs.declared.fault.RunFault.TheVariants.{Frame, Read, Write, Memory}
 use Rattle.server.specs.Steps.{State, first_state}
-use Rattle.server.specs.Sessions.{Served, ServedInPart, CanServe, Session, IsCutShort, EndsAt, Ends, run_fault}
+use Rattle.server.specs.Sessions.{Session, Ends}
+use Rattle.server.specs.Loop.{Served, ServedInPart, CanServe, IsCutShort, EndsAt, run_fault}
 use Rattle.server.proofs.Runs.{served_then, served_nothing}
 use Rattle.server.proofs.Fits.{run_serves, first_serves}
 use Rattle.server.proofs.Parts.{part_nothing, part_then}

@@ -4,7 +4,8 @@ use Rattle.std.specs.Prelude.{◌≡◌, Option, Some, None, Result, Ok, Err, On
 use Rattle.std.specs.Io.KnownBytes.{Appends, Keeps}
 use Rattle.server.specs.Steps.{State}
 use Rattle.server.specs.Runs.{bytes_of}
-use Rattle.server.specs.Sessions.{AppendsFront, Served, ServedInPart, HasServed, CanServe, IsCutShort}
+use Rattle.server.specs.Sessions.{AppendsFront}
+use Rattle.server.specs.Loop.{Served, ServedInPart, HasServed, CanServe, IsCutShort}
 use Rattle.frames.specs.declared.fault.RunFault.{RunFault}
 use Rattle.server.proofs.Totals.{some_run}
 use Rattle.server.proofs.Runs.{run_then, run_on, appends_then, appends_nothing, bytes_then}

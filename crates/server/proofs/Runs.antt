@@ -13,7 +13,7 @@ use Rattle.rpc.specs.Reading.{hearing}
 use Rattle.rpc.specs.Replies.{Answer, reply_data}
 use Rattle.server.specs.Steps.{State, Step, StepOn}
 use Rattle.server.specs.Runs.{Run, bytes_of}
-use Rattle.server.specs.Sessions.{Served, CanServe}
+use Rattle.server.specs.Loop.{Served, CanServe}
 use Rattle.server.proofs.Fits.{run_serves}
 use Rattle.server.proofs.Totals.{some_run}
 

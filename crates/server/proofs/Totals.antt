@@ -19,7 +19,7 @@ use Rattle.server.specs.declared.state.Phase.TheVariants.{New, Ready, Down}
 use Rattle.server.specs.Documents.{DocumentState, is_open, is_lost, has_room}
 use Rattle.server.specs.Steps.{State, Asks, Changes, Closes, Holds, Misses, Opens, Spoils, Tells, Step, opened}
 use Rattle.server.specs.Runs.{Run}
-use Rattle.server.specs.Sessions.{CanServe}
+use Rattle.server.specs.Loop.{CanServe}
 use Rattle.server.proofs.Edits.{IsFit, becomes_fit, some_becomes}
 use Rattle.server.proofs.Effects.{opened_fit}
 use Rattle.server.proofs.Fits.{step_serves}

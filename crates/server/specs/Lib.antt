@@ -1,8 +1,11 @@
 pub mod Documents
+pub mod Stored
+pub mod Holding
 pub mod Answers
 pub mod Steps
 pub mod Runs
 pub mod Sessions
+pub mod Loop
 pub mod Fresh
 pub mod Alone
 pub mod Sent

@@ -2,7 +2,8 @@
 
 ghost use Rattle.std.specs.Prelude.{◌≡◌, ◌||◌, Some, None, nat_lt, is_some, option_map, IfSome, IfOk, IfErr, OnOk, OnErr, string_bytes};
 ghost use Rattle.std.specs.FinMap as map;
-ghost use Rattle.server.specs.Documents.{has_room, entry_view, IsEntryOf};
+ghost use Rattle.server.specs.Documents.{has_room};
+ghost use Rattle.server.specs.Holding.{entry_view, IsEntryOf};
 
 use docs::{Doc, Language};
 use rpc::Loss;
@@ -34,7 +35,8 @@ pub struct Documents {
 impl Model for Documents {
     ghost use Rattle.std.specs.Coded.{codes};
     ghost use Rattle.docs.specs.Expression as e;
-    ghost use Rattle.server.specs.Documents.{Holding, held_code, documents_of, AreCurrent};
+    ghost use Rattle.server.specs.Holding.{Holding, documents_of, AreCurrent};
+    ghost use Rattle.server.specs.Stored.{held_code};
 
     ghost Value = { Holding };
 

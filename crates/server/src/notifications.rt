@@ -5,7 +5,8 @@ ghost use Rattle.std.specs.Str.{chars};
 ghost use Rattle.std.specs.FinMap.{get, insert};
 ghost use Rattle.docs.specs.Docs.{open_document, IsCurrent};
 ghost use Rattle.rpc.specs.Messages.{note_view, malformed_view, change_view};
-ghost use Rattle.server.specs.Documents.{entry_view, has_room, Becomes, IsEntryOf};
+ghost use Rattle.server.specs.Documents.{has_room, Becomes};
+ghost use Rattle.server.specs.Holding.{entry_view, IsEntryOf};
 ghost use Rattle.server.specs.Sent.{sent};
 ghost use Rattle.server.specs.Steps.{State, state_view, opened, exit_status, Changes, Closes, Holds, Misses, Opens, Spoils, Tells};
 

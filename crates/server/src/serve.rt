@@ -13,7 +13,8 @@ ghost use Rattle.server.specs.Steps.{state_view, first_state};
 ghost use Rattle.server.specs.Runs.{bytes_of};
 ghost use Rattle.server.specs.Alone.{EachDocumentIsAlone, EachRunHasATale, EachTaleIsTold};
 ghost use Rattle.server.specs.Fresh.{EveryAnswerIsFresh, EachTextIsItsEdits};
-ghost use Rattle.server.specs.Sessions.{AppendsFront, CanServe, HasServed, Session, IsCutShort, EndsAt, run_fault};
+ghost use Rattle.server.specs.Sessions.{AppendsFront, Session};
+ghost use Rattle.server.specs.Loop.{CanServe, HasServed, IsCutShort, EndsAt, run_fault};
 
 use crate::laws::{each_document_is_alone, each_text_is_its_edits, every_answer_is_fresh};
 use crate::state::Server;

@@ -5,7 +5,7 @@ use Rattle.rpc.specs.Reading.{hearing}
 use Rattle.rpc.specs.Replies.{reply_view}
 use Rattle.frames.specs.declared.fault.RunFault.{RunFault}
 use Rattle.server.specs.Steps.{state_view}
-use Rattle.server.specs.Sessions.{ServedInPart, IsCutShort}
+use Rattle.server.specs.Loop.{ServedInPart, IsCutShort}
 use Rattle.server.proofs.Runs.{step_heard, one_run}
 use Rattle.server.proofs.Parts.{cut_off, part_nothing}
 use Rattle.server.proofs.serve.serve.Goals as goal

@@ -4,7 +4,7 @@ use Rattle.std.proofs.lemmas.Result.{err_from_is_err_and}
 use Rattle.frames.specs.Contents.{contents}
 use Rattle.frames.specs.declared.fault.RunFault.{RunFault}
 use Rattle.server.specs.Steps.{state_view}
-use Rattle.server.specs.Sessions.{Served, ServedInPart, IsCutShort}
+use Rattle.server.specs.Loop.{Served, ServedInPart, IsCutShort}
 use Rattle.server.proofs.Fits.{run_serves}
 use Rattle.server.proofs.Parts.{cut_off, part_on, part_then}
 use Rattle.server.proofs.Runs.{served_stops, served_upto, contents_more, contents_all}

@@ -8,7 +8,8 @@ use Rattle.rpc.specs.Messages.{change_view}
 use Rattle.rpc.specs.declared.message.Change.{Change}
 use Rattle.rpc.specs.declared.reply.Loss.TheVariants.{NoMemory}
 use Rattle.server.specs.declared.documents.Entry.{Entry}
-use Rattle.server.specs.Documents.{is_open, is_lost, entry_view, Becomes}
+use Rattle.server.specs.Documents.{is_open, is_lost, Becomes}
+use Rattle.server.specs.Holding.{entry_view}
 use Rattle.server.specs.Steps.{state_view}
 use Rattle.server.proofs.Holding.{changes_open, state_same}
 use Rattle.server.proofs.Telling.{if_ok, if_ok_is, on_ok_is}

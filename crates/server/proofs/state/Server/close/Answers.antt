@@ -2,7 +2,7 @@ use Rattle.std.proofs.Common.{◌≡◌, ap, not, sym, ◌∙◌, string_bytes}
 use Rattle.std.specs.Prelude.{None, option_map}
 use Rattle.std.specs.FinMap.{get}
 use Rattle.docs.specs.Languages.{LanguageData}
-use Rattle.server.specs.Documents.{entry_view}
+use Rattle.server.specs.Holding.{entry_view}
 use Rattle.server.specs.Steps.{state_view}
 use Rattle.server.proofs.Holding.{closes_none, state_same}
 use Rattle.server.proofs.LookUps.{none_is, removed_none}

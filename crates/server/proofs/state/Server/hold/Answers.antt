@@ -2,7 +2,7 @@ use Rattle.std.proofs.Common.{List, ℕ, string_bytes, map, ap, sym, subst}
 use Rattle.std.specs.FinMap.{insert}
 use Rattle.docs.specs.Languages.{LanguageData}
 use Rattle.rpc.specs.Replies.{reply_view}
-use Rattle.server.specs.Documents.{entry_view}
+use Rattle.server.specs.Holding.{entry_view}
 use Rattle.server.specs.Steps.{State, state_view, Holds}
 use Rattle.server.proofs.Holding.{state_of, state_same}
 use Rattle.server.proofs.state.Server.hold.Goals as goal

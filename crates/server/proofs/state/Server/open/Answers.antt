@@ -1,7 +1,8 @@
 use Rattle.std.proofs.Common.{◌≡◌, List, ℕ, ℤ, w32, ap, sym, ◌∙◌, string_bytes}
 use Rattle.std.proofs.lemmas.Int.{to_z-of_z}
 use Rattle.std.specs.Str.{chars}
-use Rattle.server.specs.Documents.{entry_view, has_room}
+use Rattle.server.specs.Documents.{has_room}
+use Rattle.server.specs.Holding.{entry_view}
 use Rattle.server.specs.Steps.{state_view, opened}
 use Rattle.server.proofs.Holding.{opens_room}
 use Rattle.server.proofs.Telling.{if_ok_then}
