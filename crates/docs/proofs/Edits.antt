@@ -256,7 +256,7 @@ stats_are l d current stats edit scanned tokens branches built nodes = record {
 
 -- ---- one thing is told
 
-above_or_not : (last : Option LastEdit) (number : ℕ) → IsAbove last number ⊎ (¬ IsAbove last number)
+pub above_or_not : (last : Option LastEdit) (number : ℕ) → IsAbove last number ⊎ (¬ IsAbove last number)
 above_or_not None number = ⊎_elim (λ some. inl some) (λ none. inr (λ some. omega (arith, none, some))) (cases_lt 0 number)
 above_or_not (Some last) number =
     ⊎_elim

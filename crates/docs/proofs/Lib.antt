@@ -5,4 +5,5 @@ mod Trees
 mod Always
 mod Once
 mod Edits
+mod Countable
 mod Stamps

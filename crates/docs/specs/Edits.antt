@@ -6,8 +6,9 @@
 --     IsNext encoding file text range s last next      behind the last edit, that change of the text makes this one
 --     AreStats file document stats      how much there is of a document, and how much its last edit made
 --     without_nodes stats      what is told but the count of the nodes in memory
---     CountsOnce file      of each edit one thing is told, and of each document, but for that count
-use Rattle.std.specs.Prelude.{◌≡◌, ◌⊎◌, ℕ, ◌+◌, ◌-◌, ◌*◌, ◌<◌, ◌≤◌, min, List, length, Option, Some, None}
+--     CountsOnce file      of each edit at most one thing is told, and of each document, but for that count
+--     AlwaysCounts file      of each edit there is one, where the texts fit
+use Rattle.std.specs.Prelude.{◌≡◌, ◌⊎◌, ℕ, ◌+◌, ◌-◌, ◌*◌, ◌<◌, ◌≤◌, min, List, length, Option, Some, None, true}
 use Rattle.definitions.specs.declared.Edit.{Edit}
 use Rattle.definitions.specs.declared.Range.{Range}
 use Rattle.definitions.specs.declared.Stats.{Stats}
@@ -17,7 +18,7 @@ use Rattle.definitions.specs.Text.{changed, span}
 use Rattle.definitions.specs.TokenEdits.{made, splice}
 use Rattle.definitions.specs.TreeEdits.{Built}
 use Rattle.docs.specs.Answers.{Reading, IsReading}
-use Rattle.docs.specs.Texts.{LastEdit, OpenDocument}
+use Rattle.docs.specs.Texts.{LastEdit, OpenDocument, fits}
 use Rattle.grammar.specs.Grammars.{FileGrammar}
 
 -- 0 is opening
@@ -78,3 +79,7 @@ pub record CountsOnce (file : FileGrammar) : Type 0 where
       → IsNext encoding file t range s last one → IsNext encoding file t range s last other → other ≡ one
   pub stats : (d : OpenDocument) (one other : Stats) → AreStats file d one → AreStats file d other
       → without_nodes other ≡ without_nodes one
+
+abbrev pub AlwaysCounts : FileGrammar → Type 0
+AlwaysCounts file = (encoding : Encoding) (t : List ℕ) (range : Option Range) (s : List ℕ) (last : Option LastEdit)
+    → fits t ≡ true → fits (changed encoding t range s) ≡ true → (next : LastEdit) × IsNext encoding file t range s last next

@@ -13,7 +13,7 @@ ghost use Rattle.parser.specs.Stamps.{AreOlder, KeepStamps};
 ghost use Rattle.trees.specs.Cells.{all_trees, forest_in};
 ghost use Rattle.docs.specs.Languages.{IsLanguageOf, IsLoadFault};
 ghost use Rattle.docs.specs.Answers.{AlwaysAnswers, AnswersOnce};
-ghost use Rattle.docs.specs.Edits.{CountsOnce};
+ghost use Rattle.docs.specs.Edits.{AlwaysCounts, CountsOnce};
 
 use crate::significant::Significant;
 use definitions::laws::{expected_unique, folds_unique, selection_unique, tokens_unique};
@@ -224,11 +224,12 @@ impl Language {
     }
 
     /// Each text that fits has a reading by the language, and each reading all that can be told of it; of each there is one.
-    /// Of each edit at most one thing is told.
+    /// Of each edit one thing is told, where the texts before and after it fit.
     pub fn always_answers(&self)
         ensures always { AlwaysAnswers self.now.file }
         ensures once { AnswersOnce self.now.file }
         ensures counts { CountsOnce self.now.file }
+        ensures counted { AlwaysCounts self.now.file }
     {
         each_text_has_tokens();
         each_list_has_a_verdict();

@@ -7,6 +7,7 @@ use Rattle.views.specs.Told.{placed_parts}
 use Rattle.docs.specs.Languages.{LanguageData}
 use Rattle.docs.specs.Answers.{AlwaysAnswers, AnswersOnce}
 use Rattle.docs.proofs.Always.{LayersAnswer, always_answers}
+use Rattle.docs.proofs.Countable.{always_counts}
 use Rattle.docs.proofs.Edits.{counts_once}
 use Rattle.docs.proofs.Once.{answers_once}
 use Rattle.docs.proofs.language.Language.always_answers.Goals as goal
@@ -47,3 +48,6 @@ returns-clause-once c =
 
 pub returns-clause-counts : goal.returns-clause-counts
 returns-clause-counts c = counts_once c.args.self.now.file (returns-clause-once c)
+
+pub returns-clause-counted : goal.returns-clause-counted
+returns-clause-counted c = always_counts c.args.self.now.file (returns-clause-always c)
