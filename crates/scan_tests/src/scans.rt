@@ -413,7 +413,8 @@ fn reads_few_characters(rt: HostRuntime) {
     assert!(rt; 0 < reads && reads < 100);
 }
 
-/// Three runs of 32 tokens, of each of which 14 are taken away: none is so short that it is joined with another.
+/// Three runs of 32 tokens, of each of which 14 are taken away: none is so short that it is joined with another. The plus before
+/// them is scanned again, since its reach meets the edit.
 #[test]
 fn tokens_lie_in_few_runs(rt: HostRuntime) {
     let alloc = rt.alloc();
@@ -422,11 +423,14 @@ fn tokens_lie_in_few_runs(rt: HostRuntime) {
     let mut text = Text::open(alloc, &open).expect(&rt, "a text");
     let mut tokens = scan(&rt, alloc, &language, &text);
     assert!(rt; tokens.items().runs() == 3);
-    let last = step_by_7((72, 14, ""), (0, 82), (72, 86, &[]));
+    let plus = [Kind::Rule(1)];
+    let last = step_by_7((72, 14, ""), (1, 82), (71, 86, &plus));
     check_step(&rt, alloc, &language, &mut text, &mut tokens, &last);
-    let middle = step_by_7((40, 14, ""), (0, 68), (40, 54, &[]));
+    let mut middle = step_by_7((40, 14, ""), (1, 68), (39, 54, &plus));
+    middle.number = 8;
     check_step(&rt, alloc, &language, &mut text, &mut tokens, &middle);
-    let first = step_by_7((8, 14, ""), (0, 54), (8, 22, &[]));
+    let mut first = step_by_7((8, 14, ""), (1, 54), (7, 22, &plus));
+    first.number = 9;
     check_step(&rt, alloc, &language, &mut text, &mut tokens, &first);
     assert!(rt; tokens.items().runs() == 3);
 }
