@@ -15,7 +15,7 @@ COMMANDS = "awk cat cp date dirname find getconf head mktemp mv readlink rm sed 
 
 NO_RT = (
     "lrls: building the program needs `rt`, the command of Rattle's kit, and no folder of PATH has it\n"
-    "lrls: add the kit's folder bin to PATH; {top}/README.md names the kit's version, under \"Run it\"\n"
+    "lrls: add the kit's folder bin to PATH; {top}/README.md names the kit's version, under \"What you need\"\n"
 )
 UNBUILT = (
     "lrls: the program isn't built yet; each of these proves and builds it first, which takes half an hour or more\n"
