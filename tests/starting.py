@@ -22,7 +22,7 @@ UNBUILT = (
     "lrls: for an answer in a minute or two, without a proof: lrls --unproved check GRAMMAR, or parse GRAMMAR TEXT\n"
     "lrls: for a copy of the built program: lrls install FOLDER\n"
 )
-UNPROVED = "lrls: nothing is proved yet: building without a proof takes a minute or two, a large grammar some more\n"
+UNPROVED = "lrls: nothing is proved yet: building without a proof takes a minute or two, a large grammar some minutes\n"
 UNPROVED_USAGE = "lrls: usage: lrls --unproved check GRAMMAR | parse GRAMMAR TEXT\n"
 NO_SERVER = (
     "lrls: --unproved can't serve, since the unproved program reads all of its input before it begins; use check or parse\n"
@@ -134,7 +134,7 @@ def unproved(cases, checkout):
     grammar = checkout.placed("my grammar", "GRAMMAR\n")
     checkout.placed("-text", "TEXT\n")
     where = os.path.join(checkout.top, "crates", "lrls")
-    given = f"{where}\ntry\n--seconds\n900\n--data\nthe.grammar is GRAMMAR\n"
+    given = f"{where}\ntry\n--seconds\n1800\n--data\nthe.grammar is GRAMMAR\n"
     err = f"{UNPROVED}lrls: line 4: a fault\nafter: checked: X\n"
     checked = (f"{given}--\ncheck\nthe.grammar\n", err, 2)
     cases.check("unproved check", checked, checkout.run("--unproved", "check", grammar, cwd="/"))
