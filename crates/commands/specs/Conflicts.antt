@@ -1,11 +1,4 @@
 -- What is printed of a grammar file that defines no language.
---     spaced file symbols      the names of symbols, a space before each
---     item_line file item      `item: LEFT = SYMBOLS . SYMBOLS, LOOKAHEAD`, the dot at the item's place
---     conflict_text file conflict      four lines: the lookahead at which two items call for different moves, the symbols behind which they
---         do, and the two items
---     Tells fault printed      the fault is printed on standard error, and the status is 2: of a conflict its four lines, else the
---         fault's text
---     IsRefused bytes printed      a file of these bytes is refused: as no UTF-8, or for its fault, which is told
 use Rattle.std.specs.Prelude.{◌≡◌, ◌⊎◌, ℕ, ◌++◌, List, [], take, drop, flat_map, codes, encode_utf8_all, Option, Some, None}
 use Rattle.std.specs.Str.{IsUtf8}
 use Rattle.definitions.specs.declared.Symbol.{Symbol}
@@ -22,38 +15,43 @@ use Rattle.commands.specs.declared.fault.Fault.TheVariants.{Grammar, TooManyStat
 use Rattle.commands.specs.declared.printed.Printed.{Printed}
 use Rattle.commands.specs.Texts.{PrintsFault}
 
--- in UTF-8
+-- the name of a symbol, in UTF-8
 abbrev pub name_bytes : FileGrammar → Symbol → List ℕ
 name_bytes file symbol = encode_utf8_all (symbol_name file symbol)
 
+-- the names of symbols with a space before each
 abbrev pub spaced : FileGrammar → List Symbol → List ℕ
 spaced file symbols = flat_map (λ s. codes " " ++ name_bytes file s) symbols
 
--- a token rule's name, or `end`
+-- `look_name file look`: the name of a lookahead, or `end`
 abbrev pub look_name : FileGrammar → Option ℕ → List ℕ
 look_name file None = codes "end"
 look_name file (Some a) = name_bytes file (Terminal a)
 
--- the name of a production's left side, or `(start)` for the production that is added to the grammar
+-- `left_name file p`: the name of a production's left side, or `(start)` for the production that is added
 abbrev pub left_name : FileGrammar → Option ℕ → List ℕ
 left_name file None = codes "(start)"
 left_name file (Some p) = name_bytes file (Nonterminal (left_of file.grammar p))
 
--- an item with these sides
+-- `line file left right item`: the line of an item with these sides, with a dot at its place
 abbrev pub line : FileGrammar → List ℕ → List Symbol → Item → List ℕ
 line file left right i =
     codes "item: " ++ (left ++ (codes " =" ++ (spaced file (take i.at right)
     ++ (codes " ." ++ (spaced file (drop i.at right) ++ (codes ", " ++ (look_name file i.look ++ codes "\n")))))))
 
+-- `item_line file item`: the line of an item, with a dot at its place
 abbrev pub item_line : FileGrammar → Item → List ℕ
 item_line file i = line file (left_name file i.production) (side file.grammar i.production) i
 
+-- `conflict_text file conflict`: the four lines of a conflict: the lookahead at which its items call for different moves, the symbols after
+-- which they do, and the two items
 abbrev pub conflict_text : FileGrammar → Conflict → List ℕ
 conflict_text file c =
     codes "lrls: conflict on " ++ (look_name file c.look ++ (codes "\nafter:" ++ (spaced file c.prefix.items
     ++ (codes "\n" ++ (item_line file c.first ++ item_line file c.second)))))
 
--- want of memory is told by no text
+-- `Tells fault printed`: what is printed of a fault on standard error, with status 2 and nothing on standard output: of a conflict its four
+-- lines, of any other its text. Want of memory has no such text
 abbrev pub Tells : LoadFault → Printed → Type 0
 Tells (load.Grammar fault) printed = PrintsFault (Grammar fault) printed
 Tells load.TooManyStates printed = PrintsFault TooManyStates printed
@@ -62,6 +60,8 @@ Tells (load.Conflict file conflict) printed =
     (printed.out.items ≡ []) × (printed.err.items ≡ conflict_text file conflict) × (printed.status ≡ 2)
 Tells load.NoMemory printed = ⊥
 
+-- what is printed where a grammar file of these bytes defines no language: that it isn't UTF-8, whatever its size, or what its first fault
+-- `Tells`
 abbrev pub IsRefused : List ℕ → Printed → Type 0
 IsRefused bytes printed =
     (¬ IsUtf8 bytes × PrintsFault NotUtf8 printed)

@@ -1,7 +1,4 @@
 -- What `lrls parse` prints of a text.
---     fault_line d      `L:C-L:C: MESSAGE` and the end of the line
---     IsParsed file bytes printed      a file of these bytes comes to this: it is refused as no UTF-8 or as too large, or the text of
---         its tree or its fault is printed on standard output, and nothing on standard error. Positions count UTF-16 units.
 use Rattle.std.specs.Prelude.{◌≡◌, ◌⊎◌, ℕ, ◌++◌, true, false, List, [], codes, decimal, string_bytes}
 use Rattle.std.specs.Str.{IsUtf8, chars}
 use Rattle.definitions.specs.declared.Diagnostic.{Diagnostic}
@@ -16,17 +13,23 @@ use Rattle.commands.specs.declared.fault.Fault.TheVariants.{TextNotUtf8, TextToo
 use Rattle.commands.specs.declared.printed.Printed.{Printed}
 use Rattle.commands.specs.Texts.{PrintsFault}
 
+-- `L:C`
 abbrev pub place_text : Position → List ℕ
 place_text p = decimal p.line ++ (codes ":" ++ decimal p.character)
 
+-- `L:C-L:C: MESSAGE` and the end of the line
 abbrev pub fault_line : Diagnostic → List ℕ
 fault_line d =
     place_text d.range.start ++ (codes "-" ++ (place_text d.range.end ++ (codes ": " ++ (string_bytes d.message ++ codes "\n"))))
 
+-- `Prints outcome printed`: what is printed of an outcome, on standard output: the text of a tree with status 0, or the line of a fault
+-- with status 1
 abbrev pub Prints : Outcome → Printed → Type 0
 Prints (Tree text) printed = (printed.out.items ≡ string_bytes text ++ codes "\n") × (printed.err.items ≡ []) × (printed.status ≡ 0)
 Prints (Fault d) printed = (printed.out.items ≡ fault_line d) × (printed.err.items ≡ []) × (printed.status ≡ 1)
 
+-- what `lrls parse` prints of a file of these bytes, and its status: the fault that it isn't UTF-8 or is too large; or what its outcome
+-- `Prints`. Positions count UTF-16 units
 abbrev pub IsParsed : FileGrammar → List ℕ → Printed → Type 0
 IsParsed file bytes printed =
     (¬ IsUtf8 bytes × PrintsFault TextNotUtf8 printed)

@@ -1,6 +1,4 @@
 -- The faults of the program.
---     status_of fault      its exit status
---     fault_of e      the fault that ends the program where a session ends with e
 use Rattle.std.specs.Prelude.{ℕ}
 use Rattle.frames.specs.declared.fault.RunFault.{RunFault}
 use Rattle.frames.specs.declared.fault.RunFault.TheVariants as session
@@ -8,7 +6,7 @@ use Rattle.commands.specs.declared.fault.Fault.{Fault}
 use Rattle.commands.specs.declared.fault.Fault.TheVariants.{CommandLine, Grammar, TooManyStates, TooManySets, NotUtf8, TextNotUtf8}
 use Rattle.commands.specs.declared.fault.Fault.TheVariants.{TextTooLarge, CannotRead, NoMemory, Frame, Read, Write}
 
--- 2 for a refused command line or grammar, 1 for what goes wrong outside of them
+-- `status_of fault`: the exit status of a fault: 2 for a refused command line or grammar, 1 for what goes wrong outside of them
 abbrev pub status_of : Fault → ℕ
 status_of CommandLine = 2
 status_of (Grammar fault) = 2
@@ -23,6 +21,7 @@ status_of (Frame fault) = 1
 status_of Read = 1
 status_of Write = 1
 
+-- `fault_of fault`: the fault that ends the program where a session ends with one
 abbrev pub fault_of : RunFault → Fault
 fault_of (session.Frame fault) = Frame fault
 fault_of session.Read = Read

@@ -1,8 +1,4 @@
 -- The texts of faults, in UTF-8.
---     frame_code fault      `F1` to `F8`
---     text_of fault      the line that is printed of a fault, without its end
---     PrintsFault fault printed      nothing is printed on standard output, on standard error the fault's line, and the status is the
---         fault's
 use Rattle.std.specs.Prelude.{◌≡◌, ℕ, ◌++◌, List, [], codes, string_bytes}
 use Rattle.frames.specs.declared.fault.FrameFault.{FrameFault}
 use Rattle.frames.specs.declared.fault.FrameFault.TheVariants as frame
@@ -13,6 +9,7 @@ use Rattle.commands.specs.declared.fault.Fault.TheVariants.{TextTooLarge, Cannot
 use Rattle.commands.specs.declared.printed.Printed.{Printed}
 use Rattle.commands.specs.Status.{status_of}
 
+-- `frame_code fault`: `F1` to `F8`, for the faults of frames
 abbrev pub frame_code : FrameFault → List ℕ
 frame_code frame.BadField = codes "F1"
 frame_code frame.NoLength = codes "F2"
@@ -23,6 +20,7 @@ frame_code frame.Truncated = codes "F6"
 frame_code frame.Memory = codes "F7"
 frame_code frame.LongHeader = codes "F8"
 
+-- `text_of fault`: the line that is printed of a fault, without its end
 abbrev pub text_of : Fault → List ℕ
 text_of CommandLine = codes "usage: lrls check GRAMMAR | parse GRAMMAR TEXT | serve GRAMMAR"
 text_of (Grammar fault) = codes "lrls: " ++ fault_text fault
@@ -37,6 +35,7 @@ text_of (Frame fault) = codes "lrls: frame fault " ++ frame_code fault
 text_of Read = codes "lrls: read fault"
 text_of Write = codes "lrls: write fault"
 
+-- nothing on standard output, the fault's line on standard error, and the fault's status
 pub record PrintsFault (fault : Fault) (printed : Printed) : Type 0 where
   pub out : printed.out.items ≡ []
   pub err : printed.err.items ≡ text_of fault ++ codes "\n"

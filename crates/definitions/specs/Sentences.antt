@@ -7,47 +7,48 @@ use Rattle.definitions.specs.declared.Symbol.{Symbol}
 use Rattle.definitions.specs.declared.Symbol.TheVariants.{Nonterminal}
 use Rattle.definitions.specs.Trees.{Grammar, HasProduction, Tree, IsTree, yield}
 
--- t is a tree of the kinds x, from the start symbol
+-- `t` is a tree with the start symbol as its root and the kinds `x` as its yield
 pub record IsTreeOf (g : Grammar) (x : List Kind) (t : Tree) : Type 0 where
   pub root : IsTree g t (Nonterminal g.start)
   pub kinds : yield t ≡ x
 
--- a sentence is the yield of a tree whose root is the start symbol
+-- the kinds `x` have a tree from the start symbol
 abbrev pub IsSentence : Grammar → List Kind → Type 0
 IsSentence g x = (t : Tree) × IsTreeOf g x t
 
--- a front of some sentence
+-- some sentence begins with `x`
 abbrev pub IsViable : Grammar → List Kind → Type 0
 IsViable g x = (rest : List Kind) × IsSentence g (x ++ rest)
 
--- a symbol is productive if it is the root of a tree
+-- the symbol is the root of some tree
 abbrev pub IsProductive : Grammar → Symbol → Type 0
 IsProductive g s = (t : Tree) × IsTree g t s
 
--- the start symbol is productive, and so is every symbol of a right side
+-- the start symbol and each symbol of a right side are productive
 pub record AllProductive (g : Grammar) : Type 0 where
   pub start : IsProductive g (Nonterminal g.start)
   pub each : (p n : ℕ) (right : List Symbol) → HasProduction g p n right → All (IsProductive g) right
 
--- some derivation from the start uses the symbol
+-- `IsUsed g s`: some derivation from the start uses the symbol
 pub data IsUsed (g : Grammar) : Symbol → Type 0 where
   The_start : IsUsed g (Nonterminal g.start)
   On_right : (p n : ℕ) (before : List Symbol) {s : Symbol} (after : List Symbol) → IsUsed g (Nonterminal n)
       → HasProduction g p n (before ++ (s ∷ after)) → IsUsed g s
 
+-- a tree, a fault at a place, or a fault at the end
 pub data Verdict : Type 0 where
   HasTree : Tree → Verdict
   FaultAt : ℕ → Verdict
   FaultAtEnd : Verdict
 
--- the tree; or the least k such that no sentence begins with the first k + 1 kinds; or the end, where some sentence begins
--- with all of them and they are none
+-- `IsVerdict g x v`: `v` is the tree of `x`; or a fault at `k`: no sentence begins with the first `k + 1` kinds, and one does with each
+-- shorter nonempty prefix; or a fault at the end: some sentence begins with `x`, and `x` is none
 abbrev pub IsVerdict : Grammar → List Kind → Verdict → Type 0
 IsVerdict g x (HasTree t) = IsTreeOf g x t
 IsVerdict g x (FaultAt k) = (k < length x) × ¬ IsViable g (take (k + 1) x) × ((j : ℕ) → j < k → IsViable g (take (j + 1) x))
 IsVerdict g x FaultAtEnd = (¬ IsSentence g x) × IsViable g x
 
--- the token rules that may follow x, in file order, and whether x may end there
+-- these are the rules that may follow `x`, ascending, and `at_end` tells whether `x` may end there
 pub record IsExpected (g : Grammar) (x : List Kind) (rules : List ℕ) (at_end : Bool) : Type 0 where
   pub in_order : IsStrictlyIncreasing rules
   pub each : (a : ℕ) → Contains rules a ↔ IsViable g (x ++ (Token a ∷ []))

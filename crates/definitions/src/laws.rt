@@ -30,46 +30,46 @@ pub fn characters_are_scalars()
     ensures { (c : ℕ) → IsCharacter c ↔ IsScalar c }
 {}
 
-/// The offset of a position lies in its line, and is the greatest one before which the line has no more units than it
-/// counts.
+/// The offset of a position lies in its line, and is the greatest one before which the line has no more units than the
+/// position counts.
 pub fn offset_is_greatest()
     ensures { (encoding : Encoding) (t : List ℕ) (p : Position) →
         IsOffsetOf encoding t p (offset encoding t p) }
 {}
 
-/// The position of an offset leads back to it, but between a `\r` and its `\n`, which have no position.
+/// The offset of the position of an offset is that offset, for each offset of the text that isn't between a `\r` and
+/// its `\n`.
 pub fn offset_of_position()
     ensures { (encoding : Encoding) (t : List ℕ) (o : ℕ) → IsInLine t o →
         offset encoding t (position encoding t o) ≡ o }
 {}
 
-/// And the offset of a position that counts whole characters of a line of the text leads back to it.
+/// The position of the offset of a position that counts whole characters of a line is that position.
 pub fn position_of_offset()
     ensures { (encoding : Encoding) (t : List ℕ) (p : Position) → IsPlace encoding t p →
         position encoding t (offset encoding t p) ≡ p }
 {}
 
-/// The test for a class with no member is right.
+/// The test for a class with no member is right, where its intervals are of characters and none is reversed.
 pub fn empty_class_is_told()
     ensures { (negated : Bool) (intervals : List Interval) → AreWell intervals →
         IsTrue (is_nothing negated intervals)
         ↔ ((c : ℕ) → IsCharacter c → ¬ IsTrue (is_in_class negated intervals c)) }
 {}
 
-/// A text has one list of tokens.
+/// A text has at most one list of tokens.
 pub fn tokens_unique()
     ensures { (rules : List Expression) (t : List ℕ) (xs : List Token) (ys : List Token) →
         AreTokens rules t xs → AreTokens rules t ys → xs ≡ ys }
 {}
 
-/// A token depends on no more of the text than its reach.
+/// The first token of a text is that of every text that agrees with it up to the token's reach.
 pub fn token_is_local()
     ensures { (rules : List Expression) (t : List ℕ) (u : List ℕ) (x : Token) → IsToken rules t x →
         take x.reach t ≡ take x.reach u → IsToken rules u x }
 {}
 
-/// What an edit keeps are tokens of both texts: the same ones in front of it, and the same ones from the place of
-/// rejoining on.
+/// The tokens that an edit keeps, before it and from the place of rejoining on, are tokens of both texts.
 pub fn kept_tokens_stay()
     ensures front { (rules : List Expression) (t : List ℕ) (s : List ℕ) (e : Edit)
         (old : List Token) (new : List Token) → IsTokenEdit rules t s e old new →
@@ -79,7 +79,7 @@ pub fn kept_tokens_stay()
         drop (length old - (length new - rejoin e old new)) old ≡ drop (rejoin e old new) new }
 {}
 
-/// A list of kinds has one list of expected rules, and either ends or does not.
+/// A list of kinds has at most one list of expected rules, and may end or not.
 pub fn expected_unique()
     ensures rules { (g : Grammar) (x : List Kind) (r : List ℕ) (s : List ℕ) (a : Bool) (b : Bool) →
         IsExpected g x r a → IsExpected g x s b → r ≡ s }
@@ -87,7 +87,7 @@ pub fn expected_unique()
         IsExpected g x r a → IsExpected g x s b → a ≡ b }
 {}
 
-/// Trees have one list of folds.
+/// Trees have at most one list of folds.
 pub fn folds_unique()
     ensures { (g : Grammar) (trees : List Tree) (t : List ℕ) (tokens : List Placed)
         (folds : List Bool) (one : List (ℕ × ℕ)) (two : List (ℕ × ℕ)) →
@@ -95,14 +95,15 @@ pub fn folds_unique()
         AreFolds t tokens folds (IsNodeOf g trees) two → one ≡ two }
 {}
 
-/// And an offset has one selection in them.
+/// An offset has at most one selection in trees.
 pub fn selection_unique()
     ensures { (g : Grammar) (trees : List Tree) (t : List ℕ) (tokens : List Placed) (o : ℕ)
         (one : List (ℕ × ℕ)) (two : List (ℕ × ℕ)) → IsSelection t tokens (IsNodeOf g trees) o one →
         IsSelection t tokens (IsNodeOf g trees) o two → one ≡ two }
 {}
 
-/// Plain data is equal by `==` exactly where it is the same: no part of it is left out.
+/// Plain data (positions, ranges, units, kinds, splices, counts, edits, symbols, intervals, faults of patterns) is
+/// equal by `==` exactly where it is the same: no part of it is left out.
 pub fn equal_data_is_the_same()
     ensures positions { (a b : Position) →
         IsTrue (⟦<crate::Position as PartialEq>⟧.eq a b) ↔ (a ≡ b) }

@@ -4,11 +4,11 @@ use Rattle.definitions.specs.declared.expression.Interval.{Interval}
 use Rattle.definitions.specs.declared.expression.Expression.{Expression}
 use Rattle.definitions.specs.declared.expression.Expression.TheVariants.{Literal, Class, Sequence', Choice', Star', Plus', Optional'}
 
--- the character behind c, if there is one
+-- the character after c, if there is one
 abbrev pub after : ℕ → List ℕ
 after c = if c == 0xD7FF then 0xE000 ∷ [] else (if c == 0x10FFFF then [] else (c + 1) ∷ [])
 
--- where an interval begins, and where what lies behind it does
+-- where an interval begins, and where what comes after it does
 abbrev pub cut : ℕ → ℕ → List ℕ
 cut first last = first ∷ after last
 

@@ -1,5 +1,5 @@
 -- How the positions after one more character are computed. Marks, one for each position of the rules, are a set of positions.
--- The positions of an expression begin at o, and `start` tells whether it can begin behind what was read.
+-- The positions of an expression begin at o, and `start` tells whether it can begin after what was read.
 use Rattle.std.specs.Prelude.{ℕ, zero, suc, ◌+◌, ◌==◌, Bool, false, ◌||◌, if◌then◌else◌, List, [], ◌∷◌, ◌++◌, Option, Some, None}
 use Rattle.std.specs.Prelude.{slice_index_or, filter}
 use Rattle.definitions.specs.declared.expression.Expression.{Expression}
@@ -42,7 +42,7 @@ next marks o start (Star' p a) = next marks o (ends marks o start a || start) a
 next marks o start (Plus' p a) = next marks o (ends marks o start a || start) a
 next marks o start (Optional' p a) = next marks o start a
 
--- the positions that hold the character c
+-- `literal_holders c o chars`: the positions of a literal that hold the character `c`
 abbrev pub literal_holders : ℕ → ℕ → List ℕ → List ℕ
 literal_holders c o [] = []
 literal_holders c o (d ∷ ds) = if d == c then o ∷ literal_holders c (o + 1) ds else literal_holders c (o + 1) ds
@@ -56,7 +56,7 @@ holders c o (Star' p a) = holders c o a
 holders c o (Plus' p a) = holders c o a
 holders c o (Optional' p a) = holders c o a
 
--- the same for a list of rules
+-- `all_positions rules`: how many positions a list of rules has
 abbrev pub all_positions : List Expression → ℕ
 all_positions [] = 0
 all_positions (e ∷ es) = positions e + all_positions es
@@ -69,11 +69,11 @@ abbrev pub all_holders : ℕ → ℕ → List Expression → List ℕ
 all_holders c o [] = []
 all_holders c o (e ∷ es) = holders c o e ++ all_holders c (o + positions e) es
 
--- the first rule that can end, where the first one has the number k
+-- `first_end marks o k rules`: the first rule that can end, where the first one has the number `k`
 abbrev pub first_end : List Bool → ℕ → ℕ → List Expression → Option ℕ
 first_end marks o k [] = None
 first_end marks o k (e ∷ es) = if ends marks o false e then Some k else first_end marks (o + positions e) (k + 1) es
 
--- the positions at which the character c can stand behind the marked ones
+-- the positions at which the character c can stand after the marked ones
 abbrev pub successor : List Expression → List Bool → Bool → ℕ → List ℕ
 successor rules marks start c = filter (λ p. mark (all_next marks 0 start rules) p) (all_holders c 0 rules)

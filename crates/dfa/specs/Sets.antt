@@ -9,7 +9,7 @@ abbrev pub Among : List ℕ → ℕ → Type 0
 Among [] x = ⊥
 Among (y ∷ ys) x = (y ≡ x) ⊎ Among ys x
 
--- each number is greater than the one before it, and the first is at least n
+-- `Rises n xs`: each number is greater than the one before it, and the first is at least `n`
 abbrev pub Rises : ℕ → List ℕ → Type 0
 Rises n [] = Unit {0}
 Rises n (x ∷ xs) = (n ≤ x) × Rises (x + 1) xs

@@ -1,8 +1,4 @@
 -- What the table of an automaton means for a list of rules.
---     follower table s c      the state behind the state s at the character c
---     state_after table u      the state after the text u, from the first one on
---     IsTable table      the numbers of the table are in range
---     IsAutomaton rules table      the table tells which texts begin a text of a rule, and the first rule that has a text
 use Rattle.std.specs.Prelude.{◌≡◌, ℕ, zero, suc, ◌+◌, ◌*◌, ◌<◌, ◌≤◌, nat_le, List, [], ◌∷◌, length, slice_index_or, Option, Some, None}
 use Rattle.std.specs.Prelude.{MatchOption}
 use Rattle.std.specs.List.{prefix_len}
@@ -12,36 +8,41 @@ use Rattle.definitions.specs.declared.Kind.TheVariants.{Rule, Invalid}
 use Rattle.definitions.specs.Text.{IsText}
 use Rattle.definitions.specs.Tokens.{RuleMatches, IsRuleFront}
 
--- The characters lie in parts, one below the first of `starts` and one from each of them on. `next` has a row for each state
--- with an entry for each part: the number of the state behind, or 0 where there is none. `accepts` tells each state's rule.
+-- an automaton as callers see it. The characters lie in parts, one below the first of `starts` and one from each of them on. `next` has a
+-- row for each state with an entry for each part: the number of the next state, or 0 where there is none. `accepts` tells the rule of each
+-- state
 pub record Table : Type 0 where
   pub starts : List ℕ
   pub next : List ℕ
   pub accepts : List (Option ℕ)
 
--- the part in which the character c lies
+-- the part of the alphabet in which a character lies
 abbrev pub part : List ℕ → ℕ → ℕ
 part starts c = prefix_len (λ x. nat_le x c) starts
 
+-- no number of the list is below one before it
 abbrev pub IsAscending : List ℕ → Type 0
 IsAscending xs = (i j : ℕ) → i ≤ j → j < length xs → slice_index_or xs i 0 ≤ slice_index_or xs j 0
 
--- how many parts there are
+-- how many parts the alphabet has
 abbrev pub width : Table → ℕ
 width table = length table.starts + 1
 
--- no state comes behind another as 0, the first
+-- `numbered s`: an entry of a row as a state: 0 is none, since no row leads to the first state
 abbrev pub numbered : ℕ → Option ℕ
 numbered zero = None
 numbered (suc s) = Some (suc s)
 
+-- the state after state `s` at the character `c`, if there is one
 abbrev pub follower : Table → ℕ → ℕ → Option ℕ
 follower table s c = numbered (slice_index_or table.next (s * width table + part table.starts c) 0)
 
+-- `next_state table s c`: the state after `s` at the character `c`, if there is one and `s` is one
 abbrev pub next_state : Table → Option ℕ → ℕ → Option ℕ
 next_state table None c = None
 next_state table (Some s) c = follower table s c
 
+-- `state_from table s u`: the state after the text `u` from `s` on, if there is one
 abbrev pub state_from : Table → Option ℕ → List ℕ → Option ℕ
 state_from table o [] = o
 state_from table o (c ∷ u) = state_from table (next_state table o c) u
@@ -50,18 +51,18 @@ state_from table o (c ∷ u) = state_from table (next_state table o c) u
 unfoldable pub state_after : Table → List ℕ → Option ℕ
 state_after table u = state_from table (Some 0) u
 
--- the first rule that has the text u, if one does
+-- `IsFirst rules u k`: `k` is the first rule that has the text, or none where no rule has it
 abbrev pub IsFirst : List Expression → List ℕ → Option ℕ → Type 0
 IsFirst rules u None = (j : ℕ) → ¬ RuleMatches rules j u
 IsFirst rules u (Some k) = RuleMatches rules k u × ((j : ℕ) → j < k → ¬ RuleMatches rules j u)
 
--- A nonempty text has a state exactly where it begins a text of a rule. The state tells the first rule that has the text.
+-- a nonempty text has a state exactly where it begins a text of a rule, and the state tells the first rule that has the text
 pub record IsAutomaton (rules : List Expression) (table : Table) : Type 0 where
   pub tells : (u : List ℕ) → IsText u → 1 ≤ length u
       → MatchOption (state_after table u) (¬ IsRuleFront rules u)
       (λ s. IsRuleFront rules u × IsFirst rules u (slice_index_or table.accepts s None))
 
--- a table whose numbers are in range
+-- the numbers of a table are in range: 1 to 4,096 states, a full row of such for each, and ascending parts
 pub record IsTable (table : Table) : Type 0 where
   pub begins : 0 < length table.accepts
   pub bound : length table.accepts ≤ 4096
@@ -70,7 +71,7 @@ pub record IsTable (table : Table) : Type 0 where
       → slice_index_or table.next (s * width table + k) 0 < length table.accepts
   pub ordered : IsAscending table.starts
 
--- the kind of a token that matches this rule, or none
+-- `kind_of rule`: a rule as a kind, or the invalid kind where there is none
 abbrev pub kind_of : Option ℕ → Kind
 kind_of None = Invalid
 kind_of (Some k) = Rule k

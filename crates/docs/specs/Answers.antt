@@ -1,13 +1,4 @@
 -- What a text is by a grammar file, and what is told of it.
---     Reading, IsReading file text reading      what a text is by a grammar file: its tokens, the verdict on their kinds, and its trees
---     Reads file text Tells      the text reads so, and of this reading that is told
---     rows encoding file text tokens      the names and ranges of these tokens of the text
---     tree_told file verdict      the text of the tree that a verdict tells, if it tells one
---     AreSelections encoding file text reading positions selections      what can be selected around each of these positions
---     IsTold told fault      a diagnostic of the code tells this fault, or that there is none
---     IsOutcome encoding file text outcome      what a text comes to: the text of its tree, or its fault
---     AlwaysAnswers file      each text that fits has a reading, and each reading all that can be told of it
---     AnswersOnce file      it has one reading, and one of each
 use Rattle.std.specs.Prelude.{◌≡◌, ℕ, List, [], ◌∷◌, map, Option, Some, None, option_map, encode_utf8_all, string_bytes, true}
 use Rattle.definitions.specs.declared.Diagnostic.{Diagnostic as Stored}
 use Rattle.definitions.specs.declared.Position.{Position}
@@ -27,20 +18,23 @@ use Rattle.docs.specs.Texts.{fits}
 use Rattle.docs.specs.declared.doc.Outcome.{Outcome}
 use Rattle.docs.specs.declared.doc.Outcome.TheVariants as comes
 
+-- what a text is by a grammar file: its tokens, the verdict on their kinds, and its trees
 pub record Reading : Type 0 where
   pub tokens : List Token
   pub verdict : Verdict
   pub trees : List Tree
 
+-- this is what the text is: its tokens, the verdict on their kinds, and its tree, or what is settled before the fault
 pub record IsReading (file : FileGrammar) (text : List ℕ) (reading : Reading) : Type 0 where
   pub tokens : AreTokens file.patterns text reading.tokens
   pub verdict : IsVerdict file.grammar (kinds file.skips reading.tokens) reading.verdict
   pub trees : AreDocumentTrees file.grammar (kinds file.skips reading.tokens) reading.verdict reading.trees
 
+-- `Reads file text Tells`: the text has a reading of which `Tells` holds
 abbrev pub Reads : FileGrammar → List ℕ → (Reading → Type 0) → Type 0
 Reads file text Tells = (reading : Reading) × IsReading file text reading × Tells reading
 
--- the names are in UTF-8
+-- the names of tokens in UTF-8, and their ranges
 abbrev pub rows : Encoding → FileGrammar → List ℕ → List Token → List (List ℕ × Range)
 rows encoding file text tokens = map (λ r. (encode_utf8_all r.0, r.1)) (token_rows encoding file.names text (placed 0 tokens))
 
@@ -48,11 +42,13 @@ rows encoding file text tokens = map (λ r. (encode_utf8_all r.0, r.1)) (token_r
 abbrev pub tree_bytes : FileGrammar → Tree → List ℕ
 tree_bytes file t = encode_utf8_all (tree_text file.names file.nonterminals (lefts file) t)
 
+-- `tree_told file verdict`: the `tree_bytes` of the tree that a verdict tells, if it tells one
 abbrev pub tree_told : FileGrammar → Verdict → Option (List ℕ)
 tree_told file (HasTree t) = Some (tree_bytes file t)
 tree_told file (FaultAt k) = None
 tree_told file FaultAtEnd = None
 
+-- `AreSelections encoding file text reading positions selections`: what can be selected around each of these positions, in order
 abbrev pub AreSelections : Encoding → FileGrammar → List ℕ → Reading → List Position → List (List Range) → Type 0
 AreSelections encoding file text reading [] selections = selections ≡ []
 AreSelections encoding file text reading (p ∷ positions) selections =
@@ -60,9 +56,11 @@ AreSelections encoding file text reading (p ∷ positions) selections =
     × IsSelectionOf encoding file text reading.tokens reading.trees (offset encoding text p) first
     × AreSelections encoding file text reading positions others
 
+-- a diagnostic of the code tells this fault, its message in UTF-8; or both are none
 abbrev pub IsTold : Option Stored → Option Diagnostic → Type 0
 IsTold told fault = option_map told_bytes told ≡ option_map in_utf8 fault
 
+-- `IsOutcome encoding file text outcome`: what a text comes to: the text of its tree, or its fault
 abbrev pub IsOutcome : Encoding → FileGrammar → List ℕ → Outcome → Type 0
 IsOutcome encoding file text (comes.Tree told) =
     Reads file text (λ reading. Some (string_bytes told) ≡ tree_told file reading.verdict)
@@ -70,6 +68,7 @@ IsOutcome encoding file text (comes.Fault told) =
     Reads file text (λ reading.
     (fault : Diagnostic) × IsDiagnosis encoding file text reading.tokens reading.verdict (Some fault) × IsTold (Some told) (Some fault))
 
+-- each text that fits has a reading, and each reading has its fault or none, its folds and its selections
 pub record AlwaysAnswers (file : FileGrammar) : Type 0 where
   pub readings : (t : List ℕ) → fits t ≡ true → (r : Reading) × IsReading file t r
   pub faults : (encoding : Encoding) (t : List ℕ) (r : Reading) → IsReading file t r
@@ -78,6 +77,7 @@ pub record AlwaysAnswers (file : FileGrammar) : Type 0 where
   pub selections : (encoding : Encoding) (t : List ℕ) (r : Reading) → IsReading file t r → (positions : List Position)
       → (selections : List (List Range)) × AreSelections encoding file t r positions selections
 
+-- each text has at most one reading, and each reading at most one fault, list of folds and list of selections
 pub record AnswersOnce (file : FileGrammar) : Type 0 where
   pub readings : (t : List ℕ) (r s : Reading) → IsReading file t r → IsReading file t s → s ≡ r
   pub faults : (encoding : Encoding) (t : List ℕ) (r : Reading) (one other : Option Diagnostic)

@@ -1,6 +1,4 @@
 -- A document, as its callers see it.
---     open_document d      its unit, version and text, and its last edit
---     IsCurrent language d      the tokens and the parse that it keeps are those of its text, by this language
 use Rattle.std.specs.Prelude.{◌≡◌, ◌≤◌, ◌==◌, if◌then◌else◌, length, All, Option, Some, None}
 use Rattle.lexer.specs.Rescans.{significant_kinds}
 use Rattle.lexer.specs.Tokens.{AreTokensOf}
@@ -10,18 +8,19 @@ use Rattle.docs.specs.Languages.{LanguageData}
 use Rattle.docs.specs.Texts.{LastEdit, OpenDocument}
 use Rattle.docs.specs.declared.doc.Doc.{Doc}
 
--- none where the parse is a whole one
+-- the last edit of a document of the code; none where it is as it was opened
 abbrev pub last_edit : Doc → Option LastEdit
 last_edit d =
     if d.parse.number == 0
     then None
     else Some (record { number = d.parse.number; scanned = d.tokens.scanned; built = d.parse.built })
 
+-- a document of the code as an `OpenDocument`
 abbrev pub open_document : Doc → OpenDocument
 open_document d = record { unit = d.unit; version = d.version; text = d.text; last = last_edit d }
 
--- The tables are of the file's grammar. No token was made by an edit after the last one, opening has made all there is, and the
--- store is bounded.
+-- the tokens and the parse that a document keeps are those of its text, by this language; no token was made by an edit after the last one,
+-- and the nodes in memory are bounded
 pub record IsCurrent (language : LanguageData) (d : Doc) : Type 0 where
   pub tokens : AreTokensOf language.file.patterns language.file.skips d.text d.tokens.items
   pub parse : IsParseOf language.tables (significant_kinds d.tokens.items) d.store d.parse

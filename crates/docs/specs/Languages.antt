@@ -1,7 +1,4 @@
 -- The language of a grammar file.
---     IsLanguageOf text file      the text is a grammar file that defines this, and a language can be made of it
---     IsLoadFault text fault      the text defines no language, for this cause, the first in the order of the tests
---     LanguageData      what callers see of a language: what its file defines, and its tables
 use Rattle.std.specs.Prelude.{◌≡◌, ℕ, List, Some}
 use Rattle.definitions.specs.Items.{HasMoreSetsThan, HasNoConflict}
 use Rattle.dfa.specs.Positions.{HasMoreStatesThan}
@@ -14,18 +11,19 @@ use Rattle.tables.specs.Tables.{Sets}
 use Rattle.docs.specs.declared.language.LoadFault.{LoadFault}
 use Rattle.docs.specs.declared.language.LoadFault.TheVariants as load
 
--- the file's automaton and tables are within their limits, and no set of the canonical collection has a conflict
+-- the text is a grammar file that defines this, its automaton and tables are within their limits, and no set of items has a conflict
 pub record IsLanguageOf (text : List ℕ) (file : FileGrammar) : Type 0 where
   pub grammar : IsGrammarOf text file
   pub few_states : HasMoreStatesThan file.patterns 4096 → ⊥
   pub few_sets : HasMoreSetsThan file.grammar 8192 → ⊥
   pub free : HasNoConflict file.grammar
 
--- the file defines this, and its automaton is within the limit
+-- the text is a grammar file that defines this, and its automaton is within its limit
 pub record HasAutomaton (text : List ℕ) (file : FileGrammar) : Type 0 where
   pub grammar : IsGrammarOf text file
   pub few_states : HasMoreStatesThan file.patterns 4096 → ⊥
 
+-- `IsLoadFault text fault`: the text defines no language, for the first cause in the order of the tests; memory may be wanting at any time
 abbrev pub IsLoadFault : List ℕ → LoadFault → Type 0
 IsLoadFault text (load.Grammar fault) = (cause : Cause) × (public_cause fault.cause ≡ Some cause) × IsFault text fault.line cause
 IsLoadFault text load.TooManyStates = (file : FileGrammar) × IsGrammarOf text file × HasMoreStatesThan file.patterns 4096
@@ -34,6 +32,7 @@ IsLoadFault text (load.Conflict file conflict) = HasAutomaton text file × (HasM
     × IsReport file.grammar conflict
 IsLoadFault text load.NoMemory = Unit {0}
 
+-- what callers see of a language: what its file defines, and its tables
 pub record LanguageData : Type 0 where
   pub file : FileGrammar
   pub tables : Sets

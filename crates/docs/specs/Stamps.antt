@@ -1,6 +1,4 @@
 -- The stamps that an edit leaves in a document.
---     next_edit d range s      a change of the document's text, as the edit after its last one
---     AreStamped file e old new      what the edit keeps has the stamps that it had, and what it makes has its number
 use Rattle.std.specs.Prelude.{ℕ, List, Option}
 use Rattle.definitions.specs.declared.Edit.{Edit}
 use Rattle.definitions.specs.declared.Range.{Range}
@@ -15,15 +13,16 @@ use Rattle.docs.specs.Docs.{last_edit}
 use Rattle.docs.specs.Edits.{edit_of, number_behind}
 use Rattle.docs.specs.declared.doc.Doc.{Doc}
 
+-- a change of a document's text, as the edit after its last one
 abbrev pub next_edit : Doc → Option Range → List ℕ → Edit
 next_edit d range s = edit_of d.unit d.text range s (number_behind (last_edit d))
 
--- how it changes the kinds of the significant tokens
+-- how an edit changes the kinds of the significant tokens
 abbrev pub splice_between : FileGrammar → Edit → Doc → Doc → Splice
 splice_between file e old new = splice file.skips e (plain_all old.tokens.items) (plain_all new.tokens.items)
 
--- The tokens and the nodes that are kept have their old stamps; all others carry the number. Where it is not above every stamp of
--- the nodes, no node is kept.
+-- the tokens and nodes that the edit keeps have the stamps that they had, and all others its number; where this number isn't above every
+-- stamp of the nodes, no node is kept
 pub record AreStamped (file : FileGrammar) (e : Edit) (old new : Doc) : Type 0 where
   pub tokens : AreRescanned e old.tokens.items new.tokens.items
   pub nodes : AreOlder e.number (all_trees old.store old.parse.stack)

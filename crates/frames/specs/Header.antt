@@ -14,135 +14,139 @@ use Rattle.frames.specs.declared.fault.FrameFault.TheVariants.{BadField, NoLengt
 abbrev pub line_end : List ℕ
 line_end = 13 ∷ 10 ∷ []
 
--- the end of a line, and an empty line
+-- CR LF CR LF: the end of a line, and an empty line
 abbrev pub blank_line : List ℕ
 blank_line = 13 ∷ 10 ∷ 13 ∷ 10 ∷ []
 
--- a whole header part: CR LF, or bytes that end with CR LF CR LF
+-- `IsWhole part`: the bytes are a whole header part: CR LF, or bytes that end with CR LF CR LF
 abbrev pub IsWhole : List ℕ → Type 0
 IsWhole front = (front ≡ line_end) ⊎ ((lines : List ℕ) × (front ≡ lines ++ blank_line))
 
--- the header part is the shortest front that is whole
+-- the first `size` bytes are the header part: the shortest prefix that is CR LF or ends with CR LF CR LF (LSP 3.17, "Header Part")
 pub record IsHeaderPart (bytes : List ℕ) (size : ℕ) : Type 0 where
   pub within : size ≤ length bytes
   pub whole : IsWhole (take size bytes)
   pub shortest : (n : ℕ) → n < size → ¬ IsWhole (take n bytes)
 
--- how many bytes lead through the first needle
+-- `through needle bytes`: how many bytes lead up to the end of the first place where `needle` stands, if it stands anywhere
 abbrev pub through : List ℕ → List ℕ → Option ℕ
 through needle [] = None
 through needle (b ∷ bytes) = if starts_with nat_eq (b ∷ bytes) needle then Some (length needle) else option_map suc (through needle bytes)
 
--- the size of the header part, computed: CR LF at the front, or what leads through the first CR LF CR LF
+-- the size of the header part, computed; the law `shortest_header_part` says that it is that of `IsHeaderPart`
 abbrev pub header_size : List ℕ → Option ℕ
 header_size bytes = if starts_with nat_eq bytes line_end then Some 2 else through blank_line bytes
 
--- an ASCII letter, a digit or '-'
+-- whether the byte is an ASCII letter, a digit or `-`
 abbrev pub is_name_byte : ℕ → Bool
 is_name_byte b = is_ascii_alphanumeric b || b == 45
 
--- a byte from 0x20 to 0x7E, or a tab
+-- whether the byte is from 0x20 to 0x7E, or a tab
 abbrev pub is_value_byte : ℕ → Bool
 is_value_byte b = (nat_le 32 b && nat_le b 126) || b == 9
 
--- a space or a tab
+-- whether the byte is a space or a tab
 abbrev pub is_blank : ℕ → Bool
 is_blank b = b == 32 || b == 9
 
--- without the spaces and tabs at both ends
+-- a value without the blanks at its ends
 abbrev pub trimmed : List ℕ → List ℕ
 trimmed value = let rest = drop (prefix_len is_blank value) value in take (length rest - suffix_len is_blank rest) rest
 
--- the names of two fields, in any case
+-- whether the name is `Content-Length`, in any case
 abbrev pub is_content_length : List ℕ → Bool
 is_content_length name = bytes_eq (map to_ascii_lowercase name) (codes "content-length")
 
+-- whether the name is `Content-Type`, in any case
 abbrev pub is_content_type : List ℕ → Bool
 is_content_type name = bytes_eq (map to_ascii_lowercase name) (codes "content-type")
 
--- the two types of content that name UTF-8
+-- whether the value is `application/vscode-jsonrpc; charset=utf-8`, or that with `utf8` (LSP 3.17, "Header Part")
 abbrev pub is_utf8_type : List ℕ → Bool
 is_utf8_type value = bytes_eq value (codes "application/vscode-jsonrpc; charset=utf-8")
     || bytes_eq value (codes "application/vscode-jsonrpc; charset=utf8")
 
+-- whether the bytes are a field's name: one `is_name_byte` or more
 abbrev pub is_name : List ℕ → Bool
 is_name name = not (length name == 0) && list_all is_name_byte name
 
--- one to eight digits
+-- whether the value is one to eight digits
 abbrev pub is_number : List ℕ → Bool
 is_number value = not (length value == 0) && nat_le (length value) 8 && list_all is_ascii_digit value
 
--- a number up to 16,777,216, in one to eight digits
+-- the number of one to eight digits, where it is at most 16,777,216
 abbrev pub length_value : List ℕ → Option ℕ
 length_value value = if is_number value && nat_le (digits_value 10 value) 16777216 then Some (digits_value 10 value) else None
 
--- a field line's name and value (RFC 7230, 3.2): a name, a colon, and a value whose blanks at both ends don't count
+-- the name before the colon at this place and the value after it, `trimmed`, where they are a name and bytes of a value (RFC 7230, 3.2)
 abbrev pub field_at : List ℕ → ℕ → Option (List ℕ × List ℕ)
 field_at line colon =
     if is_name (take colon line) && list_all is_value_byte (drop (colon + 1) line)
     then Some (take colon line, trimmed (drop (colon + 1) line))
     else None
 
--- the name ends before the first colon
+-- the field of a line: `field_at` its first colon
 abbrev pub field_of : List ℕ → Option (List ℕ × List ℕ)
 field_of line = option_and_then (field_at line) (position (λ b. b == 58) line)
 
--- the length that a field tells
+-- the length that a field tells, if it is a `Content-Length`
 abbrev pub field_length : List ℕ × List ℕ → Option ℕ
 field_length field = if is_content_length field.0 then length_value field.1 else None
 
--- the length that a `Content-Length` line tells
+-- the length that a line tells, if its field is a `Content-Length`
 abbrev pub line_length : List ℕ → Option ℕ
 line_length line = option_and_then field_length (field_of line)
 
--- the fault of a `Content-Length`, by whether a length was told before it
+-- `length_fault is_told n`: the fault of a `Content-Length` with the length `n`, or with none: it is a second one, where a length was told
+-- before it, whatever its value; or its value is no length
 abbrev pub length_fault : Bool → Option ℕ → Option FrameFault
 length_fault true n = Some SecondLength
 length_fault false None = Some BadLength
 length_fault false (Some n) = None
 
--- the fault of a field
+-- the fault of a field: that of a `Content-Length`, or a `Content-Type` that doesn't name UTF-8
 abbrev pub field_fault : Bool → List ℕ × List ℕ → Option FrameFault
 field_fault is_told field =
     if is_content_length field.0 then length_fault is_told (length_value field.1)
     else (if is_content_type field.0 && not (is_utf8_type field.1) then Some BadCharset else None)
 
--- the fault of a line
+-- the fault of a line: that of its field, or that it is no field
 abbrev pub line_fault : Bool → List ℕ → Option FrameFault
 line_fault is_told line = option_map_or (field_fault is_told) (field_of line) (Some BadField)
 
--- the lines with a byte before the first
+-- `onto_first_line b lines`: the lines with the byte `b` before the first of them
 abbrev pub onto_first_line : ℕ → List (List ℕ) → List (List ℕ)
 onto_first_line b [] = []
 onto_first_line b (line ∷ lines) = (b ∷ line) ∷ lines
 
--- the lines that CR LF ends, without their ends
+-- `lines_of bytes`: the lines that CR LF ends, without their ends
 abbrev pub lines_of : List ℕ → List (List ℕ)
 lines_of [] = []
 lines_of (b ∷ []) = []
 lines_of (b ∷ c ∷ bytes) = if starts_with nat_eq (b ∷ c ∷ bytes) line_end
     then [] ∷ lines_of bytes else onto_first_line b (lines_of (c ∷ bytes))
 
--- the length that lines tell behind ones that told this, or their fault: the first faulty line decides
+-- `lines_length told lines`: the length that lines tell after ones that told `told`, or the fault of the first faulty line; a missing
+-- length is a fault where no line has one
 abbrev pub lines_length : Option ℕ → List (List ℕ) → Result ℕ FrameFault
 lines_length told [] = ok_or told NoLength
 lines_length told (line ∷ lines) = option_map_or Err (line_fault (is_some told) line)
     (lines_length (option_or told (line_length line)) lines)
 
--- the length that a whole header part tells, or its fault: the last CR LF ends no field line
+-- the length that the field lines of a whole header part tell, or their fault, as `lines_length` computes it
 abbrev pub header_length : List ℕ → Result ℕ FrameFault
 header_length part = lines_length None (lines_of (take (length part - 2) part))
 
--- the field lines of a whole header part: each ends with CR LF and holds no other, and an empty line ends the part
+-- the header part is these field lines, each with CR LF after it, and CR LF; none of the lines holds CR LF
 pub record AreFieldLines (part : List ℕ) (lines : List (List ℕ)) : Type 0 where
   pub parts : part ≡ flat_map (λ line. line ++ line_end) lines ++ line_end
   pub single : All (λ line. through line_end line ≡ None) lines
 
--- one of the lines tells a length
+-- whether one of the lines tells a length
 abbrev pub tells_length : List (List ℕ) → Bool
 tells_length lines = list_any (λ line. is_some (line_length line)) lines
 
--- no line is faulty, behind those before it
+-- none of the lines is faulty after those before it
 abbrev pub AreFaultless : List (List ℕ) → Type 0
 AreFaultless lines = (before after : List (List ℕ)) (line : List ℕ) → lines ≡ before ++ line ∷ after
     → line_fault (tells_length before) line ≡ None
@@ -153,11 +157,13 @@ IsFirstFault lines fault =
     (before after : List (List ℕ)) × (line : List ℕ) × (lines ≡ before ++ line ∷ after) × AreFaultless before
     × (line_fault (tells_length before) line ≡ Some fault)
 
--- What field lines tell: the first fault; where there is none, the length of the one `Content-Length`, or that it is missing.
+-- `Tell lines result`: what field lines tell: the first fault; where there is none, the length of the one `Content-Length`, or that it is
+-- missing (`NoLength`)
 abbrev pub Tell : List (List ℕ) → Result ℕ FrameFault → Type 0
 Tell lines (Ok n) = AreFaultless lines × Any (λ line. line_length line ≡ Some n) lines
 Tell lines (Err fault) = IsFirstFault lines fault ⊎ (AreFaultless lines × (tells_length lines ≡ false) × (fault ≡ NoLength))
 
--- the field lines of the header part tell this
+-- what the field lines of a header part tell, as `Tell` has it. The law `first_fault_decides`: of a whole header part it is what
+-- `header_length` computes
 abbrev pub IsHeaderLength : List ℕ → Result ℕ FrameFault → Type 0
 IsHeaderLength part result = (lines : List (List ℕ)) × AreFieldLines part lines × Tell lines result

@@ -13,14 +13,14 @@ pub fn one_split()
         Splits bytes cs t → Splits bytes ds u → (cs ≡ ds) × (t ≡ u) }
 {}
 
-/// The header part is the shortest front that is CR LF, or that ends with CR LF CR LF.
+/// `header_size` is the size of the header part, where there is one, and none where no prefix is a whole header part.
 pub fn shortest_header_part()
     ensures found { (bytes : List ℕ) (size : ℕ) →
         (header_size bytes ≡ Some size) ↔ IsHeaderPart bytes size }
     ensures none { (bytes : List ℕ) (n : ℕ) → header_size bytes ≡ None → ¬ IsWhole (take n bytes) }
 {}
 
-/// The field lines of a whole header part are tested in order, and the first faulty one decides.
+/// Of a whole header part, `header_length` computes what its field lines tell: the first fault, or the one length.
 pub fn first_fault_decides()
     ensures { (part : List ℕ) (result : Result ℕ FrameFault) → IsWhole part →
         (header_length part ≡ result) ↔ IsHeaderLength part result }

@@ -12,25 +12,25 @@ use Rattle.grammar_file.specs.Faults.{IsWhole, HaveReferents, IsFileFault}
 pub use Rattle.grammar_file.specs.Faults.{Cause, Unproductive}
 use Rattle.grammar.specs.Contents.{grammar_of}
 
--- whether the line is a production of the nonterminal
+-- `is_production_of w line`: whether the line is a production of the nonterminal
 abbrev pub is_production_of : Word → Line → Bool
 is_production_of w (Production left right) = bytes_eq left w
 is_production_of w _ = false
 
--- nonterminal n is the first one that is the root of no tree
+-- nonterminal `n` is the first one that is unproductive
 pub record IsFirstUnproductive (ss : List Statement) (n : ℕ) : Type 0 where
   pub unproductive : ¬ IsProductive (grammar_of ss) (Nonterminal n)
   pub before : (m : ℕ) → m < n → IsProductive (grammar_of ss) (Nonterminal m)
 
--- the first statement that is a production of w has this number
+-- the first production of the nonterminal `w` stands on line `n`, or on none, which is 0
 abbrev pub IsFirstProduction : List Statement → Word → ℕ → Type 0
 IsFirstProduction ss w n =
     (before after : List Statement)
     × ((s : Statement) × (ss ≡ before ++ (s ∷ after)) × (n ≡ s.number) × (list_any (λ r. is_production_of w r.says) before ≡ false)
     × (is_production_of w s.says ≡ true))
 
--- The first fault of a file: one of those that its lines and names tell; else an unproductive nonterminal of the statements in
--- which its marked words are written out, at its first production.
+-- `IsFault text n cause`: the first fault of a file, at line `n`: one that lines and names tell (`IsFileFault`), or an unproductive
+-- nonterminal of the statements that are written out, at its first production
 pub data IsFault (text : List ℕ) : ℕ → Cause → Type 0 where
   file_fault : (n : ℕ) (c : Cause) → IsFileFault text n c → IsFault text n c
   unproductive : (n k : ℕ) (w : Word) → IsWhole text → HaveReferents (statements text) (statements text)

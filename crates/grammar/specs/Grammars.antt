@@ -6,9 +6,9 @@ use Rattle.definitions.specs.declared.expression.Expression.{Expression}
 use Rattle.definitions.specs.Trees.{Grammar, Production, HasProduction, HasDistinctProductions}
 use Rattle.definitions.specs.Sentences.{IsProductive}
 
--- The token and skip rules, numbered in file order: their names, their patterns, and whether they are skipped. The nonterminals,
--- numbered by their first productions: their names, and whether they fold. The grammar of their numbers, and all that the file
--- defines, in file order, each once.
+-- what a file defines: the token and skip rules, numbered in file order, with their names, their patterns and whether they are skipped; the
+-- nonterminals, numbered by their first productions, with their names and whether they fold; the grammar in these numbers; and all defined
+-- symbols in file order, each once
 pub record FileGrammar : Type 0 where
   pub names : List (List ℕ)
   pub patterns : List Expression
@@ -18,17 +18,18 @@ pub record FileGrammar : Type 0 where
   pub grammar : Grammar
   pub defined : List Symbol
 
--- the symbol has a number that the file defines
+-- `IsKnown f s`: the symbol's number is one that the file defines
 abbrev pub IsKnown : FileGrammar → Symbol → Type 0
 IsKnown f (Terminal k) = k < length f.names
 IsKnown f (Nonterminal n) = n < length f.nonterminals
 
--- the symbol may stand on a right side
+-- `IsUsable f s`: the symbol may stand on a right side: its number is one that the file defines, and it is no skip rule
 abbrev pub IsUsable : FileGrammar → Symbol → Type 0
 IsUsable f (Terminal k) = (k < length f.names) × (slice_index_or f.skips k false ≡ false)
 IsUsable f (Nonterminal n) = n < length f.nonterminals
 
--- a grammar as a file can define it: the numbers are in range, the limits are kept, and every nonterminal is productive
+-- what holds of each grammar that a file defines: the limits are kept, the numbers are in range, right sides are usable, no production is
+-- there twice, and each nonterminal is productive
 pub record IsGrammar (f : FileGrammar) : Type 0 where
   pub rules : f.grammar.rules ≡ length f.names
   pub patterns : length f.patterns ≡ length f.names
@@ -45,13 +46,15 @@ pub record IsGrammar (f : FileGrammar) : Type 0 where
   pub productive : (n : ℕ) → n < length f.nonterminals → IsProductive f.grammar (Nonterminal n)
   pub defined : All (IsKnown f) f.defined
 
--- the sides of production number p, where there is one
+-- production `p` of the grammar
 abbrev pub production_of : Grammar → ℕ → Production
 production_of g p = slice_index_or g.productions p (record { left = 0; right = [] })
 
+-- the left side of production `p`
 abbrev pub left_of : Grammar → ℕ → ℕ
 left_of g p = (production_of g p).left
 
+-- the right side of production `p`
 abbrev pub right_of : Grammar → ℕ → List Symbol
 right_of g p = (production_of g p).right
 

@@ -13,7 +13,7 @@ use Rattle.grammar_file.specs.Faults.{IsWhole, HaveReferents}
 use Rattle.grammar.specs.Grammars.{FileGrammar}
 use Rattle.grammar_file.specs.Said.{ArePatterns}
 
--- what the statements define, where these are the expressions of the rules and these symbols stand on lines of the file
+-- what statements define, with these patterns of their rules, and these symbols defined on lines of the file
 abbrev pub grammar_with : List Statement → List Expression → List Symbol → FileGrammar
 grammar_with ss expressions symbols = record {
   names = map chars (rule_names ss);
@@ -25,12 +25,13 @@ grammar_with ss expressions symbols = record {
   defined = symbols;
 }
 
--- what a file of these statements defines: that of the statements in which its marked words are written out
+-- what a file of these statements defines: the grammar of those in which its marked words are written out, and the symbols that its own
+-- lines define
 abbrev pub file_grammar : List Statement → List Expression → FileGrammar
 file_grammar ss expressions = grammar_with (written_out ss) expressions (defined ss)
 
--- The text is a grammar file without a fault: no line has one, each name that is used is defined, each rule has a pattern, and
--- each nonterminal is productive. It defines this grammar.
+-- the text is a file without a fault, and defines `f`: no line has a fault, each name that is used is defined, each rule has a pattern, and
+-- each nonterminal is productive
 pub record IsGrammarOf (text : List ℕ) (f : FileGrammar) : Type 0 where
   pub whole : IsWhole text
   pub referents : HaveReferents (statements text) (statements text)

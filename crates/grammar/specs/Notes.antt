@@ -6,12 +6,12 @@ use Rattle.definitions.specs.declared.Symbol.TheVariants.{Rule as Terminal, Nont
 use Rattle.definitions.specs.Sentences.{IsUsed}
 use Rattle.grammar.specs.Grammars.{FileGrammar}
 
--- the symbol is a rule that is skipped
+-- `is_skip f s`: whether the symbol is a skip rule
 abbrev pub is_skip : FileGrammar → Symbol → Bool
 is_skip f (Terminal k) = slice_index_or f.skips k false
 is_skip f (Nonterminal n) = false
 
--- the second list has those of the first, in order, that are neither skipped nor used
+-- `AreNotes f symbols notes`: `notes` are those of the symbols that are neither skipped nor used, in order
 pub data AreNotes (f : FileGrammar) : List Symbol → List Symbol → Type 0 where
   none : AreNotes f [] []
   told : {s : Symbol} {ss ns : List Symbol} → is_skip f s ≡ false → (IsUsed f.grammar s → ⊥) → AreNotes f ss ns
@@ -19,15 +19,16 @@ pub data AreNotes (f : FileGrammar) : List Symbol → List Symbol → Type 0 whe
   skipped : {s : Symbol} {ss ns : List Symbol} → is_skip f s ≡ true → AreNotes f ss ns → AreNotes f (s ∷ ss) ns
   used : {s : Symbol} {ss ns : List Symbol} → IsUsed f.grammar s → AreNotes f ss ns → AreNotes f (s ∷ ss) ns
 
--- the name of a rule or of a nonterminal
+-- `symbol_name f s`: the name of a symbol
 abbrev pub symbol_name : FileGrammar → Symbol → List ℕ
 symbol_name f (Terminal k) = slice_index_or f.names k []
 symbol_name f (Nonterminal n) = slice_index_or f.nonterminals n []
 
--- whether rule k is one of these symbols
+-- `is_rule k symbol`: whether the symbol is rule `k`
 abbrev pub is_rule : ℕ → Symbol → Bool
 is_rule k (Terminal j) = j == k
 is_rule k (Nonterminal n) = false
 
+-- whether rule `k` is one of these symbols
 abbrev pub has_rule : ℕ → List Symbol → Bool
 has_rule k symbols = list_any (is_rule k) symbols

@@ -1,7 +1,4 @@
 -- The texts of faults of grammar files, in UTF-8.
---     limit_name limit      what a grammar file has too many of
---     cause_text cause      `G1 first line` to `G11 limit passed: W`: what is wrong with a grammar file
---     fault_text fault      the same, with the number of the line
 use Rattle.std.specs.Prelude.{ℕ, ◌++◌, List, codes, decimal, string_bytes}
 use Rattle.grammar_file.specs.declared.fault.Limit.{Limit}
 use Rattle.grammar_file.specs.declared.fault.Limit.TheVariants as limit
@@ -10,6 +7,7 @@ use Rattle.grammar.specs.declared.fault.GrammarCause.{GrammarCause}
 use Rattle.grammar.specs.declared.fault.GrammarCause.TheVariants as cause
 use Rattle.grammar.specs.declared.fault.GrammarFault.{GrammarFault}
 
+-- `limit_name limit`: what there is too much of
 abbrev pub limit_name : Limit → List ℕ
 limit_name limit.File = codes "file"
 limit_name limit.Tokens = codes "tokens"
@@ -17,6 +15,7 @@ limit_name limit.Nonterminals = codes "nonterminals"
 limit_name limit.Productions = codes "productions"
 limit_name limit.Symbols = codes "symbols"
 
+-- `cause_text cause`: the text of what is wrong with a grammar file
 abbrev pub cause_text : GrammarCause → List ℕ
 cause_text cause.FirstLine = codes "G1 first line"
 cause_text cause.BadLine = codes "G2 bad line"
@@ -32,5 +31,6 @@ cause_text (cause.SkipInProduction name) = codes "G10 skip token in a production
 cause_text (cause.Limit limit) = codes "G11 limit passed: " ++ limit_name limit
 cause_text cause.Memory = codes "no memory"
 
+-- the text of a fault: the number of its line, and its `cause_text`
 abbrev pub fault_text : GrammarFault → List ℕ
 fault_text fault = codes "line " ++ (decimal fault.line ++ (codes ": " ++ cause_text fault.cause))

@@ -11,7 +11,7 @@ use Rattle.grammar_file.specs.Told.{cause_of}
 use Rattle.grammar.specs.declared.fault.GrammarCause.{GrammarCause}
 use Rattle.grammar.specs.declared.fault.GrammarCause.TheVariants as p
 
--- want of memory is no fault of the file
+-- `public_cause cause`: the cause that a caller is told, as a `Cause`; none where it is memory
 abbrev pub public_cause : GrammarCause → Option Cause
 public_cause p.FirstLine = Some FirstLine
 public_cause p.BadLine = Some BadLine
@@ -27,7 +27,7 @@ public_cause (p.SkipInProduction w) = Some (SkipInProduction (string_bytes w))
 public_cause (p.Limit l) = Some (Passed l)
 public_cause p.Memory = None
 
--- under which code the fault of a pattern is printed
+-- `pattern_code cause`: the code that is printed of a pattern's fault, `P1` to `P6`
 abbrev pub pattern_code : PatternCause → List ℕ
 pattern_code Syntax = codes "P1"
 pattern_code EmptyClass = codes "P2"
@@ -36,11 +36,12 @@ pattern_code EmptyLiteral = codes "P4"
 pattern_code MatchesEmpty = codes "P5"
 pattern_code NoMemory = codes "P6"
 
+-- `TellsCause cause P`: where there is a cause, `P` holds of it; where there is none, nothing is said
 abbrev pub TellsCause : Option Cause → (Cause → Type 0) → Type 0
 TellsCause None P = Unit {0}
 TellsCause (Some c) P = P c
 
--- the refusal is for this cause at this line
+-- `IsFor refusal n cause`: the refusal is for this cause at line `n`
 abbrev pub IsFor : Refusal → ℕ → Cause → Type 0
 IsFor (Fault line c) n cause = (line ≡ n) × (cause_of c ≡ cause)
 IsFor Memory n cause = ⊥

@@ -19,10 +19,11 @@ use Rattle.grammar_file.specs.Contents.{RuleLine, ProductionLine, rules, product
 use Rattle.grammar_file.specs.WrittenOut.{with_marked, marked, written_out}
 use Rattle.grammar_file.specs.Faults.{AreFaultless, is_skip_rule, has_production, nonterminal_count, production_count}
 
--- what these point to
+-- the words that the code points to
 abbrev pub texts : List (Bor (List ℕ)) → List Word
 texts ws = map (λ w. w.now) ws
 
+-- `said line`: what a line that the code keeps says, as a `Line`
 abbrev pub said : Kept → Line
 said k.Nothing = Nothing
 said (k.Production left right) = Production left.now (texts right.items)
@@ -34,9 +35,11 @@ said k.Bad = Bad
 abbrev pub statement_of : Numbered → Statement
 statement_of n = record { number = n.number; says = said n.line }
 
+-- `all_said lines`: the lines that the code keeps, as statements
 abbrev pub all_said : List Numbered → List Statement
 all_said ns = map statement_of ns
 
+-- `rule_line rule`: a rule that the code keeps, as a rule's line
 abbrev pub rule_line : RuleName → RuleLine
 rule_line r = record { skip = r.skip; name = r.name.now; pattern = r.pattern.now }
 
@@ -44,11 +47,11 @@ rule_line r = record { skip = r.skip; name = r.name.now; pattern = r.pattern.now
 abbrev pub are_among : List Word → List (List Word) → Bool
 are_among ws all = list_any (λ vs. pointwise bytes_eq vs ws) all
 
--- the lists with these names behind them, unless they are one of them
+-- the lists with these names after them, unless they are one of them
 abbrev pub with_names : List (List Word) → List Word → List (List Word)
 with_names all ws = if are_among ws all then all else all ++ ws ∷ []
 
--- the names are those that the statements define
+-- the names that the code keeps are those that the statements define
 pub record AreNames (names : Names) (ss : List Statement) : Type 0 where
   pub skips : (w : Word) → is_among w names.skips ≡ list_any (is_skip_rule w) (rules ss)
   pub rules : names.rules ≡ rules ss
@@ -87,21 +90,21 @@ abbrev pub with_start : Bool → Line → Bool
 with_start b (Start name) = true
 with_start b _ = b
 
--- the expressions of the rules, in order
+-- `ArePatterns rules expressions`: these are the expressions of the patterns of the rules, in order
 abbrev pub ArePatterns : List RuleLine → List Expression → Type 0
 ArePatterns [] [] = Unit {0}
 ArePatterns [] (e ∷ es) = ⊥
 ArePatterns (r ∷ rs) [] = ⊥
 ArePatterns (r ∷ rs) (e ∷ es) = IsPattern (chars r.pattern) e × ArePatterns rs es
 
--- the limits are kept, and no production is there twice
+-- the statements pass no limit
 pub record AreFew (ss : List Statement) : Type 0 where
   pub few_rules : length (rules ss) ≤ 256
   pub few_nonterminals : nonterminal_count ss ≤ 256
   pub few_productions : production_count ss ≤ 1024
   pub short : (k : ℕ) (p : ProductionLine) → slice_get (productions ss) k ≡ Some p → length p.right ≤ 16
 
--- the file's lines so far are these statements, which have no fault
+-- the code keeps these statements, their names and patterns and what they define; they have no fault and pass no limit
 pub record IsRead (file : File) (ss : List Statement) : Type 0 where
   pub statements : all_said file.statements.items ≡ ss
   pub names : AreNames file.names ss
@@ -110,7 +113,8 @@ pub record IsRead (file : File) (ss : List Statement) : Type 0 where
   pub faultless : AreFaultless ss
   pub few : AreFew ss
 
--- the file has the lines of these statements, and behind them the productions of their marked words
+-- the code keeps these statements and after them the productions of their marked words, the names of all, and the patterns and what is
+-- defined of the statements themselves; they pass no limit
 pub record IsWrittenOut (file : File) (ss : List Statement) : Type 0 where
   pub statements : all_said file.statements.items ≡ written_out ss
   pub names : AreNames file.names (written_out ss)

@@ -7,6 +7,7 @@ use Rattle.grammar_file.specs.declared.fault.Refusal.TheVariants.{Fault, Memory}
 use Rattle.grammar_file.specs.Faults.{Cause, FirstLine, BadLine, NoStart, SecondStart, DefinedTwice, Undefined, Reserved}
 use Rattle.grammar_file.specs.Faults.{NotANonterminal, Unproductive, SkipInProduction, BadPattern, Passed}
 
+-- `cause_of cause`: a cause of the code as a `Cause`
 abbrev pub cause_of : Borrowed → Cause
 cause_of b.FirstLine = FirstLine
 cause_of b.BadLine = BadLine
@@ -21,7 +22,7 @@ cause_of (b.Unproductive w) = Unproductive w.now
 cause_of (b.SkipInProduction w) = SkipInProduction w.now
 cause_of (b.Passed l) = Passed l
 
--- a refusal for another cause than memory tells this
+-- `Tells refusal P`: what is said of a refusal's line and cause, where it isn't memory
 abbrev pub Tells : Refusal → (ℕ → Cause → Type 0) → Type 0
 Tells (Fault line c) P = P line (cause_of c)
 Tells Memory P = Unit {0}

@@ -7,25 +7,26 @@ use Rattle.grammar_file.specs.Words.{Word, mark_of, is_marked, plain}
 use Rattle.grammar_file.specs.Statements.{Production, Statement, at}
 use Rattle.grammar_file.specs.Contents.{productions, with_name}
 
--- the right sides of w, the name x with this mark: `x* =` and `x* = x* x`; `x+ = x` and `x+ = x+ x`; `x? =` and `x? = x`
+-- `right_sides mark w x`: the right sides of the marked word `w` of the name `x`: `x* =` and `x* = x* x`; `x+ = x` and `x+ = x+ x`; `x? =`
+-- and `x? = x`
 abbrev pub right_sides : Mark → Word → Word → List (List Word)
 right_sides Once w x = []
 right_sides Any w x = [] ∷ (w ∷ x ∷ []) ∷ []
 right_sides AtLeastOnce w x = (x ∷ []) ∷ (w ∷ x ∷ []) ∷ []
 right_sides AtMostOnce w x = [] ∷ (x ∷ []) ∷ []
 
--- the productions of a marked word, which stand on no line
+-- the productions of a marked word, which stand on no line and have the number 0
 abbrev pub added : Word → List Statement
 added w = map (λ right. at 0 (Production w right)) (right_sides (mark_of w) w (plain w))
 
--- the names with the marked ones of these words, each once
+-- the names with the marked words of `ws` after them, each once
 abbrev pub with_marked : List Word → List Word → List Word
 with_marked names ws = fold with_name names (filter is_marked ws)
 
--- the marked words on right sides, in the order of first occurrence
+-- the distinct marked words on right sides, in the order of first occurrence
 abbrev pub marked : List Statement → List Word
 marked ss = with_marked [] (flat_map (λ p. p.right) (productions ss))
 
--- the statements of a file, and behind them the productions of its marked words
+-- the statements, and after them the productions of their marked words
 abbrev pub written_out : List Statement → List Statement
 written_out ss = ss ++ flat_map added (marked ss)

@@ -11,6 +11,7 @@ use Rattle.item_sets.specs.Order.{IsOrdered}
 use Rattle.item_sets.specs.Symbols.{symbol_of}
 use Rattle.item_sets.specs.States.{HasKernel}
 
+-- the kernel of state `s`
 abbrev pub kernel_at : List (List Item) → ℕ → List Item
 kernel_at kernels s = slice_index_or kernels s []
 
@@ -36,7 +37,7 @@ pub record IsLed (g : Grammar) (t : Found) (s : ℕ) : Type 0 where
   pub leads : (prefix : List Symbol) → HasKernel g (kernel_at t.kernels (origin_at t.origins s).from) prefix
       → HasKernel g (kernel_at t.kernels s) (prefix ++ (origin_at t.origins s).symbol ∷ [])
 
--- the set of the empty prefix and others, each once and each the set of some prefix
+-- `AreStates g found`: the kernels of sets of prefixes, each once, with how each was first reached; the first is that of the empty prefix
 pub record AreStates (g : Shape) (t : Found) : Type 0 where
   pub sound : IsSound g
   pub begins : 0 < length t.kernels
@@ -53,12 +54,12 @@ Placed old new kernel from symbol = (new ≡ old)
     ⊎ ((new.kernels ≡ old.kernels ++ kernel ∷ []) × (new.origins ≡ old.origins ++ record { from = from; symbol = symbol } ∷ [])
     × IsAbsent old.kernels kernel)
 
--- the list goes on from the old one
+-- the list of kernels `new` begins with `old`
 pub record GoesOn (old new : List (List Item)) : Type 0 where
   pub longer : length old ≤ length new
   pub same : (s : ℕ) → s < length old → kernel_at new s ≡ kernel_at old s
 
--- where a symbol leads from the state s: to no set, or to a state
+-- where a symbol leads from state `s`: to no set, or to the state of the longer prefix
 abbrev pub IsStep : Grammar → List (List Item) → ℕ → Symbol → Option ℕ → Type 0
 IsStep g kernels s symbol to =
     MatchOption to
@@ -66,7 +67,7 @@ IsStep g kernels s symbol to =
     (λ t. (t < length kernels)
     × ((prefix : List Symbol) → HasKernel g (kernel_at kernels s) prefix → HasKernel g (kernel_at kernels t) (prefix ++ symbol ∷ [])))
 
--- where each symbol leads from the state s
+-- for each symbol by its number, where it leads from state `s`
 pub record IsRow (g : Shape) (kernels : List (List Item)) (s : ℕ) (row : List (Option ℕ)) : Type 0 where
   pub filled : length row ≡ g.grammar.rules + g.nonterminals
   pub steps : (k : ℕ) → k < length row → IsStep g.grammar kernels s (symbol_of g.grammar k) (slice_index_or row k None)

@@ -13,14 +13,14 @@ vanish_by marks [] = true
 vanish_by marks (Terminal a ∷ ss) = false
 vanish_by marks (Nonterminal n ∷ ss) = slice_index_or marks n false && vanish_by marks ss
 
--- whether the symbols begin with the rule a, or with a marked nonterminal, behind what can vanish
+-- `begin_by a vanishing marks symbols`: whether the symbols begin with the rule `a`, or with a marked nonterminal, after what can vanish
 abbrev pub begin_by : ℕ → List Bool → List Bool → List Symbol → Bool
 begin_by a vanishing marks [] = false
 begin_by a vanishing marks (Terminal b ∷ ss) = a == b
 begin_by a vanishing marks (Nonterminal n ∷ ss) = slice_index_or marks n false
     || (slice_index_or vanishing n false && begin_by a vanishing marks ss)
 
--- with None that the symbols vanish, with Some a that they begin with the rule a
+-- `holds_by look vanishing marks symbols`: with no rule that the symbols vanish, with a rule that they begin with it
 abbrev pub holds_by : Option ℕ → List Bool → List Bool → List Symbol → Bool
 holds_by None vanishing marks ss = vanish_by marks ss
 holds_by (Some a) vanishing marks ss = begin_by a vanishing marks ss

@@ -7,17 +7,17 @@ use Rattle.definitions.specs.Sentences.{AllProductive}
 use Rattle.definitions.specs.Trees.{Grammar, HasProduction, HasDistinctProductions}
 use Rattle.grammar.specs.Grammars.{left_of}
 
--- a grammar, and the number of its nonterminals
+-- a grammar with the number of its nonterminals
 pub record Shape : Type 0 where
   pub grammar : Grammar
   pub nonterminals : ℕ
 
--- the symbol's number is below its count
+-- `IsKnown g s`: the symbol's number is below its count
 abbrev pub IsKnown : Shape → Symbol → Type 0
 IsKnown g (Terminal a) = a < g.grammar.rules
 IsKnown g (Nonterminal n) = n < g.nonterminals
 
--- all numbers are below their counts, each symbol is productive, and no production is there twice
+-- all numbers are below their counts and fit in 64 bits, each symbol is productive, and no production is there twice
 pub record IsSound (g : Shape) : Type 0 where
   pub start : g.grammar.start < g.nonterminals
   pub small : g.grammar.rules + g.nonterminals + 1 < 2 ^ 64

@@ -9,15 +9,16 @@ use Rattle.grammar.specs.Grammars.{left_of, right_of}
 use Rattle.item_sets.specs.Productions.{Shape}
 use Rattle.theory.specs.First.{MayFollow}
 
--- the right side of a production, with S' = S as None
+-- `side g p`: the right side of production `p`, or of the added `S' = S`, which is `None`
 abbrev pub side : Grammar → Option ℕ → List Symbol
 side g None = Nonterminal g.start ∷ []
 side g (Some p) = right_of g p
 
--- the symbols behind the item's place
+-- the symbols after an item's dot
 abbrev pub behind : Grammar → Item → List Symbol
 behind g i = drop i.at (side g i.production)
 
+-- an item of the code as an `Item` of the definitions
 abbrev pub item_of : Grammar → Item → LrItem
 item_of g i = record { production = i.production; before = take i.at (side g i.production); after = behind g i; look = i.look }
 
@@ -27,7 +28,7 @@ pub record IsItem (g : Shape) (i : Item) : Type 0 where
   pub at : i.at ≤ length (side g.grammar i.production)
   pub look : IfSome i.look (λ a. a < g.grammar.rules)
 
--- the items of the set with this kernel
+-- `IsIn g kernel i`: the item is in the closure of the kernel, by `MayFollow`
 pub data IsIn (g : Grammar) (kernel : List Item) : Item → Type 0 where
   Kernel : {i : Item} → Contains kernel i → IsIn g kernel i
   Closed : {i : Item} (n : ℕ) (rest : List Symbol) (p : ℕ) (a : Option ℕ) → IsIn g kernel i → behind g i ≡ Nonterminal n ∷ rest

@@ -15,7 +15,7 @@ pub record HasSet (g : Grammar) (items : List Item) (prefix : List Symbol) : Typ
   pub sound : (i : Item) → Contains items i → IsValid g prefix (item_of g i)
   pub complete : (k : LrItem) → IsValid g prefix k → (i : Item) × Contains items i × (item_of g i ≡ k)
 
--- these are the items valid for the prefix that the closure does not add
+-- these are the items valid for the prefix that the closure doesn't add
 pub record HasKernel (g : Grammar) (kernel : List Item) (prefix : List Symbol) : Type 0 where
   pub sound : (i : Item) → Contains kernel i → IsValid g prefix (item_of g i)
   pub complete : (k : LrItem) → IsKernel k → IsValid g prefix k → (i : Item) × Contains kernel i × (item_of g i ≡ k)
@@ -23,12 +23,12 @@ pub record HasKernel (g : Grammar) (kernel : List Item) (prefix : List Symbol) :
 abbrev pub step : Item → Item
 step i = record { production = i.production; at = i.at + 1; look = i.look }
 
--- the items that stand before the symbol s, with their places behind it
+-- the items that stand before the symbol s, with their places after it
 pub record Shifted (g : Grammar) (items : List Item) (s : Symbol) (kernel : List Item) : Type 0 where
   pub each : (i : Item) → Contains kernel i → (j : Item) × Contains items j × (first (behind g j) ≡ Some s) × (step j ≡ i)
   pub all : (j : Item) → Contains items j → first (behind g j) ≡ Some s → Contains kernel (step j)
 
--- the same of the items in front of a place, in order
+-- of the items before a place, those that stand before the symbol `s`, with their places after it, in order
 pub record ShiftsUpTo (g : Grammar) (items : List Item) (at : ℕ) (s : Symbol) (kernel : List Item) : Type 0 where
   pub rising : IsRising kernel
   pub each : (i : Item) → Contains kernel i
@@ -37,13 +37,13 @@ pub record ShiftsUpTo (g : Grammar) (items : List Item) (at : ℕ) (s : Symbol) 
   pub all : (k : ℕ) (d : Item) → k < at → first (behind g (slice_index_or items k d)) ≡ Some s
       → Contains kernel (step (slice_index_or items k d))
 
--- the items, in order, of the set of each prefix with this kernel
+-- these are, in order, the items of the set of each prefix with this kernel
 pub record IsSetOf (g : Shape) (kernel items : List Item) : Type 0 where
   pub known : All (IsItem g) items
   pub rising : IsRising items
   pub set : (prefix : List Symbol) → HasKernel g.grammar kernel prefix → HasSet g.grammar items prefix
 
--- the kernel of each prefix whose set these items are, with the symbol s behind it
+-- the kernel of each prefix whose set these items are, with the symbol s after it
 pub record IsKernelBehind (g : Shape) (items : List Item) (s : Symbol) (kernel : List Item) : Type 0 where
   pub ordered : IsOrdered g kernel
   pub leads : (prefix : List Symbol) → HasSet g.grammar items prefix → HasKernel g.grammar kernel (prefix ++ s ∷ [])

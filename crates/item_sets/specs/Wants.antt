@@ -40,7 +40,7 @@ pub record Grows (old new : Wants) : Type 0 where
   pub same : (i : ℕ) (d : Want) → i < length old.list → slice_index_or new.list i d ≡ slice_index_or old.list i d
   pub count : length new.list + unmarked_in new.rows ≡ length old.list + unmarked_in old.rows
 
--- some item of the set stands before n, with a behind it
+-- some item of the set stands before n, with a after it
 abbrev pub IsWanted : Grammar → List Item → ℕ → Option ℕ → Type 0
 IsWanted g kernel n a = (i : Item) × (rest : List Symbol) × IsIn g kernel i × (behind g i ≡ Nonterminal n ∷ rest)
     × MayFollow g rest i.look a
@@ -61,7 +61,7 @@ abbrev pub Expands : Shape → List (List Bool) → ℕ → ℕ → Type 0
 Expands g rows n k = (p : ℕ) → p < length g.grammar.productions → left_of g.grammar p ≡ n
     → Asks g rows (right_of g.grammar p) (lookahead_at k)
 
--- these symbols want n, with the lookahead at k behind it
+-- these symbols want n, with the lookahead at k after it
 abbrev pub IsAsked : Grammar → List Symbol → Option ℕ → ℕ → ℕ → Type 0
 IsAsked g symbols look n k = (rest : List Symbol) × (symbols ≡ Nonterminal n ∷ rest) × MayFollow g rest look (lookahead_at k)
 

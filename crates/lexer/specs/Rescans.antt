@@ -10,11 +10,11 @@ use Rattle.definitions.specs.TokenEdits.{front, is_rejoined, rejoin, same_kinds,
 use Rattle.lexer.specs.declared.sums.Token.{Token}
 use Rattle.lexer.specs.Tokens.{plain, is_significant, characters, AreTokensOf}
 
--- the tokens without their stamps and marks
+-- stored tokens without their marks and stamps
 abbrev pub plain_all : List Token → List PlainToken
 plain_all items = map plain items
 
--- u is the text of these tokens after the edit
+-- `u` is the text of these tokens after the edit
 pub record IsEdited (rules : List Expression) (skips : List Bool) (e : Edit) (items : List Token) (u : List ℕ) : Type 0 where
   pub text : List ℕ
   pub piece : List ℕ
@@ -23,33 +23,33 @@ pub record IsEdited (rules : List Expression) (skips : List Bool) (e : Edit) (it
   pub inserted : e.inserted ≡ length piece
   pub new_text : u ≡ edit text e.at (e.at + e.removed) piece
 
--- the first offset behind the kept front
+-- the offset at which the tokens end that are kept before the edit
 abbrev pub front_end : Edit → List Token → ℕ
 front_end e items = characters (take (front e (plain_all items)) items)
 
--- some token that is made reaches past offset i
+-- some token made has a start and reach that together are greater than `i`
 abbrev pub IsReachedByMade : Edit → List PlainToken → List PlainToken → ℕ → Type 0
 IsReachedByMade e old new i = (k : ℕ) × (front e old ≤ k) × (k < rejoin e old new)
     × IsSomeAnd (slice_get (placed 0 new) k) (λ x. i < x.start + x.token.reach)
 
--- offset i of the new text u lies between the end of the kept front and the greatest start and reach of a token made
+-- a rescan may ask for offset `i` of `u`: it isn't before the end of the kept tokens before the edit, and some token made reaches past it
 pub record IsNeeded (rules : List Expression) (e : Edit) (items : List Token) (u : List ℕ) (i : ℕ) : Type 0 where
   pub behind : front_end e items ≤ i
   pub inside : i < length u
   pub reached : (new : List PlainToken) → AreTokens rules u new → IsReachedByMade e (plain_all items) new i
 
--- The kept tokens are the old ones, with their stamps. The others are made, with the number of the edit.
+-- the kept tokens are the old ones with their stamps, and the others carry the number of the edit
 pub record AreRescanned (e : Edit) (old new : List Token) : Type 0 where
   pub front_kept : take (front e (plain_all old)) new ≡ take (front e (plain_all old)) old
   pub rest_kept : drop (rejoin e (plain_all old) (plain_all new)) new ≡ drop
       (length old - (length new - rejoin e (plain_all old) (plain_all new))) old
   pub stamped : All (λ x. x.born ≡ e.number) (slice_range new (front e (plain_all old)) (rejoin e (plain_all old) (plain_all new)))
 
--- the kinds of the significant ones
+-- the kinds of stored tokens that aren't skipped
 abbrev pub significant_kinds : List Token → List Kind
 significant_kinds items = map (λ x. x.kind) (filter is_significant items)
 
--- how the significant kinds change where the tokens from one place up to another give way to tokens of these kinds
+-- how the significant kinds change where the tokens from `front` up to `to` give way to tokens of the kinds `after`
 abbrev pub change : List Token → ℕ → ℕ → List Kind → Splice
 change items front to after =
     let from = count_by is_significant (take front items) in
@@ -57,7 +57,8 @@ change items front to after =
     then record { from = from; to = from; kinds = [] }
     else record { from = from; to = count_by is_significant (take to items); kinds = after }
 
--- These tokens are made behind the kept front, up to the first place of rejoining, which is that of the old token numbered `to`.
+-- these tokens are made after those that are kept before the edit, up to the first place of rejoining, which is that of the old token
+-- numbered `to`
 pub record IsRemade (rules : List Expression) (skips : List Bool) (e : Edit) (items : List Token) (u : List ℕ) (made : List Token)
     (to : ℕ) : Type 0 where
   pub leads : Leads rules (drop (front_end e items) u) (plain_all made)

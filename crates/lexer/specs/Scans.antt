@@ -5,15 +5,14 @@ use Rattle.definitions.specs.Tokens.{Leads, is_skipped}
 use Rattle.lexer.specs.declared.sums.Token.{Token}
 use Rattle.lexer.specs.Tokens.{plain, characters}
 
--- the tokens are marked where their kind is skipped and have this stamp; none is empty, and none reaches farther than a text
--- does
+-- these tokens are marked where they are skipped and carry the stamp `born`; none is empty or reaches farther than a text does
 pub record AreMade (skips : List Bool) (born : ℕ) (made : List Token) : Type 0 where
   pub marked : All (λ x. x.skipped ≡ is_skipped skips x.kind) made
   pub stamped : All (λ x. x.born ≡ born) made
   pub nonempty : All (λ x. 1 ≤ x.length) made
   pub near : All (λ x. x.reach ≤ 1048577) made
 
--- these are the next tokens of the text t from one offset up to another, made by edit 0
+-- these are the next tokens of `t` from offset `from` up to `end`, with the stamp 0
 pub record AreNext (rules : List Expression) (skips : List Bool) (t : List ℕ) (from : ℕ) (next : List Token) (end : ℕ) : Type 0 where
   pub leads : Leads rules (drop from t) (map plain next)
   pub made : AreMade skips 0 next

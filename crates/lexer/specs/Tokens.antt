@@ -4,28 +4,29 @@ use Rattle.definitions.specs.declared.expression.Expression.{Expression}
 use Rattle.definitions.specs.Tokens.{Token as PlainToken, AreTokens, is_skipped}
 use Rattle.lexer.specs.declared.sums.Token.{Token}
 
--- a token without its stamp and mark
+-- a stored token without its mark and stamp
 abbrev pub plain : Token → PlainToken
 plain x = record { kind = x.kind; length = x.length; reach = x.reach }
 
+-- whether a stored token isn't skipped
 abbrev pub is_significant : Token → Bool
 is_significant x = not x.skipped
 
--- the tokens, and how many of them the last change made
+-- tokens, each with its kind, length, reach, mark and stamp, and how many the last change made
 pub record Stored : Type 0 where
   pub items : List Token
   pub scanned : ℕ
 
--- the tokens of the text t, marked where their kind is skipped
+-- these are the tokens of `t`, marked where their kind is skipped
 pub record AreTokensOf (rules : List Expression) (skips : List Bool) (t : List ℕ) (items : List Token) : Type 0 where
   pub tokens : AreTokens rules t (map plain items)
   pub marked : All (λ x. x.skipped ≡ is_skipped skips x.kind) items
 
--- the characters of a list of tokens
+-- how many characters the tokens have in all
 abbrev pub characters : List Token → ℕ
 characters items = sum_by (λ x. x.length) items
 
--- sums of these tokens are exact
+-- sums of these tokens are exact: they have at most 2^30 characters, none is empty, and none reaches farther than 2^30
 pub record Fits (items : List Token) : Type 0 where
   pub short : characters items ≤ 2 ^ 30
   pub nonempty : All (λ x. 1 ≤ x.length) items

@@ -1,7 +1,4 @@
 -- A parse whose store is compacted.
---     bound branches      how many nodes a store may have for a parse of so many branches
---     IsLonger old n new      a store has n nodes more, behind the old ones
---     IsSameParse old p new q      in the cells new the parse q is what p is in the cells old
 use Rattle.std.specs.Prelude.{◌≡◌, ℕ, ◌+◌, ◌*◌, List, [], ◌∷◌, length, take}
 use Rattle.trees.specs.declared.store.NodeId.{NodeId}
 use Rattle.trees.specs.declared.store.Child.{Child}
@@ -11,13 +8,15 @@ use Rattle.parser.specs.declared.parse.Verdict.{Verdict}
 use Rattle.parser.specs.declared.parse.Verdict.TheVariants.{Tree as TreeAt, FaultAt, FaultAtEnd}
 use Rattle.parser.specs.Parses.{IsAlone, Stop, verdict_in}
 
+-- how many nodes a store may have for a parse of so many branches: `2 * branches + 1024`
 abbrev pub bound : ℕ → ℕ
 bound branches = 2 * branches + 1024
 
+-- a store has `n` nodes more, after the old ones
 abbrev pub IsLonger : List Cell → ℕ → List Cell → Type 0
 IsLonger old n new = (take (length old) new ≡ old) × (length new ≡ length old + n)
 
--- the same trees and verdict, under other names, and the same state and counts
+-- a parse whose store was compacted is the same under other names
 pub record IsSameParse (old : List Cell) (p : Stop) (new : List Cell) (q : Stop) : Type 0 where
   pub trees : all_trees new q.stack ≡ all_trees old p.stack
   pub below : AreBelow (length new) q.stack
@@ -28,7 +27,7 @@ pub record IsSameParse (old : List Cell) (p : Stop) (new : List Cell) (q : Stop)
   pub built : q.built ≡ p.built
   pub number : q.number ≡ p.number
 
--- the verdict where the first child of the stack is the tree
+-- `verdict_on v cs`: the verdict under other names: the tree is the first child of the stack
 abbrev pub verdict_on : Verdict → List Child → Verdict
 verdict_on (TreeAt id) (Node name ∷ cs) = TreeAt name
 verdict_on (TreeAt id) (Token k ∷ cs) = TreeAt id
@@ -42,7 +41,7 @@ node_ids [] = []
 node_ids (Token k ∷ cs) = node_ids cs
 node_ids (Node id ∷ cs) = id ∷ node_ids cs
 
--- the children with these names in the place of their nodes, one after another
+-- `renamed cs names`: children with these names in place of their nodes
 abbrev pub renamed : List Child → List NodeId → List Child
 renamed [] names = []
 renamed (Token k ∷ cs) names = Token k ∷ renamed cs names

@@ -1,4 +1,4 @@
--- What a list of trees has in front of a place among its kinds, and behind it.
+-- What a list of trees has before a place among its kinds, and after it.
 use Rattle.std.specs.Prelude.{◌≡◌, ℕ, ◌+◌, ◌<◌, List, [], ◌∷◌, ◌++◌, length}
 use Rattle.definitions.specs.Trees.{yield}
 use Rattle.definitions.specs.TreeEdits.{StampedBranch, plain}
@@ -18,8 +18,8 @@ pub record AreChildren (cells : List Cell) (id : NodeId) (children : List Child)
   pub born : ℕ
   pub is : tree cells (Node id) ≡ StampedBranch production born (forest_of (trees_from [] cells) children)
 
--- front has the trees that stand among the first n kinds, and back those behind them. A tree that has kinds on both sides is
--- opened, and no other one is
+-- `Cut cells n cs front back`: `front` has the trees of `cs` among the first `n` kinds, and `back` those after them; a tree with kinds on
+-- both sides is opened, and no other one
 pub data Cut (cells : List Cell) : ℕ → List Child → List Child → List Child → Type 0 where
   Here : {cs : List Child} → Cut cells 0 cs [] cs
   Used_up : {n : ℕ} → Cut cells n [] [] []

@@ -14,11 +14,11 @@ use Rattle.tables.specs.Tables.{Sets, IsStateOf}
 use Rattle.parser.specs.declared.machine.Front.{Front as Offer}
 use Rattle.parser.specs.declared.machine.Front.TheVariants.{Tree as OffersTree, Next as OffersNext}
 
--- what the one input offers, the other one does
+-- whatever the left edge of the input `one` offers, that of `two` offers too
 abbrev pub Offers : Grammar → List Tree → List Tree → List Tree → Type 0
 Offers g stack one two = (f : Front) → Tries g stack one f → Tries g stack two f
 
--- the tree of a node can be taken over, with this state behind it
+-- the tree of a node can be taken over, and `next` is the state after it
 pub record IsReusable (t : Sets) (cells : List Cell) (stack : List Tree) (kinds : List Kind) (read : ℕ) (id : NodeId)
     (next : ℕ) : Type 0 where
   pub left : ℕ
@@ -32,7 +32,7 @@ BeginsWithNoNode [] = Unit {0}
 BeginsWithNoNode (Token k ∷ rest) = Unit {0}
 BeginsWithNoNode (Node id ∷ rest) = ⊥
 
--- the offer is what stands in front
+-- `IsOffer t cells stack kinds read cs offer`: what the code offers the machine is what stands first in the input
 abbrev pub IsOffer : Sets → List Cell → List Tree → List Kind → ℕ → List Child → Offer → Type 0
 IsOffer t cells stack kinds read now (OffersTree id next) = ((rest : List Child) × (now ≡ Node id ∷ rest))
     × IsReusable t cells stack kinds read id next

@@ -20,17 +20,18 @@ pub record HasStates (t : Sets) (stack : List Tree) (states : List ℕ) : Type 0
   pub long : length states ≡ length symbols + 1
   pub each : (i : ℕ) → i < length states → IsStateOf t (take i symbols) (slice_index_or states i 0)
 
--- every branch of the tree was made by this edit
 abbrev mutual
+  -- `IsMadeBy number t`: every branch of a stamped tree carries this stamp
   pub IsMadeBy : ℕ → Stamped → Type 0
   IsMadeBy number (StampedLeaf k) = Unit {0}
   IsMadeBy number (StampedBranch p born ts) = (born ≡ number) × AreMadeBy number ts
 
+  -- `AreMadeBy number f`: every branch of a `StampedForest` carries this stamp
   pub AreMadeBy : ℕ → StampedForest → Type 0
   AreMadeBy number StampedNil = Unit {0}
   AreMadeBy number (StampedCons t ts) = IsMadeBy number t × AreMadeBy number ts
 
--- a reduction has made one node, of this edit's number, over the last trees of the stack
+-- a reduction has made one node, with the number of the edit, over the last trees of the stack
 pub record HasMade (old : List Cell) (stack : List Child) (p number : ℕ) (new : List Cell) (stack' : List Child) : Type 0 where
   pub under : List Child
   pub kids : List Child

@@ -1,8 +1,4 @@
 -- What a parse tells of the kinds that it was made of.
---     branches_by number t, all_branches_by number ts      how many branches of the tree, or of the trees, were made by this edit
---     IsParseOf t kinds cells parse      the parse by the tables t of these kinds, with its nodes in these cells
---     before_fault kinds v      the kinds before a fault, and none where there is a tree
---     AreExpectedAt g kinds v looks      at a fault exactly what may stand behind the kinds before it
 use Rattle.std.specs.Prelude.{◌≡◌, ℕ, ◌+◌, ◌-◌, ◌<◌, ◌≤◌, ◌==◌, if◌then◌else◌, List, [], ◌∷◌, ◌++◌, length, take, slice_index_or, Option}
 use Rattle.definitions.specs.declared.Kind.{Kind}
 use Rattle.definitions.specs.declared.Symbol.{Symbol}
@@ -21,8 +17,8 @@ use Rattle.parser.specs.declared.parse.Verdict.{Verdict}
 use Rattle.parser.specs.declared.parse.Verdict.TheVariants.{Tree as TreeAt, FaultAt as StopsAt, FaultAtEnd as StopsAtEnd}
 use Rattle.parser.specs.Machine.{plain_of}
 
--- what callers see of a parse: the verdict, the trees and the state in which the machine stopped, how many branches these
--- trees have, how many of them the last edit built, and that edit's number
+-- what callers see of a parse: the verdict, the stack, the state, how many branches the stack has and how many of them the last edit built,
+-- and that edit's number
 pub record Stop : Type 0 where
   pub verdict : Verdict
   pub stack : List Child
@@ -31,37 +27,37 @@ pub record Stop : Type 0 where
   pub built : ℕ
   pub number : ℕ
 
--- the verdict that a program's answer means
+-- `verdict_in cells v`: an answer of the code as a `Verdict` of the definitions, its tree in this store
 abbrev pub verdict_in : List Cell → Verdict → Answer
 verdict_in cells (TreeAt id) = HasTree (plain (tree cells (Node id)))
 verdict_in cells (StopsAt k) = FaultAt k
 verdict_in cells StopsAtEnd = FaultAtEnd
 
+-- `before_fault kinds v`: the kinds before a fault, and none where there is a tree
 abbrev pub before_fault : List Kind → Answer → List Kind
 before_fault kinds (HasTree t) = []
 before_fault kinds (FaultAt k) = take k kinds
 before_fault kinds FaultAtEnd = kinds
 
--- the last kind as a tree, where there is one
+-- `last_leaf kinds`: the last kind as a tree, if there is one
 abbrev pub last_leaf : List Kind → List Tree
 last_leaf [] = []
 last_leaf (k ∷ []) = Leaf k ∷ []
 last_leaf (j ∷ k ∷ x) = last_leaf (k ∷ x)
 
--- the trees of a document with this verdict, and behind them the last kind before a fault
+-- the trees of a document with this verdict, and after them the last kind before a fault
 pub record AreStacked (g : Grammar) (kinds : List Kind) (v : Answer) (stack : List Tree) : Type 0 where
   pub trees : List Tree
   pub are : AreDocumentTrees g kinds v trees
   pub stack_is : stack ≡ trees ++ last_leaf (before_fault kinds v)
 
--- only the tree's own node is there, where there is a tree
+-- `IsAlone v stack`: where there is a tree, its node stands alone on the stack
 abbrev pub IsAlone : Verdict → List Child → Type 0
 IsAlone (TreeAt id) stack = stack ≡ Node id ∷ []
 IsAlone (StopsAt k) stack = Unit {0}
 IsAlone StopsAtEnd stack = Unit {0}
 
--- the machine stops on these kinds as it should: with the verdict on them, with what belongs on the stack, whose nodes are
--- in the store, and in the state above that
+-- `IsStop t kinds cells v stack state`: the machine stops on these kinds as it should, with this verdict, this stack and this state
 pub record IsStop (t : Sets) (kinds : List Kind) (cells : List Cell) (v : Verdict) (children : List Child) (top : ℕ) : Type 0 where
   pub below : AreBelow (length cells) children
   pub verdict : IsVerdict t.grammar kinds (verdict_in cells v)
@@ -71,26 +67,27 @@ pub record IsStop (t : Sets) (kinds : List Kind) (cells : List Cell) (v : Verdic
   pub are_roots : HaveRoots t.grammar (plain_of cells children) roots
   pub state : IsStateOf t roots top
 
--- how many branches were made by the edit of this number
 abbrev mutual
+  -- `branches_by number t`: how many branches of a stamped tree the edit of this number made
   pub branches_by : ℕ → Stamped → ℕ
   branches_by number (StampedLeaf k) = 0
   branches_by number (StampedBranch p born ts) = (if born == number then 1 else 0) + branches_of_by number ts
 
+  -- `branches_of_by number f`: how many branches of a `StampedForest` the edit of this number made
   pub branches_of_by : ℕ → StampedForest → ℕ
   branches_of_by number StampedNil = 0
   branches_of_by number (StampedCons t ts) = branches_by number t + branches_of_by number ts
 
+-- `all_branches_by number ts`: how many branches of a list of stamped trees the edit of this number made
 abbrev pub all_branches_by : ℕ → List Stamped → ℕ
 all_branches_by number [] = 0
 all_branches_by number (t ∷ ts) = branches_by number t + all_branches_by number ts
 
--- each of these trees' branches was made by this edit or by one before it
+-- `AreUpTo number trees`: no branch of these trees was made by a later edit
 abbrev pub AreUpTo : ℕ → List Stamped → Type 0
 AreUpTo number ts = (lefts : List Tree) (p born : ℕ) (us : StampedForest) → StampedIn ts lefts p born us → born ≤ number
 
--- the parse of these kinds by these tables, with its nodes in these cells: where it stops, what it counts, and that no edit
--- behind its own has made a branch of it
+-- this is the parse by the tables `t` of these kinds, with its nodes in these cells, none of them newer than its edit
 pub record IsParseOf (t : Sets) (kinds : List Kind) (cells : List Cell) (parse : Stop) : Type 0 where
   pub stop : IsStop t kinds cells parse.verdict parse.stack parse.state
   pub branches : parse.branches ≡ all_branches (plain_of cells parse.stack)
@@ -101,7 +98,7 @@ pub record IsParseOf (t : Sets) (kinds : List Kind) (cells : List Cell) (parse :
 abbrev pub IsStoppedAt : Sets → List Kind → List Cell → Verdict → List Child → List ℕ → Type 0
 IsStoppedAt t kinds cells v stack states = (0 < length states) × IsStop t kinds cells v stack (slice_index_or states (length states - 1) 0)
 
--- at a fault exactly what may follow the kinds before it; nothing where there is a tree
+-- `AreExpectedAt g kinds v looks`: at a fault the kinds that may follow those before it (`AreExpected`); nothing where there is a tree
 abbrev pub AreExpectedAt : Grammar → List Kind → Answer → List (Option ℕ) → Type 0
 AreExpectedAt g kinds (HasTree t) looks = looks ≡ []
 AreExpectedAt g kinds (FaultAt k) looks = AreExpected g (take k kinds) looks

@@ -15,31 +15,31 @@ use Rattle.parser.specs.Front.{Offers}
 use Rattle.parser.specs.Parses.{AreUpTo, all_branches_by}
 use Rattle.parser.specs.Stamps.{AreOlder, all_numbered}
 
--- how many branches a run makes
+-- `makes g run`: how many branches a run makes
 abbrev pub makes : (g : Grammar) {s i s' i' : List Tree} → Goes_on g s i s' i' → ℕ
 makes g Ends = 0
 makes g (Reuses t ts f c more) = makes g more
 makes g (Takes_token k ts f m more) = makes g more
 makes g (Makes s1 f t n r more) = 1 + makes g more
 
--- of these trees' branches, those that the run makes carry the number, and no others
+-- `AreStampedBy g run number trees`: of the branches of these trees exactly those that the run makes carry the number
 abbrev pub AreStampedBy : (g : Grammar) {s i s' i' : List Tree} → Goes_on g s i s' i' → ℕ → List Stamped → Type 0
 AreStampedBy g run number ts = (lefts : List Tree) (p born : ℕ) (us : StampedForest) → StampedIn ts lefts p born us
     → (born ≡ number) ↔ MakesAt g run lefts (Branch p (plain_all us))
 
--- each branch of these trees, which begin at this place, is one of the old trees, at the same place
+-- `ComeFrom old place trees`: each branch of these trees, which begin at this place, is one of the old trees, at the same place
 abbrev pub ComeFrom : List Stamped → ℕ → List Stamped → Type 0
 ComeFrom old place ts = (lefts : List Tree) (p born : ℕ) (us : StampedForest) → StampedIn ts lefts p born us
     → (at : List Tree) × StampedIn old at p born us × (place_of at ≡ place + place_of lefts)
 
--- each branch of nonempty yield is one of the old trees, at a place that the splice moves to its own
+-- `MoveFrom s old trees`: each branch of nonempty yield is one of the old trees, at a place that the splice moves to its own
 abbrev pub MoveFrom : Splice → List Stamped → List Stamped → Type 0
 MoveFrom s old ts = (lefts : List Tree) (p born : ℕ) (us : StampedForest) → StampedIn ts lefts p born us
     → 0 < length (yields (plain_all us))
     → (at : List Tree) × StampedIn old at p born us × IsMoved s (place_of at) (place_of lefts)
 
--- What is left of the input, and those branches of the stack that don't carry the number, were in the input. The store has added
--- the others, in the order in which they were made.
+-- the rest of the input, and the branches of the stack that don't carry the number, were in the input; the nodes added to the store are the
+-- others, in the order in which they were made
 pub record CameFrom (input : List Stamped) (before number : ℕ) (cells : List Cell) (stack : List Child) (read : ℕ)
     (rest : List Child) : Type 0 where
   pub place : place_of (plain_of cells stack) ≡ read
@@ -49,8 +49,7 @@ pub record CameFrom (input : List Stamped) (before number : ℕ) (cells : List C
       → (at : List Tree) × StampedIn input at p born us × (place_of at ≡ place_of lefts)
   pub added : drop before (trees_from [] cells) ≡ all_numbered number (all_trees cells stack)
 
--- the machine has come from the whole input, whose kinds these are, to this stack and to what is left of the input. The store
--- had as many nodes before, and has one more for each branch that was made; these carry the number
+-- how far the run has come: from the whole input to this stack and this rest, with one node more in the store for each branch that it made
 pub record SoFar (t : Sets) (whole : List Tree) (kinds : List Kind) (before number : ℕ) (cells : List Cell) (stack : List Child)
     (states : List ℕ) (read : ℕ) (rest : List Child) : Type 0 where
   pub has_states : HasStates t (plain_of cells stack) states

@@ -1,9 +1,4 @@
 -- The stamps that an edit leaves, and the nodes that it adds.
---     AreOlder n ts      each of these trees' branches was made by an edit of a lower number
---     KeepStamps n s old new      what doesn't carry edit n's number keeps the stamps that it had
---     TellsKept n s old new      of each branch it is known whether it lies in a kept node, and exactly the others carry the number
---     all_numbered n ts      the branches of these trees that carry the number, each after those below it
---     AddsNumbered n old new ts      what is added to a store are these trees' branches that carry the number, and nothing else
 use Rattle.std.specs.Prelude.{◌≡◌, ◌≢◌, ℕ, ◌<◌, ◌==◌, if◌then◌else◌, List, [], ◌∷◌, ◌++◌, length, drop}
 use Rattle.definitions.specs.Trees.{Tree, Branch, yields}
 use Rattle.definitions.specs.Nodes.{place_of}
@@ -12,35 +7,41 @@ use Rattle.definitions.specs.TreeEdits.{IsMoved, LiesInKept, Stamped, StampedLea
 use Rattle.definitions.specs.TreeEdits.{StampedCons, StampedIn, plain_all, plain_trees}
 use Rattle.trees.specs.Cells.{Cell, trees_from}
 
+-- `AreOlder number trees`: each branch of these trees was made by an edit of a lower number
 abbrev pub AreOlder : ℕ → List Stamped → Type 0
 AreOlder number ts = (lefts : List Tree) (p born : ℕ) (us : StampedForest) → StampedIn ts lefts p born us → born < number
 
--- A branch of nonempty yield without the number stood in the old trees, at a place that moves to its own, with the same stamps
--- throughout.
+-- each branch of nonempty yield that doesn't carry the number `n` stood in the old trees, at a place that the splice moves to its own, with
+-- the same stamps throughout
 abbrev pub KeepStamps : ℕ → Splice → List Stamped → List Stamped → Type 0
 KeepStamps n s old new =
     (lefts : List Tree) (p born : ℕ) (us : StampedForest)
     → StampedIn new lefts p born us → born ≢ n → 0 < length (yields (plain_all us))
     → (at : List Tree) × StampedIn old at p born us × IsMoved s (place_of at) (place_of lefts)
 
+-- each branch lies in a kept node where it doesn't carry the number `n`, and in none where it does
 abbrev pub TellsKept : ℕ → Splice → List Tree → List Stamped → Type 0
 TellsKept n s old new =
     (below : List Tree) (p born : ℕ) (us : StampedForest) → StampedIn new below p born us
     → let lies = LiesInKept s old (plain_trees new) below (Branch p (plain_all us)) in (born ≡ n → ¬ lies) × (born ≢ n → lies)
 
 abbrev mutual
+  -- `numbered n t`: the branches of a stamped tree that carry the number, each after those below it
   pub numbered : ℕ → Stamped → List Stamped
   numbered n (StampedLeaf k) = []
   numbered n (StampedBranch p born ts) = numbered_in n ts ++ (if born == n then StampedBranch p born ts ∷ [] else [])
 
+  -- `numbered_in n f`: the branches of a `StampedForest` that carry the number, each after those below it
   pub numbered_in : ℕ → StampedForest → List Stamped
   numbered_in n StampedNil = []
   numbered_in n (StampedCons t ts) = numbered n t ++ numbered_in n ts
 
+-- `all_numbered n ts`: the branches of a list of stamped trees that carry the number, each after those below it
 abbrev pub all_numbered : ℕ → List Stamped → List Stamped
 all_numbered n [] = []
 all_numbered n (t ∷ ts) = numbered n t ++ all_numbered n ts
 
--- the trees that the added nodes mean are these, in this order
+-- `AddsNumbered n old new trees`: the trees that the nodes added to a store mean are these trees' branches that carry the number, in order,
+-- and no others
 abbrev pub AddsNumbered : ℕ → List Cell → List Cell → List Stamped → Type 0
 AddsNumbered n old new ts = drop (length old) (trees_from [] new) ≡ all_numbered n ts

@@ -17,13 +17,15 @@ ghost use Rattle.parser.specs.declared.parse.Verdict.{Verdict as Answer};
 
 use theory::laws::{document_trees_unique, verdict_unique};
 
-/// For a grammar that has tables, each list of kinds has a verdict: a tree, or a fault.
+/// For a grammar that has tables, and where the moves of every prefix are decided, each list of kinds has a verdict: a
+/// tree, or a fault.
 pub fn each_list_has_a_verdict()
     ensures { (g : Grammar) → IsAccepted g → AreMovesDecided g → (kinds : List Kind) → (v : Verdict)
         × IsVerdict g kinds v }
 {}
 
-/// And each list with which a sentence begins has a list of what may follow it.
+/// For a grammar that has tables, and where the moves of every prefix are decided, each list of kinds with which a
+/// sentence begins has a list of what may follow it.
 pub fn each_viable_list_has_expected()
     ensures { (g : Grammar) → IsAccepted g → AreMovesDecided g → (x : List Kind) → IsViable g x
         → (rules : List ℕ) × (at_end : Bool) × IsExpected g x rules at_end }
@@ -34,8 +36,8 @@ pub fn equal_verdicts_are_the_same()
     ensures { (a b : Answer) → IsTrue (⟦<crate::Verdict as PartialEq>⟧.eq a b) ↔ (a ≡ b) }
 {}
 
-/// What stands on the stack has the nodes of the document's trees, at their places, and no more kinds than the document: the
-/// last leaf before a fault is no node.
+/// What stands on the parser's stack has the nodes of the document's trees, at their places, and no more kinds than the
+/// document: the last leaf before a fault is no node.
 pub fn stack_has_the_nodes_of_the_document()
     ensures { (g : Grammar) (kinds : List Kind) (v : Verdict) (stack : List Tree)
         → IsVerdict g kinds v → AreStacked g kinds v stack
@@ -44,7 +46,7 @@ pub fn stack_has_the_nodes_of_the_document()
         × (length (all_kinds stack) ≤ length kinds) }
 {}
 
-/// What stands on the stack of a list of kinds is one list of trees.
+/// Without a conflict, what stands on the stack of a list of kinds is one list of trees.
 pub fn stack_unique()
     ensures { (g : Grammar) → HasNoConflict g → (kinds : List Kind) (v w : Verdict)
         (one two : List Tree) → IsVerdict g kinds v → IsVerdict g kinds w

@@ -3,10 +3,12 @@ use Rattle.std.specs.Prelude.{Bool, true, false, ◌&&◌, ◌||◌, List, [], �
 use Rattle.definitions.specs.declared.expression.Expression.{Expression}
 use Rattle.definitions.specs.declared.expression.Expression.TheVariants.{Literal, Class, Sequence', Choice', Star', Plus', Optional'}
 
+-- `is_empty xs`: whether the list is empty
 abbrev pub is_empty : {A : Type 0} → List A → Bool
 is_empty [] = true
 is_empty (x ∷ xs) = false
 
+-- `matches_empty e`: whether the expression matches the empty text
 abbrev pub matches_empty : Expression → Bool
 matches_empty (Literal v) = is_empty v.items
 matches_empty (Class negated v) = false

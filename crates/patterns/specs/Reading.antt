@@ -1,4 +1,4 @@
--- What the steps of a reader tell of the front of a text.
+-- What the steps of a reader tell of a prefix of a text.
 use Rattle.std.specs.Prelude.{◌≡◌, ℕ, ◌==◌, ◌||◌, Bool, true, false, List, [], ◌∷◌, ◌++◌}
 use Rattle.std.specs.List.{AllByRecursion}
 use Rattle.definitions.specs.declared.expression.Interval.{Interval}
@@ -74,7 +74,7 @@ IsClosed ws vs = (o : ℕ) × (ws ≡ Plain o 41 ∷ vs)
 abbrev pub IsPart : Level → ℕ → Expression → List Written → List Written → Type 0
 IsPart l d e ws vs = (us : List Written) × (ws ≡ us ++ vs) × SpellsAt l d e us
 
--- behind an atom a, ws makes it e, and vs is left
+-- after an atom a, ws makes it e, and vs is left
 abbrev pub IsRepeated : Expression → Expression → List Written → List Written → Type 0
 IsRepeated a e ws vs = (d : ℕ) (front : List Written) → SpellsAt Atom d a front → IsPart Rep d e (front ++ ws) vs
 
@@ -102,7 +102,7 @@ IsItemFront i ws vs = (us : List Written) × (ws ≡ us ++ vs) × IsItem i us
 abbrev pub IsClassFront : List Interval → List Written → List Written → Type 0
 IsClassFront is ws vs = (us : List Written) × (ws ≡ us ++ vs) × IsClassRest is us
 
--- behind the opening bracket
+-- after the opening bracket
 abbrev pub IsClassBody : Bool → List Interval → List Written → List Written → Type 0
 IsClassBody false is ws vs = IsClassFront is ws vs
 IsClassBody true is ws vs = (w : Written) × (inside : List Written) × (ws ≡ w ∷ inside) × IsSign 94 w × IsClassFront is inside vs
@@ -116,7 +116,7 @@ abbrev pub HasNoClassChar : List Written → Type 0
 HasNoClassChar [] = Unit {0}
 HasNoClassChar (w ∷ ws) = (c : ℕ) → IsClassChar c w → ⊥
 
--- the same for a literal
+-- `IsLiteralCharAt c ws vs`: `ws` begins with the character `c` of a literal, and `vs` is left
 abbrev pub IsLiteralCharAt : ℕ → List Written → List Written → Type 0
 IsLiteralCharAt c ws vs = (w : Written) × (ws ≡ w ∷ vs) × IsLiteralChar c w
 

@@ -1,4 +1,4 @@
--- What is known of a front of a text, and whether it goes past a position.
+-- What is known of a prefix of a text, and whether it goes past a position.
 use Rattle.std.specs.Prelude.{◌≡◌, ◌+◌, ◌-◌, ◌^◌, ◌<◌, ◌⊎◌, ◌&&◌, ◌==◌, ℕ, Bool, not, nat_lt, if◌then◌else◌, List, length}
 use Rattle.definitions.specs.declared.Position.{Position}
 use Rattle.definitions.specs.declared.Unit.{Unit as Encoding}
@@ -6,6 +6,8 @@ use Rattle.definitions.specs.Text.{carriage_return}
 use Rattle.pieces.specs.declared.look_up.Front.{Front}
 use Rattle.pieces.specs.Sums.{ends_with, end_before_feed}
 
+-- what is known of a prefix `t` of a text while it is walked: how many characters, the position of its end where a `\n` comes next, and
+-- whether it ends with `\r`
 abbrev pub front_of : Encoding → List ℕ → Front
 front_of encoding t =
     record {
@@ -14,13 +16,13 @@ front_of encoding t =
       ends_with_return = ends_with carriage_return t;
     }
 
--- a character behind the front stands in its last line, and has one unit in each encoding: it is one of ASCII, and neither it nor the
--- front ends a line
+-- whether `c` after the prefix stands in its last line and has one unit in each encoding, by a sufficient test: `c` is from 14 to 127, and
+-- the prefix doesn't end with `\r`
 abbrev pub goes_on : Front → ℕ → Bool
 goes_on front c =
     (nat_lt carriage_return c && nat_lt c 0x80) && not front.ends_with_return
 
--- the front with n such characters behind it
+-- the prefix with `n` characters after it that `goes_on` allows
 abbrev pub with_ones : Front → ℕ → Front
 with_ones front n =
     record {
@@ -29,13 +31,14 @@ with_ones front n =
       ends_with_return = front.ends_with_return;
     }
 
--- how many of them may follow a front that is not past a position, before it is
+-- how many characters that `goes_on` allows may follow a prefix whose end isn't past the position `p`, before it is: in the line of `p` the
+-- units up to `p`, and in a line before it 2^32 - 1
 abbrev pub room : Front → Position → ℕ
 room front p =
     if front.end.line == p.line
     then p.character - front.end.character
     else 2 ^ 32 - 1
 
--- the position q is past p: in a later line, or in the same one behind more units
+-- the position `q` is in a later line than `p`, or in the same one after more units
 abbrev pub IsPast : Position → Position → Type 0
 IsPast p q = (p.line < q.line) ⊎ ((p.line ≡ q.line) × (p.character < q.character))

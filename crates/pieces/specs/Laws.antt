@@ -27,7 +27,7 @@ units_assoc a b c = λ i. record {
   utf32 = sum_assoc a.utf32 b.utf32 c.utf32 i;
 }
 
--- where a number of breaks is not 0, what lies behind the last one is of the second part
+-- where a number of breaks is not 0, what comes after the last one is of the second part
 pub behind_later : (n : ℕ) (a b : Units) → 1 ≤ n → behind_joined n a b ≡ b
 behind_later zero a b h = absurd (omega arith)
 behind_later (suc n) a b h = refl
@@ -80,7 +80,7 @@ count_of-ge Utf8 a b = sum_ge a.utf8 b.utf8
 count_of-ge Utf16 a b = sum_ge a.utf16 b.utf16
 count_of-ge Utf32 a b = sum_ge a.utf32 b.utf32
 
--- the end of a part with more behind it has no lesser position
+-- the end of a part with more after it has no lesser position
 later : (unit : Encoding) (line character breaks m : ℕ) (a b : Units) → breaks ≡ line → line < most → character < count_of unit a
     → (nat_lt line (sum breaks m)
     || ((sum breaks m == line && nat_lt line most) && nat_lt character (count_of unit (behind_joined m a b)))) ≡ true

@@ -8,12 +8,12 @@ use Rattle.pieces.specs.declared.piece.TheConstants.{LONGEST_PIECE}
 use Rattle.pieces.specs.declared.sums.Sums.{Sums}
 use Rattle.pieces.specs.Sums.{sums_of}
 
--- what a piece keeps: bytes of UTF-8, neither none nor too many, and the sum of their characters
+-- `IsPiece bytes sum`: what a piece keeps: 1 to 1,024 bytes, and the sum of the characters whose UTF-8 they are
 pub record IsPiece (bytes : List ℕ) (sums : Sums) : Type 0 where
   pub some : 1 ≤ length bytes
   pub few : length bytes ≤ LONGEST_PIECE
   pub summed : sums ≡ sums_of (chars bytes)
 
--- a piece with as many bytes as each of several has
+-- the piece has at least 509 bytes
 abbrev pub IsLarge : List ℕ → Type 0
 IsLarge piece = SHORTEST_OF_SEVERAL ≤ units Utf8 piece

@@ -6,8 +6,8 @@ use Rattle.definitions.specs.Text.{units}
 use Rattle.definitions.specs.declared.Unit.TheVariants.{Utf8}
 use Rattle.pieces.specs.declared.places.Cut.{Cut}
 
--- Before the cut lie whole pieces and the front of the next one, and behind it the back of that one and all further
--- ones. That piece is the one with the character at the offset.
+-- before the cut lie whole pieces and a prefix of the next one, which together are the characters before the offset; after it lie the rest
+-- of that piece and all further ones
 pub record IsCut (pieces : List (List ℕ)) (offset : ℕ) (cut : Cut) : Type 0 where
   pub within : cut.piece ≤ length pieces
   pub before : take offset (concat pieces) ≡ concat (take cut.piece pieces) ++ chars cut.front.now

@@ -5,7 +5,8 @@ ghost use Rattle.definitions.specs.Text.{units};
 ghost use Rattle.definitions.specs.declared.Unit.TheVariants.{Utf8};
 ghost use Rattle.pieces.specs.Sums.{sums_of, joined, most};
 
-/// The sum of two texts, one behind the other, is that of the first joined with that of the second.
+/// The sum of two texts, one after the other, is that of the first joined with that of the second, where both have at
+/// most 2^32 - 1 bytes together.
 #[tactic(auto, using(crate::proofs::Joins::sums_of_append))]
 pub fn sums_join()
     ensures { (s t : List ℕ) → units Utf8 (s ++ t) ≤ most →

@@ -1,9 +1,4 @@
 -- Messages as plain data, without where their texts lie in memory (JSON-RPC 2.0; LSP 3.17). A text is its UTF-8 bytes.
---     Said      a message; Ident, Asked, Question, Told, ChangeSaid and Unfit are its parts
---     Refused      why a JSON value is no message
---     Heard      what a content is heard as: nothing that can be read, a refused value, or a message
---     id_view, call_view, change_view, malformed_view, note_view, message_view      a message and its parts as such data
---     fault_view fault, heard_of result      what was heard, where memory was not refused
 use Rattle.std.specs.Prelude.{ℤ, ℕ, Bool, List, map, Option, Some, None, Result, Ok, Err, option_map, string_bytes}
 use Rattle.definitions.specs.declared.Position.{Position}
 use Rattle.definitions.specs.declared.Range.{Range}
@@ -22,12 +17,12 @@ use Rattle.rpc.specs.declared.message.Message.TheVariants as message
 use Rattle.rpc.specs.declared.message.RpcFault.{RpcFault}
 use Rattle.rpc.specs.declared.message.RpcFault.TheVariants as fault
 
--- what a request is named by: a text or a number
+-- what a request is named by: a text or a whole number
 pub data Ident : Type 0 where
   named : List ℕ → Ident
   numbered : ℤ → Ident
 
--- what can be asked about a document; selections have the positions around which they are asked
+-- what a request asks about a document: its text, its tokens, its tree, its folds, or selections at some positions
 pub data Question : Type 0 where
   its_text : Question
   its_tokens : Question
@@ -35,20 +30,20 @@ pub data Question : Type 0 where
   its_folds : Question
   its_selections : List Position → Question
 
--- what a request asks; `initialize` has the unit that positions are to count; about a document it has the document's URI; `stats` asks
--- for how much there is of a document, and what its last edit made
+-- what a request asks: to initialize, with the unit that positions are to count; to shut down; a question about a document, or its counts,
+-- with the document's URI
 pub data Asked : Type 0 where
   initialize : Encoding → Asked
   shutdown : Asked
   about : List ℕ → Question → Asked
   stats : List ℕ → Asked
 
--- a text for a range, or for the whole
+-- a change: a text for a range, or for the whole
 pub record ChangeSaid : Type 0 where
   pub range : Option Range
   pub text : List ℕ
 
--- a notification whose parameters don't fit; of a change the URI, where it is a text
+-- a notification whose parameters don't fit; of a change with the URI, where that is a text
 pub data Unfit : Type 0 where
   unfit_open : Unfit
   unfit_change : Option (List ℕ) → Unfit
@@ -63,27 +58,31 @@ pub data Told : Type 0 where
   close : List ℕ → Told
   malformed : Unfit → Told
 
+-- a message: a request, a notification, or one that is ignored
 pub data Said : Type 0 where
   request : Ident → Asked → Said
   notice : Told → Said
   ignored : Said
 
--- an invalid request, with its id where that can be read; an unknown method; parameters that don't fit, and whether they are those
--- of `initialize`
+-- why a JSON value is no message: invalid, with its id where that can be read; an unknown method; or parameters that don't fit, and whether
+-- they are those of `initialize`
 pub data Refused : Type 0 where
   invalid : Option Ident → Refused
   unknown : Ident → Refused
   params : Ident → Bool → Refused
 
+-- what a content is heard as: nothing that can be read, a refused value, or a message
 pub data Heard : Type 0 where
   unread : Heard
   refused : Refused → Heard
   said : Said → Heard
 
+-- `id_view id`: an id of the code as an `Ident`
 abbrev pub id_view : Id → Ident
 id_view (Text s) = named (string_bytes s)
 id_view (Number z) = numbered z
 
+-- `call_view call`: a call of the code as an `Asked`
 abbrev pub call_view : Call → Asked
 call_view (call.Initialize unit) = initialize unit
 call_view call.Shutdown = shutdown
@@ -94,14 +93,17 @@ call_view (call.Stats uri) = stats (string_bytes uri)
 call_view (call.FoldingRange uri) = about (string_bytes uri) its_folds
 call_view (call.SelectionRange uri positions) = about (string_bytes uri) (its_selections positions.items)
 
+-- `change_view change`: a change of the code as a `ChangeSaid`
 abbrev pub change_view : Change → ChangeSaid
 change_view c = record { range = c.range; text = string_bytes c.text }
 
+-- `malformed_view m`: an unfit notification of the code as an `Unfit`
 abbrev pub malformed_view : Malformed → Unfit
 malformed_view form.DidOpen = unfit_open
 malformed_view (form.DidChange uri) = unfit_change (option_map string_bytes uri)
 malformed_view form.DidClose = unfit_close
 
+-- `note_view note`: a notification of the code as a `Told`
 abbrev pub note_view : Note → Told
 note_view note.Initialized = initialized
 note_view note.Exit = exit
@@ -110,11 +112,13 @@ note_view (note.DidChange uri version changes) = change_text (string_bytes uri) 
 note_view (note.DidClose uri) = close (string_bytes uri)
 note_view (note.Malformed m) = malformed (malformed_view m)
 
+-- `message_view message`: a message of the code as a `Said`
 abbrev pub message_view : Message → Said
 message_view (message.Request id c) = request (id_view id) (call_view c)
 message_view (message.Notice n) = notice (note_view n)
 message_view message.Ignored = ignored
 
+-- `fault_view fault`: a fault of the code as a `Heard`; none where it is memory
 abbrev pub fault_view : RpcFault → Option Heard
 fault_view fault.Parse = Some unread
 fault_view (fault.Invalid id) = Some (refused (invalid (option_map id_view id)))
@@ -122,6 +126,7 @@ fault_view (fault.Unknown id) = Some (refused (unknown (id_view id)))
 fault_view (fault.Params id first) = Some (refused (params (id_view id) first))
 fault_view fault.Memory = None
 
+-- `heard_of result`: a result of the code as a `Heard`; none where memory was refused
 abbrev pub heard_of : Result Message RpcFault → Option Heard
 heard_of (Ok m) = Some (said (message_view m))
 heard_of (Err e) = fault_view e

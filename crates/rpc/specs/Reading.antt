@@ -1,12 +1,4 @@
 -- What a content is heard as (JSON-RPC 2.0, "Request object"; LSP 3.17, "Base Protocol").
---     hearing content, Hears content heard      what it is heard as; it is heard as that
---     value_of content      the JSON value that it is, where it is one
---     message_of d      what a JSON value is heard as: the tests, in their order
---     request_of method id params, notice_of method params      what a request and a notification of a method are heard as
---     id_at, uri_at, version_at, document_text, position_of, positions_at, range_of, change_of, changes_at      parts of a value, where
---         they fit
---     unit_at d      the unit that positions are to count, of those that a client names
---     Gives result heard      what a function returned is that, where memory was not refused
 use Rattle.std.specs.Prelude.{◌≡◌, ℕ, ℤ, ◌&&◌, ◌||◌, Bool, true, false, not, if◌then◌else◌, List, [], ◌∷◌, codes, Option, Some, None}
 use Rattle.std.specs.Prelude.{Result, IfSome, option_map, option_and_then, unwrap_or, is_some, is_none}
 use Rattle.std.specs.Option.{option_or}
@@ -28,126 +20,143 @@ use Rattle.rpc.specs.Messages.{unread, refused, said, heard_of}
 
 -- ---- parts of a value
 
--- a text, or a whole number that fits
+-- `ident_of d`: the id that a JSON value is: a text, or a whole number that fits
 abbrev pub ident_of : Data → Option Ident
 ident_of (string s) = Some (named s)
 ident_of d = option_map numbered (integer_of d)
 
--- the id, where it can be read
+-- the id under `id`, where it can be read
 abbrev pub id_at : Data → Option Ident
 id_at d = option_and_then ident_of (get (codes "id") d)
 
+-- `is_text text s`: whether `s` is there and is this text
 abbrev pub is_text : List ℕ → Option (List ℕ) → Bool
 is_text text None = false
 is_text text (Some s) = bytes_eq s text
 
--- `textDocument.uri`, `textDocument.version` and `textDocument.text`
+-- `textDocument.uri` of the parameters, where it is a text
 abbrev pub uri_at : Data → Option (List ℕ)
 uri_at d = option_and_then (text_at (codes "uri")) (get (codes "textDocument") d)
 
+-- `textDocument.version` of the parameters, where it is a whole number that fits
 abbrev pub version_at : Data → Option ℤ
 version_at d = option_and_then (integer_at (codes "version")) (get (codes "textDocument") d)
 
+-- `textDocument.text` of the parameters, where it is a text
 abbrev pub document_text : Data → Option (List ℕ)
 document_text d = option_and_then (text_at (codes "text")) (get (codes "textDocument") d)
 
+-- `place line character`: the position of a line and a character, where both are there
 abbrev pub place : Option ℕ → Option ℕ → Option Position
 place (Some line) (Some character) = Some (record { line = line; character = character })
 place _ _ = None
 
+-- the position that a JSON value is: its `line` and `character` are whole numbers from 0 (LSP 3.17, "Position")
 abbrev pub position_of : Data → Option Position
 position_of d = place (natural_at (codes "line") d) (natural_at (codes "character") d)
 
+-- the position under a key
 abbrev pub position_at : List ℕ → Data → Option Position
 position_at key d = option_and_then position_of (get key d)
 
--- one thing and others, where all are there
+-- `first_and x xs`: one thing and others as one list, where all are there
 abbrev pub first_and : {X : Type 0} → Option X → Option (List X) → Option (List X)
 first_and (Some x) (Some xs) = Some (x ∷ xs)
 first_and _ _ = None
 
--- the positions, where each item is one
+-- `positions_of ds`: the positions of a list, where each item is one
 abbrev pub positions_of : Items → Option (List Position)
 positions_of no_items = Some []
 positions_of (item d ds) = first_and (position_of d) (positions_of ds)
 
+-- the positions under `positions`, where each item is one
 abbrev pub positions_at : Data → Option (List Position)
 positions_at d = option_and_then positions_of (option_and_then as_array (get (codes "positions") d))
 
+-- `span start end`: the range of two positions, where both are there
 abbrev pub span : Option Position → Option Position → Option Range
 span (Some start) (Some end) = Some (record { start = start; end = end })
 span _ _ = None
 
+-- the range that a JSON value is: its `start` and `end` are positions (LSP 3.17, "Range")
 abbrev pub range_of : Data → Option Range
 range_of d = span (position_at (codes "start") d) (position_at (codes "end") d)
 
--- no `range` member, or one that is a range
+-- `maybe_range d`: the range of a `range` member that is one, or that there is no such member; none where the member is no range
 abbrev pub maybe_range : Option Data → Option (Option Range)
 maybe_range None = Some None
 maybe_range (Some d) = option_map (λ (r : Range). Some r) (range_of d)
 
+-- `change_with text range`: the change of a text and perhaps a range, where they could be read
 abbrev pub change_with : Option (List ℕ) → Option (Option Range) → Option ChangeSaid
 change_with (Some text) (Some range) = Some (record { range = range; text = text })
 change_with _ _ = None
 
+-- the change that a JSON value is: a text and perhaps a range (LSP 3.17, "TextDocumentContentChangeEvent")
 abbrev pub change_of : Data → Option ChangeSaid
 change_of d = change_with (text_at (codes "text") d) (maybe_range (get (codes "range") d))
 
--- the changes, where each item is one
+-- `changes_of ds`: the changes of a list, where each item is one
 abbrev pub changes_of : Items → Option (List ChangeSaid)
 changes_of no_items = Some []
 changes_of (item d ds) = first_and (change_of d) (changes_of ds)
 
+-- the changes under `contentChanges`, where each item is one
 abbrev pub changes_at : Data → Option (List ChangeSaid)
 changes_at d = option_and_then changes_of (option_and_then as_array (get (codes "contentChanges") d))
 
 -- ---- the unit of positions
 
--- the unit of this name (LSP 3.17, "PositionEncodingKind")
+-- the unit of the name `utf-8`, `utf-16` or `utf-32` (LSP 3.17, "PositionEncodingKind")
 abbrev pub unit_named : List ℕ → Option Encoding
 unit_named s =
     if bytes_eq s (codes "utf-8") then Some Utf8 else (
     if bytes_eq s (codes "utf-16") then Some Utf16 else (
     if bytes_eq s (codes "utf-32") then Some Utf32 else None))
 
+-- the unit that a JSON value names
 abbrev pub unit_of : Data → Option Encoding
 unit_of d = option_and_then unit_named (as_str d)
 
--- the first of the items that names a unit
+-- `first_unit ds`: the first unit that an item of a list names
 abbrev pub first_unit : Items → Option Encoding
 first_unit no_items = None
 first_unit (item d ds) = option_or (unit_of d) (first_unit ds)
 
--- `capabilities.general.positionEncodings` (LSP 3.17, "General client capabilities")
+-- `capabilities.general.positionEncodings` of the parameters (LSP 3.17, "General client capabilities")
 abbrev pub encodings_at : Data → Option Data
 encodings_at d =
     option_and_then (get (codes "positionEncodings")) (option_and_then (get (codes "general")) (get (codes "capabilities") d))
 
--- the first unit that the client names, and UTF-16 where it names none
+-- the unit that positions are to count: the first one that `encodings_at` names, and UTF-16 where it names none
 abbrev pub unit_at : Data → Encoding
 unit_at d = unwrap_or (option_and_then first_unit (option_and_then as_array (encodings_at d))) Utf16
 
 -- ---- requests (the last argument is the parameters)
 
--- the parameters are an object
+-- what `initialize` is heard as: a request with the unit that its parameters choose, which have to be an object
 abbrev pub asked_initialize : Ident → Data → Heard
 asked_initialize id d = if is_some (as_object d) then said (request id (initialize (unit_at d))) else refused (params id true)
 
--- the parameters have the URI of the document that is asked about
+-- `asked_about question id uri`: what a question is heard as: a request about the document of the URI, or, with none, parameters that don't
+-- fit
 abbrev pub asked_about : Question → Ident → Option (List ℕ) → Heard
 asked_about question id (Some uri) = said (request id (about uri question))
 asked_about question id None = refused (params id false)
 
--- the parameters have the URI of the document whose counts are asked for
+-- `asked_stats id uri`: what `lr/stats` is heard as: a request for the counts of the document of the URI, or, with none, parameters that
+-- don't fit
 abbrev pub asked_stats : Ident → Option (List ℕ) → Heard
 asked_stats id (Some uri) = said (request id (stats uri))
 asked_stats id None = refused (params id false)
 
--- the parameters have that URI, and positions in the document
+-- `asked_selections id uri positions`: what `textDocument/selectionRange` is heard as: a request about the document of the URI and these
+-- positions, or, where one is missing, parameters that don't fit
 abbrev pub asked_selections : Ident → Option (List ℕ) → Option (List Position) → Heard
 asked_selections id (Some uri) (Some positions) = said (request id (about uri (its_selections positions)))
 asked_selections id _ _ = refused (params id false)
 
+-- what a request of a method is heard as; one of an unknown method is refused
 abbrev pub request_of : List ℕ → Ident → Data → Heard
 request_of method id d =
     if bytes_eq method (codes "initialize") then asked_initialize id d else (
@@ -162,30 +171,34 @@ request_of method id d =
 
 -- ---- notifications (the last argument is the parameters)
 
+-- `told_open uri version text`: what `textDocument/didOpen` tells of these, or, where one is missing, that they don't fit
 abbrev pub told_open : Option (List ℕ) → Option ℤ → Option (List ℕ) → Told
 told_open (Some uri) (Some version) (Some text) = open_text uri version text
 told_open _ _ _ = malformed unfit_open
 
--- the parameters have the document's URI, version and text
+-- what `textDocument/didOpen` with the parameters `d` tells, as `told_open`
 abbrev pub opening : Data → Told
 opening d = told_open (uri_at d) (version_at d) (document_text d)
 
+-- `told_change uri version changes`: what `textDocument/didChange` tells of these, or, where one is missing, that they don't fit
 abbrev pub told_change : Option (List ℕ) → Option ℤ → Option (List ChangeSaid) → Told
 told_change (Some uri) (Some version) (Some changes) = change_text uri version changes
 told_change uri _ _ = malformed (unfit_change uri)
 
--- the parameters have the document's URI and version, and changes
+-- what `textDocument/didChange` with the parameters `d` tells, as `told_change`
 abbrev pub changing : Data → Told
 changing d = told_change (uri_at d) (version_at d) (changes_at d)
 
+-- `told_close uri`: what `textDocument/didClose` tells of the URI, or, where it is missing, that it doesn't fit
 abbrev pub told_close : Option (List ℕ) → Told
 told_close (Some uri) = close uri
 told_close None = malformed unfit_close
 
--- the parameters have the document's URI
+-- what `textDocument/didClose` with the parameters `d` tells, as `told_close`
 abbrev pub closing : Data → Told
 closing d = told_close (uri_at d)
 
+-- what a notification of a method is heard as; one of an unknown method is ignored
 abbrev pub notice_of : List ℕ → Data → Heard
 notice_of method d =
     if bytes_eq method (codes "initialized") then said (notice initialized) else (
@@ -197,27 +210,28 @@ notice_of method d =
 
 -- ---- messages
 
--- it has no method, but what a reply has (JSON-RPC 2.0, "Response object")
+-- whether there is no method, and there is a result or an error (JSON-RPC 2.0, "Response object")
 abbrev pub is_reply : Data → Bool
 is_reply d = not (has_key (codes "method") d) && (has_key (codes "result") d || has_key (codes "error") d)
 
--- its `jsonrpc` isn't the text `2.0`, or it has no `method` that is a text, or it has an `id` that can't be read
+-- whether the version isn't 2.0, or there is no method that is a text, or there is an id that can't be read
 abbrev pub is_invalid : Data → Bool
 is_invalid d =
     not (is_text (codes "2.0") (text_at (codes "jsonrpc") d))
     || is_none (text_at (codes "method") d)
     || (has_key (codes "id") d && is_none (id_at d))
 
--- the parameters; `null` where there are none
+-- the parameters, or `null` where there are none
 abbrev pub params_at : Data → Data
 params_at d = unwrap_or (get (codes "params") d) null
 
--- A request of an unknown method is refused, and a notification of one is ignored. Where there is no method it is invalid already.
+-- `of_method method id d`: what is heard of a method: with an id a request, without one a notification; with no method it is invalid
 abbrev pub of_method : Option (List ℕ) → Option Ident → Data → Heard
 of_method (Some method) (Some id) d = request_of method id d
 of_method (Some method) None d = notice_of method d
 of_method None id d = refused (invalid id)
 
+-- what a JSON value is heard as, by the tests in their order: no object; a reply; no valid message; then by its method (JSON-RPC 2.0)
 abbrev pub message_of : Data → Heard
 message_of d =
     -- the value isn't an object
@@ -229,20 +243,23 @@ message_of d =
     -- with an id it is a request, without one a notification
     of_method (text_at (codes "method") d) (id_at d) (params_at d)))
 
--- none where the content isn't UTF-8, is no JSON, or is nested too deep
+-- the JSON value that a content is; none where it isn't UTF-8, is no JSON, or is nested too deep
 abbrev pub value_of : List ℕ → Option Data
 value_of content = if is_utf8 content then read content else None
 
+-- `heard_as d`: what is heard of a JSON value, as `message_of`; nothing that can be read where there is none
 abbrev pub heard_as : Option Data → Heard
 heard_as None = unread
 heard_as (Some d) = message_of d
 
+-- what a content is heard as
 abbrev pub hearing : List ℕ → Heard
 hearing content = heard_as (value_of content)
 
+-- the content is heard as this: it is `hearing content`
 abbrev pub Hears : List ℕ → Heard → Type 0
 Hears content heard = heard ≡ hearing content
 
--- what a function returned is that, where memory was not refused
+-- what a function returned is heard as this, where memory was not refused
 abbrev pub Gives : Result Message RpcFault → Heard → Type 0
 Gives result heard = IfSome (heard_of result) (λ h. h ≡ heard)

@@ -1,11 +1,11 @@
 -- What a request is answered with, as a JSON value.
---     outcome_data outcome      the result of a reply
 use Rattle.std.specs.Prelude.{map}
 use Rattle.serde_json.specs.Data.{Data, null, string}
 use Rattle.rpc.specs.declared.sending.Outcome.{Outcome}
 use Rattle.rpc.specs.declared.sending.Outcome.TheVariants.{Null, Capabilities, Document, Rows, Tree, Stats, Folds, Selections}
 use Rattle.rpc.specs.Replies.{capabilities, document_data, row_view, rows_data, stats_data, folds_data, selections_data}
 
+-- `outcome_data outcome`: the JSON value of the result of a reply
 abbrev pub outcome_data : Outcome → Data
 outcome_data Null = null
 outcome_data (Capabilities unit) = capabilities unit

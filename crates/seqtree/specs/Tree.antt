@@ -4,12 +4,12 @@ use Rattle.std.specs.Int.Digits.{digits_of}
 use Rattle.std.specs.declared.alloc.Global.{Global}
 use Rattle.seqtree.specs.Monoid.{total}
 
--- the items of a tree that may be empty
+-- `items_of tree`: the items of a tree that may be empty, in order
 abbrev pub items_of : {A : Type 0} → Option (Box (List A × ℕ) Global) → List A
 items_of None = []
 items_of (Some b) = b.value.0
 
--- its height, which is 0 where it is empty
+-- `height_of tree`: the height of a tree, 0 where it is empty
 abbrev pub height_of : {A : Type 0} → Option (Box (List A × ℕ) Global) → ℕ
 height_of None = 0
 height_of (Some b) = b.value.1
@@ -18,11 +18,12 @@ height_of (Some b) = b.value.1
 abbrev pub DifferByAtMost : ℕ → ℕ → ℕ → Type 0
 DifferByAtMost by l r = (l ≤ r + by) × (r ≤ l + by)
 
--- a height that is at most twice the number of binary digits of n
+-- the height `h` is at most twice the number of binary digits of `n`
 abbrev pub IsLow : ℕ → ℕ → Type 0
 IsLow h n = (k : ℕ) → n < 2 ^ k → h ≤ 2 * k
 
--- what holds of a node with the sides l and r and the item x, which stores its number of items, its height and its sum
+-- what holds of a node with the sides `l` and `r` and the item `x`: its number of items, height and sum are right, the heights of its sides
+-- differ by at most 1, and its height is low (`IsLow`)
 pub record IsNode {A M : Type 0} (zero : M) (join : M → M → M) (measure : A → M) (l r : Option (Box (List A × ℕ) Global)) (x : A)
     (len tall : ℕ) (all : M) : Type 0 where
   pub len_is : len ≡ length (items_of l) + 1 + length (items_of r)
@@ -33,6 +34,6 @@ pub record IsNode {A M : Type 0} (zero : M) (join : M → M → M) (measure : A 
   pub fits : len < 2 ^ 64
   pub all_is : all ≡ total zero join measure (items_of l ++ x ∷ items_of r)
 
--- how many binary digits n has, and 0 for 0
+-- how many binary digits a number has, and 0 for 0
 abbrev pub digits : ℕ → ℕ
 digits n = length (digits_of 2 n)

@@ -1,15 +1,4 @@
 -- What is sent about a document depends on that document alone.
---     named heard      the URI of the document that a message names, if it names one
---     finds_room uri state heard      there is room for the document, where the message opens it
---     loses_memory uri old new      memory was refused in a change of the document, which is lost by that
---     LookAlike uri heard one two      what two states have for a document: their file and phase, what they hold under its URI, and the
---         room that they have for it, where the message opens it
---     SayTheSame answers others      the answers are the same, but for the numbers of nodes in memory
---     Tale uri old contents answers stop new events sent      a run over the contents, what it hears of a document, and what it sends then
---     EachRunHasATale      each run is told so, of each document
---     EachTaleIsTold file      two sessions that hear the same of a document send the same of it
---     EachDocumentIsAlone file      a message that does not name a document leaves it as it was, and sends no diagnostics of it; what is
---         sent on one that names it, and what the document becomes, is the same in states that look alike for it
 use Rattle.std.specs.Prelude.{◌≡◌, ◌≢◌, ◌⊎◌, ℕ, Bool, true, false, List, [], ◌∷◌, ◌++◌, map, All, Option, Some, None, MatchOption}
 use Rattle.std.specs.FinMap.{get}
 use Rattle.docs.specs.Grammars.{FileGrammar}
@@ -24,8 +13,8 @@ use Rattle.server.specs.Runs.{Run}
 use Rattle.server.specs.Steps.{State, first_state, Ignores, Step}
 use Rattle.server.specs.declared.state.Phase.{Phase}
 
--- A message with parameters that don't fit names no document, whatever URI it has: its answer depends on the phase alone. A malformed
--- change that has a URI does, since the document is lost by it.
+-- `named heard`: the URI of the document that a message names, if it names one; a message whose parameters don't fit names none, but for a
+-- change whose URI can be read
 abbrev pub named : Heard → Option (List ℕ)
 named (said (request id (about uri question))) = Some uri
 named (said (request id (stats uri))) = Some uri
@@ -35,35 +24,42 @@ named (said (notice (close uri))) = Some uri
 named (said (notice (malformed (unfit_change (Some uri))))) = Some uri
 named _ = None
 
--- a document that is held finds room; no other message asks for any
+-- `finds_room uri state heard`: there is room for the document that the message opens; a message that opens none asks for no room
 abbrev pub finds_room : List ℕ → State → Heard → Bool
 finds_room uri state (said (notice (open_text other version text))) = has_room uri state.documents
 finds_room uri state _ = true
 
--- an open document is lost for want of memory
+-- `loses old new`: what is held was an open document, and is lost because memory was refused
 abbrev pub loses : Option DocumentState → Option DocumentState → Bool
 loses (Some (is_open d)) (Some (is_lost NoMemory)) = true
 loses _ _ = false
 
+-- between two states, the document under the URI is lost because memory was refused
 abbrev pub loses_memory : List ℕ → State → State → Bool
 loses_memory uri old new = loses (get old.documents uri) (get new.documents uri)
 
+-- two states are of one file and in one phase, hold the same under the URI, and both have room for the document or not, where the message
+-- opens it
 pub record LookAlike (uri : List ℕ) (heard : Heard) (one two : State) : Type 0 where
   pub file : two.file ≡ one.file
   pub phase : two.phase ≡ one.phase
   pub held : get two.documents uri ≡ get one.documents uri
   pub room : finds_room uri two heard ≡ finds_room uri one heard
 
--- these are the same answers, but for what is left free
+-- two lists of answers are the same but for the number of nodes in memory
 abbrev pub SayTheSame : List Answer → List Answer → Type 0
 SayTheSame answers others = map but_nodes others ≡ map but_nodes answers
 
--- the same is sent, and the document becomes the same
+-- `SameFor uri answers others stop other_stop new other`: two steps send the same (`SayTheSame`), stop alike, and leave the same under the
+-- URI
 pub record SameFor (uri : List ℕ) (answers other_answers : List Answer) (stop other_stop : Option ℕ) (new other : State) : Type 0 where
   pub sent : SayTheSame answers other_answers
   pub stops : other_stop ≡ stop
   pub held : get other.documents uri ≡ get new.documents uri
 
+-- a message that does not name a document leaves it as it was and sends no diagnostics of it; one that names it sends the same, and makes
+-- the same of the document, in states that look alike for it, where memory is refused in both or in neither; but for the number of nodes in
+-- memory that `lr/stats` tells
 abbrev pub EachDocumentIsAlone : FileGrammar → Type 0
 EachDocumentIsAlone file =
     (uri : List ℕ) (heard : Heard) (old : State) (answers : List Answer) (stop : Option ℕ) (new : State)
@@ -74,25 +70,27 @@ EachDocumentIsAlone file =
     → loses_memory uri two other ≡ loses_memory uri old new
     → SameFor uri answers other_answers stop other_stop new other)
 
--- a message, the phase in which it is heard, whether there is room for the document that it opens, and whether memory is refused in
--- its changes
+-- a message, the phase in which it is heard, whether there is room for the document that it opens, and whether memory is refused in its
+-- changes
 pub record Event : Type 0 where
   pub phase : Phase
   pub room : Bool
   pub heard : Heard
   pub refused : Bool
 
+-- the `Event` of a step from `old` to `new`, for the document
 abbrev pub event_in : List ℕ → State → Heard → State → Event
 event_in uri old heard new =
     record { phase = old.phase; room = finds_room uri old heard; heard = heard; refused = loses_memory uri old new }
 
--- what is heard and sent on one message, before what comes after it: all where it names the document, and else nothing
+-- what is noted of one message before what comes after it: the message, and all that is sent on it, where it names the document; otherwise
+-- nothing
 abbrev pub Notes : List ℕ → State → Heard → List Answer → State → List Event → List Answer → List Event → List Answer → Type 0
 Notes uri old heard first new events sent more rest =
     ((named heard ≡ Some uri) × (events ≡ event_in uri old heard new ∷ more) × (sent ≡ first ++ rest))
     ⊎ ((named heard ≢ Some uri) × (events ≡ more) × (sent ≡ rest))
 
--- a `Run`, with what it hears of the document and what it sends then
+-- `Tale uri old contents answers stop new events sent`: a `Run`, with what it hears of the document, and what it sends then
 abbrev pub Tale : List ℕ → State → List (List ℕ) → List Answer → Option ℕ → State → List Event → List Answer → Type 0
 Tale uri old [] answers stop new events sent = Ignores old answers stop new × (events ≡ []) × (sent ≡ [])
 Tale uri old (content ∷ contents) answers stop new events sent =
@@ -102,12 +100,14 @@ Tale uri old (content ∷ contents) answers stop new events sent =
     ((later : List Answer) × (answers ≡ first ++ later) × Tale uri mid contents later stop new more rest)
     (λ status. (answers ≡ first) × (stop ≡ Some status) × (new ≡ mid) × (more ≡ []) × (rest ≡ []))
 
+-- for each run and each document there is such a `Tale`
 abbrev pub EachRunHasATale : Type 0
 EachRunHasATale =
     (uri : List ℕ) (old : State) (contents : List (List ℕ)) (answers : List Answer) (stop : Option ℕ) (new : State)
     → Run old contents answers stop new
     → (events : List Event) × (sent : List Answer) × Tale uri old contents answers stop new events sent
 
+-- two sessions that hear the same of a document send the same of it, but for the numbers of nodes in memory
 abbrev pub EachTaleIsTold : FileGrammar → Type 0
 EachTaleIsTold file =
     (uri : List ℕ) (contents others : List (List ℕ)) (answers other_answers : List Answer) (stop other_stop : Option ℕ)

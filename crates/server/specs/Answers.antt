@@ -1,10 +1,4 @@
 -- What is answered to a question about a document, and what is published of it.
---     question_view question      a question of the server's code
---     IsAnswer file id document question answer      this is the answer, by the language of a grammar file, and by the document's
---         unit, version and text alone
---     IsCount file id document answer      this is an answer to `lr/stats`
---     but_nodes answer      the answer without the number of nodes in memory, which is left free
---     IsPublished file uri document answer      these are the diagnostics of the document, with its version
 use Rattle.std.specs.Prelude.{◌≡◌, ℕ, List, Option, Some, None, option_map, encode_utf8_all}
 use Rattle.rpc.specs.Range.{Range}
 use Rattle.rpc.specs.Stats.{Stats}
@@ -22,6 +16,7 @@ use Rattle.server.specs.declared.answers.Question.{Question as Put}
 use Rattle.server.specs.declared.answers.Question.TheVariants as put
 use Rattle.server.specs.Documents.{DocumentState, is_open, is_lost}
 
+-- `question_view question`: a question of the code as a `Question`
 abbrev pub question_view : Put → Question
 question_view put.Text = its_text
 question_view put.Tokens = its_tokens
@@ -29,11 +24,13 @@ question_view put.Tree = its_tree
 question_view put.Folds = its_folds
 question_view (put.Selections positions) = its_selections positions.items
 
--- the text of a tree, or that there is none
+-- `tree_answer id text`: the reply that tells the text of a tree, or that there is none
 abbrev pub tree_answer : Ident → Option (List ℕ) → Answer
 tree_answer id None = told_null id
 tree_answer id (Some text) = told_tree id text
 
+-- `IsAnswerOf file id d question answer`: what is answered of an open document, by its unit, version and text alone, by the reading of its
+-- text: its version and text, the rows of its tokens, its tree, its folds, or what can be selected in it
 abbrev pub IsAnswerOf : FileGrammar → Ident → OpenDocument → Question → Answer → Type 0
 IsAnswerOf file id d its_text answer = answer ≡ told_text id d.version (encode_utf8_all d.text)
 IsAnswerOf file id d its_tokens answer = Reads file d.text (λ reading. answer ≡ told_tokens id (rows d.unit file d.text reading.tokens))
@@ -44,24 +41,30 @@ IsAnswerOf file id d (its_selections positions) answer = Reads file d.text (λ r
     (selections : List (List Range)) × AreSelections d.unit file d.text reading positions selections
     × (answer ≡ told_selections id selections))
 
+-- `IsAnswer file id document question answer`: what is answered to a question about a document: that it isn't open; or why it is lost; or,
+-- where it is open, what `IsAnswerOf` has
 abbrev pub IsAnswer : FileGrammar → Ident → Option DocumentState → Question → Answer → Type 0
 IsAnswer file id None question answer = answer ≡ told_error (Some id) DocumentNotOpen
 IsAnswer file id (Some (is_lost loss)) question answer = answer ≡ told_error (Some id) (DocumentLost loss)
 IsAnswer file id (Some (is_open d)) question answer = IsAnswerOf file id d question answer
 
+-- `IsCount file id document answer`: what is answered to `lr/stats`: that the document isn't open; or why it is lost; or its counts
+-- (`AreStats`)
 abbrev pub IsCount : FileGrammar → Ident → Option DocumentState → Answer → Type 0
 IsCount file id None answer = answer ≡ told_error (Some id) DocumentNotOpen
 IsCount file id (Some (is_lost loss)) answer = answer ≡ told_error (Some id) (DocumentLost loss)
 IsCount file id (Some (is_open d)) answer = (stats : Stats) × AreStats file d stats × (answer ≡ told_stats id stats)
 
+-- `but_nodes answer`: an answer without the number of nodes in memory, which is left free
 abbrev pub but_nodes : Answer → Answer
 but_nodes (told_stats id stats) = told_stats id (without_nodes stats)
 but_nodes answer = answer
 
--- a range, and the message in UTF-8
+-- a diagnostic's range, and its message in UTF-8
 abbrev pub told_of : Diagnostic → Range × List ℕ
 told_of d = (d.range, encode_utf8_all d.message)
 
+-- `IsPublished file uri document answer`: the diagnostics of a document under its URI, with its version, by the reading of its text
 abbrev pub IsPublished : FileGrammar → List ℕ → OpenDocument → Answer → Type 0
 IsPublished file uri d answer =
     Reads file d.text (λ reading. (fault : Option Diagnostic) × IsDiagnosis d.unit file d.text reading.tokens reading.verdict fault

@@ -1,10 +1,4 @@
 -- The documents that a server holds: a finite map from the bytes of their URIs.
---     DocumentState      a document is open, with its unit, its version, its text and its last edit, or lost, for a cause
---     Held      documents by their URIs
---     edited encoding text changes      the text after the changes, each applied to the text that the one before it made
---     IsLastAfter encoding file text changes last after      what the last edit is after the changes
---     Becomes file version d changes state      what an open document may become by the changes
---     has_room uri documents      this document is held already, or one more may be
 use Rattle.std.specs.Prelude.{◌≡◌, ℕ, ℤ, ◌||◌, Bool, nat_lt, if◌then◌else◌, List, [], ◌∷◌, ◌++◌, Option, Some, None}
 use Rattle.std.specs.Ordering.{nat_cmp}
 use Rattle.std.specs.Str.{chars}
@@ -19,15 +13,17 @@ use Rattle.rpc.specs.Messages.{ChangeSaid}
 use Rattle.rpc.specs.declared.reply.Loss.{Loss}
 use Rattle.rpc.specs.declared.reply.Loss.TheVariants.{TooLarge, MalformedChange, NoMemory}
 
+-- a document is open, with its unit, version, text and last edit, or lost, with the cause
 pub data DocumentState : Type 0 where
   is_open : OpenDocument → DocumentState
   is_lost : Loss → DocumentState
 
--- URIs are compared byte for byte
+-- the documents by the bytes of their URIs, a finite map
 abbrev pub Held : Type 0
 Held = FinMap (slice_cmp nat_cmp) DocumentState
 
--- none where one of the texts on the way doesn't fit
+-- `edited encoding text changes`: a text after changes, each applied to the text that the one before it made; none where a text on the way
+-- doesn't fit
 abbrev pub edited : Encoding → List ℕ → List ChangeSaid → Option (List ℕ)
 edited encoding text [] = Some text
 edited encoding text (c ∷ cs) =
@@ -35,15 +31,17 @@ edited encoding text (c ∷ cs) =
     then edited encoding (changed encoding text c.range (chars c.text)) cs
     else None
 
--- each change is an edit of the text that the one before it made
+-- `IsLastAfter encoding file text changes last after`: what the last edit is after changes, each an edit of the text that the one before it
+-- made
 abbrev pub IsLastAfter : Encoding → FileGrammar → List ℕ → List ChangeSaid → Option LastEdit → Option LastEdit → Type 0
 IsLastAfter encoding file text [] last after = after ≡ last
 IsLastAfter encoding file text (c ∷ cs) last after =
     (next : LastEdit) × IsNext encoding file text c.range (chars c.text) last next
     × IsLastAfter encoding file (changed encoding text c.range (chars c.text)) cs (Some next) after
 
--- Where all texts on the way fit, the document has the last one; where one doesn't, it is lost. It may also be lost for want of memory
--- at any change whose text fits, as do those before it.
+-- `Becomes file version d changes state`: what an open document may become by the changes of a message: open with the text after them and
+-- the last of these edits, where all texts on the way fit; lost as too large where one doesn't; or lost for want of memory at a change that
+-- is reached and whose text fits
 abbrev pub Becomes : FileGrammar → ℤ → OpenDocument → List ChangeSaid → DocumentState → Type 0
 Becomes file version d changes (is_open e) =
     (edited d.unit d.text changes ≡ Some e.text) × (e.unit ≡ d.unit) × (e.version ≡ version)
@@ -54,6 +52,6 @@ Becomes file version d changes (is_lost NoMemory) =
     (front rest : List ChangeSaid) × (c : ChangeSaid) × (changes ≡ front ++ c ∷ rest)
     × ((mid : List ℕ) × (edited d.unit d.text (front ++ c ∷ []) ≡ Some mid))
 
--- at most 64 documents are held, lost ones among them
+-- something is held under this URI already, or fewer than 64 documents are held, lost ones among them
 abbrev pub has_room : List ℕ → Held → Bool
 has_room uri documents = contains_key documents uri || nat_lt (len documents) 64

@@ -1,12 +1,4 @@
 -- Every answer is a fresh server's.
---     IsFresh file unit uri version text published state      the state of a server that was just initialized, with this unit of
---         positions, and then opened this text, and the diagnostics that it published
---     RepliesOnly state heard answer      on what was heard there is one reply, this one, and nothing changes
---     EveryAnswerIsFresh file      whatever was read before: a fresh server exists with the unit of the session and the version
---         and the text of an open document, and to each question about the document it and the server have one answer, the same;
---         and the diagnostics that it published are those that the server published last
---     EachTextIsItsEdits      a document's text after a change is its text before, edited, unless it is lost for want of memory; no other
---         document changes
 use Rattle.std.specs.Prelude.{◌≡◌, ◌≢◌, ◌⊎◌, ℕ, ℤ, List, [], ◌∷◌, ◌++◌, All, Option, Some, None}
 use Rattle.std.specs.Str.{chars}
 use Rattle.std.specs.FinMap.{get}
@@ -21,6 +13,7 @@ use Rattle.server.specs.declared.state.Phase.TheVariants.{Ready}
 use Rattle.server.specs.Steps.{State, first_state, Replies, Step}
 use Rattle.server.specs.Runs.{Run}
 
+-- the state of a server that was just initialized with this unit and then opened this text, and the diagnostics that it published
 pub record IsFresh (file : FileGrammar) (unit : Encoding) (uri : List ℕ) (version : ℤ) (text : List ℕ) (published : Answer)
     (state : State) : Type 0 where
   pub id : Ident
@@ -30,28 +23,32 @@ pub record IsFresh (file : FileGrammar) (unit : Encoding) (uri : List ℕ) (vers
   pub initializes : Step (first_state file) (said (request id (initialize unit))) (told_capabilities id unit ∷ []) None mid
   pub opens : Step mid (said (notice (open_text uri version bytes))) (published ∷ []) None state
 
+-- on what was heard there is one reply, this one, and nothing changes
 pub record RepliesOnly (state : State) (heard : Heard) (answer : Answer) : Type 0 where
   pub replies : Step state heard (answer ∷ []) None state
   pub only : (answers : List Answer) (stop : Option ℕ) (new : State) → Step state heard answers stop new
       → Replies state answer answers stop new
 
--- to each question about the document of this URI both have one answer, the same
+-- to each question about the document both have one answer, the same
 abbrev pub AnswerAlike : List ℕ → State → State → Type 0
 AnswerAlike uri one other = (id : Ident) (question : Question) →
     let heard = said (request id (about uri question)) in
     (answer : Answer) × RepliesOnly one heard answer × RepliesOnly other heard answer
 
--- these are diagnostics of the document of this URI
+-- `Publishes uri answer`: the answer publishes diagnostics of the URI
 abbrev pub Publishes : List ℕ → Answer → Type 0
 Publishes uri (told_diagnostics other version fault) = other ≡ uri
 Publishes uri _ = ⊥
 
--- and the last ones among these answers
+-- of these answers this one is the last that `Publishes` diagnostics of the URI
 abbrev pub IsLastPublished : List ℕ → List Answer → Answer → Type 0
 IsLastPublished uri answers published =
     (before after : List Answer) × (answers ≡ before ++ published ∷ after) × Publishes uri published
     × All (λ a. ¬ Publishes uri a) after
 
+-- whatever was read before: there is a fresh server with the unit of the session and the version and the text of an open document, and to
+-- each question about the document each fresh server and the one at hand have one answer, the same; and the diagnostics that the fresh one
+-- published are the last that the one at hand published for the document
 abbrev pub EveryAnswerIsFresh : FileGrammar → Type 0
 EveryAnswerIsFresh file =
     (contents : List (List ℕ)) (answers : List Answer) (state : State) (unit : Encoding) (uri : List ℕ) (document : OpenDocument)
@@ -60,6 +57,8 @@ EveryAnswerIsFresh file =
     × ((fresh : State) (published : Answer) → IsFresh file unit uri document.version document.text published fresh
     → AnswerAlike uri state fresh × IsLastPublished uri answers published)
 
+-- where all texts on the way fit, a document's text after a change is its text before, edited by the changes in turn (`edited`), unless the
+-- document is lost for want of memory; no other document changes
 abbrev pub EachTextIsItsEdits : Type 0
 EachTextIsItsEdits =
     (old new : State) (unit : Encoding) (uri : List ℕ) (version : ℤ) (changes : List ChangeSaid) (document : OpenDocument) (text : List ℕ)

@@ -1,10 +1,4 @@
 -- What the loop over the input keeps, in parts of a session.
---     Served old new before contents stop after      the answers of a run over the contents were written
---     ServedInPart old new before contents      a prefix of such answers was written, where a device failed or memory was refused
---     HasServed ..      what comes of answering some contents: all answers are written, or a prefix of them
---     EndsAt outcome tail      what the end of the input means after this tail
---     IsCutShort fault failures      why answering is cut short
---     CanServe state      there are answers in this state, and in all that come after it
 use Rattle.std.specs.Prelude.{◌≡◌, ℕ, List, Option, Some, Result, Ok, Err, true, IfOk, OnErr, MatchResult}
 use Rattle.std.specs.FinMap.{get}
 use Rattle.std.specs.Io.KnownBytes.{Appends}
@@ -21,11 +15,13 @@ use Rattle.server.specs.Steps.{State}
 use Rattle.server.specs.Runs.{Run, bytes_of}
 use Rattle.server.specs.Sessions.{AppendsFront}
 
+-- all answers of a run over the contents are written
 pub record Served (old new : Option (List ℕ)) (before : State) (contents : List (List ℕ)) (stop : Option ℕ) (after : State) : Type 0 where
   pub answers : List Answer
   pub run : Run before contents answers stop after
   pub written : Appends old new (bytes_of answers)
 
+-- a prefix of the answers of a run over the contents is written
 pub record ServedInPart (old new : Option (List ℕ)) (before : State) (contents : List (List ℕ)) : Type 0 where
   pub answers : List Answer
   pub stop : Option ℕ
@@ -41,7 +37,8 @@ EndsAt (Err Read) tail = ⊥
 EndsAt (Err Write) tail = ⊥
 EndsAt (Err Memory) tail = ⊥
 
--- why answering is cut short, and how often the output has failed then: once where a write failed, never where memory was refused
+-- `IsCutShort fault failures`: why answering is cut short, and how often the output has failed then: once where a write failed, never where
+-- memory was refused
 abbrev pub IsCutShort : RunFault → ℕ → Type 0
 IsCutShort (Frame fault) failures = ⊥
 IsCutShort Read failures = ⊥
@@ -52,19 +49,20 @@ IsCutShort Memory failures = failures ≡ 0
 abbrev pub AllFit : Held → Type 0
 AllFit documents = (uri : List ℕ) (document : OpenDocument) → get documents uri ≡ Some (is_open document) → fits document.text ≡ true
 
+-- there are answers in a state, and in all that come after it: its language always answers, and each open document's text fits
 pub record CanServe (state : State) : Type 0 where
   pub always : AlwaysAnswers state.file
   pub fit : AllFit state.documents
 
--- all answers to these contents are written, and the output hasn't failed; or a front of them, because a write failed or memory was
--- refused
+-- what comes of answering some contents: all answers are written (`Served`), or a prefix of them (`ServedInPart`), because a write failed
+-- or memory was refused
 pub record HasServed (old new : Option (List ℕ)) (failures : ℕ) (before : State) (contents : List (List ℕ))
     (result : Result (Option ℕ) RunFault) (after : State) : Type 0 where
   pub written : IfOk result (λ stop. Served old new before contents stop after)
   pub part : OnErr result (ServedInPart old new before contents)
   pub device : MatchResult result (λ _. failures ≡ 0) (λ e. IsCutShort e failures)
 
--- want of memory in the frames is want of memory
+-- `run_fault fault`: a fault of the stream as the fault of a session; want of memory in the frames is want of memory
 abbrev pub run_fault : FrameFault → RunFault
 run_fault frame.BadField = Frame frame.BadField
 run_fault frame.NoLength = Frame frame.NoLength

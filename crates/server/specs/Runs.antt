@@ -1,6 +1,4 @@
 -- Runs of the server over the contents of frames.
---     Run old contents answers stop new      steps on the contents in turn, up to the first that stops the server
---     bytes_of answers      the answers as JSON texts, each in a frame
 use Rattle.std.specs.Prelude.{◌≡◌, ℕ, List, [], ◌∷◌, ◌++◌, flat_map, Option, Some, MatchOption}
 use Rattle.rpc.specs.Written.{compact_text}
 use Rattle.frames.specs.Write.{frame}
@@ -8,6 +6,7 @@ use Rattle.rpc.specs.Reading.{hearing}
 use Rattle.rpc.specs.Replies.{Answer, reply_data}
 use Rattle.server.specs.Steps.{State, Step, Ignores}
 
+-- `Run old contents answers stop new`: steps on contents in turn, up to the first that stops the server
 abbrev pub Run : State → List (List ℕ) → List Answer → Option ℕ → State → Type 0
 Run old [] answers stop new = Ignores old answers stop new
 Run old (content ∷ contents) answers stop new =
@@ -16,5 +15,6 @@ Run old (content ∷ contents) answers stop new =
     ((rest : List Answer) × (answers ≡ first ++ rest) × Run mid contents rest stop new)
     (λ status. (answers ≡ first) × (stop ≡ Some status) × (new ≡ mid))
 
+-- the answers as compact JSON texts, each in a frame
 abbrev pub bytes_of : List Answer → List ℕ
 bytes_of answers = flat_map (λ a. frame (compact_text (reply_data a))) answers

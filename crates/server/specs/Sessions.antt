@@ -1,8 +1,4 @@
 -- A whole session, from the bytes that are read to the bytes that are written.
---     AppendsFront old new bytes      a prefix of the bytes was written
---     IsWritten outcome old new bytes      all of them, or a prefix where a write failed or memory was refused
---     Ends outcome left tail stop      why the session ended
---     Session ..      what `run` answers and writes
 use Rattle.std.specs.Prelude.{◌≡◌, ℕ, ◌⊎◌, List, ◌++◌, Option, Some, None, Result, Ok, Err}
 use Rattle.std.specs.Io.KnownBytes.{Consumes, Appends, IsAtEnd}
 use Rattle.frames.specs.Frames.{Tail, IsOpen, Splits, finish_of}
@@ -13,12 +9,11 @@ use Rattle.rpc.specs.Replies.{Answer}
 use Rattle.server.specs.Steps.{State, first_state}
 use Rattle.server.specs.Runs.{Run, bytes_of}
 
--- a front of the bytes was written
+-- a prefix of the bytes was written
 abbrev pub AppendsFront : Option (List ℕ) → Option (List ℕ) → List ℕ → Type 0
 AppendsFront old new bytes = (front rest : List ℕ) × (bytes ≡ front ++ rest) × Appends old new front
 
--- all answers are written at the end of the input, at `exit`, where the stream is faulty and where a read fails; where a write fails or
--- memory is refused, a front of them
+-- `IsWritten result old new bytes`: all of the bytes are written, or a prefix of them where a write failed or memory was refused
 abbrev pub IsWritten : Result ℕ RunFault → Option (List ℕ) → Option (List ℕ) → List ℕ → Type 0
 IsWritten (Ok status) old new bytes = Appends old new bytes
 IsWritten (Err (Frame fault)) old new bytes = Appends old new bytes
@@ -26,7 +21,8 @@ IsWritten (Err Read) old new bytes = Appends old new bytes
 IsWritten (Err Write) old new bytes = AppendsFront old new bytes
 IsWritten (Err Memory) old new bytes = AppendsFront old new bytes
 
--- why the loop ended: `exit`, the end of the input, a fault of the stream, or something outside
+-- `Ends result left tail stop`: why the session ended: by `exit` with its status; at the end of the input, between frames, with status 1;
+-- by a fault of the stream; by a read that failed, with no fault in what was read; by a write that failed, or refused memory
 abbrev pub Ends : Result ℕ RunFault → Option (List ℕ) → Tail → Option ℕ → Type 0
 Ends (Ok status) left tail stop = (stop ≡ Some status) ⊎ ((stop ≡ None) × IsAtEnd left × (finish_of tail ≡ Ok tt) × (status ≡ 1))
 Ends (Err (Frame fault)) left tail stop = (stop ≡ None) × (finish_of tail ≡ Err fault) × (IsOpen tail → IsAtEnd left)
@@ -34,7 +30,9 @@ Ends (Err Read) left tail stop = (stop ≡ None) × IsOpen tail
 Ends (Err Write) left tail stop = Unit {0}
 Ends (Err Memory) left tail stop = Unit {0}
 
--- The bytes that were read are whole frames and a tail. What was written are the frames of the answers of a run over their contents.
+-- `Session file read left old new result`: bytes were read that are whole frames with these contents, and a tail; from the first state by
+-- this grammar file there is a run over the contents with these answers, up to the first `exit`; of the answers' bytes were written what
+-- the result calls for; and the result is the one that the end calls for
 pub record Session (file : FileGrammar) (input_old input_new output_old output_new : Option (List ℕ))
     (outcome : Result ℕ RunFault) : Type 0 where
   pub bytes : List ℕ

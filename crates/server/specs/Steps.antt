@@ -1,9 +1,4 @@
 -- What the server does with a message (LSP 3.17, "Server lifecycle", "Text Document Synchronization"; JSON-RPC 2.0).
---     State      the grammar file of the session, its phase with the unit that positions count, and the documents by their URIs
---     first_state file      the state in which a session begins
---     Step old heard answers stop new      from old, on what was heard, the server may give these answers, stop with a status or go
---         on, and be in the state new
---     state_view server      a server's state
 use Rattle.std.specs.Prelude.{◌≡◌, ℕ, ℤ, Bool, true, false, if◌then◌else◌, List, [], ◌∷◌, Option, Some, None}
 use Rattle.std.specs.Str.{chars}
 use Rattle.std.specs.FinMap.{empty, get, insert, remove}
@@ -26,45 +21,50 @@ use Rattle.server.specs.declared.state.Phase.{Phase}
 use Rattle.server.specs.declared.state.Phase.TheVariants.{New, Ready, Down}
 use Rattle.server.specs.declared.state.Server.{Server}
 
+-- the grammar file of the session, its phase with the unit that positions count from `initialize` on, and its documents (LSP 3.17, "Server
+-- lifecycle")
 pub record State : Type 0 where
   pub file : FileGrammar
   pub phase : Phase
   pub documents : Held
 
+-- the state before any message
 abbrev pub first_state : FileGrammar → State
 first_state file = record { file = file; phase = New; documents = empty }
 
+-- `state_view server`: the state of a server of the code
 abbrev pub state_view : Server → State
 state_view s = record { file = s.documents.language.file; phase = s.phase; documents = s.documents.documents }
 
 -- ---- what a step leaves
 
--- one reply, and nothing changes
+-- the step leaves one reply, and nothing changes
 abbrev pub Replies : State → Answer → List Answer → Option ℕ → State → Type 0
 Replies old answer answers stop new = (answers ≡ answer ∷ []) × (stop ≡ None) × (new ≡ old)
 
--- one reply that has the property, and nothing changes
+-- `RepliesSome old Has answers stop new`: the step leaves one reply of which `Has` holds, and nothing changes
 abbrev pub RepliesSome : State → (Answer → Type 0) → List Answer → Option ℕ → State → Type 0
 RepliesSome old Has answers stop new = (answer : Answer) × Has answer × Replies old answer answers stop new
 
--- one reply, and the phase changes
+-- the step leaves one reply, and the phase changes
 abbrev pub Enters : State → Phase → Answer → List Answer → Option ℕ → State → Type 0
 Enters old phase answer answers stop new =
     (answers ≡ answer ∷ []) × (stop ≡ None) × (new ≡ record { file = old.file; phase = phase; documents = old.documents })
 
--- no reply, and nothing changes
+-- the step leaves no reply, and nothing changes
 abbrev pub Ignores : State → List Answer → Option ℕ → State → Type 0
 Ignores old answers stop new = (answers ≡ []) × (stop ≡ None) × (new ≡ old)
 
--- one log message, and nothing changes
+-- the step leaves one log message, and nothing changes
 abbrev pub Logs : State → Log → List Answer → Option ℕ → State → Type 0
 Logs old log answers stop new = Replies old (told_log log) answers stop new
 
--- the server goes on, and these documents are held
+-- the server goes on with these documents, in the same phase
 abbrev pub Leaves : State → Held → Option ℕ → State → Type 0
 Leaves old documents stop new = (stop ≡ None) × (new ≡ record { file = old.file; phase = old.phase; documents = documents })
 
--- The document stands so from now on. Its diagnostics are published; where it is lost, there are none, and the loss is logged.
+-- `Holds old uri state answers stop new`: the document stands so from now on, and its diagnostics are published; where it is lost, an empty
+-- list without version, and after it the log message of the loss
 abbrev pub Holds : State → List ℕ → DocumentState → List Answer → Option ℕ → State → Type 0
 Holds old uri (is_open d) answers stop new =
     (published : Answer) × IsPublished old.file uri d published × (answers ≡ published ∷ [])
@@ -73,17 +73,18 @@ Holds old uri (is_lost loss) answers stop new =
     (answers ≡ told_diagnostics uri None None ∷ told_log (Lost loss) ∷ [])
     × Leaves old (insert old.documents uri (is_lost loss)) stop new
 
--- the document is forgotten, and has no diagnostics
+-- the document is forgotten, and an empty list of diagnostics is published
 abbrev pub Forgets : State → List ℕ → List Answer → Option ℕ → State → Type 0
 Forgets old uri answers stop new =
     (answers ≡ told_diagnostics uri None None ∷ []) × Leaves old (remove old.documents uri) stop new
 
--- no reply, and the server stops with this status
+-- the step leaves no reply, and the server stops with this status
 abbrev pub Stops : State → ℕ → List Answer → Option ℕ → State → Type 0
 Stops old status answers stop new = (answers ≡ []) × (stop ≡ Some status) × (new ≡ old)
 
 -- ---- requests
 
+-- `Asks phase old id asked answers stop new`: the step on a request, in each phase
 abbrev pub Asks : Phase → State → Ident → Asked → List Answer → Option ℕ → State → Type 0
 Asks New old id (initialize unit) answers stop new = Enters old (Ready unit) (told_capabilities id unit) answers stop new
 Asks New old id _ answers stop new = Replies old (told_error (Some id) NotInitialized) answers stop new
@@ -97,45 +98,53 @@ Asks Down old id _ answers stop new = Replies old (told_error (Some id) InvalidR
 
 -- ---- notifications
 
--- a document with this text is open where the text fits, and else lost
+-- what comes of opening a text: an open document with this unit where it fits, and otherwise a lost one
 abbrev pub opened : Encoding → ℤ → List ℕ → DocumentState
 opened unit version text =
     if fits text then is_open (record { unit = unit; version = version; text = text; last = None }) else is_lost TooLarge
 
--- where there is no room, nothing is opened
+-- `Opens room old uri state answers stop new`: the step on `didOpen` in the ready phase: the document is held where there is room, and
+-- otherwise it is logged that there are too many
 abbrev pub Opens : Bool → State → List ℕ → DocumentState → List Answer → Option ℕ → State → Type 0
 Opens true old uri state answers stop new = Holds old uri state answers stop new
 Opens false old uri state answers stop new = Logs old TooManyDocuments answers stop new
 
--- Each of these comes with what is held under the URI. A change of a document that is not held is logged, and one of a lost document
--- ignored; so are malformed ones.
+-- `Changes held old uri version changes answers stop new`: the step on `didChange` in the ready phase, by what is held under the URI: an
+-- open document is changed or lost, a lost one is left alone, and of one that isn't held it is logged that it isn't open
 abbrev pub Changes : Option DocumentState → State → List ℕ → ℤ → List ChangeSaid → List Answer → Option ℕ → State → Type 0
 Changes None old uri version changes answers stop new = Logs old ChangeNotOpen answers stop new
 Changes (Some (is_lost loss)) old uri version changes answers stop new = Ignores old answers stop new
 Changes (Some (is_open d)) old uri version changes answers stop new =
     (state : DocumentState) × Becomes old.file version d changes state × Holds old uri state answers stop new
 
+-- `Spoils held old uri answers stop new`: the step on a `didChange` with a URI whose other parameters don't fit: an open document is lost,
+-- a lost one is left alone, and of one that isn't held it is logged that it isn't open
 abbrev pub Spoils : Option DocumentState → State → List ℕ → List Answer → Option ℕ → State → Type 0
 Spoils None old uri answers stop new = Logs old ChangeNotOpen answers stop new
 Spoils (Some (is_lost loss)) old uri answers stop new = Ignores old answers stop new
 Spoils (Some (is_open d)) old uri answers stop new = Holds old uri (is_lost MalformedChange) answers stop new
 
+-- `Closes held old uri answers stop new`: the step on `didClose` in the ready phase: what is held is forgotten, and of what isn't held it
+-- is logged that it isn't open
 abbrev pub Closes : Option DocumentState → State → List ℕ → List Answer → Option ℕ → State → Type 0
 Closes None old uri answers stop new = Logs old CloseNotOpen answers stop new
 Closes (Some state) old uri answers stop new = Forgets old uri answers stop new
 
--- parameters that don't fit
+-- `Misses old unfit answers stop new`: the step on a notification whose parameters don't fit, in the ready phase: it is logged; of a change
+-- whose URI can be read, what `Spoils` has
 abbrev pub Misses : State → Unfit → List Answer → Option ℕ → State → Type 0
 Misses old unfit_open answers stop new = Logs old OpenMalformed answers stop new
 Misses old (unfit_change None) answers stop new = Logs old ChangeMalformed answers stop new
 Misses old (unfit_change (Some uri)) answers stop new = Spoils (get old.documents uri) old uri answers stop new
 Misses old unfit_close answers stop new = Logs old CloseMalformed answers stop new
 
+-- `exit_status phase`: the status at `exit`: 0 after `shutdown`, and 1 in any other phase
 abbrev pub exit_status : Phase → ℕ
 exit_status New = 1
 exit_status (Ready unit) = 1
 exit_status Down = 0
 
+-- `Tells phase old told answers stop new`: the step on a notification, in each phase
 abbrev pub Tells : Phase → State → Told → List Answer → Option ℕ → State → Type 0
 Tells phase old exit answers stop new = Stops old (exit_status phase) answers stop new
 Tells (Ready unit) old (open_text uri version text) answers stop new =
@@ -148,13 +157,13 @@ Tells _ old _ answers stop new = Ignores old answers stop new
 
 -- ---- steps
 
--- the refusal of an unknown method
+-- `unknown_in phase`: the refusal of an unknown method, by the phase
 abbrev pub unknown_in : Phase → Refusal
 unknown_in New = NotInitialized
 unknown_in (Ready unit) = MethodNotFound
 unknown_in Down = InvalidRequest
 
--- the refusal of parameters that don't fit, those of `initialize` or others
+-- `params_in phase first`: the refusal of parameters that don't fit, those of `initialize` or others, by the phase
 abbrev pub params_in : Phase → Bool → Refusal
 params_in New true = InvalidParams
 params_in New false = NotInitialized
@@ -162,6 +171,8 @@ params_in (Ready unit) true = InvalidRequest
 params_in (Ready unit) false = InvalidParams
 params_in Down first = InvalidRequest
 
+-- `Step old heard answers stop new`: from a state, on what was heard, the server may give these answers, stop or not, and be in this state:
+-- every phase with every message
 abbrev pub Step : State → Heard → List Answer → Option ℕ → State → Type 0
 Step old unread answers stop new = Replies old (told_error None ParseError) answers stop new
 Step old (refused (invalid id)) answers stop new = Replies old (told_error id InvalidRequest) answers stop new
@@ -171,7 +182,7 @@ Step old (said (request id asked)) answers stop new = Asks old.phase old id aske
 Step old (said (notice told)) answers stop new = Tells old.phase old told answers stop new
 Step old (said ignored) answers stop new = Ignores old answers stop new
 
--- a step on what was heard, if anything was
+-- `StepOn heard old answers stop new`: something was heard, and the server makes this `Step` on it
 abbrev pub StepOn : Option Heard → State → List Answer → Option ℕ → State → Type 0
 StepOn None old answers stop new = ⊥
 StepOn (Some heard) old answers stop new = Step old heard answers stop new

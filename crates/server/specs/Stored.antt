@@ -1,5 +1,4 @@
 -- The documents that are held as what a finite map stores: each as numbers, from which it is had back.
---     document_code, held_code      the codes of a document, and of all that are held
 use Rattle.std.specs.Prelude.{◌≡◌, ℕ, zero, suc, ℤ, pos, List, [], refl, Option, None}
 use Rattle.std.specs.Coded.{Coded, code_by, coded×, coded_ℕ, coded_ℤ, coded_list, coded_option}
 use Rattle.std.specs.FinMap.{code}
@@ -58,10 +57,12 @@ of_stored_back (is_lost TooLarge) = refl
 of_stored_back (is_lost MalformedChange) = refl
 of_stored_back (is_lost NoMemory) = refl
 
+-- the code of a document
 abbrev pub document_code : Coded DocumentState
 document_code =
     let code = coded× coded_ℕ (coded× unit_code (coded× coded_ℤ (coded× (coded_list coded_ℕ) (coded_option edit_code)))) in
     code_by Stored code stored of_stored of_stored_back
 
+-- the code of all documents that are held
 abbrev pub held_code : Coded Held
 held_code = code (coded_list coded_ℕ) document_code

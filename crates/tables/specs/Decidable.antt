@@ -5,7 +5,7 @@ use Rattle.definitions.specs.declared.Symbol.{Symbol}
 use Rattle.definitions.specs.Trees.{Grammar}
 use Rattle.definitions.specs.Items.{Move, HasMove, HasItem}
 
--- of each prefix with an item, and each kind or the end, it is known which move its items call for, or that they call for none
+-- of each prefix with an item it is known which move its items call for, or that they call for none
 abbrev pub AreMovesDecided : Grammar → Type 0
 AreMovesDecided g = (prefix : List Symbol) → HasItem g prefix → (look : Option Kind)
     → ((move : Move) × HasMove g prefix look move) ⊎ ((move : Move) → HasMove g prefix look move → ⊥)

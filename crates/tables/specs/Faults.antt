@@ -13,13 +13,14 @@ IsConflictOf g TooManySets = ⊥
 IsConflictOf g (Conflict c) = IsReport g c
 IsConflictOf g Memory = Unit {0}
 
--- there are more sets than the limit; or there are not, and the conflict is there; or there is no memory
+-- `IsRight g limit fault`: tables are rightly refused: as too many sets where there are more than the limit, as a conflict where there are
+-- not and it is one, and for memory at any time
 abbrev pub IsRight : Grammar → ℕ → TableFault → Type 0
 IsRight g limit TooManySets = HasMoreSetsThan g limit
 IsRight g limit (Conflict c) = IsReport g c × (HasMoreSetsThan g limit → ⊥)
 IsRight g limit Memory = Unit {0}
 
--- a conflict refutes Knuth's property
+-- `RefutesLr1 g fault`: where the fault is a conflict, the grammar is not LR(1)
 abbrev pub RefutesLr1 : Grammar → TableFault → Type 0
 RefutesLr1 g TooManySets = Unit {0}
 RefutesLr1 g (Conflict c) = IsLr1 g → ⊥

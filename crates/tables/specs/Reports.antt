@@ -6,24 +6,25 @@ use Rattle.tables.specs.declared.conflict.Conflict.{Conflict}
 use Rattle.tables.specs.declared.decisions.Clash.{Clash}
 use Rattle.item_sets.specs.Sets.{item_of, side}
 
--- one production comes before another, the added start production before all
+-- `IsEarlier p q`: production `p` comes before `q`, the added `S' = S` before all
 abbrev pub IsEarlier : Option ℕ → Option ℕ → Type 0
 IsEarlier None (Some q) = Unit {0}
 IsEarlier (Some p) (Some q) = p < q
 IsEarlier None None = ⊥
 IsEarlier (Some p) None = ⊥
 
--- the first is at its end; where both are, its production is the earlier one
+-- the order in which a conflict's items are told: the dot of the first is at its end; where both are, the first has the earlier production
 pub record IsInOrder (one two : LrItem) : Type 0 where
   pub at_end : one.after ≡ []
   pub earlier : two.after ≡ [] → IsEarlier one.production two.production
 
--- the two items call for different moves
+-- `Differ g clash`: the two items call for different moves at their lookahead
 abbrev pub Differ : Grammar → Clash → Type 0
 Differ g c = (m : Move) × (n : Move) × CallsFor (item_of g c.one) (kind_of c.look) m × CallsFor (item_of g c.two) (kind_of c.look) n
     × (m ≢ n)
 
--- what is told is a conflict, with its items in order, and each item's place is within its right side
+-- `IsReport g conflict`: what is told is a conflict: its items are valid for its prefix and call for different moves at its lookahead, are
+-- in order, and each dot lies within its right side
 pub record IsReport (g : Grammar) (c : Conflict) : Type 0 where
   pub conflict : IsConflict g c.prefix.items (kind_of c.look) (item_of g c.first) (item_of g c.second)
   pub order : IsInOrder (item_of g c.first) (item_of g c.second)

@@ -14,22 +14,22 @@ use Rattle.item_sets.specs.Productions.{Shape, IsSound}
 use Rattle.item_sets.specs.Sets.{IsItem}
 use Rattle.item_sets.specs.States.{HasKernel}
 
--- what callers see of tables: their grammar, and the kernel of the set of each state
+-- tables as callers see them: the grammar, and the kernel of each state
 pub record Sets : Type 0 where
   pub grammar : Grammar
   pub kernels : List (List Item)
 
--- state s stands for the prefix: its kernel is that of the prefix's set
+-- state `s` stands for the prefix: it has the prefix's kernel
 pub record IsStateOf (t : Sets) (prefix : List Symbol) (s : ℕ) : Type 0 where
   pub below : s < length t.kernels
   pub kernel : HasKernel t.grammar (kernel_at t.kernels s) prefix
 
--- the move that the items valid for the prefix call for, or that they call for none
+-- `IsAction g prefix next move`: the move that the items valid for the prefix call for on `next`, or that they call for none
 abbrev pub IsAction : Grammar → List Symbol → Option Kind → Option Move → Type 0
 IsAction g prefix look None = (move : LrMove) → HasMove g prefix look move → ⊥
 IsAction g prefix look (Some move) = HasMove g prefix look (plain move)
 
--- a grammar that has tables
+-- the grammar has tables: no set has a conflict, and each symbol is productive
 pub record IsAccepted (g : Grammar) : Type 0 where
   pub free : HasNoConflict g
   pub productive : AllProductive g

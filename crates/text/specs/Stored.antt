@@ -6,11 +6,11 @@ use Rattle.definitions.specs.declared.Unit.TheVariants.{Utf8}
 use Rattle.pieces.specs.declared.cuts.TheConstants.{SHORTEST_OF_SEVERAL}
 use Rattle.text.specs.declared.document.TheConstants.{LONGEST_TEXT}
 
--- a piece with fewer bytes than each of several has where a text is cut anew
+-- whether the piece has fewer than 509 bytes
 abbrev pub is_small : List ℕ → Bool
 is_small piece = nat_lt (units Utf8 piece) SHORTEST_OF_SEVERAL
 
--- the pieces are of characters, have not too many bytes, and are few: at most one of them is small
+-- what a `Text` keeps: pieces of characters, with at most 1,048,576 bytes in all, of which at most one `is_small`
 pub record IsStored (pieces : List (List ℕ)) : Type 0 where
   pub text : IsText (concat pieces)
   pub few : length (encode_utf8_all (concat pieces)) ≤ LONGEST_TEXT

@@ -7,7 +7,7 @@ use Rattle.trees.specs.declared.store.Child.{Child}
 use Rattle.trees.specs.declared.store.Child.TheVariants.{Token, Node}
 use Rattle.trees.specs.Cells.{Cell, cell_of, tree, all_trees, IsBelow, AreBelow}
 
--- nodes, as children
+-- nodes as children
 abbrev pub nodes : List NodeId → List Child
 nodes ids = map (λ id. Node id) ids
 
@@ -29,7 +29,7 @@ abbrev pub weigh : (ℕ → ℕ) → List Bool → ℕ
 weigh w [] = 0
 weigh w (m ∷ ms) = cond m (w 0) 0 + weigh (λ i. w (suc i)) ms
 
--- one of the first n nodes weighs as much as its tree has branches, and one behind them 1
+-- one of the first n nodes weighs as much as its tree has branches, and one after them 1
 abbrev pub weight : List Cell → ℕ → ℕ → ℕ
 weight cells n i = cond (nat_lt i n) (branches (plain (tree cells (Node (record { index = i }))))) 1
 
@@ -57,7 +57,7 @@ pub record AreMarks (cells : List Cell) (roots : List Child) (n : ℕ) (marks : 
 abbrev pub renamed_node : List NodeId → NodeId → NodeId
 renamed_node names id = slice_index_or names id.index id
 
--- the same of a child
+-- `renamed names child`: a child with the name that its node gets
 abbrev pub renamed : List NodeId → Child → Child
 renamed names (Token k) = Token k
 renamed names (Node id) = Node (renamed_node names id)

@@ -1,12 +1,6 @@
 -- The branches of trees around an offset, as the places of their tokens. The token places `reached` and `first` tell the
--- offset: a token starts at or before it where its place is below `reached`, and ends behind it where its place is at least
+-- offset: a token starts at or before it where its place is below `reached`, and ends after it where its place is at least
 -- `first`.
---     IsAround parts o reached first      among these tokens the two places tell offset o
---     spans_of reached first from t, spans_in, spans_all      the places of the branches of t around the offset, from outer to
---         inner, where t's first token has the place `from`
---     IsBranchAround cells children from point branch      the branch found among these children
---     offsets_of parts s      the offsets of a span of places
---     inside w rs      the spans rs without the first one, where that is w
 use Rattle.std.specs.Prelude.{ℕ, ◌+◌, ◌-◌, ◌^◌, ◌≡◌, true, ◌<◌, ◌≤◌, ◌↔◌, Bool, ◌&&◌, ◌==◌, nat_lt, if◌then◌else◌, List, [], ◌∷◌, ◌++◌}
 use Rattle.std.specs.Prelude.{length, map, slice_index, Option, Some, None}
 use Rattle.definitions.specs.Answers.{end_of}
@@ -26,6 +20,7 @@ starts_at parts k = slice_index (map (λ x. x.start) parts) k
 abbrev pub ends_at : List Placed → ℕ → ℕ
 ends_at parts k = slice_index (map end_of parts) k
 
+-- among these tokens the two places tell offset o
 pub record IsAround (parts : List Placed) (o reached first : ℕ) : Type 0 where
   pub near : reached ≤ first + 1
   pub starts : (k : ℕ) → k < length parts → (starts_at parts k ≤ o) ↔ (k < reached)
@@ -36,17 +31,20 @@ abbrev pub is_around : ℕ → ℕ → ℕ → ℕ → Bool
 is_around reached first c d = nat_lt c reached && nat_lt first d
 
 abbrev mutual
+  -- `spans_of reached first from t`: the places of the branches of `t` around the offset, from outer to inner, where its first token has
+  -- the place `from`
   pub spans_of : ℕ → ℕ → ℕ → Tree → List (ℕ × ℕ)
   spans_of reached first from (Leaf k) = []
   spans_of reached first from (Branch p us) =
       let to = from + length (yields us) in
       if is_around reached first from to then (from, to) ∷ spans_in reached first from us else []
 
+  -- `spans_in reached first from f`: the places of the branches of a `Forest` around the offset
   pub spans_in : ℕ → ℕ → ℕ → Forest → List (ℕ × ℕ)
   spans_in reached first from Nil = []
   spans_in reached first from (Cons t us) = spans_of reached first from t ++ spans_in reached first (from + length (yield t)) us
 
--- the same of a list of trees
+-- `spans_all reached first from ts`: the places of the branches of a list of trees around the offset
 abbrev pub spans_all : ℕ → ℕ → ℕ → List Tree → List (ℕ × ℕ)
 spans_all reached first from [] = []
 spans_all reached first from (t ∷ ts) = spans_of reached first from t ++ spans_all reached first (from + length (yield t)) ts
@@ -58,7 +56,7 @@ offsets_of parts s = (starts_at parts s.0, ends_at parts (s.1 - 1))
 abbrev pub is_same : ℕ × ℕ → ℕ × ℕ → Bool
 is_same r s = r.0 == s.0 && r.1 == s.1
 
--- all but the first one, where that is w
+-- `inside w rs`: the spans `rs` without the first one, where that is `w`
 abbrev pub inside : ℕ × ℕ → List (ℕ × ℕ) → List (ℕ × ℕ)
 inside w [] = []
 inside w (r ∷ rs) = if is_same w r then rs else r ∷ rs

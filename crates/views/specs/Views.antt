@@ -17,35 +17,35 @@ use Rattle.trees.specs.declared.store.Child.TheVariants.{Node}
 use Rattle.trees.specs.Cells.{Cell, tree, AreBelow}
 use Rattle.views.specs.declared.rows.Row.{Row}
 
--- what a row tells: its name's characters, and its range
+-- `row_of row`: what a row tells: its name as characters, and its range
 abbrev pub row_of : Row → List ℕ × Range
 row_of r = (chars r.name.now, r.range)
 
--- the same with the bytes of its name
+-- `row_bytes row`: what a row tells: its name as bytes, and its range
 abbrev pub row_bytes : Row → List ℕ × Range
 row_bytes r = (r.name.now, r.range)
 
--- a row with its name in UTF-8
+-- `in_utf8 row`: a row with its name in UTF-8
 abbrev pub in_utf8 : List ℕ × Range → List ℕ × Range
 in_utf8 r = (encode_utf8_all r.0, r.1)
 
--- the rows of tokens, of which the first starts at offset o
+-- the rows of stored tokens of which the first starts at offset `o`
 abbrev pub rows_from : Encoding → FileGrammar → List ℕ → ℕ → List Token → List (List ℕ × Range)
 rows_from encoding f t o items = token_rows encoding f.names t (placed o (map of.plain items))
 
--- the rows of all tokens of a text
+-- the rows of all stored tokens of `t`
 abbrev pub rows_of : Encoding → FileGrammar → List ℕ → List Token → List (List ℕ × Range)
 rows_of encoding f t items = rows_from encoding f t 0 items
 
--- the text of a tree
+-- the text of the tree `t`
 abbrev pub text_of : FileGrammar → Tree → List ℕ
 text_of f t = tree_text f.names f.nonterminals (lefts f) t
 
--- what is left of a node's text before these children, the last ones
+-- what is left of a node's text from these children on, its last ones
 abbrev pub rest_text : FileGrammar → List Cell → List Child → List ℕ
 rest_text f cells children = flat_map (λ c. codes " " ++ text_of f (plain (tree cells c))) children ++ codes ")"
 
--- The bytes `new` are those of `old` and the front of a node's text, up to its children, which are these.
+-- to `old` was appended a node's text up to these children, its last ones
 pub record IsBegun (f : FileGrammar) (cells : List Cell) (id : NodeId) (old new : List ℕ) (children : List Child) : Type 0 where
   pub front : List ℕ
   pub written : chars new ≡ chars old ++ front

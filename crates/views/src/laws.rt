@@ -19,14 +19,14 @@ pub fn equal_rows_tell_the_same()
         IsTrue (⟦<crate::Row<'static> as PartialEq>⟧.eq a b) ↔ (row_bytes a ≡ row_bytes b) }
 {}
 
-/// All trees have folds, and `definitions` has it that they have one list of them.
+/// All trees have a list of folds.
 pub fn trees_have_folds()
     ensures { (g : Grammar) (trees : List Tree) (t : List ℕ) (tokens : List Placed)
         (folds : List Bool) →
         (pairs : List (ℕ × ℕ)) × AreFolds t tokens folds (IsNodeOf g trees) pairs }
 {}
 
-/// Each offset has a selection, and `definitions` has it that it has no other.
+/// Each offset has a selection in trees of the grammar that have no more kinds than there are significant tokens.
 pub fn each_offset_has_a_selection()
     ensures { (encoding : Encoding) (file : FileGrammar) (t : List ℕ) (tokens : List Token)
         (trees : List Tree) (symbols : List Symbol) → AreTokens file.patterns t tokens

@@ -1,0 +1,191 @@
+#!/usr/bin/env python3
+"""Writes docs/DEFINITIONS.md from the comments in crates/*/specs.
+
+The comment right above a public definition says what it means. It begins with the name and the arguments in backquotes and a colon
+where the definition doesn't show them: it shows them as the parameters of a record, or in a first equation that only has variables.
+The comment at a file's head says what the file is about.
+
+    tests/definitions.py            writes the page
+    tests/definitions.py --check    ends with status 1 where the page isn't what this would write
+
+What the contract of `server::run` rests on comes first, in the order in which a reader meets it who goes down from there; then all
+other definitions that have a comment, by crates.txt; then the laws, each with the comment above its function.
+"""
+
+import difflib
+import itertools
+import os
+import re
+import sys
+
+sys.dont_write_bytecode = True
+
+from specs import Definitions, lines_of, words_of_run
+
+TOP = os.path.dirname(os.path.dirname(os.path.abspath(__file__)))
+PAGE = os.path.join("docs", "DEFINITIONS.md")
+
+# What follows the names that `run` rests on.
+MARK = " •"
+
+RECORD = re.compile(r"\s*(?:pub )?(?:record|data) ")
+PUBLIC = re.compile(r"\s*(?:abbrev |unfoldable |opaque )*pub ")
+LAW = re.compile(r"((?:^///.*\n)+)(?:^#\[.*\n)*^pub fn (\w+)\((\w*)", re.M)
+
+INTRO = """\
+# Definitions
+
+What the contracts mean by their words. `tests/definitions.py` writes this page from the comments above the definitions, which are in
+the files `specs/` of the crates; change it there. Each comment says in plain words what a definition means, and names the public
+standard where there is one.
+
+How to read them:
+
+- A text is a list of numbers, the codes of its characters (Unicode scalar values). Offsets count characters, from 0. Lengths and counts
+  are numbers without bound.
+- `t[a..b]` is a part of a list. A *prefix* of a list may be empty or the whole list; names such as `IsFront` and `AppendsFront` say
+  *front* for it, and names with `behind` mean *after*.
+- A name that begins with a capital letter is a fact, which holds or not, as `IsText`, or a type of data, as `Token`; a name in small
+  letters is a value that computes. `IsTree g t s` reads "`t` is a tree of `g` with root `s`".
+- `×` is "and", `⊎` "or", `→` "for every" or "implies", `(x : A) × P` "there is an `x` such that `P`", `¬` "not".
+- A *rule* is a token or skip rule of the grammar, by its number. The *kind* of a token is its rule, or "invalid". A *break* is a line
+  break. In a tree a *branch* is a node that has a production, and a *leaf* a kind alone.
+- The files `proofs/*Rows.antt` work the definitions out on small examples, most of them by `refl` alone: positions in `TextRows`,
+  patterns in `PatternRows` and `MatchRows`, edits in `TokenRows` and `TreeRows`, grammars in `GrammarRows` and `ExpectedRows`, answers
+  in `AnswerRows`, `FoldRows` and `TreeTextRows`; in `theory` `FreeRows`, a grammar and an edit that meet the premises of the laws. The
+  check refuses a row that a definition doesn't give.
+- A • after a name marks what the theorem rests on (docs/THEOREM.md): whoever has read these definitions has read the statement. They
+  are found by the names that each mentions, from the contract of `server::run` down. The others are the words of the contracts
+  between crates, and of the proofs.
+- The laws at the end are contracts of functions that do nothing: what is proved about the definitions alone.
+"""
+
+
+def with_arguments(name, lines):
+    """A name with its arguments, as the definition shows them, or alone where it shows none."""
+    if RECORD.match(lines[0]):
+        text = " ".join(line.strip() for line in lines)
+        return " ".join([name, *re.findall(r"\(([\w' ]+) : ", text.split(" where")[0])])
+    equations = [line.split(" =")[0].split() for line in lines if line.split()[0] == name and line.split()[1] != ":"]
+    is_plain = equations and all(re.fullmatch(r"[a-z][\w']*", it) for it in equations[0][1:])
+    return " ".join(equations[0]) if is_plain else name
+
+
+def escaped(text):
+    """A text as it is written in a table, where a bar ends a cell."""
+    return text.replace("|", "\\|")
+
+
+def row(module, name, mark):
+    """The row of a definition: its name with its arguments, and what its comment says."""
+    comment = module.comments[name]
+    told = re.match(rf"`({re.escape(name)}(?: [^`]*)?)`: ", comment)
+    head = told[1] if told else with_arguments(name, module.definitions[name])
+    meaning = comment[told.end() :] if told else comment
+    return f"| `{escaped(head)}`{mark} | {escaped(meaning)} |"
+
+
+def rows_of(module, names, mark):
+    return ["| Name | Meaning |", "|---|---|", *(row(module, name, mark) for name in names), ""]
+
+
+def about(module):
+    """What a file is about: the sentences of its head, and what is shown between them."""
+    found = []
+    for is_shown, lines in itertools.groupby(module.head, lambda line: line.startswith("  ")):
+        text = [line.strip() for line in lines]
+        found += ["```", *text, "```", ""] if is_shown else [" ".join(text), ""]
+    return found
+
+
+def link(crate, name):
+    return f"[{crate}/specs/{name}](../crates/{crate}/specs/{name}.antt)"
+
+
+def crates_of(top):
+    """The crates, lowest first."""
+    return [line.split(":")[0].split()[0] for line in lines_of(os.path.join(top, "crates.txt")) if ":" in line and line[0] != "#"]
+
+
+def modules_of(top, crate):
+    """The files of a crate's definitions, in its own order."""
+    path = os.path.join(top, "crates", crate, "specs", "Lib.antt")
+    return re.findall(r"^pub mod (\w+)", "\n".join(lines_of(path)), re.M) if os.path.exists(path) else []
+
+
+def told_in(module):
+    """The public definitions of a file that have a comment."""
+    return [name for name, lines in module.definitions.items() if module.comments[name] and PUBLIC.match(lines[0])]
+
+
+def first_part(definitions, rest):
+    """What `run` rests on, in the order in which it is met from there down."""
+    lines = ["# What the theorem rests on", ""]
+    for place in dict.fromkeys(key[:2] for key in rest):
+        module = definitions.modules[place]
+        names = [key[2] for key in rest if key[:2] == place]
+        lines += [f"## {link(*place)}", "", *about(module), *rows_of(module, names, MARK)]
+    return lines
+
+
+def second_part(top, definitions, rest):
+    """The other definitions, by crate."""
+    lines, seen = ["# The other definitions", ""], {key[:2] for key in rest}
+    for crate in crates_of(top):
+        files = []
+        for name in modules_of(top, crate):
+            module = definitions.modules[crate, name]
+            names = [it for it in told_in(module) if (crate, name, it) not in rest]
+            head = [] if (crate, name) in seen else about(module)
+            files += [f"### {link(crate, name)}", "", *head, *rows_of(module, names, "")] if names else []
+        lines += [f"## `{crate}`", "", *files] if files else []
+    return lines
+
+
+def laws_of(path):
+    """The laws of a file: each with its parameter, and what its comment says."""
+    for comment, name, parameter in LAW.findall("\n".join(lines_of(path))):
+        text = " ".join(line[3:].strip() for line in comment.splitlines())
+        yield f"| `{name} {parameter}".rstrip() + f"` | {text} |"
+
+
+def last_part(top):
+    """The laws, by crate."""
+    lines = ["# Laws", ""]
+    for crate in crates_of(top):
+        path = os.path.join(top, "crates", crate, "src", "laws.rt")
+        if os.path.exists(path):
+            lines += [f"## [{crate}/src/laws](../crates/{crate}/src/laws.rt)", "", "| Law | Meaning |", "|---|---|", *laws_of(path), ""]
+    return lines
+
+
+def written(top):
+    """The page."""
+    definitions = Definitions(top)
+    rest = dict.fromkeys(definitions.rest(words_of_run(top, definitions)))
+    lines = first_part(definitions, rest) + second_part(top, definitions, rest) + last_part(top)
+    return INTRO + "\n" + "\n".join(lines).rstrip("\n") + "\n"
+
+
+def differences(top):
+    """The lines in which the page differs from what would be written."""
+    path = os.path.join(top, PAGE)
+    found = difflib.unified_diff(lines_of(path), written(top).split("\n"), PAGE, "tests/definitions.py", n=0, lineterm="")
+    return list(found)
+
+
+def main(words):
+    if words == ["--check"]:
+        found = differences(TOP)
+        print("\n".join(found) if found else f"{PAGE} is up to date")
+        return 1 if found else 0
+    if words:
+        print("usage: tests/definitions.py [--check]", file=sys.stderr)
+        return 2
+    with open(os.path.join(TOP, PAGE), "w", encoding="utf-8") as file:
+        file.write(written(TOP))
+    return 0
+
+
+if __name__ == "__main__":
+    sys.exit(main(sys.argv[1:]))
