@@ -30,6 +30,7 @@ MARK = " •"
 
 RECORD = re.compile(r"\s*(?:pub )?(?:record|data) ")
 PUBLIC = re.compile(r"\s*(?:abbrev |unfoldable |opaque )*pub ")
+VARIABLE = re.compile(r"(?!(?:zero|true|false)$)[a-z][\w']*")
 LAW = re.compile(r"((?:^///.*\n)+)(?:^#\[.*\n)*^pub fn (\w+)\((\w*)", re.M)
 
 INTRO = """\
@@ -67,7 +68,7 @@ def with_arguments(name, lines):
         text = " ".join(line.strip() for line in lines)
         return " ".join([name, *re.findall(r"\(([\w' ]+) : ", text.split(" where")[0])])
     equations = [line.split(" =")[0].split() for line in lines if line.split()[0] == name and line.split()[1] != ":"]
-    is_plain = equations and all(re.fullmatch(r"[a-z][\w']*", it) for it in equations[0][1:])
+    is_plain = equations and all(VARIABLE.fullmatch(it) for it in equations[0][1:])
     return " ".join(equations[0]) if is_plain else name
 
 

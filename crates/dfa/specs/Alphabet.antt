@@ -33,7 +33,7 @@ abbrev pub all_cuts : List Expression → List ℕ
 all_cuts [] = []
 all_cuts (e ∷ es) = cuts e ++ all_cuts es
 
--- a character that stands for the part with this number
+-- `representative starts part`: a character that stands for the part with this number
 abbrev pub representative : List ℕ → ℕ → ℕ
 representative starts zero = 0
 representative starts (suc k) = slice_index_or starts k 0

@@ -102,7 +102,7 @@ IsItemFront i ws vs = (us : List Written) × (ws ≡ us ++ vs) × IsItem i us
 abbrev pub IsClassFront : List Interval → List Written → List Written → Type 0
 IsClassFront is ws vs = (us : List Written) × (ws ≡ us ++ vs) × IsClassRest is us
 
--- after the opening bracket
+-- `IsClassBody negated is ws vs`: after the opening bracket, `ws` begins with the rest of a class with the intervals `is`, and `vs` is left
 abbrev pub IsClassBody : Bool → List Interval → List Written → List Written → Type 0
 IsClassBody false is ws vs = IsClassFront is ws vs
 IsClassBody true is ws vs = (w : Written) × (inside : List Written) × (ws ≡ w ∷ inside) × IsSign 94 w × IsClassFront is inside vs

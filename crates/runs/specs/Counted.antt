@@ -8,7 +8,7 @@ use Rattle.runs.specs.declared.counted.Counted.{Counted}
 abbrev pub most : ℕ
 most = 2 ^ 64 - 1
 
--- the count and sum of no item
+-- `nothing zero`: the count and sum of no item
 abbrev pub nothing : {S : Type 0} → S → Counted S
 nothing zero = record { items = 0; sum = zero }
 
@@ -16,6 +16,6 @@ nothing zero = record { items = 0; sum = zero }
 abbrev pub joined : {S : Type 0} → (S → S → S) → Counted S → Counted S → Counted S
 joined op a b = record { items = saturated most a.items b.items; sum = op a.sum b.sum }
 
--- how many items there are, and their sum
+-- `counted zero op measure items`: how many items there are, and their sum
 abbrev pub counted : {A S : Type 0} → S → (S → S → S) → (A → S) → List A → Counted S
 counted zero op measure items = record { items = length items; sum = total zero op measure items }
