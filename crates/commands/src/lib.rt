@@ -1,4 +1,21 @@
-//! What the words of a command line ask for, and what the program `lrls` prints of a grammar or a fault.
+//! What the words of a command line ask for, and what the program `lrls` prints of a grammar, a text or a fault.
+//!
+//! `words` reads the words of a command line and returns a `Task`: to check, to parse, or to serve; `None` if they are
+//! no command. `load` makes the language from the bytes of a grammar file, or returns what to print of its fault.
+//! `check` and `parse` return what their commands print, and `Fault::status` the status of every other fault.
+//!
+//! Words: `Printed` is what goes to standard output and standard error, in bytes, and the exit status.
+//!
+//! Limits: those of the crates below. `parse` opens the text as a document, so it costs a whole scan and parse. In the
+//! example `SUMS` is the grammar file in README.md.
+//!
+//! ```
+//! let language = load(alloc, SUMS.as_bytes()).ok()?.ok()?;
+//! let printed = parse(alloc, &language, b"1 2").ok()?;
+//! let line = str::from_utf8(&printed.out).ok()?;
+//! println!(rt; "status {}: {}", printed.status, line.trim_end()).ok()?;
+//! // status 1: 0:2-0:3: unexpected NUM; expected PLUS, end
+//! ```
 #![tactic(auto)]
 
 mod command_line;

@@ -1,4 +1,24 @@
-//! The plain data that code and definitions share. `specs/` says what it means.
+//! The plain data that code and definitions share: positions and ranges, kinds and symbols, edits and splices,
+//! diagnostics, counts, and expressions of patterns. `specs/` defines what they mean, and docs/DEFINITIONS.md says it
+//! in plain words.
+//!
+//! There is no call that computes. Other crates hand these types on, so you rarely name this one. The functions of
+//! `laws` do nothing: their contracts are the laws of the definitions, to be cited in proofs.
+//!
+//! Words: a *kind* is the rule of a token, or invalid; a *symbol* is a rule or a nonterminal, by its number; a *unit*
+//! is what a position counts: bytes of UTF-8, units of UTF-16, or characters.
+//!
+//! Limits: lines and units have 32 bits. Nothing costs anything at run time.
+//!
+//! ```
+//! let at = Position {
+//!     line: 1,
+//!     character: 4,
+//! };
+//! let place = Range { start: at, end: at };
+//! println!(rt; "line {}", place.end.line).ok()?;
+//! // line 1
+//! ```
 #![tactic(auto)]
 
 pub mod expression;

@@ -1,4 +1,22 @@
-//! The longest match of a list of token rules, by an automaton whose states are sets of positions.
+//! The longest match of a list of token rules, by an automaton whose states are sets of positions (Glushkov).
+//!
+//! `Automaton::build` makes the automaton of a list of patterns, which are numbered from 0; `longest` returns the
+//! longest match at an offset of a `Source`: characters by their offset, with a cursor that reads them one after
+//! another. Of two rules that match equally far the earlier one wins; if none matches, `rule` is `None`.
+//!
+//! Words: the *reach* of a match is how many characters had to be looked at, the end of the text counting as one.
+//!
+//! Limits: an automaton of more than 4,096 states is refused (`DfaFault`). `longest` takes no memory, and costs one
+//! step for each character of the reach. In the example `SUMS` is the grammar file in README.md.
+//!
+//! ```
+//! let grammar = Grammar::read(alloc, SUMS).ok()?;
+//! let automaton = Automaton::build(alloc, grammar.patterns()).ok()?;
+//! let text = Text::open(alloc, "12+3").ok()?;
+//! let found = automaton.longest(&Whole(&text), 0);
+//! println!(rt; "length {}, reach {}", found.length, found.reach).ok()?;
+//! // length 2, reach 3
+//! ```
 #![tactic(auto)]
 
 ghost use Rattle.std.specs.Prelude.{◌≡◌, ℕ, ◌+◌, ◌<◌, ◌≤◌, List, length, slice_index_or};

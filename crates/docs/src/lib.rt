@@ -1,5 +1,27 @@
-//! Languages of grammar files, and documents of a language: a document's views are the definitions' answers on its version
-//! and text.
+//! Languages of grammar files, and documents of a language, with all that is reported on them.
+//!
+//! `Language::load` makes a language from a grammar file's text, or returns the first fault; `Doc::open` opens a
+//! document of it, with a unit of positions, a version and a text. `change` consumes the document and returns it with
+//! one change applied, and `set_version` gives it a version. `text`, `rows`, `tree`, `diagnostic`, `outcome`, `folds`,
+//! `selections` and `stats` report on the document.
+//!
+//! Words: a document is *current* for the language that it was opened with; the calls that take a language require that
+//! one.
+//!
+//! Limits: a text is refused as `TooLarge` above 1,048,576 bytes of UTF-8. A change costs what it changes of text,
+//! tokens and tree. In the example `SUMS` is the grammar file in README.md.
+//!
+//! ```
+//! let language = Language::load(alloc, SUMS).ok()?;
+//! let doc = Doc::open(alloc, &language, Unit::Utf16, 1, "1+(2").ok()?;
+//! let fault = doc.diagnostic(alloc, &language).ok()??;
+//! println!(rt; "{}", fault.message).ok()?;
+//! // unexpected end; expected PLUS, RP
+//! let doc = doc.change(alloc, &language, None, "1+2").ok()?;
+//! let tree = doc.tree(alloc, &language).ok()??;
+//! println!(rt; "{tree}").ok()?;
+//! // (Sum (Sum (Atom NUM)) PLUS (Atom NUM))
+//! ```
 #![tactic(auto)]
 
 mod doc;

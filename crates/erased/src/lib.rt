@@ -1,4 +1,15 @@
-//! Values that only proofs read.
+//! Values that only proofs read: for a field in a struct whose contract speaks of something that its calls don't read.
+//!
+//! `Erased::of` takes a value, and keeps what it is for clauses and invariants, which read it as `value`. At run time
+//! nothing is stored, and the value itself may change or end.
+//!
+//! It has no limit and costs nothing. In the example a caller learns by `ensures { result.value ≡ 8192 }` what the
+//! number was.
+//!
+//! ```
+//! let sets = 8_192;
+//! Erased::of(&sets)
+//! ```
 #![tactic(auto)]
 
 ghost use Rattle.std.specs.Prelude.{◌≡◌};

@@ -1,4 +1,22 @@
-//! The base protocol of LSP 3.17: contents in frames, each behind a header part.
+//! The base protocol of LSP 3.17: contents in frames, from bytes that come in any pieces, and back to bytes.
+//!
+//! `Decoder::new` comes first; then `feed` takes bytes as they come, and returns the frames that they complete. After
+//! the first fault each `feed` returns that fault again; `finish` says whether the stream may end here. `write_frame`
+//! writes a content's frame to an `Output`. `ReadInput` and `WriteOutput` make devices of std's readers and writers,
+//! and `RunFault` says why a session over two devices ended without a status.
+//!
+//! Words: a *frame* is a header part and a content of as many bytes as its `Content-Length` says.
+//!
+//! Limits: a header part has at most 4,096 bytes, and a content at most 16,777,216. A `feed` costs the size of the
+//! piece, and of the rest of a frame that it completes; `write_frame` doesn't allocate.
+//!
+//! ```
+//! let mut decoder = Decoder::new(alloc);
+//! let frames = decoder.feed(alloc, b"Content-Length: 2\r\n\r\n{}").ok()?;
+//! let (count, may_end) = (frames.len(), decoder.finish().is_ok());
+//! println!(rt; "{count} frame; may end here: {may_end}").ok()?;
+//! // 1 frame; may end here: true
+//! ```
 #![tactic(auto)]
 
 mod decoder;

@@ -1,4 +1,25 @@
 //! The tokens of a text by longest matches, and what an edit changes of them.
+//!
+//! `Tokens::scan` scans a text by a grammar and its automaton; after an edit `rescan` changes the tokens to those of
+//! the new text, and returns the splice of the kinds. The source is `Whole(&text)`, or `Characters`, which has all
+//! characters in a vector and is faster for a whole scan. `token`, `start_of` and `count` are about all tokens, by
+//! their places; `kind`, `place` and `significant` about those that aren't skipped.
+//!
+//! Words: a token's *stamp* is the number of the edit that made it; `scanned` counts the tokens made by the last edit.
+//!
+//! Limits: those of `text`. A rescan reads from the first token whose reach the edit meets to the first place where an
+//! old token begins again; the other tokens stay. In the example `SUMS` is the grammar file in README.md.
+//!
+//! ```
+//! let grammar = Grammar::read(alloc, SUMS).ok()?;
+//! let automaton = Automaton::build(alloc, grammar.patterns()).ok()?;
+//! let text = Text::open(alloc, "1 + 2").ok()?;
+//! let source = Whole(&text);
+//! let tokens = Tokens::scan(alloc, &grammar, &automaton, &source).ok()?;
+//! let (all, read) = (tokens.count(), tokens.significant());
+//! println!(rt; "{all} tokens, {read} significant").ok()?;
+//! // 5 tokens, 3 significant
+//! ```
 #![tactic(auto)]
 
 mod ahead;

@@ -1,4 +1,15 @@
 //! The program `lrls`: checks grammars, parses texts, and is a language server on standard input and output.
+//!
+//! It is no library: `main` reads the words of the command line and the files that they name, writes what `commands`
+//! returns, and calls `server::run` on the standard streams. What can be proved stands in the crates below; here it is
+//! proved that the program is safe and ends.
+//!
+//! `lrls check GRAMMAR` prints the names that no derivation from the start uses, and `ok`; `lrls parse GRAMMAR TEXT`
+//! the tree of a text, or its fault; `lrls serve GRAMMAR` serves an editor. docs/PROTOCOL.md has the methods, the
+//! messages and the exit statuses.
+//!
+//! Limits: those of README.md. Files are read whole; standard input is read as it comes, and the replies to all whole
+//! frames are out before the next read.
 #![tactic(auto)]
 
 use commands::{Fault, Printed, Task, check, load, parse, words};

@@ -1,4 +1,20 @@
-//! The text of a token pattern, and the expression that it spells.
+//! The text of a token pattern, and the expression that it spells: for whoever builds an automaton of patterns, or says
+//! what is wrong with one.
+//!
+//! `Pattern::read` parses the text, and `expression` returns what it spells: a literal, a class, a sequence, a choice,
+//! or a repetition by `*`, `+` or `?`. A text that is no pattern is refused with the place and the cause
+//! (`PatternCause`) of the first fault from the left; a pattern that matches the empty text is refused too.
+//!
+//! Words: a *place* counts characters of the pattern from 0. docs/GRAMMARS.md says how patterns are written.
+//!
+//! Limits: parentheses nest at most 64 deep. Reading costs the length of the text.
+//!
+//! ```
+//! if let Err(fault) = Pattern::read(alloc, r#""ab" [z-a]"#) {
+//!     println!(rt; "a fault at character {}", fault.at).ok()?;
+//! }
+//! // a fault at character 6
+//! ```
 #![tactic(auto)]
 
 ghost use Rattle.std.specs.Prelude.{◌≡◌, ◌≢◌, None, true, false, [], IfOk, IfErr};

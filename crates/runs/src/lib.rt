@@ -1,5 +1,28 @@
-//! Lists of items that lie in runs: a node of the tree below holds up to 32 of them, so that a list takes little more
-//! memory than its items.
+//! A list of small items that knows the sums of its parts, as a `Seq` does, and takes little more memory than the items
+//! themselves: they are stored in runs of up to 32.
+//!
+//! `Runs::new` is an empty list; `replace` puts items in the place of others. `len`, `get`, `total`, `iter_from` and
+//! `locate` are as those of a `Seq`, and `runs` returns the number of runs.
+//!
+//! Words: a *run* is a node's items, which lie together. The items are `Measured`, and `Copy`: here tokens.
+//!
+//! Limits: as many items as `usize` counts; at most one run has fewer than 16. `replace` allocates, and after a refusal
+//! the list is as before. A call costs the logarithm of the length and a walk in one run; `replace` also costs the new
+//! items and the runs that it touches.
+//!
+//! ```
+//! let number = Token {
+//!     born: 0,
+//!     kind: Kind::Rule(0),
+//!     length: 2,
+//!     reach: 3,
+//!     skipped: false,
+//! };
+//! let mut list: Runs<Token> = Runs::new();
+//! list.replace(alloc, 0, 0, &[number, number]).ok()?;
+//! println!(rt; "{} characters", list.total().characters).ok()?;
+//! // 4 characters
+//! ```
 #![tactic(auto)]
 
 mod counted;

@@ -1,5 +1,23 @@
-//! A list in a balanced tree that knows the sum of each of its parts, so that a place is found, and a part replaced, in a
-//! number of steps that grows with the logarithm of the length.
+//! A list in a balanced tree that knows the sum of each of its parts: a place is found by a sum, and a part replaced,
+//! in a number of steps that grows with the logarithm of the length.
+//!
+//! `Seq::new` is an empty list; `replace` puts items in the place of others, and returns those that were there.
+//! `Slots::make` allocates the memory that new items need beforehand, so `replace` takes none and can't fail. `total`
+//! is the sum of all, and `locate` finds the least place where a sum from the left reaches a `Goal`.
+//!
+//! Words: the items are `Measured`, by a sum that is a `Monoid`: here the pieces of a text, by their characters and
+//! breaks.
+//!
+//! Limits: as many items as `usize` counts. `replace`, `get` and `locate` take steps logarithmic in the length, and
+//! `replace` also one for each new item.
+//!
+//! ```
+//! let mut pieces: Seq<Piece> = Seq::new();
+//! let slots = Slots::make(alloc, pieces_of(alloc, "1+2").ok()?).ok()?;
+//! let _gone = pieces.replace(0, 0, slots);
+//! println!(rt; "{} piece", pieces.len()).ok()?;
+//! // 1 piece
+//! ```
 #![tactic(auto)]
 
 ghost use Rattle.std.specs.Prelude.{◌≡◌, Bool};

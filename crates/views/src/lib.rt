@@ -1,5 +1,28 @@
-//! What is told of a document beside its text: the fault of its text, the rows of its tokens, the text of its tree, the
-//! lines that can be folded, and what can be selected.
+//! What is reported of a document besides its text: the rows of its tokens, the text of its tree, its fault, the lines
+//! that can be folded, and what can be selected.
+//!
+//! Each call makes one report, from the text, its tokens, its parse and their nodes; `docs` calls them for you.
+//! `token_rows` are the names and ranges of all tokens, `tree_text` is the text of a tree, `diagnostic` the fault with
+//! its range and message, `folds` the first and last lines of the nodes that fold, and `selection` the ranges around an
+//! offset, from inner to outer.
+//!
+//! Words: positions count in the *unit* that the caller gives.
+//!
+//! Limits: a selection has at most 32 ranges. Each call costs the tokens or nodes that it goes over, which is all of
+//! them, except for `diagnostic` and `selection`. In the example `SUMS` is the grammar file in README.md.
+//!
+//! ```
+//! let grammar = Grammar::read(alloc, SUMS).ok()?;
+//! let automaton = Automaton::build(alloc, grammar.patterns()).ok()?;
+//! let text = Text::open(alloc, "12").ok()?;
+//! let source = Whole(&text);
+//! let tokens = Tokens::scan(alloc, &grammar, &automaton, &source).ok()?;
+//! let rows = token_rows(alloc, &grammar, Unit::Utf8, &text, &tokens).ok()?;
+//! for row in &rows {
+//!     println!(rt; "{} up to {}", row.name, row.range.end.character).ok()?;
+//! }
+//! // NUM up to 2
+//! ```
 #![tactic(auto)]
 
 mod diagnoses;

@@ -1,0 +1,64 @@
+"""The crates' pages and their examples.
+
+The comment at the head of a crate's root file is its page: what the crate is for, the first call, its words, its limits, and an example.
+The example is the body of the crate's function in `crates/uses`, which is proved and run, and the comments in it tell what is printed.
+"""
+
+import os
+import re
+
+from specs import lines_of
+
+# The fewest and the most lines of a page.
+LINES_OF_PAGES = (10, 25)
+
+USE = re.compile(r"^pub fn use_(\w+)\(.*?(?:^| )\{\n(.*?)^\}$", re.M | re.S)
+
+
+def products(top):
+    """The crates of the program, lowest first."""
+    text = "\n".join(lines_of(os.path.join(top, "crates.txt")))
+    return re.findall(r"^(\w+):", text[: text.index("# What tests share")], re.M)
+
+
+def page_of(top, crate):
+    """The lines of a crate's page."""
+    folder = os.path.join(top, "crates", crate, "src")
+    root = next(path for name in ("lib.rt", "main.rt") for path in [os.path.join(folder, name)] if os.path.exists(path))
+    return [line[len("//! ") :] for line in lines_of(root) if line.startswith("//!")]
+
+
+def example_on(page):
+    """The lines of the example on a page."""
+    edges = [number for number, line in enumerate(page) if line == "```"]
+    return page[edges[0] + 1 : edges[1]] if len(edges) == 2 else []
+
+
+def uses(top):
+    """The lines of each example that is run, by its crate."""
+    folder = os.path.join(top, "crates", "uses", "src")
+    found = {}
+    for name in sorted(os.listdir(folder)):
+        for crate, body in USE.findall("\n".join(lines_of(os.path.join(folder, name)))):
+            lines = [line[len("    ") :] for line in body.splitlines()]
+            found[crate] = lines[:-1] if lines[-1] == "Some(())" else lines
+    return found
+
+
+def printed(top, examples):
+    """What the comments tell of what is printed, in the order in which the examples are run."""
+    calls = re.findall(r"::use_(\w+)\(", "\n".join(lines_of(os.path.join(top, "crates", "uses", "src", "main.rt"))))
+    return [line.strip()[len("// ") :] for crate in calls for line in examples[crate] if line.strip().startswith("// ")]
+
+
+def check(cases, top):
+    """Each crate of the program has a page, whose example is one that is run, and prints what it tells."""
+    examples = uses(top)
+    fewest, most = LINES_OF_PAGES
+    for crate in products(top):
+        page = page_of(top, crate)
+        cases.check(f"the page of {crate}: its lines are from {fewest} to {most}", True, fewest <= len(page) <= most)
+        cases.check(f"the page of {crate}: its example is in crates/uses", examples.get(crate, []), example_on(page))
+    cases.check("each example of crates/uses is of a crate", set(), set(examples) - set(products(top)))
+    awaited = lines_of(os.path.join(top, "crates", "uses", "stdout"))[:-1]
+    cases.check("the comments of crates/uses tell what it prints", awaited, printed(top, examples))
