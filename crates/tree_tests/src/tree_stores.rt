@@ -226,20 +226,21 @@ fn a_refused_branch_leaves_the_store(rt: HostRuntime) {
     assert!(rt; store.len() >= 19);
 }
 
-/// Checks two roots, of which the first one is over the second number, a plus and the second root.
-fn check_roots(rt: &impl Abort, store: &Store, other: NodeId, left: NodeId) {
-    assert!(rt; label(rt, store, other) == (0, 7, 3, 4));
-    assert!(rt; label(rt, store, left) == (1, 5, 1, 2));
-    let behind = (store.child(other, 1), store.child(other, 2));
-    assert!(rt; behind == (Some(PLUS), Some(Child::Node(left))));
-    let Some(Child::Node(second)) = store.child(other, 0) else {
+/// Checks a root over the second number, a plus and the first number's sum.
+fn check_root(rt: &impl Abort, store: &Store, root: NodeId) {
+    assert!(rt; label(rt, store, root) == (0, 7, 3, 4));
+    assert!(rt; store.child(root, 1) == Some(PLUS));
+    let under = (store.child(root, 0), store.child(root, 2));
+    let (Some(Child::Node(second)), Some(Child::Node(left))) = under else {
         panic!(rt; "no node");
     };
     assert!(rt; label(rt, store, second) == (2, 6, 1, 1));
     assert!(rt; store.child(second, 0) == Some(NUMBER));
+    assert!(rt; label(rt, store, left) == (1, 5, 1, 2));
 }
 
-/// Compacts a store of a sum to roots that share a node, of which one stands twice. The node over both is below none.
+/// Compacts a store of a sum to roots that share a node, of which one stands twice. The node over both is below none. What
+/// is shared is copied for each.
 fn check_compaction(
     rt: &impl Abort,
     alloc: Global,
@@ -255,8 +256,10 @@ fn check_compaction(
     let mut roots = [other, left, other];
     store.compact(alloc, &mut roots).expect(rt, "memory");
     let [other, left, again] = roots;
-    assert!(rt; (store.len(), again) == (4, other));
-    check_roots(rt, store, other, left);
+    assert!(rt; (store.len(), again == other) == (10, false));
+    check_root(rt, store, other);
+    check_root(rt, store, again);
+    assert!(rt; label(rt, store, left) == (1, 5, 1, 2));
     store.compact(alloc, &mut []).expect(rt, "memory");
     assert!(rt; store.len() == 0);
 }
@@ -278,7 +281,7 @@ fn check_refused_compaction(rt: &impl Abort, alloc: Global, store: &mut Store, w
     assert!(rt; last.index < store.len());
     let mut roots = [last];
     match store.compact(alloc, &mut roots) {
-        Ok(()) => assert!(rt; store.len() == 5),
+        Ok(()) => assert!(rt; store.len() == 37),
         Err(AllocError) => assert!(rt; (store.len(), roots[0]) == (6, last)),
     }
     assert!(rt; label(rt, store, roots[0]) == (3, 8, 27, 37));

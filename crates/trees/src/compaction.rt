@@ -1,15 +1,17 @@
 //! Compaction: a store keeps the nodes of some trees alone.
 
-ghost use Rattle.std.specs.Prelude.{◌≡◌, ◌+◌, ◌<◌, ◌≤◌, [], ◌∷◌, ◌++◌, length, map, IfOk, OnOk, OnErr};
-ghost use Rattle.trees.specs.Cells.{AreBelow, IsBelow, KeepsTrees, all_trees, cell_of, tree};
-ghost use Rattle.trees.specs.Compaction.{AreClosedFrom, AreMarks, AreMoved, IsMarking, IsMove, nodes, renamed, renamed_node, sizes, weigh, weight};
+ghost use Rattle.std.specs.Prelude.{◌≡◌, ◌+◌, ◌<◌, ◌≤◌, length, drop, take, IfOk, OnOk, OnErr};
+ghost use Rattle.definitions.specs.Nodes.{branches};
+ghost use Rattle.definitions.specs.TreeEdits.{plain};
+ghost use Rattle.trees.specs.Cells.{AreBelow, IsStore, KeepsTrees, all_trees, cell_of, tree};
+ghost use Rattle.trees.specs.Compaction.{nodes, sizes};
 
-use crate::children::Children;
 use crate::store::{Child, NodeId, Store};
 use std::alloc::{AllocError, Global};
 
 impl Store {
-    /// Keeps the nodes of the trees of these roots alone, and renames the roots. No other id means anything then.
+    /// Keeps the nodes of the trees of these roots alone, and renames the roots. No other id means anything then. A node that
+    /// stands in several places is copied for each.
     ///
     /// After a refusal the store and the roots are as before.
     pub fn compact(&mut self, alloc: Global, roots: &mut [NodeId]) -> Result<(), AllocError>
@@ -17,143 +19,104 @@ impl Store {
         ensures trees { OnOk result
             (all_trees self.new (nodes roots.new) ≡ all_trees self.old (nodes roots.old)) }
         ensures below { OnOk result (AreBelow (length self.new) (nodes roots.new)) }
-        ensures sizes { OnOk result (length self.new ≤ sizes self.old (nodes roots.old)) }
-        ensures count { OnOk result (length self.new ≤ length self.old) }
+        ensures sizes { OnOk result (length self.new ≡ sizes self.old (nodes roots.old)) }
         ensures err { OnErr result ((self.new ≡ self.old) × (roots.new ≡ roots.old)) }
     {
-        let marks = self.marks(alloc, roots)?;
-        let Moved { store, names } = self.moved(alloc, &marks)?;
-        rename(roots, &names);
+        let mut store = Store::new(alloc);
+        let names = store.copies(alloc, self, roots)?;
+        roots.copy_from_slice(&names);
         *self = store;
         Ok(())
     }
 
-    /// Whether each node is one of the trees of these roots.
-    fn marks(&self, alloc: Global, roots: &[NodeId]) -> Result<Vec<bool>, AllocError>
-        requires { AreBelow (length self.now) (nodes roots.now) }
-        ensures { IfOk result (λ marks. AreMarks self.now (nodes roots.now) 0 marks.items) }
+    /// Adds the trees of these nodes of another store, and returns their names here.
+    fn copies(
+        &mut self,
+        alloc: Global,
+        from: &Store,
+        roots: &[NodeId],
+    ) -> Result<Vec<NodeId>, AllocError>
+        requires { AreBelow (length from.now) (nodes roots.now) }
+        ensures trees { IfOk result (λ names.
+            all_trees self.new (nodes names.items) ≡ all_trees from.now (nodes roots.now)) }
+        ensures below { IfOk result (λ names. AreBelow (length self.new) (nodes names.items)) }
+        ensures many { IfOk result (λ names. length names.items ≡ length roots.now) }
+        ensures count { OnOk result
+            (length self.new ≡ length self.old + sizes from.now (nodes roots.now)) }
     {
-        let mut marks = vec![in alloc; false; self.len()]?;
-        mark_roots(roots, &mut marks);
-        for index in (0..self.len()).rev() {
-            if marks[index] {
-                mark_all(self.children(NodeId { index }), &mut marks);
+        let mut names = Vec::new(alloc);
+        for root in roots {
+            names.push(self.copy(alloc, from, *root)?)?;
+        }
+        Ok(names)
+    }
+
+    /// Adds the tree of a node of another store, and returns its name here.
+    fn copy(&mut self, alloc: Global, from: &Store, root: NodeId) -> Result<NodeId, AllocError>
+        requires { root.index < length from.now }
+        ensures tree { IfOk result (λ id.
+            tree self.new (Child.Node id) ≡ tree from.now (Child.Node root)) }
+        ensures below { IfOk result (λ id. id.index < length self.new) }
+        ensures kept { OnOk result (KeepsTrees (length self.old) self.old self.new) }
+        ensures count { OnOk result (length self.new
+            ≡ length self.old + branches (plain (tree from.now (Child.Node root)))) }
+    {
+        let mut done = Vec::new(alloc);
+        let mut above = Vec::new(alloc);
+        let mut begun = Begun { id: root, first: 0 };
+        'children: loop {
+            match from.child(begun.id, done.len() - begun.first) {
+                Some(Child::Token(kind)) => done.push(Child::Token(kind))?,
+                Some(Child::Node(id)) => {
+                    above.push(begun)?;
+                    begun = Begun {
+                        id,
+                        first: done.len(),
+                    };
+                }
+                None => {
+                    let id = self.close(alloc, from, begun, &mut done)?;
+                    let Some(next) = above.pop() else {
+                        return Ok(id);
+                    };
+                    done.push(Child::Node(id))?;
+                    begun = next;
+                }
             }
         }
-        Ok(marks)
     }
 
-    /// The marked nodes, in a store of their own.
-    fn moved(&self, alloc: Global, marks: &[bool]) -> Result<Moved, AllocError>
-        requires long { length marks.now ≡ length self.now }
-        requires closed { AreClosedFrom 0 self.now marks.now }
-        ensures all { IfOk result (λ moved. length moved.names.items ≡ length self.now) }
-        ensures moved { IfOk result
-            (λ moved. IsMove self.now marks.now moved.store moved.names.items) }
+    /// Adds a node of another store, over those of the children here that are its own.
+    fn close(
+        &mut self,
+        alloc: Global,
+        from: &Store,
+        begun: Begun,
+        done: &mut Vec<Child>,
+    ) -> Result<NodeId, AllocError>
+        requires store { IsStore from.now }
+        requires id { begun.id.index < length from.now }
+        requires below { AreBelow (length self.old) done.old.items }
+        requires first { begun.first ≤ length done.old.items }
+        requires copied { all_trees self.old (drop begun.first done.old.items)
+            ≡ all_trees from.now (cell_of from.now begun.id).children }
+        ensures done { OnOk result (done.new.items ≡ take begun.first done.old.items) }
+        ensures tree { IfOk result (λ id.
+            tree self.new (Child.Node id) ≡ tree from.now (Child.Node begun.id)) }
+        ensures id { IfOk result (λ id. id.index ≡ length self.old) }
+        ensures kept { OnOk result (KeepsTrees (length self.old) self.old self.new) }
+        ensures count { OnOk result (length self.new ≡ length self.old + 1) }
     {
-        let mut moved = Moved {
-            store: Store::new(alloc),
-            names: Vec::new(alloc),
-        };
-        for index in 0..self.len() {
-            let name = NodeId {
-                index: moved.store.len(),
-            };
-            if marks[index] {
-                moved.add(alloc, self, NodeId { index })?;
-            }
-            moved.names.push(name)?;
-        }
-        Ok(moved)
+        let production = from.production(begun.id);
+        let id = self.branch(alloc, production, &done[begun.first..], from.born(begun.id))?;
+        done.truncate(begun.first);
+        Ok(id)
     }
 }
 
-/// The nodes that stay, in a store of their own, and the name there of each node that has been passed.
-#[derive(Drop)]
-struct Moved {
-    store: Store,
-    names: Vec<NodeId>,
-}
-
-impl Moved {
-    /// Adds a node of the other store.
-    fn add(&mut self, alloc: Global, from: &Store, id: NodeId) -> Result<(), AllocError>
-        requires within { id.index < length from.now }
-        requires named { id.index ≤ length self.old.names.items }
-        requires moved { AreMoved from.now self.old.store self.old.names.items
-            (cell_of from.now id).children }
-        ensures names { self.new.names.items ≡ self.old.names.items }
-        ensures tree { OnOk result (tree self.new.store
-            (Child.Node (record { index = length self.old.store }))
-            ≡ tree from.now (Child.Node id)) }
-        ensures kept { OnOk result
-            (KeepsTrees (length self.old.store) self.old.store self.new.store) }
-        ensures count { OnOk result (length self.new.store ≡ length self.old.store + 1) }
-    {
-        let children = self.renamed(alloc, from.children(id))?;
-        self.store
-            .branch(alloc, from.production(id), &children, from.born(id))?;
-        Ok(())
-    }
-
-    /// The children, by their new names.
-    fn renamed(&self, alloc: Global, children: Children<'_>) -> Result<Vec<Child>, AllocError>
-        requires { AreBelow (length self.now.names.items) children }
-        ensures { IfOk result
-            (λ new. new.items ≡ map (renamed self.now.names.items) children.entry) }
-    {
-        let mut new = Vec::new(alloc);
-        for child in children {
-            new.push(renamed(child, &self.names))?;
-        }
-        Ok(new)
-    }
-}
-
-/// The child, by its new name.
-fn renamed(child: Child, names: &[NodeId]) -> Child
-    requires { IsBelow (length names.now) child }
-    ensures { result ≡ renamed names.now child }
-{
-    match child {
-        Child::Token(kind) => Child::Token(kind),
-        Child::Node(id) => Child::Node(names[id.index]),
-    }
-}
-
-fn rename(roots: &mut [NodeId], names: &[NodeId])
-    requires { AreBelow (length names.now) (nodes roots.old) }
-    ensures { roots.new ≡ map (renamed_node names.now) roots.old }
-{
-    for root in roots.iter_mut() {
-        *root = names[root.index];
-    }
-}
-
-fn mark_roots(roots: &[NodeId], marks: &mut [bool])
-    requires { AreBelow (length marks.old) (nodes roots.now) }
-    ensures { IsMarking (nodes roots.now) marks.old marks.new }
-{
-    for root in roots {
-        mark(Child::Node(*root), marks);
-    }
-}
-
-fn mark_all(children: Children<'_>, marks: &mut [bool])
-    requires { AreBelow (length marks.old) children }
-    ensures { IsMarking children.entry marks.old marks.new }
-{
-    for child in children {
-        mark(child, marks);
-    }
-}
-
-/// Marks the child, where it is a node.
-fn mark(child: Child, marks: &mut [bool])
-    requires { IsBelow (length marks.old) child }
-    ensures { IsMarking (child ∷ []) marks.old marks.new }
-{
-    if let Child::Node(id) = child {
-        marks[id.index] = true;
-    }
+/// A node whose copy is begun, and the place from which on its children's copies are among those that are done.
+#[derive(Clone, Copy)]
+struct Begun {
+    id: NodeId,
+    first: usize,
 }

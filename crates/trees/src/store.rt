@@ -113,6 +113,7 @@ impl Store {
             (tree self.now (Child.Node id)
             ≡ StampedBranch production born (forest_in self.now children)) ×
             (result ≡ slice_get children k) }
+        ensures store { IsStore self.now }
     {
         self.nodes[id.index].child(k)
     }
