@@ -1,5 +1,5 @@
 -- A parse in a compacted store is the parse that it was.
-use Rattle.std.proofs.Common.{◌≡◌, List, [], ◌∷◌, sym, ap, subst, refl, ◌∙◌}
+use Rattle.std.proofs.Common.{◌≡◌, List, [], ◌∷◌, sym, ap, subst, refl, arith, ◌∙◌}
 use mathlib.Core.List.{head-eq_of_cons-eq, tail-eq_of_cons-eq}
 use Rattle.definitions.specs.declared.Kind.{Kind}
 use Rattle.definitions.specs.Nodes.{all_branches}
@@ -44,4 +44,6 @@ module _ (old : List Cell) (p : Stop) (new : List Cell) (q : Stop) (same : IsSam
     branches = same.branches ∙ h.branches ∙ ap all_branches (sym same_plain);
     built = same.built ∙ h.built ∙ (λ i. all_branches_by (sym same.number i) (sym same.trees i));
     older = subst (λ n. AreUpTo n (all_trees new q.stack)) (sym same.number) (subst (AreUpTo p.number) (sym same.trees) h.older);
+    fits = omega (arith, ap all_branches same_plain, same.fits h.fits);
+    countable = h.countable;
   }

@@ -1,10 +1,10 @@
 -- Where the branches that the machine takes over come from, and which ones it adds.
-use Rattle.std.proofs.Common.{◌≡◌, ◌≢◌, ℕ, ◌+◌, ◌<◌, ◌≤◌, Bool, true, false, zero, suc, List, [], ◌∷◌, ◌++◌, length, drop, refl, sym, ap, ◌∙◌, subst, ⊎_elim, inl, inr, arith, length-append, append_assoc}
+use Rattle.std.proofs.Common.{◌≡◌, ◌≢◌, ℕ, ◌+◌, ◌<◌, ◌≤◌, Bool, true, false, List, [], ◌∷◌, ◌++◌, length, drop, refl, sym, ap, ◌∙◌, subst, ⊎_elim, arith, length-append, append_assoc}
 use Rattle.std.specs.Prelude.{◌==◌, if◌then◌else◌}
 use Rattle.std.proofs.lemmas.Bool.{eq-eqb}
 use Rattle.std.proofs.lemmas.List.{append-nil, drop-append-le, drop_all}
 use Rattle.definitions.specs.declared.Kind.{Kind}
-use Rattle.definitions.specs.Trees.{Tree, Branch, trees, yield, yields, all_kinds}
+use Rattle.definitions.specs.Trees.{Tree, Branch, yield, yields, all_kinds}
 use Rattle.definitions.specs.Nodes.{place_of}
 use Rattle.definitions.specs.TokenEdits.{Splice}
 use Rattle.definitions.specs.TreeEdits.{IsMoved, Stamped, StampedLeaf, StampedBranch, StampedForest, StampedNil, StampedCons, StampedIn, StampedTop, StampedBelow, StampedPast, plain, plain_all, stamped_trees, plain_trees}
@@ -18,7 +18,7 @@ use Rattle.parser.specs.Input.{Skips}
 use Rattle.parser.specs.Machine.{HasMade, plain_of}
 use Rattle.parser.specs.Run.{CameFrom, ComeFrom, MoveFrom}
 use Rattle.parser.specs.Stamps.{AreOlder, KeepStamps, all_numbered, numbered, numbered_in}
-use Rattle.parser.proofs.Counts.{HaveNone, other_number}
+use Rattle.parser.proofs.Counts.{HaveNone}
 use Rattle.parser.proofs.Reductions.{below-front, plain-append}
 use Rattle.parser.proofs.Stamping.{in_branch, InBranch, Itself, Under, no_branch_in_leaf, nowhere_stamped, plain-stamped, stamped-children, stamped_behind, stamped_in_front, stamped_split, trees_of-append}
 use Rattle.parser.proofs.Stamps.{grown_by_one, made_stamped, trees-stay}

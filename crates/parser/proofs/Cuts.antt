@@ -1,7 +1,7 @@
 -- What a cut of a list of trees keeps of them: their kinds, their nodes, and what holds of each.
-use Rattle.std.proofs.Common.{◌≡◌, ◌⊎◌, ℕ, ◌+◌, ◌<◌, ◌≤◌, min, List, [], ◌∷◌, ◌++◌, length, refl, sym, ap, ◌∙◌, subst, inl, inr, ⊎_elim, arith, append_assoc, length-append}
+use Rattle.std.proofs.Common.{◌≡◌, ◌⊎◌, ℕ, ◌+◌, ◌<◌, ◌≤◌, zero, suc, get_or, min, List, [], ◌∷◌, ◌++◌, length, refl, sym, ap, ◌∙◌, subst, inl, inr, ⊎_elim, arith, append_assoc, length-append}
 use Rattle.definitions.specs.Trees.{Grammar, Tree, Forest, Leaf, Branch, trees, yield, yields, all_kinds}
-use Rattle.definitions.specs.Nodes.{StandsIn, Top, Below, Past, place_of}
+use Rattle.definitions.specs.Nodes.{StandsIn, Top, Below, Past, all_branches, place_of}
 use Rattle.definitions.specs.TreeEdits.{plain, plain_trees}
 use Rattle.theory.proofs.Sound.{kinds-append, kinds-trees}
 use Rattle.theory.proofs.Stack.{stands_in_front, stands_behind}
@@ -95,10 +95,13 @@ module _ (cells : List Cell) where
     over : (P : List Tree → List Tree → Type 0) (cs : List Child) → P (trees us ++ plain_of cells cs) (Branch of_id.production us ∷ plain_of cells cs) → P (plain_of cells (kids ++ cs)) (plain_of cells (Node id ∷ cs))
     over P cs h = subst (λ t. P (plain_of cells (kids ++ cs)) (t ∷ plain_of cells cs)) is_branch (subst (λ l. P l (Branch of_id.production us ∷ plain_of cells cs)) (in_front cs) h)
 
+    pub opened_branches : (cs : List Child) → all_branches (plain_of cells (kids ++ cs)) < all_branches (plain_of cells (Node id ∷ cs))
+    opened_branches cs = over (λ one two. all_branches one < all_branches two) cs (omega (arith, branches-append (trees us) (plain_of cells cs), branches-trees us))
+
     pub opened_lighter : (cs : List Child) → weight (plain_of cells (kids ++ cs)) < weight (plain_of cells (Node id ∷ cs))
     opened_lighter cs = over (λ one two. weight one < weight two) cs (branch_lighter of_id.production us (plain_of cells cs))
 
-    opened_kinds : (cs : List Child) → all_kinds (plain_of cells (kids ++ cs)) ≡ all_kinds (plain_of cells (Node id ∷ cs))
+    pub opened_kinds : (cs : List Child) → all_kinds (plain_of cells (kids ++ cs)) ≡ all_kinds (plain_of cells (Node id ∷ cs))
     opened_kinds cs = over (λ one two. all_kinds one ≡ all_kinds two) cs (kinds-append (trees us) (plain_of cells cs) ∙ ap (λ l. l ++ all_kinds (plain_of cells cs)) (kinds-trees us))
 
     opened_parts : (g : Grammar) (cs : List Child) → AreParts g (plain_of cells (Node id ∷ cs)) → AreParts g (plain_of cells (kids ++ cs))
@@ -119,6 +122,13 @@ module _ (cells : List Cell) where
   cut_kinds Used_up = refl
   cut_kinds (Whole {c = c} {front = front} {back = back} e d) = ap (λ l. yield (plain (tree cells c)) ++ l) (cut_kinds d) ∙ sym (append_assoc (yield (plain (tree cells c))) (all_kinds (plain_of cells front)) (all_kinds (plain_of cells back)))
   cut_kinds (Opened {cs = cs} some less of_id d) = sym (opened_kinds of_id cs) ∙ cut_kinds d
+
+  -- and no more branches than it
+  pub cut_branches : {n : ℕ} {cs front back : List Child} → Cut cells n cs front back → all_branches (plain_of cells front) + all_branches (plain_of cells back) ≤ all_branches (plain_of cells cs)
+  cut_branches Here = omega arith
+  cut_branches Used_up = omega arith
+  cut_branches (Whole e d) = omega (arith, cut_branches d)
+  cut_branches (Opened {cs = cs} some less of_id d) = omega (arith, cut_branches d, opened_branches of_id cs)
 
   pub cut_below : (m : ℕ) {n : ℕ} {cs front back : List Child} → Cut cells n cs front back → AreBelow m cs → AreBelow m front × AreBelow m back
   cut_below m Here h = (tt, h)
@@ -170,8 +180,13 @@ module _ (cells : List Cell) where
       Whole {m = place_of (plain_of cells xs) + m} (omega (arith, e, length-append (yield (plain (tree cells x))) (all_kinds (plain_of cells xs)))) (cut_behind xs m (place_of (plain_of cells xs) + m) refl d)
 
 -- what the store counts is the number of kinds, where there are not too many
-pub counted : (count left : ℕ) → min most count ≤ left → left < most → min most count ≡ count
-counted count left le less = grind (arith, le, less)
+pub counted : (count : ℕ) → count ≤ most → min most count ≡ count
+counted count fits = grind (arith, fits)
+
+pub counted_in : (cells : List Cell) (cs : List Child) (i : ℕ) (d : Child) → i < length cs → kinds_in cells (get_or cs i d) ≤ place_of (plain_of cells cs)
+counted_in cells [] i d l = absurd (omega (arith, l))
+counted_in cells (c ∷ cs) zero d l = omega (arith, length-append (yield (plain (tree cells c))) (all_kinds (plain_of cells cs)))
+counted_in cells (c ∷ cs) (suc i) d l = omega (arith, counted_in cells cs i d (omega (arith, l)), length-append (yield (plain (tree cells c))) (all_kinds (plain_of cells cs)))
 
 pub not_counted : (count left : ℕ) → left < min most count → left < count
 not_counted count left less = grind (arith, less)

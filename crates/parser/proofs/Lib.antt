@@ -23,3 +23,4 @@ pub mod Prepared
 pub mod Replaced
 pub mod Renaming
 pub mod Bounded
+pub mod Fits

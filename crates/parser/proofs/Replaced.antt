@@ -6,11 +6,11 @@ use Rattle.std.proofs.lemmas.List.{append-nil}
 use Rattle.definitions.specs.declared.Kind.{Kind}
 use Rattle.definitions.specs.Trees.{Grammar, Tree, Branch, Leaf, all_kinds}
 use Rattle.definitions.specs.TreeEdits.{plain_all, plain_trees, StampedForest, StampedIn}
-use Rattle.definitions.specs.Nodes.{StandsIn, place_of}
+use Rattle.definitions.specs.Nodes.{StandsIn, all_branches, place_of}
 use Rattle.definitions.specs.TokenEdits.{Splice, spliced}
 use Rattle.theory.specs.Reuse.{IsPrepared}
 use Rattle.theory.proofs.Made.{stamped_stands}
-use Rattle.theory.proofs.Reused.{stands_length}
+use Rattle.theory.proofs.Reused.{branches-append, stands_length}
 use Rattle.theory.proofs.Sound.{kinds-append}
 use Rattle.trees.specs.declared.store.Child.{Child}
 use Rattle.trees.specs.declared.store.Child.TheVariants.{Token}
@@ -20,11 +20,12 @@ use Rattle.parser.specs.Input.{AreParts, IsInput, before_leaves, input_of, leave
 use Rattle.parser.specs.Run.{MoveFrom}
 use Rattle.parser.specs.Stamps.{AreOlder}
 use Rattle.parser.specs.Cuts.{Cut}
+use Rattle.parser.proofs.Fits.{no_branches}
 use Rattle.parser.proofs.Running.{kinds_leaves}
 use Rattle.parser.proofs.Front.{parts-append}
 use Rattle.parser.proofs.Reductions.{below-append, plain-append}
 use Rattle.parser.proofs.Stamping.{nowhere_stamped, stamped_behind, stamped_in_front, stamped_split, trees_of-append}
-use Rattle.parser.proofs.Cuts.{cut_behind, cut_below, cut_came, cut_kinds, cut_older, cut_parts, older-append}
+use Rattle.parser.proofs.Cuts.{cut_behind, cut_below, cut_branches, cut_came, cut_kinds, cut_older, cut_parts, older-append}
 use Rattle.parser.proofs.Prepared.{no_branch, place-append, prepared_short, prepared_within}
 
 -- new has the new kinds in the place of what the splice takes away of the old trees, or what there is of these where they end
@@ -88,6 +89,11 @@ module _ (cells : List Cell) (s : Splice) (ordered : s.from ≤ s.to) where
       let two = cut_older cells number second one.1 in
       older-append number cells front (map Token s.kinds ++ rest) one.0 (older-append number cells (map Token s.kinds) rest (λ lefts p born us w. absurd (no_stamped cells s.kinds w)) two.1)
   replaced_older number (Short first short) h = (cut_older cells number first h).0
+
+  pub replaced_fits : {old new : List Child} → IsReplaced cells s old new → all_branches (plain_of cells new) ≤ all_branches (plain_of cells old)
+  replaced_fits (Within {front = front} {rest = rest} first reached second fits filled) =
+      omega (arith, cut_branches cells first, cut_branches cells second, ap all_branches (within_trees front rest), branches-append (plain_of cells front) (leaves s.kinds ++ plain_of cells rest), branches-append (leaves s.kinds) (plain_of cells rest), no_branches s.kinds)
+  replaced_fits (Short first short) = omega (arith, cut_branches cells first)
 
   -- what stands in front of the splice stays where it is
   front_moved : {old front back : List Child} → Cut cells s.from old front back → place_of (plain_of cells front) ≤ s.from → MoveFrom s (all_trees cells old) (all_trees cells front)

@@ -10,7 +10,7 @@ use Rattle.definitions.specs.Sentences.{Verdict as Answer, HasTree, FaultAt, Fau
 use Rattle.definitions.specs.DocumentNodes.{AreDocumentTrees}
 use Rattle.trees.specs.declared.store.Child.{Child}
 use Rattle.trees.specs.declared.store.Child.TheVariants.{Node}
-use Rattle.trees.specs.Cells.{Cell, AreBelow, all_trees, tree}
+use Rattle.trees.specs.Cells.{Cell, AreBelow, all_trees, most, tree}
 use Rattle.tables.specs.Expected.{AreExpected}
 use Rattle.tables.specs.Tables.{Sets, IsStateOf}
 use Rattle.parser.specs.declared.parse.Verdict.{Verdict}
@@ -87,12 +87,15 @@ all_branches_by number (t ∷ ts) = branches_by number t + all_branches_by numbe
 abbrev pub AreUpTo : ℕ → List Stamped → Type 0
 AreUpTo number ts = (lefts : List Tree) (p born : ℕ) (us : StampedForest) → StampedIn ts lefts p born us → born ≤ number
 
--- this is the parse by the tables `t` of these kinds, with its nodes in these cells, none of them newer than its edit
+-- this is the parse by the tables `t` of these kinds, with its nodes in these cells, none of them newer than its edit; there is a
+-- node for each branch of its stack, and no more kinds than 64 bits can count
 pub record IsParseOf (t : Sets) (kinds : List Kind) (cells : List Cell) (parse : Stop) : Type 0 where
   pub stop : IsStop t kinds cells parse.verdict parse.stack parse.state
   pub branches : parse.branches ≡ all_branches (plain_of cells parse.stack)
   pub built : parse.built ≡ all_branches_by parse.number (all_trees cells parse.stack)
   pub older : AreUpTo parse.number (all_trees cells parse.stack)
+  pub fits : all_branches (plain_of cells parse.stack) ≤ length cells
+  pub countable : length kinds ≤ most
 
 -- the machine has stopped with this stack, under the last of these states
 abbrev pub IsStoppedAt : Sets → List Kind → List Cell → Verdict → List Child → List ℕ → Type 0

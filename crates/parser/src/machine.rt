@@ -267,6 +267,7 @@ impl Machine {
             IfOk result (λ _. (rest : List Child)
             × CameFrom whole (length store.old) number store.new self.new.stack.items
             self.new.read rest) }
+        ensures countable { IfOk result (λ _. length kinds.old < 2 ^ 64) }
         ensures grown { take (length store.old) store.new ≡ store.old }
     {
         let count = kinds.len();

@@ -113,6 +113,7 @@ fn parsed<K: Kinds>(
 ) -> Result<Parse, AllocError>
     requires input { IsInput tables.now.grammar store.old input (K.kinds kinds.now) 0 }
     requires older { AreOlder number (all_trees store.old input) }
+    requires fits { all_branches (plain_of store.old input) ≤ length store.old }
     ensures accepted { IsAccepted tables.now.grammar }
     ensures parse { IfOk result (λ p. IsParseOf tables.now (K.kinds kinds.now) store.new p) }
     ensures run { IfOk result
@@ -131,10 +132,6 @@ fn parsed<K: Kinds>(
     let verdict = machine.run(alloc, tables, store, &mut reader, input, number)?;
     let state = machine.state();
     let branches = branches_of(store, &machine.stack);
-    if branches == u64::MAX {
-        // no memory holds so many, and there may be more than the count tells
-        return Err(AllocError);
-    }
     Ok(Parse {
         verdict,
         stack: machine.stack,
@@ -318,6 +315,9 @@ impl Parse {
             → IsSpliced (plain_splice splice.now) old new
             → IfOk result (λ input. IsInput t.grammar store.now input new 0) }
         ensures older { IfOk result (λ input. AreOlder number (all_trees store.now input)) }
+        ensures fits { IfOk result (λ input.
+            all_branches (plain_of store.now input)
+            ≤ all_branches (plain_of store.now self.now.stack)) }
         ensures moved { let change = plain_splice splice.now in
             let trees = all_trees store.now self.now.stack in
             IfOk result (λ input. MoveFrom change trees (all_trees store.now input)) }

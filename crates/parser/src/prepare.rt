@@ -2,7 +2,7 @@
 
 ghost use Rattle.std.specs.Prelude.{◌≡◌, ◌+◌, ◌<◌, ◌≤◌, ◌++◌, [], ℕ, List, length, map, take, slice_get, IfOk, IfSome};
 ghost use Rattle.definitions.specs.declared.Kind.{Kind};
-ghost use Rattle.definitions.specs.Nodes.{place_of};
+ghost use Rattle.definitions.specs.Nodes.{all_branches, place_of};
 ghost use Rattle.definitions.specs.Trees.{Grammar};
 ghost use Rattle.definitions.specs.TokenEdits.{plain_splice, spliced};
 ghost use Rattle.trees.specs.declared.store.Child.TheVariants.{Token};
@@ -23,7 +23,7 @@ use trees::{Child, Children, Store};
 /// behind them.
 fn fitting(store: &Store, children: &[Child], n: u64) -> (usize, u64)
     requires below { AreBelow (length store.now) children.now }
-    requires counted { n < most }
+    requires countable { place_of (plain_of store.now children.now) ≤ most }
     ensures within { result.0 ≤ length children.now }
     ensures left { place_of (plain_of store.now (take result.0 children.now)) + result.1 ≡ n }
     ensures next { IfSome (slice_get children.now result.0) (λ c. result.1 < kinds_in store.now c) }
@@ -50,7 +50,7 @@ fn take_front(
     n: u64,
 ) -> Result<(Vec<Child>, u64), AllocError>
     requires below { AreBelow (length store.now) trees.old }
-    requires counted { n < most }
+    requires countable { place_of (plain_of store.now trees.old) ≤ most }
     ensures cut { IfOk result (λ r. Cut store.now n trees.old r.0.items trees.new) }
     ensures left { IfOk result (λ r. place_of (plain_of store.now r.0.items) + r.1 ≡ n) }
     ensures used_up { IfOk result (λ r. 0 < r.1 → trees.new ≡ []) }
@@ -84,8 +84,6 @@ fn put_kinds(trees: &mut Input, kinds: &[Kind]) -> Result<(), AllocError>
 
 /// The old trees, with the new kinds in the place of what the splice takes away. Of the trees that it touches only the parts
 /// that it leaves are there.
-///
-/// A splice that changes anything and ends at 18,446,744,073,709,551,615 is refused: the store counts no further.
 pub fn prepare(
     alloc: Global,
     store: &Store,
@@ -93,6 +91,7 @@ pub fn prepare(
     splice: &KindSplice,
 ) -> Result<Input, AllocError>
     requires below { AreBelow (length store.now) old.now }
+    requires countable { place_of (plain_of store.now old.now) ≤ most }
     requires ordered { splice.now.from ≤ splice.now.to }
     ensures input { let change = plain_splice splice.now in
         (g : Grammar) (kinds : List Kind) → IsInput g store.now old.now kinds 0
@@ -104,6 +103,8 @@ pub fn prepare(
         → IfOk result (λ input. IsPrepared change trees (input_of store.now input kinds 0)) }
     ensures older { (number : ℕ) → AreOlder number (all_trees store.now old.now)
         → IfOk result (λ input. AreOlder number (all_trees store.now input)) }
+    ensures fits { IfOk result (λ input.
+        all_branches (plain_of store.now input) ≤ all_branches (plain_of store.now old.now)) }
     ensures moved { let change = plain_splice splice.now in IfOk result
         (λ input. MoveFrom change (all_trees store.now old.now) (all_trees store.now input)) }
 {
@@ -111,9 +112,6 @@ pub fn prepare(
     if splice.from == splice.to && splice.kinds.is_empty() {
         input.put_all(Children::of(old))?;
         return Ok(input);
-    }
-    if splice.to == usize::MAX {
-        return Err(AllocError);
     }
     let (whole, left) = fitting(store, old, splice.from as u64);
     input.put_all(Children::of(&old[whole..]))?;

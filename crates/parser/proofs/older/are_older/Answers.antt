@@ -1,7 +1,6 @@
 use Rattle.std.proofs.Common.{◌≡◌, ◌<◌, ◌+◌, ◌∷◌, ◌++◌, ℕ, [], length, sym, ap, ◌∙◌, subst, arith}
-use Rattle.definitions.specs.Trees.{yield}
-use Rattle.definitions.specs.TreeEdits.{StampedBranch, StampedForest, StampedIn, StampedLeaf, StampedTop, plain, stamped_trees}
-use Rattle.trees.specs.Cells.{AreBelow, all_trees, forest_of, tree, trees_from}
+use Rattle.definitions.specs.TreeEdits.{StampedBranch, StampedForest, StampedIn, StampedLeaf, StampedTop, stamped_trees}
+use Rattle.trees.specs.Cells.{AreBelow, all_trees, forest_of, trees_from}
 use Rattle.trees.specs.declared.store.Child.TheVariants.{Node, Token}
 use Rattle.parser.specs.Cuts.{AreChildren}
 use Rattle.parser.specs.Machine.{plain_of}

@@ -8,7 +8,7 @@ use Rattle.trees.specs.Cells.{Cell}
 use Rattle.trees.proofs.Cells.{below-at}
 use Rattle.parser.specs.Cuts.{kinds_in}
 use Rattle.parser.specs.Machine.{plain_of}
-use Rattle.parser.proofs.Cuts.{counted, place_push}
+use Rattle.parser.proofs.Cuts.{counted, counted_in, place_push}
 use Rattle.parser.proofs.prepare.fitting.Goals as goal
 
 one_more : (cells : List Cell) (cs : List Child) (w i : ℕ) (d : Child) → w ≡ i → i < length cs → place_of (plain_of cells (take (w + 1) cs)) ≡ place_of (plain_of cells (take w cs)) + kinds_in cells (get_or cs i d)
@@ -23,7 +23,7 @@ loop-child-preserved c =
     let cells = c.args.store.now in
     let all = c.args.children.now in
     let child : Child = get_or all c.loop-child.child-index (Token (Rule 0)) in
-    let count : c.tokens_of-count.result ≡ kinds_in cells child = c.tokens_of-count.ensures ∙ counted (kinds_in cells child) c.loop-child.left (omega (arith, c.tokens_of-count.ensures, c.if-count-left.false)) (omega (arith, c.loop-child.invariant.left, c.requires.counted)) in
+    let count : c.tokens_of-count.result ≡ kinds_in cells child = c.tokens_of-count.ensures ∙ counted (kinds_in cells child) (omega (arith, c.requires.countable, counted_in cells all c.loop-child.child-index (Token (Rule 0)) c.loop-child-test.true)) in
     let more = one_more cells all c.loop-child.whole c.loop-child.child-index (Token (Rule 0)) c.loop-child.invariant.whole c.loop-child-test.true in
     record {
       whole = omega (arith, c.loop-child.invariant.whole);

@@ -1,9 +1,10 @@
-use Rattle.std.proofs.Common.{◌≡◌, ◌≢◌, ℕ, ◌+◌, ◌-◌, ◌<◌, List, [], ◌++◌, length, take, drop, map, sym, ap, ◌∙◌, subst, arith, rules, length-drop}
+use Rattle.std.proofs.Common.{◌≡◌, ◌≢◌, ℕ, ◌+◌, ◌-◌, ◌<◌, zero, suc, ◌≤◌, ◌∷◌, length-append, List, [], ◌++◌, length, take, drop, map, sym, ap, ◌∙◌, subst, arith, rules, length-drop}
 use Rattle.std.proofs.lemmas.List.{append-nil, take_all}
-use Rattle.definitions.specs.Trees.{all_kinds}
+use Rattle.definitions.specs.Trees.{all_kinds, yield}
+use Rattle.definitions.specs.TreeEdits.{plain}
 use Rattle.theory.specs.Reuse.{IsPrepared}
-use Rattle.definitions.specs.Nodes.{place_of}
-use Rattle.trees.specs.Cells.{AreBelow, all_trees}
+use Rattle.definitions.specs.Nodes.{all_branches, place_of}
+use Rattle.trees.specs.Cells.{AreBelow, Cell, all_trees, tree}
 use Rattle.parser.specs.Run.{MoveFrom}
 use Rattle.parser.specs.Machine.{plain_of}
 use Rattle.parser.specs.Input.{input_of}
@@ -11,11 +12,16 @@ use Rattle.parser.proofs.Reductions.{below-drop}
 use Rattle.definitions.specs.TokenEdits.{plain_splice}
 use Rattle.trees.specs.declared.store.Child.{Child}
 use Rattle.trees.specs.declared.store.Child.TheVariants.{Token}
-use Rattle.parser.proofs.Cuts.{cut_below}
+use Rattle.parser.proofs.Cuts.{cut_below, cut_kinds}
 use Rattle.parser.proofs.Prepared.{prepared_same, unmoved}
-use Rattle.parser.proofs.Replaced.{IsReplaced, replaced_input, replaced_moved, replaced_older, replaced_prepared, within, short}
+use Rattle.parser.proofs.Replaced.{IsReplaced, replaced_fits, replaced_input, replaced_moved, replaced_older, replaced_prepared, within, short}
 use Rattle.parser.proofs.prepare.prepare.Goals as goal
 use Rattle.parser.proofs.prepare.prepare.Goals.{then-missing-eq0+in_ok-take_front+in_ok-put_kinds, else-missing-eq0, else-splice-via-then-splice+else-is_empty, else-splice-via-else-splice}
+
+place_drop : (cells : List Cell) (n : ℕ) (cs : List Child) → place_of (plain_of cells (drop n cs)) ≤ place_of (plain_of cells cs)
+place_drop cells zero cs = omega arith
+place_drop cells (suc n) [] = omega arith
+place_drop cells (suc n) (c ∷ cs) = omega (arith, place_drop cells n cs, length-append (yield (plain (tree cells c))) (all_kinds (plain_of cells cs)))
 
 -- what is put in front of nothing, from a place on
 behind : (old part start none : List Child) (n : ℕ) → part ≡ take (length old - n) (drop n old) → start ≡ part ++ none → none ≡ [] → start ≡ drop n old
@@ -55,6 +61,27 @@ take_front-requires-then-missing-eq0-clause-below c =
     let start = subst (AreBelow n) (sym (behind old c.of-2.result c.put_all-2.new.self c.new-input.result whole c.of-2.ensures c.in_ok-put_all-2.ensures c.new-input.ensures)) (below-drop n whole old c.requires.below) in
     (cut_below cells n c.in_ok-front.ensures.cut start).1
 
+pub returns-then-is_empty-clause-fits : goal.returns-then-is_empty-clause-fits
+returns-then-is_empty-clause-fits c =
+    let same : c.put_all.new.self ≡ c.args.old.now = c.in_ok-put_all.ensures ∙ ap (λ l. c.of.result ++ l) c.new-input.ensures ∙ append-nil c.of.result ∙ c.of.ensures in
+    omega (arith, ap (λ l. all_branches (plain_of c.args.store.now l)) same)
+
+pub take_front-requires-clause-countable : goal.take_front-requires-clause-countable
+take_front-requires-clause-countable c =
+    let cells = c.args.store.now in
+    let old = c.args.old.now in
+    let whole = c.fitting-whole.result.0 in
+    let start = behind old c.of-2.result c.put_all-2.new.self c.new-input.result whole c.of-2.ensures c.in_ok-put_all-2.ensures c.new-input.ensures in
+    omega (arith, c.requires.countable, ap (λ l. place_of (plain_of cells l)) start, place_drop cells whole old)
+
+pub take_front-requires-then-missing-eq0-clause-countable : goal.take_front-requires-then-missing-eq0-clause-countable
+take_front-requires-then-missing-eq0-clause-countable c =
+    let cells = c.args.store.now in
+    let old = c.args.old.now in
+    let whole = c.fitting-whole.result.0 in
+    let start = behind old c.of-2.result c.put_all-2.new.self c.new-input.result whole c.of-2.ensures c.in_ok-put_all-2.ensures c.new-input.ensures in
+    omega (arith, c.requires.countable, ap (λ l. place_of (plain_of cells l)) start, place_drop cells whole old, ap length (cut_kinds cells c.in_ok-front.ensures.cut), length-append (all_kinds (plain_of cells c.in_ok-front.front.items)) (all_kinds (plain_of cells c.take_front.new.trees)))
+
 pub returns : goal.returns
 returns c =
     let cells = c.args.store.now in
@@ -82,5 +109,6 @@ returns c =
       input = λ g kinds h fits. replaced_input cells s c.requires.ordered g r kinds h;
       prepared = λ kinds. replaced_prepared cells s c.requires.ordered changes r kinds;
       older = λ number h. replaced_older cells s c.requires.ordered number r h;
+      fits = replaced_fits cells s c.requires.ordered r;
       moved = replaced_moved cells s c.requires.ordered r;
     }

@@ -1,6 +1,7 @@
-use Rattle.std.proofs.Common.{◌≡◌, ◌<◌, min, ◌++◌, ◌∷◌, [], List, length, sym, ap, ◌∙◌, subst, arith, append_assoc}
+use Rattle.std.proofs.Common.{◌≡◌, ◌<◌, ◌+◌, ◌≤◌, length-append, min, ◌++◌, ◌∷◌, [], List, length, sym, ap, ◌∙◌, subst, arith, append_assoc}
 use Rattle.std.proofs.lemmas.List.{append-nil}
 use Rattle.definitions.specs.Nodes.{place_of}
+use Rattle.definitions.specs.Trees.{all_kinds, yield}
 use Rattle.definitions.specs.TreeEdits.{plain}
 use Rattle.trees.specs.declared.store.Child.{Child}
 use Rattle.trees.specs.declared.store.Child.TheVariants.{Node}
@@ -8,7 +9,7 @@ use Rattle.trees.specs.Cells.{AreBelow, most, tree}
 use Rattle.parser.specs.Cuts.{kinds_in, AreChildren, Cut, Here, Used_up, Whole, Opened}
 use Rattle.parser.specs.Machine.{plain_of}
 use Rattle.parser.proofs.Front.{weight}
-use Rattle.parser.proofs.Cuts.{counted, not_counted, opened_below, opened_lighter, place_push, taken_lighter}
+use Rattle.parser.proofs.Cuts.{counted, not_counted, opened_below, opened_kinds, opened_lighter, place_push, taken_lighter}
 use Rattle.parser.proofs.prepare.take_front.Goals as goal
 use Rattle.parser.proofs.prepare.take_front.Goals.{else-kinds-test, then-kinds-test+in_default}
 
@@ -18,10 +19,12 @@ kinds-preserved-in-Continue-1 c =
     let child = c.in-Some.child in
     let rest = c.take.new.self in
     let old : c.kinds.trees ≡ child ∷ rest = c.in-Some.ensures in
-    let count : c.tokens_of-count.result ≡ kinds_in cells child = c.tokens_of-count.ensures ∙ counted (kinds_in cells child) c.kinds.left (omega (arith, c.tokens_of-count.ensures, c.if-count-left.true)) (omega (arith, c.kinds.invariant.left, c.requires.counted)) in
+    let shorter : kinds_in cells child + place_of (plain_of cells rest) ≤ most = omega (arith, c.kinds.invariant.countable, ap (λ l. place_of (plain_of cells l)) old, length-append (yield (plain (tree cells child))) (all_kinds (plain_of cells rest))) in
+    let count : c.tokens_of-count.result ≡ kinds_in cells child = c.tokens_of-count.ensures ∙ counted (kinds_in cells child) (omega (arith, shorter)) in
     let new : c.push.new.self.items ≡ c.kinds.taken.items ++ (child ∷ []) = c.in_ok-push.ensures.items in
     record {
       below = (subst (AreBelow (length cells)) old c.kinds.invariant.below).1;
+      countable = omega (arith, shorter);
       cut = λ front back d. subst (λ l. Cut cells c.args.n c.args.trees.now l back) (sym (ap (λ l. l ++ front) new ∙ append_assoc c.kinds.taken.items (child ∷ []) front)) (c.kinds.invariant.cut (child ∷ front) back (subst (λ l. Cut cells c.kinds.left l (child ∷ front) back) (sym old) (Whole (omega (arith, count, c.if-count-left.true)) d)));
       left = omega (arith, ap (λ l. place_of (plain_of cells l)) new, place_push cells c.kinds.taken.items child, count, c.kinds.invariant.left, c.if-count-left.true);
     }
@@ -52,6 +55,7 @@ kinds-preserved-in-Continue-branch-2 c =
     let less : c.kinds.left < kinds_in cells (Node id) = not_counted (kinds_in cells (Node id)) c.kinds.left (omega (arith, counts, c.if-count-left.false)) in
     record {
       below = subst (AreBelow (length cells)) (sym new) (opened_below cells of_id (length cells) rest (subst (AreBelow (length cells)) old c.kinds.invariant.below));
+      countable = omega (arith, c.kinds.invariant.countable, ap (λ l. place_of (plain_of cells l)) old, ap length (opened_kinds cells of_id rest), ap (λ l. place_of (plain_of cells l)) new);
       cut = λ front back d. c.kinds.invariant.cut front back (subst (λ l. Cut cells c.kinds.left l front back) (sym old) (Opened c.kinds-test.true less of_id (subst (λ l. Cut cells c.kinds.left l front back) new d)));
       left = c.kinds.invariant.left;
     }

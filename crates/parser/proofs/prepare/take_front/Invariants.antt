@@ -1,7 +1,7 @@
-use Rattle.std.proofs.Common.{◌≡◌, ◌+◌, ◌++◌, List, length}
+use Rattle.std.proofs.Common.{◌≡◌, ◌+◌, ◌≤◌, ◌++◌, List, length}
 use Rattle.definitions.specs.Nodes.{place_of}
 use Rattle.trees.specs.declared.store.Child.{Child}
-use Rattle.trees.specs.Cells.{AreBelow}
+use Rattle.trees.specs.Cells.{AreBelow, most}
 use Rattle.parser.specs.Cuts.{Cut}
 use Rattle.parser.specs.Machine.{plain_of}
 use Rattle.parser.proofs.Front.{weight}
@@ -11,6 +11,7 @@ use Rattle.parser.proofs.prepare.take_front.Given as goal
 abbrev pub invariant-kinds : goal.invariant-kinds
 invariant-kinds l = record {
   below : AreBelow (length l.store) l.trees;
+  countable : place_of (plain_of l.store l.trees) ≤ most;
   cut : (front back : List Child) → Cut l.store l.left l.trees front back → Cut l.store l.n l.fn.trees (l.taken.items ++ front) back;
   left : place_of (plain_of l.store l.taken.items) + l.left ≡ l.n;
 }

@@ -1,5 +1,7 @@
 use Rattle.std.proofs.Common.{ap, sym, subst, ◌∙◌, ◌≡◌, ◌++◌, drop, length, take, arith}
+use Rattle.definitions.specs.Nodes.{all_branches}
 use Rattle.trees.specs.Cells.{AreBelow, all_trees}
+use Rattle.parser.specs.Machine.{plain_of}
 use Rattle.parser.specs.Compact.{renamed, verdict_on}
 use Rattle.parser.specs.Parses.{IsAlone, verdict_in}
 use Rattle.parser.proofs.Renaming.{renamed_long, verdict_stays, written}
@@ -29,4 +31,5 @@ returns-clause-same c =
       branches = ap (λ p. p.branches) c.self.view_is;
       built = ap (λ p. p.built) c.self.view_is;
       number = ap (λ p. p.number) c.self.view_is;
+      fits = λ h. omega (arith, done.sizes, ap (λ l. all_branches (plain_of old l)) stack);
     }

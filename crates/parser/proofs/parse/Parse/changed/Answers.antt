@@ -17,6 +17,9 @@ use Rattle.parser.proofs.parse.Parse.changed.Goals as goal
 pub parsed-requires-clause-input : goal.parsed-requires-clause-input
 parsed-requires-clause-input g c = c.in_ok-input.ensures.input c.args.tables.now c.requires.0 (g.K.Kinds.kinds c.args.kinds.now) c.requires.1 c.requires.2
 
+pub parsed-requires-clause-fits : goal.parsed-requires-clause-fits
+parsed-requires-clause-fits g c = omega (arith, c.in_ok-input.ensures.fits, c.requires.1.fits)
+
 pub returns-clause-parse : goal.returns-clause-parse
 returns-clause-parse g c =
     let kinds = g.K.Kinds.kinds c.args.kinds.now in

@@ -1,4 +1,6 @@
-use Rattle.std.proofs.Common.{◌+◌, arith, drop, length, subst, sym}
+use Rattle.std.proofs.Common.{◌+◌, ap, arith, drop, length, subst, sym}
+use Rattle.definitions.specs.Nodes.{all_branches}
+use Rattle.parser.specs.Machine.{plain_of}
 use Rattle.trees.specs.Cells.{all_trees}
 use Rattle.parser.specs.Input.{input_of, IsInput}
 use Rattle.parser.specs.Run.{IsMadeByRun}
@@ -16,6 +18,9 @@ parsed-requires-clause-input g c =
 
 pub parsed-requires-clause-older : goal.parsed-requires-clause-older
 parsed-requires-clause-older g c = subst (λ l. AreOlder 0 (all_trees c.args.store.now l)) (sym c.new.ensures) (none_in_nothing 0)
+
+pub parsed-requires-clause-fits : goal.parsed-requires-clause-fits
+parsed-requires-clause-fits g c = omega (arith, ap (λ l. all_branches (plain_of c.args.store.now l)) c.new.ensures)
 
 pub returns-in-Ok-clause-stamps : goal.returns-in-Ok-clause-stamps
 returns-in-Ok-clause-stamps g c =
