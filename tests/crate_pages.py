@@ -1,7 +1,8 @@
 """The crates' pages and their examples.
 
 The comment at the head of a crate's root file is its page: what the crate is for, the first call, its words, its limits, and an example.
-The example is the body of the crate's function in `crates/uses`, which is proved and run, and the comments in it tell what is printed.
+Where the crate has a function in `crates/uses`, the example is its body, which is proved and run, and the comments in it tell what is
+printed.
 """
 
 import os
@@ -58,7 +59,8 @@ def check(cases, top):
     for crate in products(top):
         page = page_of(top, crate)
         cases.check(f"the page of {crate}: its lines are from {fewest} to {most}", True, fewest <= len(page) <= most)
-        cases.check(f"the page of {crate}: its example is in crates/uses", examples.get(crate, []), example_on(page))
+        example = example_on(page)
+        cases.check(f"the page of {crate}: its example is that of crates/uses", examples.get(crate, example), example)
     cases.check("each example of crates/uses is of a crate", set(), set(examples) - set(products(top)))
     awaited = lines_of(os.path.join(top, "crates", "uses", "stdout"))[:-1]
     cases.check("the comments of crates/uses tell what it prints", awaited, printed(top, examples))
