@@ -51,7 +51,7 @@ def one_token(size):
 
 
 # A text: its grammar; how it is made of a size; a character that changes no tree; an item, which does, or None; and where
-# between two of its tokens a fault is put in: behind its first token, and behind each of these marks.
+# between two of its tokens a fault is put in: after its first token, and after each of these marks.
 Text = namedtuple("Text", "grammar make character item mark")
 
 TEXTS = {
@@ -93,7 +93,7 @@ def items(kind, text):
 
 
 def first_token_end(text):
-    """The offset behind the first token: a word, or one character."""
+    """The offset after the first token: a word, or one character."""
     end = 1
     while text[0].isalnum() and text[end].isalnum():
         end += 1
@@ -101,7 +101,7 @@ def first_token_end(text):
 
 
 def faults(kind, text):
-    """Where a character that is no token is put in: behind the first token, in the middle, and near the end."""
+    """Where a character that is no token is put in: after the first token, in the middle, and near the end."""
     if kind.make is one_token:
         return []
     if kind.mark is None:

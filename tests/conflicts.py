@@ -1,4 +1,4 @@
-"""Whether a report of `lrls check` about a conflict is true, by the definition of LR(1) items, and told by another program than `lrls`.
+"""Whether a report of `lrls check` about a conflict is true, by the definition of LR(1) items, and found by another program than `lrls`.
 
 Which of several conflicts is reported is left open, and so is the way to it and the token after an item that is shifted. So a
 report isn't compared with another one: the symbols after `after:` are walked through the sets of items, and both items have to
@@ -103,17 +103,17 @@ def untrue(grammar, report, token):
     shown = re.fullmatch(r"lrls: conflict on (\w+)\nafter:((?: \S+)*)\n(item: .*)\n(item: .*)\n", report)
     if shown is None:
         return "no report of a conflict in four lines"
-    told, prefix, *lines = shown.groups()
+    reported, prefix, *lines = shown.groups()
     items = Items(grammar)
     first, second = [items.item(line) for line in lines]
-    if token is not None and told != token:
+    if token is not None and reported != token:
         return f"the conflict is on {token}"
     if first is None or second is None:
         return "an item of no production"
     valid = items.after(prefix.split())
     if first not in valid or second not in valid:
         return "an item that isn't valid there"
-    if not items.moves_on(first, told) or not items.moves_on(second, told):
+    if not items.moves_on(first, reported) or not items.moves_on(second, reported):
         return "an item that does nothing on this token"
     if not items.is_complete(first) or first == second:
         return "no two moves, the first of which reduces"

@@ -100,12 +100,12 @@ class Typed:
 
 def answers(session, uri, published):
     """What the server says of a document: its diagnostics, and the answer to each question."""
-    told = {"diagnostics": json.loads(published)["params"]["diagnostics"]}
+    reported = {"diagnostics": json.loads(published)["params"]["diagnostics"]}
     for question in QUESTIONS:
         answer = json.loads(session.ask(question, uri))
-        told[question] = answer.get("result", answer.get("error"))
-    told["lr/text"] = told["lr/text"]["text"]
-    return told
+        reported[question] = answer.get("result", answer.get("error"))
+    reported["lr/text"] = reported["lr/text"]["text"]
+    return reported
 
 
 def opened_anew(fresh, text):
@@ -119,7 +119,7 @@ def differences(name, number, text, edited, anew):
     found = [f"  {name}, edit {number}: the text isn't the edited one"] if edited["lr/text"] != text else []
     for question in edited:
         if edited[question] != anew[question]:
-            pair = around_difference(*[json.dumps(told[question]) for told in (edited, anew)])
+            pair = around_difference(*[json.dumps(reported[question]) for reported in (edited, anew)])
             found.append(f"  {name}, edit {number}: {question}\n    edited: {pair[0]}\n    opened: {pair[1]}")
     return found
 

@@ -1,7 +1,7 @@
 """The crates' pages and their examples.
 
 The comment at the head of a crate's root file is its page: what the crate is for, the first call, its words, its limits, and an example.
-Where the crate has a function in `crates/uses`, the example is its body, which is proved and run, and the comments in it tell what is
+Where the crate has a function in `crates/uses`, the example is its body, which is proved and run, and the comments in it say what is
 printed.
 """
 
@@ -47,13 +47,13 @@ def uses(top):
 
 
 def printed(top, examples):
-    """What the comments tell of what is printed, in the order in which the examples are run."""
+    """What the comments say is printed, in the order in which the examples are run."""
     calls = re.findall(r"::use_(\w+)\(", "\n".join(lines_of(os.path.join(top, "crates", "uses", "src", "main.rt"))))
     return [line.strip()[len("// ") :] for crate in calls for line in examples[crate] if line.strip().startswith("// ")]
 
 
 def check(cases, top):
-    """Each crate of the program has a page, whose example is one that is run, and prints what it tells."""
+    """Each crate of the program has a page, whose example is one that is run, and prints what it says."""
     examples = uses(top)
     fewest, most = LINES_OF_PAGES
     for crate in products(top):
@@ -63,4 +63,4 @@ def check(cases, top):
         cases.check(f"the page of {crate}: its example is that of crates/uses", examples.get(crate, example), example)
     cases.check("each example of crates/uses is of a crate", set(), set(examples) - set(products(top)))
     awaited = lines_of(os.path.join(top, "crates", "uses", "stdout"))[:-1]
-    cases.check("the comments of crates/uses tell what it prints", awaited, printed(top, examples))
+    cases.check("the comments of crates/uses say what it prints", awaited, printed(top, examples))

@@ -44,8 +44,7 @@ How to read them:
 
 - A text is a list of numbers, the codes of its characters (Unicode scalar values). Offsets count characters, from 0. Lengths and counts
   are numbers without bound.
-- `t[a..b]` is a part of a list. A *prefix* of a list may be empty or the whole list; names such as `IsFront` and `AppendsFront` say
-  *front* for it, and names with `behind` mean *after*.
+- `t[a..b]` is a part of a list. A *prefix* of a list may be empty or the whole list.
 - A name that begins with a capital letter is a fact, which holds or not, as `IsText`, or a type of data, as `Token`; a name in small
   letters is a value that computes. `IsTree g t s` reads "`t` is a tree of `g` with root `s`".
 - `×` is "and", `⊎` "or", `→` "for every" or "implies", `(x : A) × P` "there is an `x` such that `P`", `¬` "not".
@@ -80,9 +79,9 @@ def escaped(text):
 def row(module, name, mark):
     """The row of a definition: its name with its arguments, and what its comment says."""
     comment = module.comments[name]
-    told = re.match(rf"`({re.escape(name)}(?: [^`]*)?)`: ", comment)
-    head = told[1] if told else with_arguments(name, module.definitions[name])
-    meaning = comment[told.end() :] if told else comment
+    shown = re.match(rf"`({re.escape(name)}(?: [^`]*)?)`: ", comment)
+    head = shown[1] if shown else with_arguments(name, module.definitions[name])
+    meaning = comment[shown.end() :] if shown else comment
     return f"| `{escaped(head)}`{mark} | {escaped(meaning)} |"
 
 
@@ -114,7 +113,7 @@ def modules_of(top, crate):
     return re.findall(r"^pub mod (\w+)", "\n".join(lines_of(path)), re.M) if os.path.exists(path) else []
 
 
-def told_in(module):
+def commented_in(module):
     """The public definitions of a file that have a comment."""
     return [name for name, lines in module.definitions.items() if module.comments[name] and PUBLIC.match(lines[0])]
 
@@ -136,7 +135,7 @@ def second_part(top, definitions, rest):
         files = []
         for name in modules_of(top, crate):
             module = definitions.modules[crate, name]
-            names = [it for it in told_in(module) if (crate, name, it) not in rest]
+            names = [it for it in commented_in(module) if (crate, name, it) not in rest]
             head = [] if (crate, name) in seen else about(module)
             files += [f"### {link(crate, name)}", "", *head, *rows_of(module, names, "")] if names else []
         lines += [f"## `{crate}`", "", *files] if files else []

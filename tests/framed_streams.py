@@ -1,6 +1,6 @@
 """Streams of bytes that `lrls serve` reads, the contents that it writes of their frames, and the fault that ends them, or none.
 
-No content here is a message: the reply tells whether it is JSON.
+No content here is a message: the reply shows whether it is JSON.
 """
 
 from messages import INVALID, PARSE_ERROR

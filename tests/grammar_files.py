@@ -1,8 +1,8 @@
 """Grammar files, and what is printed of them.
 
-`SOUND` are accepted. `FAULTY` tell their first fault. `READ` are grammar files whose productions have a conflict: so their
+`SOUND` are accepted. `FAULTY` are reported with their first fault. `READ` are grammar files whose productions have a conflict: so their
 lines and names are sound, which is what a row shows. `CONFLICTS` have one on a certain token; what is printed of them has to be
-true, by tests/conflicts.py. `FRONTS` are what one file shows where it is cut.
+true, by tests/conflicts.py. `PREFIXES` are what one file shows where it is cut.
 """
 
 ONE = "lrgrammar 1\n"
@@ -41,12 +41,12 @@ def rules(count, name):
 
 
 def nonterminals(count, last):
-    """A file of so many nonterminals, and behind them these lines."""
+    """A file of so many nonterminals, and after them these lines."""
     return TWO + 'token X = "x"\nstart S0\n' + lines(count, lambda n: f"S{n} =\n") + last
 
 
 def productions(first, count, last):
-    """A file of so many productions of one nonterminal, of at most 1,056, and behind them these lines."""
+    """A file of so many productions of one nonterminal, of at most 1,056, and after them these lines."""
     pairs = lines(count, lambda n: f"S = T{n // 32} T{n % 32}\n")
     return first + "start S\n" + rules(33, "T") + pairs + last
 
@@ -141,7 +141,7 @@ FAULTY = [
     (ONE + 'token X = "x"\nstart S\nfold X\nS = X\n', "line 4: G8 not a nonterminal: X"),
     (ONE + 'token X = "x"\nstart A\nA = A X\n', "line 4: G9 unproductive: A"),
     (ONE + "skip W = [ ]+\nstart S\nS = W\n", "line 4: G10 skip token in a production: W"),
-    # marks stand on right sides alone, one behind a name
+    # marks stand on right sides alone, one after a name
     (TWO + "S = A**\n", "line 2: G2 bad line"),
     (TWO + "S = A*+\n", "line 2: G2 bad line"),
     (TWO + "S = *A\n", "line 2: G2 bad line"),
@@ -154,14 +154,14 @@ FAULTY = [
     (ONE + "S = A*\n", "line 2: G2 bad line"),
     (ONE + "S = A+\n", "line 2: G2 bad line"),
     (ONE + "S = A?\n", "line 2: G2 bad line"),
-    # names are told without their marks
+    # names are printed without their marks
     (HEAD + "S = A*\nS = A*\n", "line 6: G3 defined twice: S"),
     (HEAD + "S = end*\n", "line 5: G5 reserved: end"),
     (HEAD + "S = C? invalid+\n", "line 5: G5 reserved: invalid"),
     (HEAD + "S = end?\nS = end?\n", "line 5: G5 reserved: end"),
     (HEAD + "S = A* C+ D\n", "line 5: G4 undefined: C"),
     (SKIPS, "line 4: G10 skip token in a production: W"),
-    # marked words stand behind what the lines define
+    # marked words stand after what the lines define
     (HEAD + "S = T+\nT = T A\n", "line 5: G9 unproductive: S"),
     (HEAD + "S = T*\nT = U+\nU = U A\n", "line 6: G9 unproductive: T"),
     # limits
@@ -243,7 +243,7 @@ def one_character(number, name, character):
 
 # The pieces of grammars/g0.lr, and what is printed of the file where it ends anywhere in a piece, after its first byte. `None` stands
 # for a conflict on PLUS.
-FRONTS = [
+PREFIXES = [
     ("lrgrammar ", "lrls: line 1: G1 first line\n"),
     ("1\n", NO_START),
     ("token NUM ", bad_line(2)),
@@ -294,11 +294,11 @@ FRONTS = [
 ]
 
 
-def fronts():
-    """Each front of grammars/g0.lr, and what is printed of it."""
-    front = ""
-    yield front, FRONTS[0][1]
-    for piece, printed in FRONTS:
+def prefixes():
+    """Each prefix of grammars/g0.lr, and what is printed of it."""
+    prefix = ""
+    yield prefix, PREFIXES[0][1]
+    for piece, printed in PREFIXES:
         for letter in piece:
-            front += letter
-            yield front, printed
+            prefix += letter
+            yield prefix, printed

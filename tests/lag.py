@@ -35,7 +35,7 @@ FUNCTION = """fn part_{}(left, right) {{
 }}
 
 """
-# None of these is drawn by anything but a key: not by the file, nor by what an editor tells below it.
+# None of these is drawn by anything but a key: not by the file, nor by what an editor reports below it.
 LETTERS = "GHJKMNQVXYZ"
 # How many times the letters are typed, in each of the two ways.
 ROUNDS = 5
@@ -137,8 +137,8 @@ def measured(name, terminal, quiet, rubout, has_colours):
         if len(drawings) < len(found) or has_colours and way == "alone" and len(colours) < len(found):
             return None, [f"{name}: of {len(found)} letters {len(drawings)} were drawn, and {len(colours)} in colour"]
         medians.append(statistics.median(drawings))
-        told = f", in colour after {summary(colours)}" if has_colours and way == "alone" else ""
-        print(f"{name}: {len(found)} keys {way}: drawn after {summary(drawings)}{told}", flush=True)
+        reported = f", in colour after {summary(colours)}" if has_colours and way == "alone" else ""
+        print(f"{name}: {len(found)} keys {way}: drawn after {summary(drawings)}{reported}", flush=True)
     return medians, []
 
 

@@ -9,7 +9,7 @@ import re
 
 HEAD = 'lrgrammar 2\ntoken A = "a"\ntoken B = "b"\nstart S\n'
 
-# A production behind the head, a text, what is printed of it, and the status.
+# A production after the head, a text, what is printed of it, and the status.
 ROWS = [
     ("S = A* B?", "aab", "(S (A* (A* (A*) A) A) (B? B))", 0),
     ("S = A* B?", "", "(S (A*) (B?))", 0),

@@ -1,6 +1,6 @@
 """Contents that `lrls serve` reads, and the contents that it writes of them.
 
-What a content is heard as shows in what is written of it, and in what is written of `ASK`, which stands behind it. `FIRST` are
+What a content is read as shows in what is written of it, and in what is written of `ASK`, which stands after it. `FIRST` are
 sent before anything else. `OPEN` are sent where `a:x` is open, has the version 1 and is `1+2`. `LISTS`, `SUMS` and `large_sums`
 ask about other texts, and `long_sessions` have more messages. All that is written is compared to the byte.
 """
@@ -32,13 +32,13 @@ def error(code, text, name):
 
 def capabilities(name, unit):
     sync = '"textDocumentSync":{"change":2,"openClose":true}'
-    told = f'"foldingRangeProvider":true,"positionEncoding":"{unit}","selectionRangeProvider":true,{sync}'
-    return result(name, '{"capabilities":{%s}}' % told)
+    reported = f'"foldingRangeProvider":true,"positionEncoding":"{unit}","selectionRangeProvider":true,{sync}'
+    return result(name, '{"capabilities":{%s}}' % reported)
 
 
 def published(version, diagnostic="", uri="a:x"):
-    told = f'"diagnostics":[{diagnostic}],"uri":"{uri}","version":{version}'
-    return notice("textDocument/publishDiagnostics", "{%s}" % told)
+    reported = f'"diagnostics":[{diagnostic}],"uri":"{uri}","version":{version}'
+    return notice("textDocument/publishDiagnostics", "{%s}" % reported)
 
 
 def log(text):
@@ -52,8 +52,8 @@ def on_line(first, last):
 
 def missed(place):
     """The fault of a sum that ends at this character, before a number."""
-    told = f'"message":"unexpected end; expected NUM, LP","range":{on_line(place, place)},"severity":1,"source":"lrls"'
-    return "{%s}" % told
+    reported = f'"message":"unexpected end; expected NUM, LP","range":{on_line(place, place)},"severity":1,"source":"lrls"'
+    return "{%s}" % reported
 
 
 CLEARED = notice("textDocument/publishDiagnostics", '{"diagnostics":[],"uri":"a:x"}')
@@ -127,9 +127,9 @@ def named(name):
     return message(f'"id":{name},"method":"$/x"')
 
 
-def each(contents, written, behind=KEPT):
+def each(contents, written, after=KEPT):
     """Each of these contents is answered so."""
-    return [(content, written, behind) for content in contents]
+    return [(content, written, after) for content in contents]
 
 
 INITIALIZE = request("initialize", "{}", 1)
@@ -150,7 +150,7 @@ UNITS = [
     ('{"positionEncodings":["utf-8"]}', "utf-16"),
 ]
 
-# A content, what is written of it, and what is written of `ASK` behind it.
+# A content, what is written of it, and what is written of `ASK` after it.
 FIRST = [
     *[(request("initialize", params, 1), [capabilities(1, unit)], IS_READY) for params, unit in UNITS],
     (request("initialize", "{}"), [capabilities(4, "utf-16")], IS_READY),
@@ -244,7 +244,7 @@ OPENINGS = [
     ),
 ]
 
-# Changes that follow one another from the empty text on, and the text behind each of them.
+# Changes that follow one another from the empty text on, and the text after each of them.
 FOLLOWING = [
     (put("12", (0, 0), (0, 0)), "12"),
     (put("", (0, 0), (0, 1)), "2"),
@@ -375,10 +375,10 @@ def long_sessions():
 def sessions():
     """Each session: its name, its grammar file, and its contents, each with the contents that are written of it."""
     begin = (INITIALIZE, [capabilities(1, "utf-16")])
-    for content, written, behind in FIRST:
-        yield f"first {content}", grammar_files.SUMS, [(content, written), (ASK, behind)]
-    for content, written, behind in OPEN:
-        talk = [begin, (opened("a:x", "1+2"), [published(1)]), (content, written), (ASK, behind)]
+    for content, written, after in FIRST:
+        yield f"first {content}", grammar_files.SUMS, [(content, written), (ASK, after)]
+    for content, written, after in OPEN:
+        talk = [begin, (opened("a:x", "1+2"), [published(1)]), (content, written), (ASK, after)]
         yield str(content), grammar_files.SUMS, talk
     sums = [(grammar_files.SUMS, *row) for row in [*SUMS, *large_sums()]]
     for grammar, text, fault, content, reply in [*sums, *[(grammar_files.LISTS, *row) for row in LISTS]]:
@@ -388,6 +388,6 @@ def sessions():
 
 
 def frames(contents):
-    """The frames of these contents, one behind the other."""
+    """The frames of these contents, one after another."""
     encoded = [content if isinstance(content, bytes) else content.encode() for content in contents]
     return b"".join(b"Content-Length: %d\r\n\r\n%s" % (len(content), content) for content in encoded)

@@ -11,8 +11,8 @@ def change(first, last, text):
 
 
 def published(version, diagnostics):
-    told = {"diagnostics": diagnostics, "uri": URI, "version": version}
-    return {"jsonrpc": "2.0", "method": "textDocument/publishDiagnostics", "params": told}
+    reported = {"diagnostics": diagnostics, "uri": URI, "version": version}
+    return {"jsonrpc": "2.0", "method": "textDocument/publishDiagnostics", "params": reported}
 
 
 EMPTY_RANGE = {"end": {"character": 0, "line": 0}, "start": {"character": 0, "line": 0}}
@@ -120,13 +120,13 @@ def outputs(session):
     for place, (message, _) in enumerate(session):
         if message["method"] != "textDocument/didChange":
             continue
-        told = [answer for _, answer in session[:place]]
-        told.append(note("textDocument/publishDiagnostics", {"diagnostics": [], "uri": URI}))
-        told.append(note("window/logMessage", {"message": LOSS, "type": 1}))
+        reported = [answer for _, answer in session[:place]]
+        reported.append(note("textDocument/publishDiagnostics", {"diagnostics": [], "uri": URI}))
+        reported.append(note("window/logMessage", {"message": LOSS, "type": 1}))
         for later, answer in session[place + 1 :]:
             if later["method"] == "textDocument/didChange":
                 answer = None
             elif "textDocument" in later.get("params", {}):
                 answer = {"error": {"code": -32803, "message": LOSS}, "id": later["id"], "jsonrpc": "2.0"}
-            told += [] if answer is None else [answer]
-        yield written(told)
+            reported += [] if answer is None else [answer]
+        yield written(reported)

@@ -193,10 +193,10 @@ class Page:
         (message,) = codes(message)
         self.printed.add(message)
         out, err, status = self.checked(text)
-        told = re.fullmatch(r"lrls: (?:line (\d+): )?(.*)", err.split("\n", 1)[0])
-        number, told = told.groups() if told else (None, err)
+        reported = re.fullmatch(r"lrls: (?:line (\d+): )?(.*)", err.split("\n", 1)[0])
+        number, reported = reported.groups() if reported else (None, err)
         is_there = number is None or first <= int(number) <= text.count("\n")
-        yield what, ("", message, True, 2), (out, told, is_there, status)
+        yield what, ("", message, True, 2), (out, reported, is_there, status)
 
     def sound(self, what, text):
         """A grammar file is accepted."""

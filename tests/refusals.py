@@ -180,7 +180,7 @@ def refuse(loaded, folder, row):
 
 def results(folder):
     """Of each row its name, how many allocations it makes, the counts of the ends that are allowed, and what was wrong: other ends,
-    and that no allocation was told of or lost a document."""
+    and that no allocation was reported or lost a document."""
     loaded = library(folder)
     for row in rows(folder):
         count, ends = refuse(loaded, folder, row)

@@ -1,7 +1,7 @@
 """What a reader of the theorem has to believe, counted from the files, and what the pages say of it.
 
 The words of the theorem are the names from `specs/` in the clauses of `server::run`. They rest on other definitions, and these on
-others: each of them has a comment, from which tests/definitions.py writes docs/DEFINITIONS.md, and docs/THEOREM.md has to tell their
+others: each of them has a comment, from which tests/definitions.py writes docs/DEFINITIONS.md, and docs/THEOREM.md has to give their
 number.
 """
 
@@ -89,11 +89,11 @@ def check(cases, top):
     files = len({key[:2] for key in rest})
     said = re.search(r"rests on (\d+) definitions in (\d+) files of `specs/`, ([\d,]+) lines", theorem)
     awaited = (str(len(rest)), str(files), f"{definitions.lines(rest):,}")
-    cases.check("docs/THEOREM.md tells what `run` rests on", awaited, said and said.groups())
+    cases.check("docs/THEOREM.md says what `run` rests on", awaited, said and said.groups())
     edits = re.findall(r"(\d+) files", theorem)
-    cases.check("docs/THEOREM.md tells the number of wrong edits", True, str(wrong_edits(top)) in edits)
-    told = re.findall(r"^\|.*\| ([\d,]+) \|$", theorem, re.M)
-    cases.check("docs/THEOREM.md tells the lines of the crates", sizes(top), told)
+    cases.check("docs/THEOREM.md gives the number of wrong edits", True, str(wrong_edits(top)) in edits)
+    reported = re.findall(r"^\|.*\| ([\d,]+) \|$", theorem, re.M)
+    cases.check("docs/THEOREM.md gives the lines of the crates", sizes(top), reported)
     cases.check("no line of a contract is too wide", [], wide_clauses(top))
     cases.check("no line of a definition is too wide", [], wide_definitions(top))
     cases.check("README.md has at most 1,800 words", True, len(page(top, "README.md").split()) <= 1_800)

@@ -92,21 +92,21 @@ def some_keys(choice, commands, before, modes):
 
 def session(name, screen, folder, minutes, some, compare, restart):
     """Presses what `some` chooses for so long, and compares at each minute. `restart` empties a text that has become long."""
-    choice, begun, told = random.Random(SEED), time.time(), None
+    choice, begun, reported = random.Random(SEED), time.time(), None
     for minute in range(1, round(minutes) + 1):
         keys = []
         while len(keys) < KEYS_A_MINUTE:
             keys += some(choice)
         for first in range(0, len(keys), 50):
             screen.press(*keys[first : first + 50])
-        told = compared(screen, folder, compare)
-        if not told or told["editor"] != told["server"]:
-            return [f"after {minute} minutes: {told or screen.text()}"]
-        if len(told["editor"]) > 3000:
+        reported = compared(screen, folder, compare)
+        if not reported or reported["editor"] != reported["server"]:
+            return [f"after {minute} minutes: {reported or screen.text()}"]
+        if len(reported["editor"]) > 3000:
             screen.press(*restart)
     keys, seconds = minute * KEYS_A_MINUTE, time.time() - begun
-    print(f"{name}: {keys} keys at random in {seconds:.0f} s, changes up to number {told['changes']}")
-    print(f"{name}: the last text has {len(told['editor'])} characters, and the server has the same")
+    print(f"{name}: {keys} keys at random in {seconds:.0f} s, changes up to number {reported['changes']}")
+    print(f"{name}: the last text has {len(reported['editor'])} characters, and the server has the same")
     return []
 
 

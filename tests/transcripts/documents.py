@@ -1,4 +1,4 @@
-"""Documents that are opened and changed: their texts and what is told of their faults."""
+"""Documents that are opened and changed: their texts and what is reported of their faults."""
 
 from transcripts.talks import filled, served
 
@@ -21,7 +21,7 @@ FIRST_FAULTS = {
 > {"jsonrpc":"2.0","id":2,"method":"lr/tree","params":{"textDocument":{"uri":"a:x"}}}
 < {"id":2,"jsonrpc":"2.0","result":null}
 """,
-    "nothing is told of what follows the fault": r"""
+    "nothing is reported of what follows the fault": r"""
 > {"jsonrpc":"2.0","method":"textDocument/didOpen","params":{"textDocument":{"uri":"a:x","languageId":"g","version":1,"text":"1+?+"}}}
 < {"jsonrpc":"2.0","method":"textDocument/publishDiagnostics","params":{"diagnostics":[{"message":"unexpected invalid; expected NUM, LP","range":{"end":{"character":3,"line":0},"start":{"character":2,"line":0}},"severity":1,"source":"lrls"}],"uri":"a:x","version":1}}
 """,
@@ -83,7 +83,7 @@ EDITS = {
 > {"jsonrpc":"2.0","id":2,"method":"lr/text","params":{"textDocument":{"uri":"a:x"}}}
 < {"id":2,"jsonrpc":"2.0","result":{"text":"1 2","version":5}}
 """,
-    "a range whose start is behind its end, and a line past the last one": r"""
+    "a range whose start is after its end, and a line past the last one": r"""
 > {"jsonrpc":"2.0","method":"textDocument/didOpen","params":{"textDocument":{"uri":"a:x","languageId":"g","version":1,"text":"1+2"}}}
 < {"jsonrpc":"2.0","method":"textDocument/publishDiagnostics","params":{"diagnostics":[],"uri":"a:x","version":1}}
 > {"jsonrpc":"2.0","method":"textDocument/didChange","params":{"textDocument":{"uri":"a:x","version":2},"contentChanges":[{"range":{"start":{"line":0,"character":3},"end":{"line":0,"character":1}},"text":""}]}}
@@ -109,7 +109,7 @@ TWO_UNITS = {
 > {"jsonrpc":"2.0","id":2,"method":"lr/text","params":{"textDocument":{"uri":"a:x"}}}
 < {"id":2,"jsonrpc":"2.0","result":{"text":"5@1","version":2}}
 """,
-    "a place behind it": r"""
+    "a place after it": r"""
 > {"jsonrpc":"2.0","method":"textDocument/didOpen","params":{"textDocument":{"uri":"a:x","languageId":"g","version":1,"text":"@1"}}}
 < {"jsonrpc":"2.0","method":"textDocument/publishDiagnostics","params":{"diagnostics":[{"message":"unexpected invalid; expected NUM, LP","range":{"end":{"character":2,"line":0},"start":{"character":0,"line":0}},"severity":1,"source":"lrls"}],"uri":"a:x","version":1}}
 > {"jsonrpc":"2.0","method":"textDocument/didChange","params":{"textDocument":{"uri":"a:x","version":2},"contentChanges":[{"range":{"start":{"line":0,"character":2},"end":{"line":0,"character":2}},"text":"5"}]}}
@@ -117,7 +117,7 @@ TWO_UNITS = {
 > {"jsonrpc":"2.0","id":2,"method":"lr/text","params":{"textDocument":{"uri":"a:x"}}}
 < {"id":2,"jsonrpc":"2.0","result":{"text":"@51","version":2}}
 """,
-    "what stands behind it is deleted": r"""
+    "what stands after it is deleted": r"""
 > {"jsonrpc":"2.0","method":"textDocument/didOpen","params":{"textDocument":{"uri":"a:x","languageId":"g","version":1,"text":"@1"}}}
 < {"jsonrpc":"2.0","method":"textDocument/publishDiagnostics","params":{"diagnostics":[{"message":"unexpected invalid; expected NUM, LP","range":{"end":{"character":2,"line":0},"start":{"character":0,"line":0}},"severity":1,"source":"lrls"}],"uri":"a:x","version":1}}
 > {"jsonrpc":"2.0","method":"textDocument/didChange","params":{"textDocument":{"uri":"a:x","version":2},"contentChanges":[{"range":{"start":{"line":0,"character":2},"end":{"line":0,"character":3}},"text":""}]}}
@@ -125,7 +125,7 @@ TWO_UNITS = {
 > {"jsonrpc":"2.0","id":2,"method":"lr/text","params":{"textDocument":{"uri":"a:x"}}}
 < {"id":2,"jsonrpc":"2.0","result":{"text":"@","version":2}}
 """,
-    "it is inserted, and then a letter behind it": r"""
+    "it is inserted, and then a letter after it": r"""
 > {"jsonrpc":"2.0","method":"textDocument/didOpen","params":{"textDocument":{"uri":"a:x","languageId":"g","version":1,"text":""}}}
 < {"jsonrpc":"2.0","method":"textDocument/publishDiagnostics","params":{"diagnostics":[{"message":"unexpected end; expected NUM, LP","range":{"end":{"character":0,"line":0},"start":{"character":0,"line":0}},"severity":1,"source":"lrls"}],"uri":"a:x","version":1}}
 > {"jsonrpc":"2.0","method":"textDocument/didChange","params":{"textDocument":{"uri":"a:x","version":2},"contentChanges":[{"range":{"start":{"line":0,"character":0},"end":{"line":0,"character":0}},"text":"@"}]}}
@@ -139,7 +139,7 @@ TWO_UNITS = {
 
 
 def sessions():
-    yield from served("the first fault is told", FIRST_FAULTS)
+    yield from served("the first fault is reported", FIRST_FAULTS)
     yield from served("faults follow the edits", FAULTS_BEHIND_EDITS)
     yield from served("texts are edited", EDITS)
     for character in ["\U0001f600", "\U00010000", "\U0010ffff"]:

@@ -127,7 +127,7 @@ EARLY = {
 }
 
 LATE = {
-    "nothing is logged behind shutdown": r"""
+    "nothing is logged after shutdown": r"""
 > {"jsonrpc":"2.0","id":1,"method":"initialize","params":{}}
 < {"id":1,"jsonrpc":"2.0","result":{"capabilities":{"foldingRangeProvider":true,"positionEncoding":"utf-16","selectionRangeProvider":true,"textDocumentSync":{"change":2,"openClose":true}}}}
 > {"jsonrpc":"2.0","method":"textDocument/didOpen","params":{"textDocument":{"uri":"a:y","languageId":"g","version":1,"text":"1"}}}

@@ -31,7 +31,7 @@ ROOM_FOR_ONE = {
 
 # Each `@` stands for 1,048,576 digits, as many as a text may have.
 FULL = {
-    "a text of the greatest length is held, and is no more behind a change that is refused": r"""
+    "a text of the greatest length is held, and is no more after a change that is refused": r"""
 > {"jsonrpc":"2.0","method":"textDocument/didOpen","params":{"textDocument":{"uri":"a:x","languageId":"g","version":1,"text":"@"}}}
 < {"jsonrpc":"2.0","method":"textDocument/publishDiagnostics","params":{"diagnostics":[],"uri":"a:x","version":1}}
 > {"jsonrpc":"2.0","id":2,"method":"lr/text","params":{"textDocument":{"uri":"a:x"}}}
@@ -263,7 +263,7 @@ BEHIND_64 = {
 
 # The `@` stands for 1,048,577 digits, one more than a text may have.
 LARGE_BEHIND_64 = {
-    "that there is no room is told before the size of a text": r"""
+    "that there is no room is reported before the size of a text": r"""
 > {"jsonrpc":"2.0","method":"textDocument/didOpen","params":{"textDocument":{"uri":"a:x","languageId":"g","version":1,"text":"@"}}}
 < {"jsonrpc":"2.0","method":"window/logMessage","params":{"message":"didOpen: too many documents","type":1}}
 > {"jsonrpc":"2.0","id":2,"method":"lr/text","params":{"textDocument":{"uri":"a:x"}}}
@@ -277,13 +277,13 @@ def digits(count):
 
 
 def behind_64(talks):
-    """These transcripts behind one that opens 64 documents."""
+    """These transcripts after one that opens 64 documents."""
     opened = "".join(OPENED.replace("@", str(number)) for number in range(64))
     return {name: opened + talk for name, talk in talks.items()}
 
 
 def greatest_content():
-    """`initialize` in a content of 16,777,216 bytes, with blanks behind it."""
+    """`initialize` in a content of 16,777,216 bytes, with blanks after it."""
     return f"> {INITIALIZE.ljust(16_777_216)}\n< {capabilities(1, 'utf-16')}\n"
 
 

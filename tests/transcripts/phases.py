@@ -34,7 +34,7 @@ PHASES = {
 }
 
 DOWN = {
-    "nothing but exit is served behind shutdown": r"""
+    "nothing but exit is served after shutdown": r"""
 > {"jsonrpc":"2.0","id":1,"method":"initialize","params":{}}
 < {"id":1,"jsonrpc":"2.0","result":{"capabilities":{"foldingRangeProvider":true,"positionEncoding":"utf-16","selectionRangeProvider":true,"textDocumentSync":{"change":2,"openClose":true}}}}
 > {"jsonrpc":"2.0","id":3,"method":"shutdown"}
@@ -49,7 +49,7 @@ DOWN = {
 }
 
 LEFT = {
-    "nothing is read behind exit": r"""
+    "nothing is read after exit": r"""
 > {"jsonrpc":"2.0","id":1,"method":"initialize","params":{}}
 < {"id":1,"jsonrpc":"2.0","result":{"capabilities":{"foldingRangeProvider":true,"positionEncoding":"utf-16","selectionRangeProvider":true,"textDocumentSync":{"change":2,"openClose":true}}}}
 > {"jsonrpc":"2.0","method":"exit"}

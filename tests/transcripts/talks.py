@@ -15,7 +15,7 @@ def talked(test, talks, status, grammar=SUMS):
 
 
 def served(test, talks, grammar=SUMS):
-    """The same behind an accepted `initialize`, up to the end of the input."""
+    """The same after an accepted `initialize`, up to the end of the input."""
     begun = {name: BEGINNING + talk for name, talk in talks.items()}
     return talked(test, begun, 1, grammar)
 

@@ -16,7 +16,7 @@ fn split(rt: &impl Abort, alloc: Global, line: &str) -> Vec<String> {
 }
 
 /// What is asked for: the command, and the paths that it names.
-fn told(alloc: Global, task: &Task) -> Result<String, AllocError> {
+fn shown(alloc: Global, task: &Task) -> Result<String, AllocError> {
     match task {
         Task::Check(path) => format!(in alloc; "check of {path}"),
         Task::Parse(grammar, text) => format!(in alloc; "parse by {grammar} of {text}"),
@@ -30,8 +30,8 @@ fn asks(rt: &impl Abort, alloc: Global, line: &str, wanted: &str) {
     let task = words(alloc, &given)
         .expect(rt, "words")
         .expect(rt, "a task");
-    let told = told(alloc, &task).expect(rt, "memory");
-    assert!(rt; told.as_str() == wanted);
+    let shown = shown(alloc, &task).expect(rt, "memory");
+    assert!(rt; shown.as_str() == wanted);
 }
 
 #[test]

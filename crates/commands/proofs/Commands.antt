@@ -221,26 +221,26 @@ rows_on s w after word rest e = ap (λ v. rows_from s v rest) e
 
 -- the words that are left come to one path in all, or are refused
 abbrev pub OneDone : Text → Walk → List Text → Option (List Text) → Type 0
-OneDone name w words told =
-    ((g : Text) × (told ≡ Some (g ∷ [])) × (rest_fault (built_one name) w words ≡ []) × (grammar_in (rows_from (built_one name) w words) ≡ Some g))
-    ⊎ ((rest_fault (built_one name) w words ≡ [] → ⊥) × ((g : Text) → told ≡ Some (g ∷ []) → ⊥))
+OneDone name w words shown =
+    ((g : Text) × (shown ≡ Some (g ∷ [])) × (rest_fault (built_one name) w words ≡ []) × (grammar_in (rows_from (built_one name) w words) ≡ Some g))
+    ⊎ ((rest_fault (built_one name) w words ≡ [] → ⊥) × ((g : Text) → shown ≡ Some (g ∷ []) → ⊥))
 
 abbrev pub TwoDone : Walk → List Text → Option (List Text) → Type 0
-TwoDone w words told =
-    ((g : Text) × (x : Text) × (told ≡ Some (g ∷ x ∷ [])) × (rest_fault built_two w words ≡ []) × (grammar_in (rows_from built_two w words) ≡ Some g) × (text_in (rows_from built_two w words) ≡ Some x))
-    ⊎ ((rest_fault built_two w words ≡ [] → ⊥) × ((g x : Text) → told ≡ Some (g ∷ x ∷ []) → ⊥))
+TwoDone w words shown =
+    ((g : Text) × (x : Text) × (shown ≡ Some (g ∷ x ∷ [])) × (rest_fault built_two w words ≡ []) × (grammar_in (rows_from built_two w words) ≡ Some g) × (text_in (rows_from built_two w words) ≡ Some x))
+    ⊎ ((rest_fault built_two w words ≡ [] → ⊥) × ((g x : Text) → shown ≡ Some (g ∷ x ∷ []) → ⊥))
 
-one_on : (name : Text) (w after : Walk) (word : Text) (rest : List Text) (told now : Option (List Text)) → turn_fault (built_one name) [] w word ≡ [] → walked (built_one name).rules [] w word ≡ after
-    → told ≡ now → OneDone name after rest now → OneDone name w (word ∷ rest) told
-one_on name w after word rest told now e f same (inl d) = inl (d.0, same ∙ d.1, step_on (built_one name) w after word rest e f ∙ d.2, ap grammar_in (rows_on (built_one name) w after word rest f) ∙ d.3)
-one_on name w after word rest told now e f same (inr d) = inr ((λ h. d.0 (sym (step_on (built_one name) w after word rest e f) ∙ h)), (λ g h. d.1 g (sym same ∙ h)))
+one_on : (name : Text) (w after : Walk) (word : Text) (rest : List Text) (shown now : Option (List Text)) → turn_fault (built_one name) [] w word ≡ [] → walked (built_one name).rules [] w word ≡ after
+    → shown ≡ now → OneDone name after rest now → OneDone name w (word ∷ rest) shown
+one_on name w after word rest shown now e f same (inl d) = inl (d.0, same ∙ d.1, step_on (built_one name) w after word rest e f ∙ d.2, ap grammar_in (rows_on (built_one name) w after word rest f) ∙ d.3)
+one_on name w after word rest shown now e f same (inr d) = inr ((λ h. d.0 (sym (step_on (built_one name) w after word rest e f) ∙ h)), (λ g h. d.1 g (sym same ∙ h)))
 
-two_on : (w after : Walk) (word : Text) (rest : List Text) (told now : Option (List Text)) → turn_fault built_two [] w word ≡ [] → walked built_two.rules [] w word ≡ after
-    → told ≡ now → TwoDone after rest now → TwoDone w (word ∷ rest) told
-two_on w after word rest told now e f same (inl d) =
+two_on : (w after : Walk) (word : Text) (rest : List Text) (shown now : Option (List Text)) → turn_fault built_two [] w word ≡ [] → walked built_two.rules [] w word ≡ after
+    → shown ≡ now → TwoDone after rest now → TwoDone w (word ∷ rest) shown
+two_on w after word rest shown now e f same (inl d) =
     let rows = rows_on built_two w after word rest f in
     inl (d.0, d.1, same ∙ d.2, step_on built_two w after word rest e f ∙ d.3, ap grammar_in rows ∙ d.4, ap text_in rows ∙ d.5)
-two_on w after word rest told now e f same (inr d) = inr ((λ h. d.0 (sym (step_on built_two w after word rest e f) ∙ h)), (λ g x h. d.1 g x (sym same ∙ h)))
+two_on w after word rest shown now e f same (inr d) = inr ((λ h. d.0 (sym (step_on built_two w after word rest e f) ∙ h)), (λ g x h. d.1 g x (sym same ∙ h)))
 
 map_twice : (f h : List Text → List Text) (o : Option (List Text)) → option_map f (option_map h o) ≡ option_map (λ x. f (h x)) o
 map_twice f h None = refl

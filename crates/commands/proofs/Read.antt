@@ -19,17 +19,17 @@ asked : (task : Option Task) (words : List Text) (name : Text) (ps rest : List T
 asked None words name ps rest is begins names = absurd is
 asked (Some task) words name ps rest is begins names = (rest, begins ∙ ap (λ n. n ∷ rest) (sym is.0), names ∙ ap Some (sym is.1))
 
--- what is told of the matches of a command with one path, and of one with two
-abbrev TellsOne : ArgMatches → Option Task → Type 0
-TellsOne m task = (name g : Text) (rows : List Row) → (name ≡ codes "check") ⊎ (name ≡ codes "serve") → subcommand_rows_of m ≡ Some (name, rows) → grammar_in rows ≡ Some g
+-- the matches of a command with one path, and of one with two, as `clap` returns them
+abbrev ShowsOne : ArgMatches → Option Task → Type 0
+ShowsOne m task = (name g : Text) (rows : List Row) → (name ≡ codes "check") ⊎ (name ≡ codes "serve") → subcommand_rows_of m ≡ Some (name, rows) → grammar_in rows ≡ Some g
     → IsTask task name (g ∷ [])
 
-abbrev TellsTwo : ArgMatches → Option Task → Type 0
-TellsTwo m task = (g x : Text) (rows : List Row) → subcommand_rows_of m ≡ Some (codes "parse", rows) → grammar_in rows ≡ Some g → text_in rows ≡ Some x
+abbrev ShowsTwo : ArgMatches → Option Task → Type 0
+ShowsTwo m task = (g x : Text) (rows : List Row) → subcommand_rows_of m ≡ Some (codes "parse", rows) → grammar_in rows ≡ Some g → text_in rows ≡ Some x
     → IsTask task (codes "parse") (g ∷ x ∷ [])
 
 by_outcome : (words : List Text) (m : ArgMatches) (task : Option Task) → Outcome words → subcommand_rows_of m ≡ subcommand_of lrls (codes "lrls" ∷ words)
-    → fault_of lrls (codes "lrls" ∷ words) ≡ [] → TellsOne m task → TellsTwo m task → IsRead words task
+    → fault_of lrls (codes "lrls" ∷ words) ≡ [] → ShowsOne m task → ShowsTwo m task → IsRead words task
 by_outcome words m task (one_path name g rest rows which begins names found grammar none) same fault one two =
     asked task words name (g ∷ []) rest (one name g rows which (same ∙ found) grammar) begins names
 by_outcome words m task (two_paths g x rest rows begins names found grammar text none) same fault one two =
@@ -38,7 +38,7 @@ by_outcome words m task (refused bad asks) same fault one two = absurd (bad faul
 
 -- of words that clap takes
 pub read_of_taken : (app : App) (line words : List Text) (m : ArgMatches) (task : Option Task) → app ≡ lrls → line ≡ codes "lrls" ∷ words → All IsUtf8 words
-    → HasMatchesOf app line m → fault_of app line ≡ [] → TellsOne m task → TellsTwo m task → IsRead words task
+    → HasMatchesOf app line m → fault_of app line ≡ [] → ShowsOne m task → ShowsTwo m task → IsRead words task
 read_of_taken app line words m task is begins utf8 has fault one two =
     let matches : HasMatchesOf lrls (codes "lrls" ∷ words) m = subst (λ (a : App). HasMatchesOf a (codes "lrls" ∷ words) m) is (subst (λ (l : List Text). HasMatchesOf app l m) begins has) in
     let none : fault_of lrls (codes "lrls" ∷ words) ≡ [] = subst (λ (a : App). fault_of a (codes "lrls" ∷ words) ≡ []) is (subst (λ (l : List Text). fault_of app l ≡ []) begins fault) in

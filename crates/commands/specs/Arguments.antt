@@ -1,11 +1,11 @@
--- The command line as `clap` is told of it, for the proof of `words`.
+-- The command line as `clap` is given it, for the proof of `words`.
 use Rattle.std.specs.Prelude.{◌≡◌, true, List, codes, Option, Some, None}
 use Rattle.clap.specs.Walk.{Row, Rule, Text, first_of}
 use Rattle.clap.specs.Simple.{App, new_app, new_rule, on_top, with_rule, with_subcommand}
 use Rattle.commands.specs.declared.command_line.Task.{Task}
 use Rattle.commands.specs.CommandLines.{command_of, paths_of}
 
--- the rule of a required argument, as `clap` is told it
+-- the rule of a required argument, as `clap` is given it
 abbrev pub required_rule : Text → Rule
 required_rule name = record (new_rule name) { required = true }
 
@@ -21,7 +21,7 @@ two = with_rule (one (codes "parse")) (required_rule (codes "TEXT"))
 abbrev pub alone : App
 alone = on_top (λ s. record s { subcommand_required = true }) (new_app (codes "lrls"))
 
--- the program as `clap` is told it, which wants one of its three commands
+-- the program as `clap` is given it, which wants one of its three commands
 abbrev pub lrls : App
 lrls =
     with_subcommand (with_subcommand (with_subcommand alone (one (codes "check")).top) two.top) (one (codes "serve")).top

@@ -20,8 +20,8 @@ abbrev pub name_bytes : FileGrammar → Symbol → List ℕ
 name_bytes file symbol = encode_utf8_all (symbol_name file symbol)
 
 -- the names of symbols with a space before each
-abbrev pub spaced : FileGrammar → List Symbol → List ℕ
-spaced file symbols = flat_map (λ s. codes " " ++ name_bytes file s) symbols
+abbrev pub names_with_spaces : FileGrammar → List Symbol → List ℕ
+names_with_spaces file symbols = flat_map (λ s. codes " " ++ name_bytes file s) symbols
 
 -- `look_name file look`: the name of a lookahead, or `end`
 abbrev pub look_name : FileGrammar → Option ℕ → List ℕ
@@ -36,8 +36,8 @@ left_name file (Some p) = name_bytes file (Nonterminal (left_of file.grammar p))
 -- `line file left right item`: the line of an item with these sides, with a dot at its place
 abbrev pub line : FileGrammar → List ℕ → List Symbol → Item → List ℕ
 line file left right i =
-    codes "item: " ++ (left ++ (codes " =" ++ (spaced file (take i.at right)
-    ++ (codes " ." ++ (spaced file (drop i.at right) ++ (codes ", " ++ (look_name file i.look ++ codes "\n")))))))
+    codes "item: " ++ (left ++ (codes " =" ++ (names_with_spaces file (take i.at right)
+    ++ (codes " ." ++ (names_with_spaces file (drop i.at right) ++ (codes ", " ++ (look_name file i.look ++ codes "\n")))))))
 
 -- `item_line file item`: the line of an item, with a dot at its place
 abbrev pub item_line : FileGrammar → Item → List ℕ
@@ -47,22 +47,22 @@ item_line file i = line file (left_name file i.production) (side file.grammar i.
 -- which they do, and the two items
 abbrev pub conflict_text : FileGrammar → Conflict → List ℕ
 conflict_text file c =
-    codes "lrls: conflict on " ++ (look_name file c.look ++ (codes "\nafter:" ++ (spaced file c.prefix.items
+    codes "lrls: conflict on " ++ (look_name file c.look ++ (codes "\nafter:" ++ (names_with_spaces file c.prefix.items
     ++ (codes "\n" ++ (item_line file c.first ++ item_line file c.second)))))
 
--- `Tells fault printed`: what is printed of a fault on standard error, with status 2 and nothing on standard output: of a conflict its four
--- lines, of any other its text. Want of memory has no such text
-abbrev pub Tells : LoadFault → Printed → Type 0
-Tells (load.Grammar fault) printed = PrintsFault (Grammar fault) printed
-Tells load.TooManyStates printed = PrintsFault TooManyStates printed
-Tells load.TooManySets printed = PrintsFault TooManySets printed
-Tells (load.Conflict file conflict) printed =
+-- `Reports fault printed`: what is printed of a fault on standard error, with status 2 and nothing on standard output: of a conflict its
+-- four lines, of any other its text. That memory was refused has no such text
+abbrev pub Reports : LoadFault → Printed → Type 0
+Reports (load.Grammar fault) printed = PrintsFault (Grammar fault) printed
+Reports load.TooManyStates printed = PrintsFault TooManyStates printed
+Reports load.TooManySets printed = PrintsFault TooManySets printed
+Reports (load.Conflict file conflict) printed =
     (printed.out.items ≡ []) × (printed.err.items ≡ conflict_text file conflict) × (printed.status ≡ 2)
-Tells load.NoMemory printed = ⊥
+Reports load.NoMemory printed = ⊥
 
 -- what is printed where a grammar file of these bytes defines no language: that it isn't UTF-8, whatever its size, or what its first fault
--- `Tells`
+-- `Reports`
 abbrev pub IsRefused : List ℕ → Printed → Type 0
 IsRefused bytes printed =
     (¬ IsUtf8 bytes × PrintsFault NotUtf8 printed)
-    ⊎ (IsUtf8 bytes × ((fault : LoadFault) × IsLoadFault bytes fault × Tells fault printed))
+    ⊎ (IsUtf8 bytes × ((fault : LoadFault) × IsLoadFault bytes fault × Reports fault printed))

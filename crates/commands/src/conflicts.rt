@@ -3,7 +3,7 @@
 ghost use Rattle.std.specs.Prelude.{◌≡◌, ◌<◌, ◌≤◌, IfOk, IfSome, length, string_bytes};
 ghost use Rattle.tables.specs.Reports.{IsReport};
 ghost use Rattle.tables.specs.Sets.{side};
-ghost use Rattle.commands.specs.Conflicts.{conflict_text, item_line, line, look_name, name_bytes, spaced};
+ghost use Rattle.commands.specs.Conflicts.{conflict_text, item_line, line, look_name, name_bytes, names_with_spaces};
 
 use definitions::{Kind, Symbol};
 use grammar::Grammar;
@@ -32,8 +32,12 @@ fn look_name(grammar: &Grammar, look: Option<usize>) -> &str
 }
 
 /// The names of symbols, a space before each.
-fn spaced(alloc: Global, grammar: &Grammar, symbols: &[Symbol]) -> Result<String, AllocError>
-    ensures { IfOk result (λ text. string_bytes text ≡ spaced grammar.now symbols.now) }
+fn names_with_spaces(
+    alloc: Global,
+    grammar: &Grammar,
+    symbols: &[Symbol],
+) -> Result<String, AllocError>
+    ensures { IfOk result (λ text. string_bytes text ≡ names_with_spaces grammar.now symbols.now) }
 {
     let mut text = String::new(alloc);
     for symbol in symbols {
@@ -55,8 +59,8 @@ fn line(
     ensures { IfOk result (λ text.
         string_bytes text ≡ line grammar.now left.now right.now item) }
 {
-    let before = spaced(alloc, grammar, &right[..item.at])?;
-    let after = spaced(alloc, grammar, &right[item.at..])?;
+    let before = names_with_spaces(alloc, grammar, &right[..item.at])?;
+    let after = names_with_spaces(alloc, grammar, &right[item.at..])?;
     let look = look_name(grammar, item.look);
     format!(in alloc; "item: {left} ={before} .{after}, {look}\n")
 }
@@ -80,7 +84,7 @@ fn item_line(alloc: Global, grammar: &Grammar, item: Item) -> Result<String, All
     }
 }
 
-/// The four lines that tell a conflict: the lookahead, the symbols behind which the two items call for different moves, and the
+/// The four lines that report a conflict: the lookahead, the symbols after which the two items call for different moves, and the
 /// items. Refuses for memory alone.
 pub fn conflict_text(
     alloc: Global,
@@ -91,7 +95,7 @@ pub fn conflict_text(
     ensures { IfOk result (λ text. string_bytes text ≡ conflict_text grammar.now conflict.now) }
 {
     let look = look_name(grammar, conflict.look);
-    let prefix = spaced(alloc, grammar, &conflict.prefix)?;
+    let prefix = names_with_spaces(alloc, grammar, &conflict.prefix)?;
     let first = item_line(alloc, grammar, conflict.first)?;
     let second = item_line(alloc, grammar, conflict.second)?;
     format!(in alloc; "lrls: conflict on {look}\nafter:{prefix}\n{first}{second}")

@@ -7,7 +7,7 @@ ghost use Rattle.docs.specs.Docs.{IsCurrent};
 ghost use Rattle.docs.specs.Languages.{IsLanguageOf, IsLoadFault};
 ghost use Rattle.docs.specs.declared.doc.Outcome.{Outcome};
 ghost use Rattle.tables.specs.Reports.{IsReport};
-ghost use Rattle.commands.specs.Conflicts.{IsRefused, Tells, conflict_text};
+ghost use Rattle.commands.specs.Conflicts.{IsRefused, Reports, conflict_text};
 ghost use Rattle.commands.specs.Parsing.{IsParsed, Prints, fault_line, place_text};
 ghost use Rattle.commands.specs.Reporting.{IsChecked, note_line};
 ghost use Rattle.commands.specs.Texts.{PrintsFault};
@@ -75,7 +75,7 @@ impl Printed {
     /// What is printed of the fault of a grammar file, with status 2. Refuses for memory alone.
     fn load_fault(alloc: Global, fault: LoadFault) -> Result<Printed, AllocError>
         requires { (text : List ℕ) × IsLoadFault text fault }
-        ensures { IfOk result (Tells fault) }
+        ensures { IfOk result (Reports fault) }
     {
         match fault {
             LoadFault::Grammar(fault) => Printed::fault(alloc, &Fault::Grammar(fault)),
@@ -157,7 +157,7 @@ fn place_text(alloc: Global, position: Position) -> Result<String, AllocError>
     format!(in alloc; "{}:{}", position.line, position.character)
 }
 
-/// The line that tells a fault.
+/// The line that reports a fault.
 fn fault_line(alloc: Global, fault: &Diagnostic) -> Result<String, AllocError>
     ensures { IfOk result (λ line. string_bytes line ≡ fault_line fault.now) }
 {
@@ -169,7 +169,7 @@ fn fault_line(alloc: Global, fault: &Diagnostic) -> Result<String, AllocError>
 
 /// What `lrls parse` prints of a text of these bytes: on standard output the text of its tree, or its fault, with status 1.
 /// Positions count UTF-16 units. A text that isn't UTF-8 or has more than 1,048,576 bytes is refused with status 1, which standard
-/// error tells. Refuses for memory alone.
+/// error says. Refuses for memory alone.
 pub fn parse(alloc: Global, language: &Language, bytes: &[u8]) -> Result<Printed, AllocError>
     ensures { IfOk result (IsParsed language.now.file bytes.now) }
 {

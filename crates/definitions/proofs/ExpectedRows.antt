@@ -61,9 +61,9 @@ at_start = record {
     first a (inl e) = e
     first a (inr c) = absurd (Contains-none a c)
 
--- behind it: the end alone
-behind_number : IsExpected alone (Token 0 ∷ []) [] true
-behind_number = record {
+-- after it: the end alone
+after_number : IsExpected alone (Token 0 ∷ []) [] true
+after_number = record {
   in_order = λ k l. absurd (omega (arith, l));
   each = λ a. ((λ c. absurd (Contains-none a c)), (λ v. absurd (too_long (Token 0) (Token a) [] v)));
   ends = ((λ e. number), (λ s. refl));

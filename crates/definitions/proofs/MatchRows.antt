@@ -69,8 +69,8 @@ module _ (p : Place) (v : Vec Interval Global) (digits : v.items ≡ record { fi
 
   not_dead : (m : ℕ) → ¬ IsDead rules (codes "12") m
   not_dead zero d = omega (arith, d.nonempty)
-  not_dead (suc zero) d = d.no_front (0, (codes "2", twelve))
-  not_dead (suc (suc zero)) d = d.no_front (0, ([], twelve))
+  not_dead (suc zero) d = d.no_prefix (0, (codes "2", twelve))
+  not_dead (suc (suc zero)) d = d.no_prefix (0, ([], twelve))
   not_dead (suc (suc (suc m))) d = omega (arith, d.inside)
 
   tokens : AreTokens rules (codes "12") (token ∷ [])

@@ -55,7 +55,7 @@ past : changed Utf16 (codes "1") (Some (from_to 99 0 99 0)) (codes "+3") ≡ cod
 unfolding changed offset line_start line_from break_ends units greatest
 past = refl
 
--- the empty text, and the place behind a last break
+-- the empty text, and the place after a last break
 no_text : (position Utf16 [] 0 ≡ at 0 0) × (offset Utf16 [] (at 3 7) ≡ 0) × (position Utf16 (49 ∷ 10 ∷ []) 2 ≡ at 1 0) × (offset Utf16 (49 ∷ 10 ∷ []) (at 1 0) ≡ 2)
 unfolding position offset line_of line_start line_from break_ends units greatest
 no_text = (refl, refl, refl, refl)

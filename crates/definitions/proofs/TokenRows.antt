@@ -104,12 +104,12 @@ left = Rule 2
 close_dropped : length (made (puts 2 1 0) (token left 1 2 ∷ token num 1 2 ∷ token close 1 2 ∷ []) (token left 1 2 ∷ token num 1 2 ∷ [])) ≡ 1
 close_dropped = refl
 
--- `1+2+3` with `4` or `+4` behind it, `9` before it, and without its last character
-digit_behind : length (made (puts 5 0 1) long_sum (token num 1 2 ∷ token plus 1 2 ∷ token num 1 2 ∷ token plus 1 2 ∷ token num 2 3 ∷ [])) ≡ 1
-digit_behind = refl
+-- `1+2+3` with `4` or `+4` after it, `9` before it, and without its last character
+digit_after : length (made (puts 5 0 1) long_sum (token num 1 2 ∷ token plus 1 2 ∷ token num 1 2 ∷ token plus 1 2 ∷ token num 2 3 ∷ [])) ≡ 1
+digit_after = refl
 
-term_behind : length (made (puts 5 0 2) long_sum (token num 1 2 ∷ token plus 1 2 ∷ token num 1 2 ∷ token plus 1 2 ∷ token num 1 2 ∷ token plus 1 2 ∷ token num 1 2 ∷ [])) ≡ 3
-term_behind = refl
+term_after : length (made (puts 5 0 2) long_sum (token num 1 2 ∷ token plus 1 2 ∷ token num 1 2 ∷ token plus 1 2 ∷ token num 1 2 ∷ token plus 1 2 ∷ token num 1 2 ∷ [])) ≡ 3
+term_after = refl
 
 digit_before : length (made (puts 0 0 1) long_sum (token num 2 3 ∷ token plus 1 2 ∷ token num 1 2 ∷ token plus 1 2 ∷ token num 1 2 ∷ [])) ≡ 1
 digit_before = refl

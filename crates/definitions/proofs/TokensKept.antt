@@ -1,4 +1,4 @@
--- What an edit keeps are tokens of both texts: the kept ones in front are the same in both lists, and so are those behind.
+-- What an edit keeps are tokens of both texts: the kept ones at the start are the same in both lists, and so are those after.
 use Rattle.std.specs.Prelude.{◌≡◌, ℕ, zero, suc, ◌+◌, ◌-◌, ◌<◌, ◌≤◌, ◌⊎◌, Bool, true, false, ◌==◌, nat_le, List, [], ◌∷◌, ◌++◌, length, take, drop, slice_index_or}
 use Rattle.std.specs.List.{prefix_len}
 use Rattle.std.proofs.Common.{arith, refl, sym, ap, subst, inl, inr, ◌∙◌, cond, length-append, length-drop}
@@ -10,7 +10,7 @@ use Rattle.definitions.specs.Text.{edit}
 use Rattle.definitions.specs.declared.Edit.{Edit}
 use Rattle.definitions.specs.declared.expression.Expression.{Expression}
 use Rattle.definitions.specs.Tokens.{Token, IsToken, AreTokens, placed, boundaries}
-use Rattle.definitions.specs.TokenEdits.{front, is_rejoined, rejoin}
+use Rattle.definitions.specs.TokenEdits.{kept_before, is_rejoined, rejoin}
 use Rattle.definitions.proofs.TokensUnique.{AreTokens-unique, IsToken-unique, IsPiece-inside}
 use Rattle.definitions.proofs.TokensLocal.{IsToken-local, length-le-reach}
 
@@ -39,7 +39,7 @@ AreTokens-drop rules t o d (suc i) [] p l = absurd (omega arith)
 AreTokens-drop rules t o d (suc i) (x ∷ xs) p l =
     AreTokens-drop rules t (o + x.length) d i xs (subst (λ u. AreTokens rules u xs) (drop-drop x.length o t) p.1) (omega arith)
 
--- behind the edit both texts are the same
+-- after the edit both texts are the same
 pub drop-edit : (t s : List ℕ) (a b k : ℕ) → a ≤ length t → drop (a + length s + k) (edit t a b s) ≡ drop (b + k) t
 drop-edit t s a b k l =
     let before : length (take a t ++ s) ≡ a + length s = length-append (take a t) s ∙ omega (arith, length-take a t) in
@@ -51,11 +51,11 @@ length-edit t s a b l m =
     omega (arith, length-append (take a t ++ s) (drop b t), length-append (take a t) s, length-take a t, length-drop b t)
 
 -- two texts that agree up to place a have the same tokens before the first one whose reach goes past a
-front_from : (rules : List Expression) (r u : List ℕ) (o a : ℕ) (xs ys : List Token) → o ≤ a → take (a - o) r ≡ take (a - o) u → AreTokens rules r xs → AreTokens rules u ys
+prefix_from : (rules : List Expression) (r u : List ℕ) (o a : ℕ) (xs ys : List Token) → o ≤ a → take (a - o) r ≡ take (a - o) u → AreTokens rules r xs → AreTokens rules u ys
     → take (prefix_len (λ x. nat_le (x.start + x.token.reach) a) (placed o xs)) xs ≡ take (prefix_len (λ x. nat_le (x.start + x.token.reach) a) (placed o xs)) ys
-front_from rules r u o a [] ys l same p q = refl
-front_from rules r u o a (x ∷ xs) ys l same p q =
-    go (nat_le (o + x.reach) a) refl ys q (λ zs less rest z. front_from rules (drop x.length r) (drop x.length u) (o + x.length) a xs zs less rest p.1 z)
+prefix_from rules r u o a [] ys l same p q = refl
+prefix_from rules r u o a (x ∷ xs) ys l same p q =
+    go (nat_le (o + x.reach) a) refl ys q (λ zs less rest z. prefix_from rules (drop x.length r) (drop x.length u) (o + x.length) a xs zs less rest p.1 z)
   where
     n : ℕ
     n = prefix_len (λ x. nat_le (x.start + x.token.reach) a) (placed (o + x.length) xs)
@@ -78,20 +78,20 @@ front_from rules r u o a (x ∷ xs) ys l same p q =
         let first : x ≡ y = IsToken-unique rules u x y here z.0 in
         let short : x.length ≤ x.reach = length-le-reach rules r x p.0 in
         let sum : x.length + (a - (o + x.length)) ≡ a - o = omega arith in
-        let behind : take (a - (o + x.length)) (drop x.length r) ≡ take (a - (o + x.length)) (drop x.length u) =
+        let after : take (a - (o + x.length)) (drop x.length r) ≡ take (a - (o + x.length)) (drop x.length u) =
         sym (drop-take x.length (a - (o + x.length)) r) ∙ ap (λ m. drop x.length (take m r)) sum ∙ ap (drop x.length) same ∙ ap (λ m. drop x.length (take m u)) (sym sum) ∙ drop-take x.length (a - (o + x.length)) u in
-        let rest : take n xs ≡ take n ws = later ws (omega arith) behind (subst (λ v. AreTokens rules (drop v.length u) ws) (sym first) z.1) in
+        let rest : take n xs ≡ take n ws = later ws (omega arith) after (subst (λ v. AreTokens rules (drop v.length u) ws) (sym first) z.1) in
         let more : 1 + n ≡ suc n = omega arith in
         ap (λ m. take m (x ∷ xs)) more ∙ (λ i. first i ∷ rest i) ∙ ap (λ m. take m (y ∷ ws)) (sym more)
 
 module _ (rules : List Expression) (t s : List ℕ) (e : Edit) (inside : e.at + e.removed ≤ length t) (inserted : e.inserted ≡ length s)
     (old new : List Token) (p : AreTokens rules t old) (q : AreTokens rules (edit t e.at (e.at + e.removed) s) new) where
-  -- from a place of the new text behind the edit and the place of the old one from which it was moved
+  -- from a place of the new text after the edit and the place of the old one from which it was moved
   tail_from : (i j : ℕ) → i ≤ length old → j ≤ length new
       → slice_index_or (boundaries 0 old) i 0 + e.inserted ≡ slice_index_or (boundaries 0 new) j 0 + e.removed
       → e.at + e.inserted ≤ slice_index_or (boundaries 0 new) j 0
       → drop i old ≡ drop j new
-  tail_from i j l m moved behind =
+  tail_from i j l m moved after =
       let o = slice_index_or (boundaries 0 old) i 0 in
       let k = slice_index_or (boundaries 0 new) j 0 - (e.at + e.inserted) in
       let here : slice_index_or (boundaries 0 new) j 0 ≡ e.at + length s + k = omega (arith, inserted) in
@@ -141,9 +141,9 @@ module _ (rules : List Expression) (t s : List ℕ) (e : Edit) (inside : e.at + 
       ap (λ n. drop n old) index ∙ same
 
   -- The tokens before the first one whose reach goes past the place of the edit are the first ones of the new.
-  pub front_kept : take (front e old) old ≡ take (front e old) new
-  front_kept =
+  pub prefix_kept : take (kept_before e old) old ≡ take (kept_before e old) new
+  prefix_kept =
       let agree : take e.at t ≡ take e.at (edit t e.at (e.at + e.removed) s) =
       sym (ap (take e.at) (append_assoc (take e.at t) s (drop (e.at + e.removed) t)) ∙ take_at (take e.at t) (s ++ drop (e.at + e.removed) t) e.at (length-take e.at t ∙ omega (arith, inside))) in
       let whole : e.at ≡ e.at - 0 = omega arith in
-      front_from rules t (edit t e.at (e.at + e.removed) s) 0 e.at old new (omega arith) (subst (λ n. take n t ≡ take n (edit t e.at (e.at + e.removed) s)) whole agree) p q
+      prefix_from rules t (edit t e.at (e.at + e.removed) s) 0 e.at old new (omega arith) (subst (λ n. take n t ≡ take n (edit t e.at (e.at + e.removed) s)) whole agree) p q

@@ -1,4 +1,4 @@
--- The first tokens of a text: with those of what they leave they are all its tokens, and the front that an edit keeps leads
+-- The first tokens of a text: with those of what they leave they are all its tokens, and the prefix that an edit keeps leads
 -- the edited text.
 use Rattle.std.specs.Prelude.{◌≡◌, ℕ, zero, suc, ◌+◌, ◌-◌, ◌<◌, ◌≤◌, Bool, true, false, nat_le, List, [], ◌∷◌, ◌++◌, length, take, drop, sum_by, slice_get, slice_index_or, IsSomeAnd}
 use Rattle.std.specs.List.{prefix_len}
@@ -10,7 +10,7 @@ use Rattle.definitions.specs.declared.Edit.{Edit}
 use Rattle.definitions.specs.declared.expression.Expression.{Expression}
 use Rattle.definitions.specs.Text.{edit}
 use Rattle.definitions.specs.Tokens.{Token, Placed, IsToken, AreTokens, Leads, placed, boundaries}
-use Rattle.definitions.specs.TokenEdits.{front, is_rejoined, rejoin}
+use Rattle.definitions.specs.TokenEdits.{kept_before, is_rejoined, rejoin}
 use Rattle.definitions.proofs.TokensLocal.{IsToken-local, length-le-reach}
 use Rattle.definitions.proofs.TokensUnique.{IsToken-unique, IsPiece-inside}
 
@@ -21,7 +21,7 @@ chars xs = sum_by (λ x. x.length) xs
 pub chars-cons : (x : Token) (xs : List Token) → chars (x ∷ xs) ≡ x.length + chars xs
 chars-cons x xs = sum_by-cons (λ x. x.length) x xs
 
--- where what is left behind them has tokens, these are all the tokens
+-- where what is left after them has tokens, these are all the tokens
 pub leads_tokens : (rules : List Expression) (u : List ℕ) (xs rest : List Token) → Leads rules u xs → AreTokens rules (drop (chars xs) u) rest → AreTokens rules u (xs ++ rest)
 leads_tokens rules u [] rest h r = r
 leads_tokens rules u (x ∷ xs) rest h r =
@@ -88,11 +88,11 @@ chars_from o (x ∷ xs) zero d l = omega arith
 chars_from o (x ∷ xs) (suc j) d l = omega (arith, chars_from (o + x.length) xs j d (omega arith), chars-cons x (take j xs))
 
 -- two texts that agree up to place a: the tokens of the one before the first whose reach goes past a lead the other
-front_leads_from : (rules : List Expression) (r u : List ℕ) (o a : ℕ) (xs : List Token) → o ≤ a → take (a - o) r ≡ take (a - o) u → AreTokens rules r xs
+prefix_leads_from : (rules : List Expression) (r u : List ℕ) (o a : ℕ) (xs : List Token) → o ≤ a → take (a - o) r ≡ take (a - o) u → AreTokens rules r xs
     → Leads rules u (take (prefix_len (λ x. nat_le (x.start + x.token.reach) a) (placed o xs)) xs)
-front_leads_from rules r u o a [] l same p = tt
-front_leads_from rules r u o a (x ∷ xs) l same p =
-    go (nat_le (o + x.reach) a) refl (λ less rest. front_leads_from rules (drop x.length r) (drop x.length u) (o + x.length) a xs less rest p.1)
+prefix_leads_from rules r u o a [] l same p = tt
+prefix_leads_from rules r u o a (x ∷ xs) l same p =
+    go (nat_le (o + x.reach) a) refl (λ less rest. prefix_leads_from rules (drop x.length r) (drop x.length u) (o + x.length) a xs less rest p.1)
   where
     n : ℕ
     n = prefix_len (λ x. nat_le (x.start + x.token.reach) a) (placed (o + x.length) xs)
@@ -107,20 +107,20 @@ front_leads_from rules r u o a (x ∷ xs) l same p =
         let here : IsToken rules u x = IsToken-local rules r u x near p.0 in
         let short : x.length ≤ x.reach = length-le-reach rules r x p.0 in
         let sum : x.length + (a - (o + x.length)) ≡ a - o = omega arith in
-        let behind : take (a - (o + x.length)) (drop x.length r) ≡ take (a - (o + x.length)) (drop x.length u) =
+        let after : take (a - (o + x.length)) (drop x.length r) ≡ take (a - (o + x.length)) (drop x.length u) =
         sym (drop-take x.length (a - (o + x.length)) r) ∙ ap (λ m. drop x.length (take m r)) sum ∙ ap (drop x.length) same ∙ ap (λ m. drop x.length (take m u)) (sym sum) ∙ drop-take x.length (a - (o + x.length)) u in
         let more : 1 + n ≡ suc n = omega arith in
-        subst (λ m. Leads rules u (take m (x ∷ xs))) (sym more) (here, later (omega arith) behind)
+        subst (λ m. Leads rules u (take m (x ∷ xs))) (sym more) (here, later (omega arith) after)
 
--- the kept front leads the edited text
-pub front_leads : (rules : List Expression) (t s : List ℕ) (e : Edit) (old : List Token) → e.at + e.removed ≤ length t → AreTokens rules t old → Leads rules (edit t e.at (e.at + e.removed) s) (take (front e old) old)
-front_leads rules t s e old inside p =
+-- the kept prefix leads the edited text
+pub prefix_leads : (rules : List Expression) (t s : List ℕ) (e : Edit) (old : List Token) → e.at + e.removed ≤ length t → AreTokens rules t old → Leads rules (edit t e.at (e.at + e.removed) s) (take (kept_before e old) old)
+prefix_leads rules t s e old inside p =
     let agree : take e.at t ≡ take e.at (edit t e.at (e.at + e.removed) s) =
     sym (ap (take e.at) (append_assoc (take e.at t) s (drop (e.at + e.removed) t)) ∙ take_at (take e.at t) (s ++ drop (e.at + e.removed) t) e.at (length-take e.at t ∙ omega (arith, inside))) in
     let whole : e.at ≡ e.at - 0 = omega arith in
-    front_leads_from rules t (edit t e.at (e.at + e.removed) s) 0 e.at old (omega arith) (subst (λ n. take n t ≡ take n (edit t e.at (e.at + e.removed) s)) whole agree) p
+    prefix_leads_from rules t (edit t e.at (e.at + e.removed) s) 0 e.at old (omega arith) (subst (λ n. take n t ≡ take n (edit t e.at (e.at + e.removed) s)) whole agree) p
 
--- the token that stands behind others
+-- the token that stands after others
 pub placed_at : (o : ℕ) (xs : List Token) (y : Token) (ys : List Token) (P : Placed → Type 0) → P (record { start = o + chars xs; token = y }) → IsSomeAnd (slice_get (placed o (xs ++ y ∷ ys)) (length xs)) P
 placed_at o [] y ys P h = let e : o + 0 ≡ o = omega arith in subst (λ n. P (record { start = n; token = y })) e h
 placed_at o (x ∷ xs) y ys P h =
@@ -136,10 +136,10 @@ before_rejoin e old new k l h = elim (cases_lt k (rejoin e old new)) [
       absurd (false≢true (sym (h (rejoin e old new) ge) ∙ found))
 ]
 
--- no kept token of the front starts behind the place of the edit
-front_starts : (rules : List Expression) (r : List ℕ) (o a : ℕ) (xs : List Token) (i : ℕ) → AreTokens rules r xs → i < prefix_len (λ x. nat_le (x.start + x.token.reach) a) (placed o xs) → slice_index_or (boundaries o xs) i 0 < a
-front_starts rules r o a [] i p l = absurd (omega arith)
-front_starts rules r o a (x ∷ xs) i p l = go i (nat_le (o + x.reach) a) refl l (λ j m. front_starts rules (drop x.length r) (o + x.length) a xs j p.1 m)
+-- no kept token of the prefix starts after the place of the edit
+prefix_starts : (rules : List Expression) (r : List ℕ) (o a : ℕ) (xs : List Token) (i : ℕ) → AreTokens rules r xs → i < prefix_len (λ x. nat_le (x.start + x.token.reach) a) (placed o xs) → slice_index_or (boundaries o xs) i 0 < a
+prefix_starts rules r o a [] i p l = absurd (omega arith)
+prefix_starts rules r o a (x ∷ xs) i p l = go i (nat_le (o + x.reach) a) refl l (λ j m. prefix_starts rules (drop x.length r) (o + x.length) a xs j p.1 m)
   where
     n : ℕ
     n = prefix_len (λ x. nat_le (x.start + x.token.reach) a) (placed (o + x.length) xs)
@@ -152,5 +152,5 @@ front_starts rules r o a (x ∷ xs) i p l = go i (nat_le (o + x.reach) a) refl l
         omega (arith, reach, inside.0, length-le-reach rules r x p.0)
     go (suc i) true e m later = later i (omega arith)
 
-pub front_before : (rules : List Expression) (t : List ℕ) (e : Edit) (old : List Token) (i : ℕ) → AreTokens rules t old → i < front e old → slice_index_or (boundaries 0 old) i 0 < e.at
-front_before rules t e old i p l = front_starts rules t 0 e.at old i p l
+pub prefix_before : (rules : List Expression) (t : List ℕ) (e : Edit) (old : List Token) (i : ℕ) → AreTokens rules t old → i < kept_before e old → slice_index_or (boundaries 0 old) i 0 < e.at
+prefix_before rules t e old i p l = prefix_starts rules t 0 e.at old i p l

@@ -1,4 +1,4 @@
--- `1+2+3`, and `+4` put in behind it: the last number is scanned again, and of the branches four are built.
+-- `1+2+3`, and `+4` put in after it: the last number is scanned again, and of the branches four are built.
 use Rattle.std.specs.Prelude.{◌≡◌, ℕ, ◌+◌, ◌<◌, ◌≤◌, List, [], ◌∷◌, length, refl}
 use Rattle.std.proofs.Common.{arith, inl, inr}
 use Rattle.definitions.specs.declared.Kind.TheVariants.{Rule}
@@ -37,7 +37,7 @@ kept = record { lefts = []; stood = Below Top; not_empty = omega arith; untouche
     apart (inl h) = omega (arith, h.2, h.3)
     apart (inr h) = omega (arith, h.0)
 
--- what holds the last old number is touched, and behind it nothing has stood where it would have to
+-- what holds the last old number is touched, and after it nothing has stood where it would have to
 over_last : (p : ℕ) (us : Forest) → 4 < length (yields us) → ¬ IsKept put_in old 0 p us
 over_last p us l k = go (place_of k.lefts) k.untouched k.moved
   where
@@ -45,8 +45,8 @@ over_last p us l k = go (place_of k.lefts) k.untouched k.moved
     go q apart (inl h) = apart (inl (4, omega (arith, h.0), omega (arith, l), omega arith, omega arith))
     go q apart (inr h) = omega (arith, h.1)
 
-behind : (place p : ℕ) (us : Forest) → 4 ≤ place → place < 7 → ¬ IsKept put_in old place p us
-behind place p us l m k = go (place_of k.lefts) k.moved
+beyond : (place p : ℕ) (us : Forest) → 4 ≤ place → place < 7 → ¬ IsKept put_in old place p us
+beyond place p us l m k = go (place_of k.lefts) k.moved
   where
     go : (q : ℕ) → IsMoved put_in q place → ⊥
     go q (inl h) = omega (arith, h.0, h.1, l)
@@ -56,8 +56,8 @@ four_built : Built put_in old 0 new 4
 four_built =
     New (over_last 0 (sum (more (more one))) (omega arith))
     (New (over_last 0 (sum (more one)) (omega arith))
-    (Kept kept (Token (New (behind 4 2 (Cons (Leaf (Rule 0)) Nil) (omega arith) (omega arith)) (Token Nothing) Nothing)))
-    (Token (New (behind 6 2 (Cons (Leaf (Rule 0)) Nil) (omega arith) (omega arith)) (Token Nothing) Nothing)))
+    (Kept kept (Token (New (beyond 4 2 (Cons (Leaf (Rule 0)) Nil) (omega arith) (omega arith)) (Token Nothing) Nothing)))
+    (Token (New (beyond 6 2 (Cons (Leaf (Rule 0)) Nil) (omega arith) (omega arith)) (Token Nothing) Nothing)))
     Nothing
 
 -- two kinds put in between the first and the second: a node over both is touched, one that ends or begins there isn't

@@ -39,4 +39,4 @@ pub record IsTokenEdit (rules : List Expression) (t s : List ℕ) (e : Edit) (ol
   pub inside : e.at + e.removed ≤ length t
   pub inserted : e.inserted ≡ length s
   pub before : AreTokens rules t old
-  pub behind : AreTokens rules (edit t e.at (e.at + e.removed) s) new
+  pub after : AreTokens rules (edit t e.at (e.at + e.removed) s) new

@@ -48,7 +48,7 @@ IsVerdict g x (HasTree t) = IsTreeOf g x t
 IsVerdict g x (FaultAt k) = (k < length x) × ¬ IsViable g (take (k + 1) x) × ((j : ℕ) → j < k → IsViable g (take (j + 1) x))
 IsVerdict g x FaultAtEnd = (¬ IsSentence g x) × IsViable g x
 
--- these are the rules that may follow `x`, ascending, and `at_end` tells whether `x` may end there
+-- these are the rules that may follow `x`, ascending, and `at_end` says whether `x` may end there
 pub record IsExpected (g : Grammar) (x : List Kind) (rules : List ℕ) (at_end : Bool) : Type 0 where
   pub in_order : IsStrictlyIncreasing rules
   pub each : (a : ℕ) → Contains rules a ↔ IsViable g (x ++ (Token a ∷ []))

@@ -5,15 +5,15 @@ use Rattle.std.specs.Prelude.{slice_index_or, IsSomeAnd}
 use Rattle.definitions.specs.declared.Kind.{Kind}
 use Rattle.definitions.specs.declared.Kind.TheVariants.{Rule, Invalid}
 use Rattle.definitions.specs.declared.expression.Expression.{Expression}
-use Rattle.definitions.specs.Patterns.{Matches, IsFront}
+use Rattle.definitions.specs.Patterns.{Matches, IsPrefix}
 
 -- `t` is a text of rule `k`
 abbrev pub RuleMatches : List Expression → ℕ → List ℕ → Type 0
 RuleMatches rules k t = IsSomeAnd (slice_get rules k) (λ rule. Matches rule t)
 
 -- `t` is a prefix of some text of some rule
-abbrev pub IsRuleFront : List Expression → List ℕ → Type 0
-IsRuleFront rules t = (k : ℕ) × IsSomeAnd (slice_get rules k) (λ rule. IsFront rule t)
+abbrev pub IsRulePrefix : List Expression → List ℕ → Type 0
+IsRulePrefix rules t = (k : ℕ) × IsSomeAnd (slice_get rules k) (λ rule. IsPrefix rule t)
 
 -- the first `n` characters of `t`, at least one, are a text of rule `k`, no rule has a longer one there, and no earlier rule has this one
 pub record IsLongest (rules : List Expression) (t : List ℕ) (k n : ℕ) : Type 0 where
@@ -37,7 +37,7 @@ IsPiece rules t Invalid n = (n ≡ 1) × (n ≤ length t) × IsUnmatched rules t
 pub record IsDead (rules : List Expression) (t : List ℕ) (n : ℕ) : Type 0 where
   pub nonempty : 1 ≤ n
   pub inside : n ≤ length t
-  pub no_front : ¬ IsRuleFront rules (take n t)
+  pub no_prefix : ¬ IsRulePrefix rules (take n t)
 
 -- `n` is the least number with `IsDead`, or the length of `t` and one where there is none: so many characters decide the first token, the
 -- end of the text counting as one

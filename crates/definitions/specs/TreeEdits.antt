@@ -1,4 +1,4 @@
--- What an edit of the kinds keeps of the trees (after Wagner and Graham 1998), and the stamps that tell it.
+-- What an edit of the kinds keeps of the trees (after Wagner and Graham 1998), and the stamps that show it.
 use Rattle.std.specs.Prelude.{◌≡◌, ◌≢◌, ◌⊎◌, ◌≤◌, ◌<◌, ℕ, ◌+◌, ◌↔◌, List, [], ◌∷◌, ◌++◌, length}
 use Rattle.definitions.specs.declared.Kind.{Kind}
 use Rattle.definitions.specs.TokenEdits.{Splice}

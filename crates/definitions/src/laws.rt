@@ -18,7 +18,7 @@ ghost use Rattle.definitions.specs.Text.{IsCharacter, edit, offset, position};
 ghost use Rattle.definitions.specs.Patterns.{is_in_class};
 ghost use Rattle.definitions.specs.PatternFaults.{is_nothing};
 ghost use Rattle.definitions.specs.Tokens.{Token, Placed, IsToken, AreTokens};
-ghost use Rattle.definitions.specs.TokenEdits.{front, plain_splice, rejoin};
+ghost use Rattle.definitions.specs.TokenEdits.{kept_before, plain_splice, rejoin};
 ghost use Rattle.definitions.specs.Trees.{Grammar, Tree};
 ghost use Rattle.definitions.specs.Sentences.{IsExpected};
 ghost use Rattle.definitions.specs.Answers.{AreFolds, IsSelection};
@@ -51,7 +51,7 @@ pub fn position_of_offset()
 {}
 
 /// The test for a class with no member is right, where its intervals are of characters and none is reversed.
-pub fn empty_class_is_told()
+pub fn empty_class_is_reported()
     ensures { (negated : Bool) (intervals : List Interval) → AreWell intervals →
         IsTrue (is_nothing negated intervals)
         ↔ ((c : ℕ) → IsCharacter c → ¬ IsTrue (is_in_class negated intervals c)) }
@@ -71,9 +71,9 @@ pub fn token_is_local()
 
 /// The tokens that an edit keeps, before it and from the place of rejoining on, are tokens of both texts.
 pub fn kept_tokens_stay()
-    ensures front { (rules : List Expression) (t : List ℕ) (s : List ℕ) (e : Edit)
+    ensures kept_before { (rules : List Expression) (t : List ℕ) (s : List ℕ) (e : Edit)
         (old : List Token) (new : List Token) → IsTokenEdit rules t s e old new →
-        take (front e old) old ≡ take (front e old) new }
+        take (kept_before e old) old ≡ take (kept_before e old) new }
     ensures rest { (rules : List Expression) (t : List ℕ) (s : List ℕ) (e : Edit) (old : List Token)
         (new : List Token) → IsTokenEdit rules t s e old new →
         drop (length old - (length new - rejoin e old new)) old ≡ drop (rejoin e old new) new }

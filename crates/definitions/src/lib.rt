@@ -79,7 +79,7 @@ pub enum Symbol {
     Nonterminal(usize),
 }
 
-/// What is told of the fault of a text: where it stands, and why (LSP 3.17, "Diagnostic").
+/// What is reported of the fault of a text: where it stands, and why (LSP 3.17, "Diagnostic").
 #[derive(Debug, Drop)]
 pub struct Diagnostic {
     pub range: Range,

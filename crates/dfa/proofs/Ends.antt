@@ -1,4 +1,4 @@
--- The marks of a text tell whether it ends with a text of the expression.
+-- The marks of a text say whether it ends with a text of the expression.
 use Rattle.std.proofs.Common.{◌≡◌, ℕ, ◌+◌, ◌-◌, ◌<◌, Bool, true, List, [], ◌∷◌, ◌++◌, length, take, refl, sym, ap, ◌∙◌, subst, inl, inr, arith, add-one}
 use Rattle.std.specs.List.{concat}
 use Rattle.std.proofs.lemmas.List.{append-nil, append_assoc}
@@ -8,7 +8,7 @@ use Rattle.definitions.specs.declared.expression.Expression.TheVariants.{Literal
 use Rattle.definitions.specs.Patterns.{Matches, IsJoin, IsNonemptyJoin}
 use Rattle.dfa.specs.Positions.{positions, Then, CanStandAt}
 use Rattle.dfa.specs.Marks.{mark, literal_end, ends}
-use Rattle.dfa.proofs.Standing.{Stands, InLiteral, Is, then_left, then_right, below, join_none, join_more, nonempty_join, last_part, sequence_first, sequence_second, sequence_cases}
+use Rattle.dfa.proofs.LastPositions.{Stands, InLiteral, Is, then_left, then_right, below, join_none, join_more, nonempty_join, last_part, sequence_first, sequence_second, sequence_cases}
 
 -- the marks from o on are places where the last character of u can stand in e, and they are all of these
 abbrev pub Only : (ℕ → List ℕ → Type 0) → ℕ → List Bool → ℕ → List ℕ → Type 0
@@ -26,7 +26,7 @@ mark_moved marks m n e h = subst (λ (k : ℕ). mark marks k ≡ true) e h
 stands_moved : (K : List ℕ → Type 0) (b : Expression) (m n : ℕ) (u : List ℕ) → m ≡ n → Stands K b m u → Stands K b n u
 stands_moved K b m n u e h = subst (λ (k : ℕ). Stands K b k u) e h
 
--- a literal behind its first character
+-- a literal after its first character
 pub rest_from : (K : List ℕ → Type 0) (d : ℕ) (ds : List ℕ) (q : ℕ) (u : List ℕ) → InRest K (d ∷ ds) (q + 1) u → InRest (Then K (Is (d ∷ []))) ds q u
 rest_from K d ds q u h =
     let t = h.4 in
@@ -103,7 +103,7 @@ every_other K a b i j marks o u h q lt s =
     let t : Stands K b (positions a + q - positions a) u = stands_moved K b q (positions a + q - positions a) u (omega arith) s in
     mark_moved marks (o + (positions a + q)) (o + positions a + q) (omega arith) (h (positions a + q) (omega (arith, lt)) (t.0, t.1, t.2, t.3, inr (omega arith, t.4)))
 
--- behind any number of texts of the part that is repeated
+-- after any number of texts of the part that is repeated
 abbrev pub Again : (List ℕ → Type 0) → Expression → List ℕ → Type 0
 Again K a u = Then K (IsJoin (Matches a)) u
 

@@ -6,7 +6,7 @@ use Rattle.std.specs.Prelude.{cond}
 use Rattle.definitions.specs.declared.expression.Expression.{Expression}
 use Rattle.dfa.specs.Positions.{positions}
 use Rattle.dfa.specs.Marks.{all_positions, mark, literal_end, literal_holders, literal_next}
-use Rattle.dfa.proofs.Joined.{one_more}
+use Rattle.dfa.proofs.JoinedLists.{one_more}
 
 -- what is left of a list at an element of it
 pub at_index : {A : Type 0} (xs : List A) (i : ℕ) (x : A) → i < length xs → x ≡ get_or xs i x → drop i xs ≡ x ∷ drop (i + 1) xs
@@ -49,13 +49,13 @@ differs d c h = grind (arith, nat_tests)
 -- a character of a literal is held, or isn't
 pub held_more : (c at d : ℕ) (rest later old new whole : List ℕ) → rest ≡ d ∷ later → d ≡ c → new ≡ old ++ at ∷ [] → old ++ literal_holders c at rest ≡ whole → new ++ literal_holders c (at + 1) later ≡ whole
 held_more c at d rest later old new whole here is_c is so_far =
-    let behind = literal_holders c (at + 1) later in
-    one_more new old (at ∷ []) (literal_holders c at rest) behind whole is (ap (literal_holders c at) here ∙ ap (λ b. cond b (at ∷ behind) behind) (equals d c is_c)) so_far
+    let after = literal_holders c (at + 1) later in
+    one_more new old (at ∷ []) (literal_holders c at rest) after whole is (ap (literal_holders c at) here ∙ ap (λ b. cond b (at ∷ after) after) (equals d c is_c)) so_far
 
 pub other_more : (c at d : ℕ) (rest later old new whole : List ℕ) → rest ≡ d ∷ later → (d ≡ c → ⊥) → new ≡ old → old ++ literal_holders c at rest ≡ whole → new ++ literal_holders c (at + 1) later ≡ whole
 other_more c at d rest later old new whole here is_other is so_far =
-    let behind = literal_holders c (at + 1) later in
-    ap (λ l. l ++ behind) is ∙ ap (λ l. old ++ l) (sym (ap (literal_holders c at) here ∙ ap (λ b. cond b (at ∷ behind) behind) (differs d c is_other))) ∙ so_far
+    let after = literal_holders c (at + 1) later in
+    ap (λ l. l ++ after) is ∙ ap (λ l. old ++ l) (sym (ap (literal_holders c at) here ∙ ap (λ b. cond b (at ∷ after) after) (differs d c is_other))) ∙ so_far
 
 -- a character of a literal follows
 pub next_more : (marks : List Bool) (before now : Bool) (d : ℕ) (rest later : List ℕ) (old new whole : List Bool) → rest ≡ d ∷ later → now ≡ mark marks (length old) → new ≡ old ++ before ∷ [] → length new ≡ length old + 1 → old ++ literal_next marks (length old) before rest ≡ whole → new ++ literal_next marks (length new) now later ≡ whole
@@ -66,11 +66,11 @@ pub end_more : (marks : List Bool) (before now : Bool) (d : ℕ) (rest later : L
 end_more marks before now d rest later old new whole here marked long so_far =
     ap (λ k. literal_end marks k now later) long ∙ ap (λ b. literal_end marks (old + 1) b later) marked ∙ sym (ap (literal_end marks old before) here) ∙ so_far
 
--- what two expressions make, one behind the other, where the positions of the first begin at n
+-- what two expressions make, one after another, where the positions of the first begin at n
 pub joined_at : {A : Type 0} (f : Expression → List A) (g : ℕ → Expression → List A) (a b x y : Expression) (n m : ℕ) (old middle new whole : List A) → a ≡ x → b ≡ y → m ≡ n + positions a → middle ≡ old ++ f a → new ≡ middle ++ g m b → f x ++ g (n + positions x) y ≡ whole → new ≡ old ++ whole
 joined_at f g a b x y n m old middle new whole is_x is_y past first made whole_is =
-    let behind = g (n + positions a) b in
-    made ∙ ap (λ k. middle ++ g k b) past ∙ ap (λ l. l ++ behind) first ∙ append_assoc old (f a) behind ∙ (λ i. old ++ (f (is_x i) ++ g (n + positions (is_x i)) (is_y i))) ∙ ap (λ l. old ++ l) whole_is
+    let after = g (n + positions a) b in
+    made ∙ ap (λ k. middle ++ g k b) past ∙ ap (λ l. l ++ after) first ∙ append_assoc old (f a) after ∙ (λ i. old ++ (f (is_x i) ++ g (n + positions (is_x i)) (is_y i))) ∙ ap (λ l. old ++ l) whole_is
 
 pub sum_at : (a b x y : Expression) (n m k whole : ℕ) → a ≡ x → b ≡ y → m ≡ n + positions a → k ≡ m + positions b → positions x + positions y ≡ whole → k ≡ n + whole
 sum_at a b x y n m k whole is_x is_y past long sum = let one = ap positions is_x in let two = ap positions is_y in omega (arith, past, long, sum)

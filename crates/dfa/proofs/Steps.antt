@@ -7,7 +7,7 @@ use Rattle.definitions.specs.Patterns.{Matches, IsJoin, is_in_class}
 use Rattle.definitions.specs.Text.{IsCharacter}
 use Rattle.dfa.specs.Positions.{positions, Then, CanStandAt}
 use Rattle.dfa.specs.Marks.{mark, ends, literal_next, next}
-use Rattle.dfa.proofs.Standing.{Stands, Is, then_left, then_right, sequence_first, sequence_second, sequence_cases, choice_cases}
+use Rattle.dfa.proofs.LastPositions.{Stands, Is, then_left, then_right, sequence_first, sequence_second, sequence_cases, choice_cases}
 use Rattle.dfa.proofs.Ends.{Only, Every, InRest, rest_from, rest_to, only_rest, every_rest, only_start, every_start, only_first, every_first, only_second, every_second, only_one, every_one, only_other, every_other, Again, only_again, every_again, ends_sound, ends_complete}
 
 -- the position q of the expression holds the character c
@@ -44,7 +44,7 @@ length-next (Star' i a) marks o start = length-next a marks o (ends marks o star
 length-next (Plus' i a) marks o start = length-next a marks o (ends marks o start a || start)
 length-next (Optional' i a) marks o start = length-next a marks o start
 
--- a mark of two lists, one behind the other
+-- a mark of two lists, one after another
 pub mark_left : (xs ys : List Bool) (n q : ℕ) → length xs ≡ n → q < n → mark (xs ++ ys) q ≡ mark xs q
 mark_left xs ys n q e lt = get_or_append_left xs ys false q (omega arith)
 
@@ -109,7 +109,7 @@ step_sound (Plus' i a) K marks o start u c q is k h m s =
     then_right K (IsJoin (Matches a)) (CanStandAt a q) (u ++ c ∷ []) (step_sound a (Again K a) marks o (ends marks o start a || start) u c q is r (only_again K a marks o u h) m s)
 step_sound (Optional' i a) K marks o start u c q is k h m s = step_sound a K marks o start u c q is k h m s
 
--- where K can be behind the first texts, the flag of the part says so
+-- where K can be after the first texts, the flag of the part says so
 again_complete : (a : Expression) (i : _) (K : List ℕ → Type 0) (marks : List Bool) (o : ℕ) (start : Bool) (u : List ℕ) → (K u → start ≡ true) → Every (Stands K (Star' i a)) (positions a) marks o u → Again K a u → (ends marks o start a || start) ≡ true
 again_complete a i K marks o start u k h t = ends_complete (Star' i a) K marks o start u t.0 t.1 h t.2 t.3 t.4 (λ none. k (subst K (sym (t.2 ∙ ap (λ x. t.0 ++ x) none ∙ append-nil t.0)) t.3))
 

@@ -6,8 +6,8 @@ use Rattle.dfa.specs.Positions.{StandsAt}
 use Rattle.dfa.specs.Marks.{mark, all_next, all_holders, successor}
 use Rattle.dfa.specs.Sets.{Among, IsSetOf, AreMarksOf}
 use Rattle.dfa.proofs.Sets.{among_filter, filter_among, filter_rises, same_set}
-use Rattle.dfa.proofs.Holding.{all_sound, all_complete, all_rise}
-use Rattle.dfa.proofs.Together.{HoldsIn, marks_of_set, next_sound, next_complete, rules_nonempty}
+use Rattle.dfa.proofs.HolderLists.{all_sound, all_complete, all_rise}
+use Rattle.dfa.proofs.RuleLists.{HoldsIn, marks_of_set, next_sound, next_complete, rules_nonempty}
 
 pub successor_set : (rules : List Expression) (u set : List ℕ) (marks : List Bool) (start : Bool) (c : ℕ) → IsCharacter c → (start ≡ true → u ≡ []) → (u ≡ [] → start ≡ true) → IsSetOf rules u set → AreMarksOf set marks → IsSetOf rules (u ++ c ∷ []) (successor rules marks start c)
 successor_set rules u set marks start c is k l s m =

@@ -1,5 +1,5 @@
 -- How the positions after one more character are computed. Marks, one for each position of the rules, are a set of positions.
--- The positions of an expression begin at o, and `start` tells whether it can begin after what was read.
+-- The positions of an expression begin at o, and `start` says whether it can begin after what was read.
 use Rattle.std.specs.Prelude.{ℕ, zero, suc, ◌+◌, ◌==◌, Bool, false, ◌||◌, if◌then◌else◌, List, [], ◌∷◌, ◌++◌, Option, Some, None}
 use Rattle.std.specs.Prelude.{slice_index_or, filter}
 use Rattle.definitions.specs.declared.expression.Expression.{Expression}

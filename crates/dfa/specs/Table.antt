@@ -6,10 +6,10 @@ use Rattle.definitions.specs.declared.expression.Expression.{Expression}
 use Rattle.definitions.specs.declared.Kind.{Kind}
 use Rattle.definitions.specs.declared.Kind.TheVariants.{Rule, Invalid}
 use Rattle.definitions.specs.Text.{IsText}
-use Rattle.definitions.specs.Tokens.{RuleMatches, IsRuleFront}
+use Rattle.definitions.specs.Tokens.{RuleMatches, IsRulePrefix}
 
 -- an automaton as callers see it. The characters lie in parts, one below the first of `starts` and one from each of them on. `next` has a
--- row for each state with an entry for each part: the number of the next state, or 0 where there is none. `accepts` tells the rule of each
+-- row for each state with an entry for each part: the number of the next state, or 0 where there is none. `accepts` gives the rule of each
 -- state
 pub record Table : Type 0 where
   pub starts : List ℕ
@@ -56,11 +56,11 @@ abbrev pub IsFirst : List Expression → List ℕ → Option ℕ → Type 0
 IsFirst rules u None = (j : ℕ) → ¬ RuleMatches rules j u
 IsFirst rules u (Some k) = RuleMatches rules k u × ((j : ℕ) → j < k → ¬ RuleMatches rules j u)
 
--- a nonempty text has a state exactly where it begins a text of a rule, and the state tells the first rule that has the text
+-- a nonempty text has a state exactly where it begins a text of a rule, and the state gives the first rule that has the text
 pub record IsAutomaton (rules : List Expression) (table : Table) : Type 0 where
-  pub tells : (u : List ℕ) → IsText u → 1 ≤ length u
-      → MatchOption (state_after table u) (¬ IsRuleFront rules u)
-      (λ s. IsRuleFront rules u × IsFirst rules u (slice_index_or table.accepts s None))
+  pub shows : (u : List ℕ) → IsText u → 1 ≤ length u
+      → MatchOption (state_after table u) (¬ IsRulePrefix rules u)
+      (λ s. IsRulePrefix rules u × IsFirst rules u (slice_index_or table.accepts s None))
 
 -- the numbers of a table are in range: 1 to 4,096 states, a full row of such for each, and ascending parts
 pub record IsTable (table : Table) : Type 0 where

@@ -8,14 +8,14 @@ use definitions::{Expression, Interval};
 use patterns::Pattern;
 use std::alloc::{AllocError, Global};
 
-/// Adds where an interval cuts the alphabet: at its first character, and at the one behind its last, if there is one.
+/// Adds where an interval cuts the alphabet: at its first character, and at the one after its last, if there is one.
 fn cut(first: char, last: char, out: &mut Vec<char>) -> Result<(), AllocError>
     ensures cuts { IfOk result (λ _. out.new.items ≡ out.old.items ++ cut first last) }
     ensures characters { IfOk result (λ _. All IsCharacter out.old.items
         → All IsCharacter out.new.items) }
 {
     out.push(first)?;
-    // The surrogates behind it are no characters.
+    // The surrogates after it are no characters.
     if last == '\u{D7FF}' {
         out.push('\u{E000}')?;
     } else if let Some(next) = char::from_u32(u32::from(last) + 1) {

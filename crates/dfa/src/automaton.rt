@@ -17,7 +17,7 @@ pub struct Automaton {
     starts: Vec<char>,
     /// The part of each of the first 128 characters.
     ascii: Vec<usize>,
-    /// A row for each state with an entry for each part: the state behind, or 0 where there is none.
+    /// A row for each state with an entry for each part: the next state, or 0 where there is none.
     next: Vec<u16>,
     /// For each state the first rule that has its texts, if one does.
     accepts: Vec<Option<usize>>,
@@ -42,7 +42,7 @@ pub struct Match {
     /// How many characters it has.
     pub length: usize,
     /// The fewest characters from the offset on that begin no text of any rule, or, where there are none, one more than are
-    /// left. No character behind them tells anything of the token.
+    /// left. No character after them affects the token.
     pub reach: usize,
 }
 
@@ -76,7 +76,7 @@ impl Automaton {
         }
     }
 
-    /// The state behind this one at the character, if there is one.
+    /// The next state at the character, if there is one.
     fn next(&self, state: usize, c: char) -> Option<usize>
         requires { state < length self.now.accepts }
         ensures is { result ≡ follower self.now state c }
@@ -101,7 +101,7 @@ impl Automaton {
     }
 
     /// The first rule that has the texts of the state, if one does.
-    fn accepted(&self, state: usize) -> Option<usize>
+    fn accepted_rule(&self, state: usize) -> Option<usize>
         requires { state < length self.now.accepts }
         ensures { result ≡ slice_index_or self.now.accepts state None }
     {
@@ -145,7 +145,7 @@ impl Automaton {
             };
             state = next;
             read += 1;
-            if let Some(k) = self.accepted(state) {
+            if let Some(k) = self.accepted_rule(state) {
                 best.rule = Some(k);
                 best.length = read;
             }

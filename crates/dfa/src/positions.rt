@@ -36,7 +36,7 @@ fn blank_literal(characters: &[char], out: &mut Vec<bool>) -> Result<(), AllocEr
 }
 
 /// Whether what was read can end with a text of this expression, whose positions begin at `at`, which goes past them. The marks
-/// tell where the last character that was read can stand, and `start` says that the expression can begin behind it.
+/// say where the last character that was read can stand, and `start` says that the expression can begin after it.
 pub fn ends(e: &Expression, marks: &[bool], at: &mut usize, start: bool) -> bool
     requires { at.old + positions e.now ≤ length marks.now }
     ensures past { at.new ≡ at.old + positions e.now }
@@ -72,7 +72,7 @@ pub fn ends(e: &Expression, marks: &[bool], at: &mut usize, start: bool) -> bool
     }
 }
 
-/// Adds, for each position, whether one more character can stand there, as far as its place tells. Answers what `ends` does.
+/// Adds, for each position, whether one more character can stand there, whatever that character is. Returns what `ends` does.
 pub fn follow(
     e: &Expression,
     marks: &[bool],

@@ -80,7 +80,7 @@ fn marks_of(blank: &Vec<bool>, set: &[usize]) -> Result<Vec<bool>, AllocError>
     Ok(marks)
 }
 
-/// The positions at which one more character can stand, as far as their places tell.
+/// The positions at which one more character can stand, whatever that character is.
 fn followers(
     alloc: Global,
     patterns: &[Pattern],
@@ -149,7 +149,7 @@ fn number(sets: &mut IndexSet<Vec<usize>>, set: Vec<usize>) -> Result<u16, DfaFa
 pub struct States {
     /// The set of each state, in ascending order. The start has the empty set.
     pub sets: IndexSet<Vec<usize>>,
-    /// The rows: for each part the number of the state behind, which is 0 where there is none.
+    /// The rows: for each part the number of the next state, which is 0 where there is none.
     pub next: Vec<u16>,
     /// For each state with a row the first rule that has its texts, if one does.
     pub accepts: Vec<Option<usize>>,

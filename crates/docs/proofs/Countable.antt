@@ -1,4 +1,4 @@
--- Of each edit something is told: whether a node is kept can be decided, so that those that lie in no kept one can be counted.
+-- Of each edit an answer is given: whether a node is kept can be decided, so that those that lie in no kept one can be counted.
 use Rattle.std.proofs.Common.{◌≡◌, ◌≢◌, ◌<◌, ◌≤◌, ℕ, zero, suc, ◌+◌, List, [], ◌∷◌, length, refl, sym, ap, subst, ◌∙◌, ◌⊎◌, inl, inr, ⊎_elim, true, arith}
 use Rattle.std.proofs.lemmas.Bool.{cases_lt, cases_eq}
 use mathlib.Core.List.{head-eq_of_cons-eq, tail-eq_of_cons-eq}
@@ -14,11 +14,11 @@ use Rattle.definitions.specs.TokenEdits.{Splice, made, splice}
 use Rattle.definitions.specs.TreeEdits.{IsTouched, IsMoved, IsKept, Built, Nothing, Token, Kept, New}
 use Rattle.definitions.specs.Trees.{Tree, Forest, Leaf, Branch, Nil, Cons, trees, yield, yields}
 use Rattle.grammar.specs.Grammars.{FileGrammar}
-use Rattle.theory.proofs.Exact.{stands_split}
-use Rattle.theory.proofs.Made.{not_in_leaf}
-use Rattle.theory.proofs.Stack.{nowhere, stands_in_front}
+use Rattle.theory.proofs.ReuseIsExact.{stands_split}
+use Rattle.theory.proofs.MadeIsBuilt.{not_in_leaf}
+use Rattle.theory.proofs.Stack.{nowhere, stands_in_prefix}
 use Rattle.docs.specs.Answers.{Reading, AlwaysAnswers}
-use Rattle.docs.specs.Edits.{IsNext, Makes, AlwaysCounts, IsAbove, number_behind, edit_of}
+use Rattle.docs.specs.Edits.{IsNext, Makes, AlwaysCounts, IsAbove, number_after, edit_of}
 use Rattle.docs.specs.Texts.{LastEdit, fits}
 use Rattle.docs.proofs.Edits.{above_or_not}
 
@@ -104,7 +104,7 @@ module _ (p : ℕ) (us : Forest) where
   first_or_later P t ts s = ⊎_elim (λ one. inl (s.0, one, s.2)) (λ rest. inr (rest.0, rest.1, subst P rest.2 s.2)) (stands_split (t ∷ []) ts s.1)
 
   one_or_more : (P : List Tree → Type 0) (t : Tree) (ts : List Tree) → Decided (Stands P (t ∷ [])) → Decided (Stands (λ l. P (t ∷ l)) ts) → Decided (Stands P (t ∷ ts))
-  one_or_more P t ts (inl one) more = inl (one.0, stands_in_front ts one.1, one.2)
+  one_or_more P t ts (inl one) more = inl (one.0, stands_in_prefix ts one.1, one.2)
   one_or_more P t ts (inr isnt) (inl more) = inl (t ∷ more.0, Past more.1, more.2)
   one_or_more P t ts (inr isnt) (inr never) = inr (λ s. ⊎_elim isnt never (first_or_later P t ts s))
 
@@ -187,7 +187,7 @@ module _ (s : Splice) where
     trees_counted place [] = (0, Nothing)
     trees_counted place (t ∷ ts) = tree_counted place t ts (trees_counted (place + length (yield t)) ts)
 
--- ---- so of each edit something is told
+-- ---- so of each edit an answer is given
 
 makes_some : (file : FileGrammar) (e : Edit) (last : Option LastEdit) (old new : Reading) → (next : LastEdit) × Makes file e last old new next
 makes_some file e last old new = by (above_or_not last e.number)
@@ -205,5 +205,5 @@ pub always_counts : (file : FileGrammar) → AlwaysAnswers file → AlwaysCounts
 always_counts file always encoding t range s last was is =
     let old = always.readings t was in
     let new = always.readings (changed encoding t range s) is in
-    let some = makes_some file (edit_of encoding t range s (number_behind last)) last old.0 new.0 in
+    let some = makes_some file (edit_of encoding t range s (number_after last)) last old.0 new.0 in
     (some.0, record { old = old.0; new = new.0; was = old.1; is = new.1; makes = some.1 })

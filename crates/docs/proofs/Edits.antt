@@ -1,4 +1,4 @@
--- What the edits of a document make, and that one thing is told of it.
+-- What the edits of a document make, and that one answer reports it.
 use Rattle.std.proofs.Common.{◌≡◌, ◌<◌, ◌≤◌, ℕ, zero, suc, ◌+◌, ◌-◌, List, [], ◌∷◌, ◌++◌, length, map, min, refl, sym, ap, subst, ◌∙◌, ◌⊎◌, inl, inr, ⊎_elim, Bool, true, false, arith}
 use Rattle.std.proofs.lemmas.Bool.{cases_lt, eq-eqb, eqb-true}
 use Rattle.std.proofs.lemmas.List.{length-map}
@@ -22,18 +22,18 @@ use Rattle.parser.specs.Stamps.{AreOlder}
 use Rattle.parser.proofs.Built.{one_built}
 use Rattle.parser.proofs.Counts.{none_by, older_by}
 use Rattle.parser.specs.Parses.{AreUpTo, before_fault, last_leaf, branches_by, branches_of_by, all_branches_by, verdict_in}
-use Rattle.theory.proofs.Exact.{stands_split}
-use Rattle.theory.proofs.Made.{not_in_leaf}
-use Rattle.theory.proofs.Stack.{nowhere, stands_in_front}
+use Rattle.theory.proofs.ReuseIsExact.{stands_split}
+use Rattle.theory.proofs.MadeIsBuilt.{not_in_leaf}
+use Rattle.theory.proofs.Stack.{nowhere, stands_in_prefix}
 use Rattle.trees.specs.declared.store.Child.{Child}
 use Rattle.trees.specs.Cells.{all_trees, forest_in, forest_of, trees_of, tree_of}
 use Rattle.docs.specs.declared.doc.Doc.{Doc}
 use Rattle.docs.specs.Answers.{Reading, IsReading, AnswersOnce}
-use Rattle.docs.specs.Edits.{IsNext, Makes, AreStats, TellsLast, CountsOnce, IsAbove, number_of, number_behind, edit_of, without_nodes}
+use Rattle.docs.specs.Edits.{IsNext, Makes, AreStats, ReportsLast, CountsOnce, IsAbove, number_of, number_after, edit_of, without_nodes}
 use Rattle.docs.specs.Docs.{last_edit, open_document, IsCurrent}
 use Rattle.docs.specs.Languages.{LanguageData}
 use Rattle.docs.specs.Texts.{LastEdit, OpenDocument}
-use Rattle.docs.proofs.Current.{reading_of, stacked_reading, stacked_trees}
+use Rattle.docs.proofs.StoredReading.{reading_of, stacked_reading, stacked_trees}
 
 -- ---- a last leaf is no node
 
@@ -62,7 +62,7 @@ module _ (s : Splice) (old : List Tree) (x : List Kind) where
   kept_longer : {place p : ℕ} {us : Forest} → IsKept s old place p us → IsKept s (old ++ last_leaf x) place p us
   kept_longer kept = record {
     lefts = kept.lefts;
-    stood = stands_in_front (last_leaf x) kept.stood;
+    stood = stands_in_prefix (last_leaf x) kept.stood;
     not_empty = kept.not_empty;
     untouched = kept.untouched;
     moved = kept.moved;
@@ -88,14 +88,14 @@ module _ (s : Splice) (old : List Tree) (x : List Kind) where
   built_leaf (k ∷ []) (Token Nothing) = refl
   built_leaf (j ∷ k ∷ y) built = built_leaf (k ∷ y) built
 
-  built_front : (new : List Tree) (y : List Kind) {place n : ℕ} → Built s old place (new ++ last_leaf y) n → Built s old place new n
-  built_front [] y {place = place} built = subst (λ n. Built s old place [] n) (sym (built_leaf y built)) Nothing
-  built_front (Leaf k ∷ new) y (Token rest) = Token (built_front new y rest)
-  built_front (Branch p us ∷ new) y (Kept kept rest) = Kept kept (built_front new y rest)
-  built_front (Branch p us ∷ new) y (New never below rest) = New never below (built_front new y rest)
+  built_prefix : (new : List Tree) (y : List Kind) {place n : ℕ} → Built s old place (new ++ last_leaf y) n → Built s old place new n
+  built_prefix [] y {place = place} built = subst (λ n. Built s old place [] n) (sym (built_leaf y built)) Nothing
+  built_prefix (Leaf k ∷ new) y (Token rest) = Token (built_prefix new y rest)
+  built_prefix (Branch p us ∷ new) y (Kept kept rest) = Kept kept (built_prefix new y rest)
+  built_prefix (Branch p us ∷ new) y (New never below rest) = New never below (built_prefix new y rest)
 
   built_before : (new : List Tree) (y : List Kind) {n : ℕ} → Built s (old ++ last_leaf x) 0 (new ++ last_leaf y) n → Built s old 0 new n
-  built_before new y built = built_front new y (built_of built)
+  built_before new y built = built_prefix new y (built_of built)
 
 -- ---- where all are made by one edit, its nodes are all there are
 
@@ -118,26 +118,26 @@ all_made n ts [] are = refl
 all_made n ts (c ∷ cs) are =
     ap (λ a. a + all_branches_by n (trees_of ts cs)) (made_branches n (tree_of ts c) are.0) ∙ ap (λ b. branches (plain (tree_of ts c)) + b) (all_made n ts cs are.1)
 
--- ---- the edit behind the last one
+-- ---- the edit after the last one
 
-abbrev pub edit_told : ℕ → ℕ → ℕ → Option LastEdit
-edit_told n scanned built = if n == 0 then None else Some (record { number = n; scanned = scanned; built = built })
+abbrev pub edit_shown : ℕ → ℕ → ℕ → Option LastEdit
+edit_shown n scanned built = if n == 0 then None else Some (record { number = n; scanned = scanned; built = built })
 
 module _ (n scanned built : ℕ) where
-  abbrev told : LastEdit
-  told = record { number = n; scanned = scanned; built = built }
+  abbrev reported : LastEdit
+  reported = record { number = n; scanned = scanned; built = built }
 
-  told_number : number_of (edit_told n scanned built) ≡ n
-  told_number = by (n == 0) refl
+  shown_number : number_of (edit_shown n scanned built) ≡ n
+  shown_number = by (n == 0) refl
     where
-      by : (b : Bool) → (n == 0) ≡ b → number_of (if b then None else Some told) ≡ n
+      by : (b : Bool) → (n == 0) ≡ b → number_of (if b then None else Some reported) ≡ n
       by true e = sym (eqb-true n 0 e)
       by false e = refl
 
-  told_last : 0 < n → edit_told n scanned built ≡ Some told
-  told_last more = by (n == 0) refl
+  shown_last : 0 < n → edit_shown n scanned built ≡ Some reported
+  shown_last more = by (n == 0) refl
     where
-      by : (b : Bool) → (n == 0) ≡ b → ◌≡◌ {A = Option LastEdit} (if b then None else Some told) (Some told)
+      by : (b : Bool) → (n == 0) ≡ b → ◌≡◌ {A = Option LastEdit} (if b then None else Some reported) (Some reported)
       by true e = absurd (omega (arith, more, eqb-true n 0 e))
       by false e = refl
 
@@ -155,22 +155,22 @@ pub next_later : (n m : ℕ) → m ≡ min (n + 1) 18_446_744_073_709_551_615 �
 next_later n m is fits = grind (arith, is, fits)
 
 -- the number of the edit after the last one
-pub number_after : (d e : Doc) → e.parse.number ≡ min (d.parse.number + 1) 18_446_744_073_709_551_615 → e.parse.number ≡ number_behind (last_edit d)
-number_after d e number = number ∙ ap (λ n. min (n + 1) 18_446_744_073_709_551_615) (sym (told_number d.parse.number d.tokens.scanned d.parse.built))
+pub number_after_edit : (d e : Doc) → e.parse.number ≡ min (d.parse.number + 1) 18_446_744_073_709_551_615 → e.parse.number ≡ number_after (last_edit d)
+number_after_edit d e number = number ∙ ap (λ n. min (n + 1) 18_446_744_073_709_551_615) (sym (shown_number d.parse.number d.tokens.scanned d.parse.built))
 
-pub same_edit : (encoding : Encoding) (text : List ℕ) (range : Option Range) (s : List ℕ) (away : ℕ × ℕ) (inserted told number : ℕ) → away ≡ span encoding text range → inserted ≡ length s → told ≡ number
-    → record { at = away.0; removed = away.1 - away.0; inserted = inserted; number = told } ≡ edit_of encoding text range s number
-same_edit encoding text range s away inserted told number places long same =
-    let first : Edit = record { at = away.0; removed = away.1 - away.0; inserted = inserted; number = told } in
-    let place : first ≡ record { at = (span encoding text range).0; removed = (span encoding text range).1 - (span encoding text range).0; inserted = inserted; number = told } = ap (λ (p : ℕ × ℕ). record { at = p.0; removed = p.1 - p.0; inserted = inserted; number = told }) places in
-    place ∙ (ap (λ n. record { at = (span encoding text range).0; removed = (span encoding text range).1 - (span encoding text range).0; inserted = n; number = told }) long ∙ ap (edit_of encoding text range s) same)
+pub same_edit : (encoding : Encoding) (text : List ℕ) (range : Option Range) (s : List ℕ) (away : ℕ × ℕ) (inserted reported number : ℕ) → away ≡ span encoding text range → inserted ≡ length s → reported ≡ number
+    → record { at = away.0; removed = away.1 - away.0; inserted = inserted; number = reported } ≡ edit_of encoding text range s number
+same_edit encoding text range s away inserted reported number places long same =
+    let first : Edit = record { at = away.0; removed = away.1 - away.0; inserted = inserted; number = reported } in
+    let place : first ≡ record { at = (span encoding text range).0; removed = (span encoding text range).1 - (span encoding text range).0; inserted = inserted; number = reported } = ap (λ (p : ℕ × ℕ). record { at = p.0; removed = p.1 - p.0; inserted = inserted; number = reported }) places in
+    place ∙ (ap (λ n. record { at = (span encoding text range).0; removed = (span encoding text range).1 - (span encoding text range).0; inserted = n; number = reported }) long ∙ ap (edit_of encoding text range s) same)
 
--- a number is above every stamp of the nodes exactly where what is told of the last edit says so
+-- a number is above every stamp of the nodes exactly where the counts of the last edit say so
 module _ (d : Doc) (number : ℕ) (ts : List Stamped) where
   older_above : AreUpTo d.parse.number ts → d.parse.built ≡ all_branches_by d.parse.number ts → IsAbove (last_edit d) number → AreOlder number ts
   older_above up_to built above = by (d.parse.number == 0) refl above
     where
-      by : (none : Bool) → (d.parse.number == 0) ≡ none → IsAbove (if none then None else Some (told d.parse.number d.tokens.scanned d.parse.built)) number → AreOlder number ts
+      by : (none : Bool) → (d.parse.number == 0) ≡ none → IsAbove (if none then None else Some (reported d.parse.number d.tokens.scanned d.parse.built)) number → AreOlder number ts
       by true e more lefts p born us w = omega (arith, more, up_to lefts p born us w, eqb-true d.parse.number 0 e)
       by false e more lefts p born us w =
           ⊎_elim
@@ -181,7 +181,7 @@ module _ (d : Doc) (number : ℕ) (ts : List Stamped) where
   above_older : d.parse.built ≡ all_branches_by d.parse.number ts → d.parse.number ≤ number → 0 < number → AreOlder number ts → IsAbove (last_edit d) number
   above_older built later some older = by (d.parse.number == 0)
     where
-      by : (none : Bool) → IsAbove (if none then None else Some (told d.parse.number d.tokens.scanned d.parse.built)) number
+      by : (none : Bool) → IsAbove (if none then None else Some (reported d.parse.number d.tokens.scanned d.parse.built)) number
       by true = some
       by false =
           ⊎_elim
@@ -218,27 +218,27 @@ module _ (l : LanguageData) (d e : Doc) (current : IsCurrent l d) (current_next 
       → e.tokens.scanned ≡ length (made change (map plain_token d.tokens.items) (map plain_token e.tokens.items)) → Spliced spliced → MadeAnew
       → (next : LastEdit) × (last_edit e ≡ Some next) × IsNext encoding l.file d.text range s (last_edit d) next
   next_is encoding range s change spliced fits text number edit same scanned built anew =
-      let old : number_of (last_edit d) ≡ d.parse.number = told_number d.parse.number d.tokens.scanned d.parse.built in
-      let behind : number_behind (last_edit d) ≡ e.parse.number = sym (number_after d e number) in
-      let so : change ≡ edit_of encoding d.text range s (number_behind (last_edit d)) = edit ∙ ap (edit_of encoding d.text range s) (sym behind) in
+      let old : number_of (last_edit d) ≡ d.parse.number = shown_number d.parse.number d.tokens.scanned d.parse.built in
+      let after : number_after (last_edit d) ≡ e.parse.number = sym (number_after_edit d e number) in
+      let so : change ≡ edit_of encoding d.text range s (number_after (last_edit d)) = edit ∙ ap (edit_of encoding d.text range s) (sym after) in
       let reading : IsReading l.file (changed encoding d.text range s) (reading_of e (stacked_trees l e current_next)) = subst (λ (t : List ℕ). IsReading l.file t (reading_of e (stacked_trees l e current_next))) text (stacked_reading l e current_next) in (
         record { number = e.parse.number; scanned = e.tokens.scanned; built = e.parse.built },
-        told_last e.parse.number e.tokens.scanned e.parse.built (next_positive d.parse.number e.parse.number number),
+        shown_last e.parse.number e.tokens.scanned e.parse.built (next_positive d.parse.number e.parse.number number),
         record {
           old = reading_of d (stacked_trees l d current);
           new = reading_of e (stacked_trees l e current_next);
           was = stacked_reading l d current;
           is = reading;
           makes = record {
-            number = sym behind;
+            number = sym after;
             scanned = subst (λ (x : Edit). e.tokens.scanned ≡ length (made x (map plain_token d.tokens.items) (map plain_token e.tokens.items))) so scanned;
-            built = λ above. subst (λ (x : Splice). Built x (stacked_trees l d current) 0 (stacked_trees l e current_next) e.parse.built) (same ∙ ap (λ (x : Edit). splice l.file.skips x (map plain_token d.tokens.items) (map plain_token e.tokens.items)) so) (nodes_built spliced built (older_above d e.parse.number (all_trees d.store d.parse.stack) current.parse.older current.parse.built (subst (IsAbove (last_edit d)) behind above)));
-            all_built = λ below. current_next.parse.built ∙ (all_made e.parse.number _ e.parse.stack (anew (λ older. below (subst (IsAbove (last_edit d)) (sym behind) (above_older d e.parse.number (all_trees d.store d.parse.stack) current.parse.built (next_later d.parse.number e.parse.number number fits) (next_positive d.parse.number e.parse.number number) older)))) ∙ (ap all_branches current_next.parse.stop.stack.stack_is ∙ branches_before (stacked_trees l e current_next) (before e)));
+            built = λ above. subst (λ (x : Splice). Built x (stacked_trees l d current) 0 (stacked_trees l e current_next) e.parse.built) (same ∙ ap (λ (x : Edit). splice l.file.skips x (map plain_token d.tokens.items) (map plain_token e.tokens.items)) so) (nodes_built spliced built (older_above d e.parse.number (all_trees d.store d.parse.stack) current.parse.older current.parse.built (subst (IsAbove (last_edit d)) after above)));
+            all_built = λ below. current_next.parse.built ∙ (all_made e.parse.number _ e.parse.stack (anew (λ older. below (subst (IsAbove (last_edit d)) (sym after) (above_older d e.parse.number (all_trees d.store d.parse.stack) current.parse.built (next_later d.parse.number e.parse.number number fits) (next_positive d.parse.number e.parse.number number) older)))) ∙ (ap all_branches current_next.parse.stop.stack.stack_is ∙ branches_before (stacked_trees l e current_next) (before e)));
           };
         },
       )
 
--- what is told of a document
+-- what is reported of a document
 pub stats_are : (l : LanguageData) (d : Doc) → IsCurrent l d → (stats : Stats) → stats.edit ≡ d.parse.number → stats.scanned ≡ d.tokens.scanned → stats.tokens ≡ length d.tokens.items → stats.branches ≡ d.parse.branches → stats.built ≡ d.parse.built → stats.nodes ≡ length d.store
     → AreStats l.file (open_document d) stats
 stats_are l d current stats edit scanned tokens branches built nodes = record {
@@ -250,11 +250,11 @@ stats_are l d current stats edit scanned tokens branches built nodes = record {
   nodes = let few = current.bounded in omega (arith, few, nodes, branches);
 }
   where
-    by : (n : ℕ) → d.parse.number ≡ n → TellsLast (edit_told n d.tokens.scanned d.parse.built) stats
+    by : (n : ℕ) → d.parse.number ≡ n → ReportsLast (edit_shown n d.tokens.scanned d.parse.built) stats
     by zero none = (edit ∙ none, scanned ∙ (current.scanned none ∙ sym tokens), built ∙ (current.built none ∙ sym branches))
-    by (suc n) some = subst (λ (last : Option LastEdit). TellsLast last stats) (sym (told_last (suc n) d.tokens.scanned d.parse.built (omega arith))) (edit ∙ some, scanned, built)
+    by (suc n) some = subst (λ (last : Option LastEdit). ReportsLast last stats) (sym (shown_last (suc n) d.tokens.scanned d.parse.built (omega arith))) (edit ∙ some, scanned, built)
 
--- ---- one thing is told
+-- ---- there is one answer
 
 pub above_or_not : (last : Option LastEdit) (number : ℕ) → IsAbove last number ⊎ (¬ IsAbove last number)
 above_or_not None number = ⊎_elim (λ some. inl some) (λ none. inr (λ some. omega (arith, none, some))) (cases_lt 0 number)
@@ -271,9 +271,9 @@ above_or_not (Some last) number =
     (cases_lt last.number number)
 
 made_once : (encoding : Encoding) (file : FileGrammar) (t : List ℕ) (range : Option Range) (s : List ℕ) (last : Option LastEdit) (r q : Reading) (one other : LastEdit)
-    → Makes file (edit_of encoding t range s (number_behind last)) last r q one → Makes file (edit_of encoding t range s (number_behind last)) last r q other → other ≡ one
+    → Makes file (edit_of encoding t range s (number_after last)) last r q one → Makes file (edit_of encoding t range s (number_after last)) last r q other → other ≡ one
 made_once encoding file t range s last r q one other a b =
-    same (b.number ∙ sym a.number) (b.scanned ∙ sym a.scanned) (built (above_or_not last (number_behind last)))
+    same (b.number ∙ sym a.number) (b.scanned ∙ sym a.scanned) (built (above_or_not last (number_after last)))
   where
     same : other.number ≡ one.number → other.scanned ≡ one.scanned → other.built ≡ one.built → other ≡ one
     same number scanned built =
@@ -281,14 +281,14 @@ made_once encoding file t range s last r q one other a b =
         ∙ (ap (λ n. record { number = one.number; scanned = n; built = other.built }) scanned
         ∙ ap (λ n. record { number = one.number; scanned = one.scanned; built = n }) built)
 
-    built : IsAbove last (number_behind last) ⊎ (¬ IsAbove last (number_behind last)) → other.built ≡ one.built
+    built : IsAbove last (number_after last) ⊎ (¬ IsAbove last (number_after last)) → other.built ≡ one.built
     built (inl above) = one_built (b.built above) (a.built above)
     built (inr below) = b.all_built below ∙ sym (a.all_built below)
 
 edits_once : (file : FileGrammar) → AnswersOnce file → (encoding : Encoding) (t : List ℕ) (range : Option Range) (s : List ℕ) (last : Option LastEdit) (one other : LastEdit)
     → IsNext encoding file t range s last one → IsNext encoding file t range s last other → other ≡ one
 edits_once file once encoding t range s last one other a b =
-    let e = edit_of encoding t range s (number_behind last) in
+    let e = edit_of encoding t range s (number_after last) in
     let old : b.old ≡ a.old = once.readings t a.old b.old a.was b.was in
     let new : b.new ≡ a.new = once.readings _ a.new b.new a.is b.is in
     let here : Makes file e last a.old a.new other = subst (λ (q : Reading). Makes file e last a.old q other) new (subst (λ (r : Reading). Makes file e last r b.new other) old b.makes) in
@@ -314,7 +314,7 @@ stats_alike file once d one other a b = by d.last a.last b.last
     nodes : other.branches ≡ one.branches
     nodes = b.branches ∙ (ap (λ (r : Reading). all_branches r.trees) reading ∙ sym a.branches)
 
-    by : (last : Option LastEdit) → TellsLast last one → TellsLast last other → without_nodes other ≡ without_nodes one
+    by : (last : Option LastEdit) → ReportsLast last one → ReportsLast last other → without_nodes other ≡ without_nodes one
     by None p q = same_stats one other (q.0 ∙ sym p.0) (q.1 ∙ (tokens ∙ sym p.1)) tokens nodes (q.2 ∙ (nodes ∙ sym p.2))
     by (Some last) p q = same_stats one other (q.0 ∙ sym p.0) (q.1 ∙ sym p.1) tokens nodes (q.2 ∙ sym p.2)
 

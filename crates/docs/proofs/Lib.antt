@@ -1,9 +1,9 @@
 pub mod Texts
 mod Refusals
-mod Current
+mod StoredReading
 mod Trees
-mod Always
-mod Once
+mod EachReadingExists
+mod EachReadingIsUnique
 mod Edits
 mod Countable
 mod Stamps

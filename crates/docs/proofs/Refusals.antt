@@ -53,20 +53,20 @@ module _ {S : Type 0} (made : Result S TextFault) (large over : Type 0) (by : (m
   module _ {T : Type 0} (result : Result T DocFault) where
     -- the refusal of the text was passed on
     pub passed_on : (fault : TextFault) (e : DocFault) → made ≡ Err fault → result ≡ Err e → e ≡ doc_fault fault → (result ≡ Err TooLarge) ↔ over
-    passed_on fault e was is told = (
+    passed_on fault e was is reported = (
       λ r.
           let errs : Err e ≡ Err TooLarge = sym is ∙ r in
           let here : e ≡ TooLarge = cc in
-          same.1 (by.0 (was ∙ ap (λ f. Err f) (from_text fault (sym told ∙ here)))),
+          same.1 (by.0 (was ∙ ap (λ f. Err f) (from_text fault (sym reported ∙ here)))),
       λ o.
           let errs : Err fault ≡ Err text.TooLarge = sym was ∙ by.1 (same.0 o) in
           let here : fault ≡ text.TooLarge = cc in
-          is ∙ ap (λ f. Err f) (told ∙ ap doc_fault here),
+          is ∙ ap (λ f. Err f) (reported ∙ ap doc_fault here),
     )
 
-    -- memory was refused behind it
-    pub behind_text : (x : S) (e : DocFault) → made ≡ Ok x → result ≡ Err e → e ≡ NoMemory → (result ≡ Err TooLarge) ↔ over
-    behind_text x e was is memory = (
+    -- memory was refused after it
+    pub after_text : (x : S) (e : DocFault) → made ≡ Ok x → result ≡ Err e → e ≡ NoMemory → (result ≡ Err TooLarge) ↔ over
+    after_text x e was is memory = (
       λ r. absurd (let errs : Err e ≡ Err TooLarge = sym is ∙ r in let f : ⊥ = cc in f),
       λ o. absurd (text_made x was o),
     )

@@ -6,7 +6,7 @@ use Rattle.std.proofs.lemmas.List.{drop-drop, take-append-drop}
 use Rattle.std.proofs.lemmas.List.Elements.{All-append, All-drop, All-take, All-weaker}
 use Rattle.std.proofs.lemmas.List.Folds.{drop_split}
 use Rattle.definitions.specs.declared.Edit.{Edit}
-use Rattle.definitions.specs.TokenEdits.{Splice, front, rejoin}
+use Rattle.definitions.specs.TokenEdits.{Splice, kept_before, rejoin}
 use Rattle.definitions.specs.TreeEdits.{AreStampedExactly}
 use Rattle.grammar.specs.Grammars.{FileGrammar}
 use Rattle.lexer.specs.declared.sums.Token.{Token}
@@ -17,7 +17,7 @@ use Rattle.trees.specs.Cells.{all_trees, forest_in}
 use Rattle.docs.specs.Stamps.{AreStamped, splice_between}
 use Rattle.docs.specs.declared.doc.Doc.{Doc}
 
--- what holds of the front of a list, of a part, and of what is behind the part, holds of the list
+-- what holds of the prefix of a list, of a part, and of what is after the part, holds of the list
 all_parts : {X : Type 0} (P : X → Type 0) (xs : List X) (a b : ℕ) → All P (take a xs) → All P (slice_range xs a b) → All P (drop b xs) → All P xs
 all_parts P xs a b first middle last =
     let rest : All P (drop a xs) = ⊎_elim
@@ -32,11 +32,11 @@ all_parts P xs a b first middle last =
 pub born_on : (e : Edit) (old new : List Token) (number : ℕ) → AreRescanned e old new → number ≤ e.number → All (λ x. x.born ≤ number) old → All (λ x. x.born ≤ e.number) new
 born_on e old new number kept later born =
     let P : Token → Type 0 = λ x. x.born ≤ e.number in
-    let f = front e (plain_all old) in
+    let f = kept_before e (plain_all old) in
     let r = rejoin e (plain_all old) (plain_all new) in
     let was : All P old = All-weaker (λ x. x.born ≤ number) P (λ x le. omega (arith, le, later)) old born in
     all_parts P new f r
-    (subst (All P) (sym kept.front_kept) (All-take P f old was))
+    (subst (All P) (sym kept.prefix_kept) (All-take P f old was))
     (All-weaker (λ x. x.born ≡ e.number) P (λ x is. omega (arith, is)) (slice_range new f r) kept.stamped)
     (subst (All P) (sym kept.rest_kept) (All-drop P (length old - (length new - r)) old was))
 

@@ -34,10 +34,10 @@ module _ (g : Grammar) where
       let long : length (k ∷ x) ≡ length (all_kinds trees) + 1 = ap length h.kinds ∙ length-append (all_kinds trees) (h.last ∷ []) in
       (roots.0, roots.1, omega (arith, long))
 
-  length_front : (n : ℕ) (x : List Kind) → length (take n x) ≤ length x
-  length_front zero x = omega arith
-  length_front (suc n) [] = omega arith
-  length_front (suc n) (k ∷ x) = let more = length_front n x in omega (arith, more)
+  length_prefix : (n : ℕ) (x : List Kind) → length (take n x) ≤ length x
+  length_prefix zero x = omega arith
+  length_prefix (suc n) [] = omega arith
+  length_prefix (suc n) (k ∷ x) = let more = length_prefix n x in omega (arith, more)
 
   pub document_rooted : (x : List Kind) (v : Verdict) (trees : List Tree) → IsVerdict g x v → AreDocumentTrees g x v trees → AreRooted trees (length x)
   document_rooted x (HasTree t) trees is are =
@@ -46,6 +46,6 @@ module _ (g : Grammar) where
   document_rooted x (FaultAt k) trees is are =
       let r = settled_rooted (take k x) trees are in
       let few = r.2 in
-      let front = length_front k x in
-      (r.0, r.1, omega (arith, few, front))
+      let kept_before = length_prefix k x in
+      (r.0, r.1, omega (arith, few, kept_before))
   document_rooted x FaultAtEnd trees is are = settled_rooted x trees are

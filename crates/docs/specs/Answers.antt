@@ -1,4 +1,4 @@
--- What a text is by a grammar file, and what is told of it.
+-- What a text is by a grammar file, and what is reported of it.
 use Rattle.std.specs.Prelude.{◌≡◌, ℕ, List, [], ◌∷◌, map, Option, Some, None, option_map, encode_utf8_all, string_bytes, true}
 use Rattle.definitions.specs.declared.Diagnostic.{Diagnostic as Stored}
 use Rattle.definitions.specs.declared.Position.{Position}
@@ -12,8 +12,8 @@ use Rattle.definitions.specs.Text.{offset}
 use Rattle.definitions.specs.Tokens.{Token, AreTokens, placed, kinds}
 use Rattle.definitions.specs.Trees.{Tree}
 use Rattle.grammar.specs.Grammars.{FileGrammar, lefts}
-use Rattle.views.specs.Diagnostics.{in_utf8, told_bytes}
-use Rattle.views.specs.Told.{AreFoldsOf, IsDiagnosis, IsSelectionOf}
+use Rattle.views.specs.Diagnostics.{in_utf8, stored_diagnostic}
+use Rattle.views.specs.Contents.{AreFoldsOf, IsDiagnosis, IsSelectionOf}
 use Rattle.docs.specs.Texts.{fits}
 use Rattle.docs.specs.declared.doc.Outcome.{Outcome}
 use Rattle.docs.specs.declared.doc.Outcome.TheVariants as comes
@@ -30,9 +30,9 @@ pub record IsReading (file : FileGrammar) (text : List ℕ) (reading : Reading) 
   pub verdict : IsVerdict file.grammar (kinds file.skips reading.tokens) reading.verdict
   pub trees : AreDocumentTrees file.grammar (kinds file.skips reading.tokens) reading.verdict reading.trees
 
--- `Reads file text Tells`: the text has a reading of which `Tells` holds
+-- `Reads file text Reports`: the text has a reading of which `Reports` holds
 abbrev pub Reads : FileGrammar → List ℕ → (Reading → Type 0) → Type 0
-Reads file text Tells = (reading : Reading) × IsReading file text reading × Tells reading
+Reads file text Reports = (reading : Reading) × IsReading file text reading × Reports reading
 
 -- the names of tokens in UTF-8, and their ranges
 abbrev pub rows : Encoding → FileGrammar → List ℕ → List Token → List (List ℕ × Range)
@@ -42,11 +42,11 @@ rows encoding file text tokens = map (λ r. (encode_utf8_all r.0, r.1)) (token_r
 abbrev pub tree_bytes : FileGrammar → Tree → List ℕ
 tree_bytes file t = encode_utf8_all (tree_text file.names file.nonterminals (lefts file) t)
 
--- `tree_told file verdict`: the `tree_bytes` of the tree that a verdict tells, if it tells one
-abbrev pub tree_told : FileGrammar → Verdict → Option (List ℕ)
-tree_told file (HasTree t) = Some (tree_bytes file t)
-tree_told file (FaultAt k) = None
-tree_told file FaultAtEnd = None
+-- `written_tree file verdict`: the `tree_bytes` of the tree that a verdict has, if it has one
+abbrev pub written_tree : FileGrammar → Verdict → Option (List ℕ)
+written_tree file (HasTree t) = Some (tree_bytes file t)
+written_tree file (FaultAt k) = None
+written_tree file FaultAtEnd = None
 
 -- `AreSelections encoding file text reading positions selections`: what can be selected around each of these positions, in order
 abbrev pub AreSelections : Encoding → FileGrammar → List ℕ → Reading → List Position → List (List Range) → Type 0
@@ -56,17 +56,18 @@ AreSelections encoding file text reading (p ∷ positions) selections =
     × IsSelectionOf encoding file text reading.tokens reading.trees (offset encoding text p) first
     × AreSelections encoding file text reading positions others
 
--- a diagnostic of the code tells this fault, its message in UTF-8; or both are none
-abbrev pub IsTold : Option Stored → Option Diagnostic → Type 0
-IsTold told fault = option_map told_bytes told ≡ option_map in_utf8 fault
+-- a diagnostic of the code reports this fault, its message in UTF-8; or both are none
+abbrev pub IsReported : Option Stored → Option Diagnostic → Type 0
+IsReported reported fault = option_map stored_diagnostic reported ≡ option_map in_utf8 fault
 
 -- `IsOutcome encoding file text outcome`: what a text comes to: the text of its tree, or its fault
 abbrev pub IsOutcome : Encoding → FileGrammar → List ℕ → Outcome → Type 0
-IsOutcome encoding file text (comes.Tree told) =
-    Reads file text (λ reading. Some (string_bytes told) ≡ tree_told file reading.verdict)
-IsOutcome encoding file text (comes.Fault told) =
+IsOutcome encoding file text (comes.Tree reported) =
+    Reads file text (λ reading. Some (string_bytes reported) ≡ written_tree file reading.verdict)
+IsOutcome encoding file text (comes.Fault reported) =
     Reads file text (λ reading.
-    (fault : Diagnostic) × IsDiagnosis encoding file text reading.tokens reading.verdict (Some fault) × IsTold (Some told) (Some fault))
+    (fault : Diagnostic) × IsDiagnosis encoding file text reading.tokens reading.verdict (Some fault)
+    × IsReported (Some reported) (Some fault))
 
 -- each text that fits has a reading, and each reading has its fault or none, its folds and its selections
 pub record AlwaysAnswers (file : FileGrammar) : Type 0 where

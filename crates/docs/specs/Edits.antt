@@ -18,8 +18,8 @@ number_of None = 0
 number_of (Some last) = last.number
 
 -- the number of the next edit: one more, up to the greatest of 64 bits, which all later ones have
-abbrev pub number_behind : Option LastEdit → ℕ
-number_behind last = min (number_of last + 1) 18_446_744_073_709_551_615
+abbrev pub number_after : Option LastEdit → ℕ
+number_after last = min (number_of last + 1) 18_446_744_073_709_551_615
 
 -- `IsAbove last number`: the number is above every stamp in the document: above the last edit's; or equal to it, where the numbers have
 -- ended and that edit made no node
@@ -48,21 +48,21 @@ pub record IsNext (encoding : Encoding) (file : FileGrammar) (text : List ℕ) (
   pub new : Reading
   pub was : IsReading file text old
   pub is : IsReading file (changed encoding text range s) new
-  pub makes : Makes file (edit_of encoding text range s (number_behind last)) last old new next
+  pub makes : Makes file (edit_of encoding text range s (number_after last)) last old new next
 
--- `TellsLast last stats`: the counts tell the last edit's number and what it made, or, where there was none, that opening made all
-abbrev pub TellsLast : Option LastEdit → Stats → Type 0
-TellsLast None stats = (stats.edit ≡ 0) × (stats.scanned ≡ stats.tokens) × (stats.built ≡ stats.branches)
-TellsLast (Some last) stats = (stats.edit ≡ last.number) × (stats.scanned ≡ last.scanned) × (stats.built ≡ last.built)
+-- `ReportsLast last stats`: the counts give the last edit's number and what it made, or, where there was none, that opening made all
+abbrev pub ReportsLast : Option LastEdit → Stats → Type 0
+ReportsLast None stats = (stats.edit ≡ 0) × (stats.scanned ≡ stats.tokens) × (stats.built ≡ stats.branches)
+ReportsLast (Some last) stats = (stats.edit ≡ last.number) × (stats.scanned ≡ last.scanned) × (stats.built ≡ last.built)
 
--- `AreStats file document stats`: the counts of a document: the tokens and the branches of its reading; what `TellsLast`; and at most `2 *
--- branches + 1024` nodes in memory
+-- `AreStats file document stats`: the counts of a document: the tokens and the branches of its reading; what `ReportsLast`; and at most `2
+-- * branches + 1024` nodes in memory
 pub record AreStats (file : FileGrammar) (d : OpenDocument) (stats : Stats) : Type 0 where
   pub reading : Reading
   pub is : IsReading file d.text reading
   pub tokens : stats.tokens ≡ length reading.tokens
   pub branches : stats.branches ≡ all_branches reading.trees
-  pub last : TellsLast d.last stats
+  pub last : ReportsLast d.last stats
   pub nodes : stats.nodes ≤ 2 * stats.branches + 1024
 
 -- `without_nodes stats`: the counts but for the nodes in memory
@@ -70,14 +70,14 @@ abbrev pub without_nodes : Stats → Stats
 without_nodes s =
     record { edit = s.edit; scanned = s.scanned; tokens = s.tokens; branches = s.branches; built = s.built; nodes = 0 }
 
--- of each edit at most one thing is told, and of each document at most one, but for the nodes in memory
+-- of each edit at most one answer is given, and of each document at most one, but for the nodes in memory
 pub record CountsOnce (file : FileGrammar) : Type 0 where
   pub edits : (encoding : Encoding) (t : List ℕ) (range : Option Range) (s : List ℕ) (last : Option LastEdit) (one other : LastEdit)
       → IsNext encoding file t range s last one → IsNext encoding file t range s last other → other ≡ one
   pub stats : (d : OpenDocument) (one other : Stats) → AreStats file d one → AreStats file d other
       → without_nodes other ≡ without_nodes one
 
--- of each change of a text something is told (`IsNext`), where the text fits before and after it
+-- of each change of a text an answer is given (`IsNext`), where the text fits before and after it
 abbrev pub AlwaysCounts : FileGrammar → Type 0
 AlwaysCounts file = (encoding : Encoding) (t : List ℕ) (range : Option Range) (s : List ℕ) (last : Option LastEdit)
     → fits t ≡ true → fits (changed encoding t range s) ≡ true → (next : LastEdit) × IsNext encoding file t range s last next

@@ -5,7 +5,7 @@ use Rattle.dfa.specs.Positions.{HasMoreStatesThan}
 use Rattle.grammar.specs.Faults.{Cause, IsFault}
 use Rattle.grammar.specs.Grammars.{FileGrammar}
 use Rattle.grammar.specs.Meaning.{IsGrammarOf}
-use Rattle.grammar.specs.Told.{public_cause}
+use Rattle.grammar.specs.PublicCauses.{public_cause}
 use Rattle.tables.specs.Reports.{IsReport}
 use Rattle.tables.specs.Tables.{Sets}
 use Rattle.docs.specs.declared.language.LoadFault.{LoadFault}

@@ -6,7 +6,7 @@ pub mod Docs
 pub mod Edits
 pub mod Stamps
 pub use Rattle.views.specs.Diagnostics
-pub use Rattle.views.specs.Told
+pub use Rattle.views.specs.Contents
 pub use Rattle.views.specs.Views
 pub use Rattle.definitions.specs.Nodes
 pub use Rattle.definitions.specs.Text

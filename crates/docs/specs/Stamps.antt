@@ -10,12 +10,12 @@ use Rattle.parser.specs.Machine.{AreMadeBy, plain_of}
 use Rattle.parser.specs.Stamps.{AreOlder, KeepStamps}
 use Rattle.trees.specs.Cells.{all_trees, forest_in}
 use Rattle.docs.specs.Docs.{last_edit}
-use Rattle.docs.specs.Edits.{edit_of, number_behind}
+use Rattle.docs.specs.Edits.{edit_of, number_after}
 use Rattle.docs.specs.declared.doc.Doc.{Doc}
 
 -- a change of a document's text, as the edit after its last one
 abbrev pub next_edit : Doc → Option Range → List ℕ → Edit
-next_edit d range s = edit_of d.unit d.text range s (number_behind (last_edit d))
+next_edit d range s = edit_of d.unit d.text range s (number_after (last_edit d))
 
 -- how an edit changes the kinds of the significant tokens
 abbrev pub splice_between : FileGrammar → Edit → Doc → Doc → Splice

@@ -7,9 +7,9 @@ ghost use Rattle.definitions.specs.Text.{changed, offset};
 ghost use Rattle.lexer.specs.Tokens.{plain};
 ghost use Rattle.parser.specs.declared.parse.Verdict.TheVariants as Verdict;
 ghost use Rattle.trees.specs.declared.store.NodeId.{NodeId};
-ghost use Rattle.views.specs.Told.{AreFoldsOf, IsDiagnosis, IsSelectionOf, trees_of_roots};
+ghost use Rattle.views.specs.Contents.{AreFoldsOf, IsDiagnosis, IsSelectionOf, trees_of_roots};
 ghost use Rattle.views.specs.Views.{row_bytes};
-ghost use Rattle.docs.specs.Answers.{AreSelections, IsOutcome, IsTold, Reads, rows, tree_told};
+ghost use Rattle.docs.specs.Answers.{AreSelections, IsOutcome, IsReported, Reads, rows, written_tree};
 ghost use Rattle.docs.specs.Docs.{last_edit, open_document, IsCurrent};
 ghost use Rattle.docs.specs.Edits.{AreStats, IsNext};
 ghost use Rattle.docs.specs.Languages.{LanguageData};
@@ -235,8 +235,8 @@ impl Doc {
     ) -> Result<Vec<Row<'a>>, AllocError>
         requires { IsCurrent language.now self.now }
         ensures { let file = language.now.file in
-            IfOk result (λ told. Reads file self.now.text (λ reading.
-            map row_bytes told.items ≡ rows self.now.unit file self.now.text reading.tokens)) }
+            IfOk result (λ reported. Reads file self.now.text (λ reading.
+            map row_bytes reported.items ≡ rows self.now.unit file self.now.text reading.tokens)) }
     {
         let grammar = language.grammar();
         token_rows(alloc, grammar, self.unit, &self.text, &self.tokens)
@@ -246,8 +246,8 @@ impl Doc {
     pub fn tree(&self, alloc: Global, language: &Language) -> Result<Option<String>, AllocError>
         requires { IsCurrent language.now self.now }
         ensures { let file = language.now.file in
-            IfOk result (λ told. Reads file self.now.text (λ reading.
-            option_map string_bytes told ≡ tree_told file reading.verdict)) }
+            IfOk result (λ reported. Reads file self.now.text (λ reading.
+            option_map string_bytes reported ≡ written_tree file reading.verdict)) }
     {
         match self.parse.verdict() {
             Verdict::Tree(root) => {
@@ -266,13 +266,13 @@ impl Doc {
         language: &Language,
     ) -> Result<Option<Diagnostic>, AllocError>
         requires { IsCurrent language.now self.now }
-        ensures told { let file = language.now.file in
+        ensures reported { let file = language.now.file in
             let text = self.now.text in
-            IfOk result (λ told. Reads file text (λ reading. (fault : Option Fault)
+            IfOk result (λ reported. Reads file text (λ reading. (fault : Option Fault)
             × IsDiagnosis self.now.unit file text reading.tokens reading.verdict fault
-            × IsTold told fault)) }
-        ensures tree { IfOk result (λ told.
-            told ≡ None → (root : NodeId) × (self.now.parse.verdict ≡ Verdict.Tree root)) }
+            × IsReported reported fault)) }
+        ensures tree { IfOk result (λ reported.
+            reported ≡ None → (root : NodeId) × (self.now.parse.verdict ≡ Verdict.Tree root)) }
     {
         diagnostic(
             alloc,

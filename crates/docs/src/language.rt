@@ -72,7 +72,7 @@ pub enum LoadFault {
 impl Language {
     /// The language of a grammar file's text, or why it defines none.
     ///
-    /// Told first is a fault of the file, then too many states of the automaton, then too many sets of the tables, then a
+    /// Reported first is a fault of the file, then too many states of the automaton, then too many sets of the tables, then a
     /// conflict.
     pub fn load(alloc: Global, text: &str) -> Result<Language, LoadFault>
         ensures language { IfOk result (λ l. IsLanguageOf text.now l.file) }
@@ -154,7 +154,7 @@ impl Language {
         Parse::whole(alloc, &self.tables, store, &Significant(tokens))
     }
 
-    /// Brings the tokens to the text after an edit, and answers how the kinds of the significant ones change. Refuses for memory
+    /// Brings the tokens to the text after an edit, and returns how the kinds of the significant ones change. Refuses for memory
     /// alone.
     pub(crate) fn rescan(
         &self,
@@ -223,8 +223,8 @@ impl Language {
         )
     }
 
-    /// Each text that fits has a reading by the language, and each reading all that can be told of it; of each there is one.
-    /// Of each edit one thing is told, where the texts before and after it fit.
+    /// Each text that fits has a reading by the language, and each reading one answer to each question.
+    /// Of each edit one answer is given, where the texts before and after it fit.
     pub fn always_answers(&self)
         ensures always { AlwaysAnswers self.now.file }
         ensures once { AnswersOnce self.now.file }

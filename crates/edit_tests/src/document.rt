@@ -100,19 +100,19 @@ pub fn open(rt: &impl Abort, alloc: Global, language: &Language, text: &str) -> 
     }
 }
 
-/// What is told of a parse.
+/// What is reported of a parse.
 #[derive(Clone, Copy, PartialEq, Eq)]
-pub enum Told {
+pub enum Shown {
     Tree,
     FaultAt(usize),
     FaultAtEnd,
 }
 
-pub fn told_of(parse: &Parse) -> Told {
+pub fn shown(parse: &Parse) -> Shown {
     match parse.verdict() {
-        Verdict::Tree(_) => Told::Tree,
-        Verdict::FaultAt(k) => Told::FaultAt(k),
-        Verdict::FaultAtEnd => Told::FaultAtEnd,
+        Verdict::Tree(_) => Shown::Tree,
+        Verdict::FaultAt(k) => Shown::FaultAt(k),
+        Verdict::FaultAtEnd => Shown::FaultAtEnd,
     }
 }
 
@@ -125,7 +125,7 @@ pub struct Change<'a> {
     pub number: u64,
 }
 
-/// Puts the piece of a change into a text, brings the tokens to it, and answers how the kinds change.
+/// Puts the piece of a change into a text, brings the tokens to it, and returns how the kinds change.
 pub fn rescan(
     rt: &impl Abort,
     alloc: Global,

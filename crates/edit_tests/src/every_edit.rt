@@ -18,7 +18,7 @@ struct Cut {
     inserted: usize,
 }
 
-/// The new tokens that an edit makes, and the first old one kept behind them.
+/// The new tokens that an edit makes, and the first old one kept after them.
 #[derive(Clone, Copy)]
 struct Made {
     from: usize,
@@ -43,7 +43,7 @@ impl Splice {
         self.inserted > 0 && from < self.from && self.from < to
     }
 
-    /// Where a place behind what gives way is after it.
+    /// Where a place after what gives way is after it.
     fn moved(&self, place: usize) -> usize {
         place
             .saturating_add(self.inserted)
@@ -59,8 +59,8 @@ impl Splice {
     }
 }
 
-/// How many tokens stand before the first one that rests on a character behind offset `at`.
-fn kept_front(tokens: &[Placed], at: usize) -> usize {
+/// How many tokens stand before the first one that rests on a character after offset `at`.
+fn kept_prefix(tokens: &[Placed], at: usize) -> usize {
     for (k, placed) in tokens.iter().enumerate() {
         if placed.start.saturating_add(placed.token.reach as usize) > at {
             return k;
@@ -78,14 +78,14 @@ fn place_of_start(tokens: &[Placed], start: usize) -> Option<usize> {
     None
 }
 
-/// What an edit is to make: all from the tokens kept in front up to the first place behind what was inserted where a new token
+/// What an edit is to make: all from the tokens kept at the start up to the first place after what was inserted where a new token
 /// starts, and an old one started before the edit moved it.
 fn made_by(old: &[Placed], new: &[Placed], cut: Cut) -> Made {
-    let from = kept_front(old, cut.at);
-    let behind = cut.at.saturating_add(cut.inserted);
+    let from = kept_prefix(old, cut.at);
+    let following = cut.at.saturating_add(cut.inserted);
     for (to, placed) in new.iter().enumerate() {
         let start = placed.start.saturating_add(cut.removed);
-        if placed.start >= behind {
+        if placed.start >= following {
             let before = place_of_start(old, start.saturating_sub(cut.inserted));
             if let Some(old_to) = before {
                 return Made { from, to, old_to };
@@ -116,7 +116,7 @@ fn splice_of(rt: &impl Abort, alloc: Global, old: &[Placed], new: &[Placed], mad
     }
 }
 
-/// Whether the trees of branch `o` and of branch `n` are the same. Productions in preorder tell a tree, as each has its right
+/// Whether the trees of branch `o` and of branch `n` are the same. Productions in preorder determine a tree, as each has its right
 /// side.
 fn is_same_tree(old: &[Branch], o: usize, new: &[Branch], n: usize, size: usize) -> bool {
     for k in 0..size {
@@ -239,7 +239,7 @@ fn is_brought(
     are_tokens(&facts.tokens, &new.tokens, made)
         && are_branches(&facts.branches, &new.branches, &built)
         && are_counts(document, &facts, made, &built)
-        && facts.told == new.told
+        && facts.shown == new.shown
         && facts.expected.as_slice() == new.expected.as_slice()
 }
 

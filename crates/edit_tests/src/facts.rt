@@ -6,7 +6,7 @@ ghost use Rattle.trees.specs.Cells.{Cell};
 ghost use Rattle.lexer.specs.Rescans.{significant_kinds};
 ghost use Rattle.parser.specs.Parses.{IsParseOf};
 
-use crate::document::{Document, Language, Told, told_of};
+use crate::document::{Document, Language, Shown, shown};
 use definitions::Kind;
 use lexer::{Token, Tokens};
 use parser::Parse;
@@ -35,12 +35,12 @@ pub struct Branch {
     pub born: u64,
 }
 
-/// The tokens of a document, the branches of its trees in preorder, and what is told of its parse.
+/// The tokens of a document, the branches of its trees in preorder, and what is reported of its parse.
 #[derive(Drop)]
 pub struct Facts {
     pub tokens: Vec<Placed>,
     pub branches: Vec<Branch>,
-    pub told: Told,
+    pub shown: Shown,
     pub expected: Vec<Option<usize>>,
 }
 
@@ -124,7 +124,7 @@ pub fn facts_of(rt: &impl Abort, alloc: Global, language: &Language, document: &
     Facts {
         tokens: placed_tokens(rt, alloc, &document.tokens),
         branches: branches_of(rt, alloc, &document.store, document.parse.stack()),
-        told: told_of(&document.parse),
+        shown: shown(&document.parse),
         expected: expected_of(rt, alloc, &language.tables, &document.parse),
     }
 }

@@ -55,7 +55,7 @@ impl<'a> Kinds for Counted<'a> {
     }
 }
 
-/// Makes a change, and answers how many kinds the parser reads for it, and how many places it looks up.
+/// Makes a change, and returns how many kinds the parser reads for it, and how many places it looks up.
 fn reads_for(
     rt: &impl Abort,
     alloc: Global,
@@ -85,7 +85,7 @@ fn reads_for(
     (kinds.reads.get(), kinds.places.get())
 }
 
-/// Opens a sum, and answers what `+1` at this offset reads.
+/// Opens a sum, and returns what `+1` at this offset reads.
 fn reads_of_insert(rt: &impl Abort, alloc: Global, text: &str, at: usize) -> (usize, usize) {
     let sums = load(rt, alloc, SUMS);
     let mut document = open(rt, alloc, &sums, text);
@@ -99,7 +99,7 @@ fn reads_of_insert(rt: &impl Abort, alloc: Global, text: &str, at: usize) -> (us
     reads_for(rt, alloc, &sums, &mut document, &insert)
 }
 
-/// Opens a sum, puts a second plus behind the first, and answers what reading the text anew without it reads.
+/// Opens a sum, puts a second plus after the first, and returns what reading the text anew without it reads.
 fn reads_of_mend(rt: &impl Abort, alloc: Global, text: &str) -> (usize, usize) {
     let sums = load(rt, alloc, SUMS);
     let mut document = open(rt, alloc, &sums, text);
@@ -139,7 +139,7 @@ fn few_kinds_are_read(rt: HostRuntime) {
     assert!(rt; places < 10, "{places}");
 }
 
-/// Behind an edit at the start all sums are made anew, over numbers that stand as they were: the kind behind each of these is
+/// After an edit at the start all sums are made anew, over numbers that stand as they were: the kind after each of these is
 /// that of the next tree, and isn't looked up.
 #[test]
 fn no_kind_is_looked_up_before_old_trees(rt: HostRuntime) {
@@ -150,7 +150,7 @@ fn no_kind_is_looked_up_before_old_trees(rt: HostRuntime) {
     assert!(rt; places < 10, "{places}");
 }
 
-/// Behind a fault there are no old trees. Its mending reads each kind once, one after another.
+/// After a fault there are no old trees. Its mending reads each kind once, one after another.
 #[test]
 fn kinds_are_read_in_order(rt: HostRuntime) {
     let alloc = rt.alloc();

@@ -1,4 +1,4 @@
--- The faults of header parts, and the lengths that they tell.
+-- The faults of header parts, and the lengths that they give.
 use Rattle.std.proofs.Common.{◌≡◌, ◌≤◌, ◌-◌, ◌&&◌, ℕ, Bool, true, false, not, List, [], ◌∷◌, length, take, refl, sym, subst}
 use Rattle.std.specs.Prelude.{Option, Some, None, is_some, option_and_then, cond, Result, Ok, Err, IfSome, IfOk, IfErr, nat_le}
 use Rattle.std.specs.Option.{ok_or, option_or, option_map_or}
@@ -16,7 +16,7 @@ long_header = ((λ e. cc), (λ e. cc))
 abbrev AreStreamFaults : Option FrameFault → Type 0
 AreStreamFaults o = IfSome o IsStreamFault
 
-length_faults : (is_told : Bool) (o : Option ℕ) → AreStreamFaults (length_fault is_told o)
+length_faults : (is_given : Bool) (o : Option ℕ) → AreStreamFaults (length_fault is_given o)
 length_faults true o = ((λ e. cc), (λ e. cc))
 length_faults false None = ((λ e. cc), (λ e. cc))
 length_faults false (Some n) = tt
@@ -29,15 +29,15 @@ either_faults : (b : Bool) (one other : Option FrameFault) → AreStreamFaults o
 either_faults true one other h k = h
 either_faults false one other h k = k
 
-field_faults : (is_told : Bool) (field : List ℕ × List ℕ) → AreStreamFaults (field_fault is_told field)
-field_faults is_told field = either_faults (is_content_length field.0) _ _ (length_faults is_told (length_value field.1)) (charset_faults (is_content_type field.0 && not (is_utf8_type field.1)))
+field_faults : (is_given : Bool) (field : List ℕ × List ℕ) → AreStreamFaults (field_fault is_given field)
+field_faults is_given field = either_faults (is_content_length field.0) _ _ (length_faults is_given (length_value field.1)) (charset_faults (is_content_type field.0 && not (is_utf8_type field.1)))
 
-line_faults : (is_told : Bool) (line : List ℕ) → AreStreamFaults (line_fault is_told line)
-line_faults is_told line = by_field (field_of line)
+line_faults : (is_given : Bool) (line : List ℕ) → AreStreamFaults (line_fault is_given line)
+line_faults is_given line = by_field (field_of line)
   where
-    by_field : (o : Option (List ℕ × List ℕ)) → AreStreamFaults (option_map_or (field_fault is_told) o (Some BadField))
+    by_field : (o : Option (List ℕ × List ℕ)) → AreStreamFaults (option_map_or (field_fault is_given) o (Some BadField))
     by_field None = ((λ e. cc), (λ e. cc))
-    by_field (Some field) = field_faults is_told field
+    by_field (Some field) = field_faults is_given field
 
 -- a length is at most the longest content's
 abbrev IsSmall : Option ℕ → Type 0
@@ -64,32 +64,32 @@ either_small None other h k = k
 either_small (Some n) other h k = h
 
 -- a length that is small, or a fault of the bytes
-abbrev IsTold : Result ℕ FrameFault → Type 0
-IsTold (Ok n) = n ≤ 16777216
-IsTold (Err fault) = IsStreamFault fault
+abbrev IsReported : Result ℕ FrameFault → Type 0
+IsReported (Ok n) = n ≤ 16777216
+IsReported (Err fault) = IsStreamFault fault
 
-end_told : (told : Option ℕ) → IsSmall told → IsTold (ok_or told NoLength)
-end_told None small = ((λ e. cc), (λ e. cc))
-end_told (Some n) small = small
+end_shown : (given : Option ℕ) → IsSmall given → IsReported (ok_or given NoLength)
+end_shown None small = ((λ e. cc), (λ e. cc))
+end_shown (Some n) small = small
 
-line_or_later : (o : Option FrameFault) (later : Result ℕ FrameFault) → AreStreamFaults o → IsTold later → IsTold (option_map_or (λ fault. Err fault) o later)
+line_or_later : (o : Option FrameFault) (later : Result ℕ FrameFault) → AreStreamFaults o → IsReported later → IsReported (option_map_or (λ fault. Err fault) o later)
 line_or_later None later h k = k
 line_or_later (Some fault) later h k = h
 
-lines_told : (told : Option ℕ) (lines : List (List ℕ)) → IsSmall told → IsTold (lines_length told lines)
-lines_told told [] small = end_told told small
-lines_told told (line ∷ lines) small =
-    let now = option_or told (line_length line) in
-    line_or_later (line_fault (is_some told) line) (lines_length now lines) (line_faults (is_some told) line) (lines_told now lines (either_small told (line_length line) small (line_small line)))
+lines_shown : (given : Option ℕ) (lines : List (List ℕ)) → IsSmall given → IsReported (lines_length given lines)
+lines_shown given [] small = end_shown given small
+lines_shown given (line ∷ lines) small =
+    let now = option_or given (line_length line) in
+    line_or_later (line_fault (is_some given) line) (lines_length now lines) (line_faults (is_some given) line) (lines_shown now lines (either_small given (line_length line) small (line_small line)))
 
-header_told : (part : List ℕ) → IsTold (header_length part)
-header_told part = lines_told None (lines_of (take (length part - 2) part)) tt
+header_shown : (part : List ℕ) → IsReported (header_length part)
+header_shown part = lines_shown None (lines_of (take (length part - 2) part)) tt
 
 pub header_faults : (part : List ℕ) (fault : FrameFault) → header_length part ≡ Err fault → IsStreamFault fault
-header_faults part fault h = subst IsTold h (header_told part)
+header_faults part fault h = subst IsReported h (header_shown part)
 
 pub header_small : (part : List ℕ) (r : Result ℕ FrameFault) → r ≡ header_length part → IfOk r (λ n. n ≤ 16777216)
-header_small part (Ok n) h = subst IsTold (sym h) (header_told part)
+header_small part (Ok n) h = subst IsReported (sym h) (header_shown part)
 header_small part (Err fault) h = tt
 
 pub header_fails : (part : List ℕ) (r : Result ℕ FrameFault) → r ≡ header_length part → IfErr r IsStreamFault

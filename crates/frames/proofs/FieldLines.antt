@@ -8,7 +8,7 @@ use Rattle.std.proofs.lemmas.List.{take-append-drop, length-take}
 use Rattle.std.proofs.lemmas.List.Elements.{All-nil, All-cons, All-head, All-tail}
 use Rattle.std.proofs.Math.Seq.{take-append_seam}
 use Rattle.frames.specs.Header.{through, line_end, onto_first_line, lines_of, IsWhole, AreFieldLines}
-use Rattle.frames.proofs.Stable.{through_stays, through_bounds}
+use Rattle.frames.proofs.PrefixDecides.{through_stays, through_bounds}
 use Rattle.frames.proofs.Lines.{first_line, no_line, none_at}
 
 -- lines with their ends
@@ -52,10 +52,10 @@ joined_before b c (line ∷ lines) rest h = ap (λ bytes. b ∷ bytes) h
 
 module _ (b c : ℕ) (more : List ℕ) where
   joined_step : (t : Bool) → starts_with nat_eq (b ∷ c ∷ more) line_end ≡ t → joined (lines_of more) ≡ more → joined (lines_of (c ∷ more)) ≡ c ∷ more → joined (lines_of (b ∷ c ∷ more)) ≡ b ∷ c ∷ more
-  joined_step true h behind later =
+  joined_step true h after later =
       let p = starts_so b c more h in
-      ap (λ t. joined (cond t ([] ∷ lines_of more) (onto_first_line b (lines_of (c ∷ more))))) h ∙ ap (λ l. line_end ++ l) behind ∙ (λ i. sym p.0 i ∷ sym p.1 i ∷ more)
-  joined_step false h behind later =
+      ap (λ t. joined (cond t ([] ∷ lines_of more) (onto_first_line b (lines_of (c ∷ more))))) h ∙ ap (λ l. line_end ++ l) after ∙ (λ i. sym p.0 i ∷ sym p.1 i ∷ more)
+  joined_step false h after later =
       ap (λ t. joined (cond t ([] ∷ lines_of more) (onto_first_line b (lines_of (c ∷ more))))) h ∙ joined_before b c (lines_of (c ∷ more)) more later
 
 -- bytes that CR LF ends are their lines
@@ -65,8 +65,8 @@ joined_lines (b ∷ []) = ap (λ t. joined (cond t ([] ∷ lines_of (10 ∷ []))
 joined_lines (b ∷ c ∷ bytes) = joined_step b c (bytes ++ line_end) (starts_with nat_eq (b ∷ c ∷ (bytes ++ line_end)) line_end) refl (joined_lines bytes) (joined_lines (c ∷ bytes))
 
 -- what stands before the first CR LF holds none
-front_single : (bytes : List ℕ) (n : ℕ) → through line_end bytes ≡ Some n → IsSingle (take (n - 2) bytes)
-front_single bytes n h = by_size (through line_end (take (n - 2) bytes)) refl
+prefix_single : (bytes : List ℕ) (n : ℕ) → through line_end bytes ≡ Some n → IsSingle (take (n - 2) bytes)
+prefix_single bytes n h = by_size (through line_end (take (n - 2) bytes)) refl
   where
     by_size : (o : Option ℕ) → through line_end (take (n - 2) bytes) ≡ o → IsSingle (take (n - 2) bytes)
     by_size None e = e
@@ -83,16 +83,16 @@ first_single bytes line lines h = by_size (through line_end bytes) refl
     by_size None e = let wrong : [] ≡ line ∷ lines = sym (no_line bytes e) ∙ h in cc
     by_size (Some n) e =
         let same : take (n - 2) bytes ∷ lines_of (drop n bytes) ≡ line ∷ lines = sym (first_line bytes n e) ∙ h in
-        let front : take (n - 2) bytes ≡ line = cc in
-        ap (through line_end) (sym front) ∙ front_single bytes n e
+        let prefix : take (n - 2) bytes ≡ line = cc in
+        ap (through line_end) (sym prefix) ∙ prefix_single bytes n e
 
 before_single : (b : ℕ) (lines : List (List ℕ)) → All IsSingle lines → ((line : List ℕ) (later : List (List ℕ)) → onto_first_line b lines ≡ line ∷ later → IsSingle line) → All IsSingle (onto_first_line b lines)
 before_single b [] h first = All-nil IsSingle
 before_single b (line ∷ lines) h first = All-cons IsSingle (b ∷ line) lines (first (b ∷ line) lines refl) (All-tail IsSingle line lines h)
 
 single_step : (b c : ℕ) (bytes : List ℕ) (t : Bool) → starts_with nat_eq (b ∷ c ∷ bytes) line_end ≡ t → All IsSingle (lines_of bytes) → All IsSingle (lines_of (c ∷ bytes)) → All IsSingle (lines_of (b ∷ c ∷ bytes))
-single_step b c bytes true h behind later = rw h (All-cons IsSingle [] (lines_of bytes) refl behind)
-single_step b c bytes false h behind later = rw h (before_single b (lines_of (c ∷ bytes)) later (λ line rest e. first_single (b ∷ c ∷ bytes) line rest (rw h e)))
+single_step b c bytes true h after later = rw h (All-cons IsSingle [] (lines_of bytes) refl after)
+single_step b c bytes false h after later = rw h (before_single b (lines_of (c ∷ bytes)) later (λ line rest e. first_single (b ∷ c ∷ bytes) line rest (rw h e)))
 
 -- no line holds CR LF
 lines_single : (bytes : List ℕ) → All IsSingle (lines_of bytes)
@@ -100,9 +100,9 @@ lines_single [] = All-nil IsSingle
 lines_single (b ∷ []) = All-nil IsSingle
 lines_single (b ∷ c ∷ bytes) = single_step b c bytes (starts_with nat_eq (b ∷ c ∷ bytes) line_end) refl (lines_single bytes) (lines_single (c ∷ bytes))
 
--- the front of a header part without the CR LF at its end
-front_of : (bytes : List ℕ) → take (length (bytes ++ line_end) - 2) (bytes ++ line_end) ≡ bytes
-front_of bytes = let e : length (bytes ++ line_end) - 2 ≡ length bytes = omega (arith, length-append bytes line_end) in ap (λ n. take n (bytes ++ line_end)) e ∙ take-append_seam bytes line_end
+-- the prefix of a header part without the CR LF at its end
+longest_header_of : (bytes : List ℕ) → take (length (bytes ++ line_end) - 2) (bytes ++ line_end) ≡ bytes
+longest_header_of bytes = let e : length (bytes ++ line_end) - 2 ≡ length bytes = omega (arith, length-append bytes line_end) in ap (λ n. take n (bytes ++ line_end)) e ∙ take-append_seam bytes line_end
 
 -- a whole header part has them
 pub has_field_lines : (part : List ℕ) → IsWhole part → AreFieldLines part (lines_of (take (length part - 2) part))
@@ -114,10 +114,10 @@ has_field_lines part (inr h) =
     let ended = h.0 ++ line_end in
     let whole : part ≡ ended ++ line_end = h.1 ∙ sym (append_assoc h.0 line_end line_end) in
     record {
-      parts = whole ∙ ap (λ l. l ++ line_end) (sym (ap (λ p. joined (lines_of (take (length p - 2) p))) whole ∙ ap (λ l. joined (lines_of l)) (front_of ended) ∙ joined_lines h.0));
+      parts = whole ∙ ap (λ l. l ++ line_end) (sym (ap (λ p. joined (lines_of (take (length p - 2) p))) whole ∙ ap (λ l. joined (lines_of l)) (longest_header_of ended) ∙ joined_lines h.0));
       single = lines_single (take (length part - 2) part);
     }
 
 -- and no others
 pub field_lines_are : (part : List ℕ) (lines : List (List ℕ)) → AreFieldLines part lines → lines_of (take (length part - 2) part) ≡ lines
-field_lines_are part lines h = ap (λ p. lines_of (take (length p - 2) p)) h.parts ∙ ap lines_of (front_of (joined lines)) ∙ lines_joined lines h.single
+field_lines_are part lines h = ap (λ p. lines_of (take (length p - 2) p)) h.parts ∙ ap lines_of (longest_header_of (joined lines)) ∙ lines_joined lines h.single

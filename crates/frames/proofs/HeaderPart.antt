@@ -1,4 +1,4 @@
--- The header part that is computed is the shortest front that is a whole one.
+-- The header part that is computed is the shortest prefix that is a whole one.
 use Rattle.std.proofs.Common.{◌≡◌, ◌≢◌, ◌+◌, ◌≤◌, ℕ, suc, Bool, true, false, List, [], ◌∷◌, ◌++◌, length, take, drop, refl, ap, sym, ◌∙◌, arith, length-append, append_assoc, inl, inr}
 use Rattle.std.specs.Prelude.{Option, Some, None, option_map, nat_eq, cond, ◌↔◌}
 use Rattle.std.specs.List.{starts_with}
@@ -8,9 +8,9 @@ use Rattle.std.proofs.lemmas.Slice.Eq.{starts_is}
 use Rattle.std.proofs.lemmas.List.{take-append-drop, length-take}
 use Rattle.std.proofs.Math.Seq.{take-append_seam}
 use Rattle.frames.specs.Header.{through, header_size, line_end, blank_line, IsWhole, IsHeaderPart}
-use Rattle.frames.proofs.Stable.{at_step, size_step, size_bound}
+use Rattle.frames.proofs.PrefixDecides.{at_step, size_step, size_bound}
 
--- a front that is found ends with the needle
+-- a prefix that is found ends with the needle
 pub through_ends : (needle xs : List ℕ) (n : ℕ) → through needle xs ≡ Some n → (lines : List ℕ) × (take n xs ≡ lines ++ needle)
 through_ends needle [] n h = cc
 through_ends needle (b ∷ xs) n h = elim (at_step (starts_with nat_eq (b ∷ xs) needle) (length needle) n (through needle xs) h) [
@@ -47,9 +47,9 @@ line_end_starts : (bytes : List ℕ) (n : ℕ) → take n bytes ≡ line_end →
 line_end_starts bytes n e = (starts_is Decides-eqb bytes line_end (starts_with nat_eq bytes line_end) refl).1 (drop n bytes) (sym (take-append-drop n bytes) ∙ ap (λ l. l ++ drop n bytes) e)
 
 -- a whole header part has two bytes at least
-whole_long : (front : List ℕ) → IsWhole front → 2 ≤ length front
-whole_long front (inl e) = omega (arith, ap length e)
-whole_long front (inr e) = omega (arith, ap length e.1, length-append e.0 blank_line)
+whole_long : (prefix : List ℕ) → IsWhole prefix → 2 ≤ length prefix
+whole_long prefix (inl e) = omega (arith, ap length e)
+whole_long prefix (inr e) = omega (arith, ap length e.1, length-append e.0 blank_line)
 
 pub none_step : (b : Bool) (o : Option ℕ) → cond b (Some 2) o ≡ None → (b ≡ false) × (o ≡ None)
 none_step true o h = cc
@@ -59,7 +59,7 @@ not_whole : (bytes : List ℕ) (n : ℕ) → starts_with nat_eq bytes line_end �
 not_whole bytes n no_end no_blank (inl e) = let t = line_end_starts bytes n e in let f : true ≡ false = sym t ∙ no_end in cc
 not_whole bytes n no_end no_blank (inr e) = let r = blank_line_found bytes e.0 n e.1 in no_blank r.0 r.2 r.1
 
--- where no size is computed, no front is whole
+-- where no size is computed, no prefix is whole
 pub none_whole : (bytes : List ℕ) (n : ℕ) → header_size bytes ≡ None → ¬ IsWhole (take n bytes)
 none_whole bytes n h =
     let p = none_step (starts_with nat_eq bytes line_end) (through blank_line bytes) h in

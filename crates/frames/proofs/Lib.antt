@@ -1,13 +1,13 @@
 mod Digits
-mod Through
+mod FirstNeedle
 mod Rest
 mod Splits
 mod Writing
 mod Faults
-mod Stable
+mod PrefixDecides
 mod Trimmed
-mod Keeps
-mod Pieces
+mod KeptBytes
+mod LongerStreams
 mod HeaderPart
 mod Searched
 mod Lines

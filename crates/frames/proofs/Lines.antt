@@ -6,9 +6,9 @@ use Rattle.std.specs.List.{starts_with}
 use Rattle.frames.specs.declared.fault.FrameFault.{FrameFault}
 use Rattle.frames.specs.declared.fault.FrameFault.TheVariants.{NoLength}
 use Rattle.frames.specs.Header.{through, line_end, line_fault, line_length, onto_first_line, lines_of, lines_length}
-use Rattle.frames.proofs.Stable.{at_step, through_bounds}
+use Rattle.frames.proofs.PrefixDecides.{at_step, through_bounds}
 
--- a line goes on behind a byte
+-- a line goes on after a byte
 line_on : (b m : ℕ) (bytes : List ℕ) → 2 ≤ m → take (suc m - 2) (b ∷ bytes) ≡ b ∷ take (m - 2) bytes
 line_on b m bytes low = let e : suc m - 2 ≡ suc (m - 2) = omega (arith, low) in ap (λ n. take n (b ∷ bytes)) e
 
@@ -37,34 +37,34 @@ no_line (b ∷ c ∷ bytes) h =
     let p = none_at (starts_with nat_eq (b ∷ c ∷ bytes) line_end) 2 (through line_end (c ∷ bytes)) h in
     ap (λ t. cond t ([] ∷ lines_of bytes) (onto_first_line b (lines_of (c ∷ bytes)))) p.0 ∙ ap (onto_first_line b) (no_line (c ∷ bytes) p.1)
 
-passed : (o : Option FrameFault) (told new : Option ℕ) (lines : List (List ℕ)) → Ok new ≡ option_map_or (λ f. Err f) o (Ok told) → option_map_or (λ f. Err f) o (lines_length told lines) ≡ lines_length new lines
-passed None told new lines h = let same : new ≡ told = cc in ap (λ t. lines_length t lines) (sym same)
-passed (Some f) told new lines h = cc
+passed : (o : Option FrameFault) (given new : Option ℕ) (lines : List (List ℕ)) → Ok new ≡ option_map_or (λ f. Err f) o (Ok given) → option_map_or (λ f. Err f) o (lines_length given lines) ≡ lines_length new lines
+passed None given new lines h = let same : new ≡ given = cc in ap (λ t. lines_length t lines) (sym same)
+passed (Some f) given new lines h = cc
 
-failed : (o : Option FrameFault) (told : Option ℕ) (later : Result ℕ FrameFault) (fault : FrameFault) → Err fault ≡ option_map_or (λ f. Err f) o (Ok told) → option_map_or (λ f. Err f) o later ≡ Err fault
-failed None told later fault h = cc
-failed (Some f) told later fault h = let same : fault ≡ f = cc in ap (λ (g : FrameFault). Err g) (sym same)
+failed : (o : Option FrameFault) (given : Option ℕ) (later : Result ℕ FrameFault) (fault : FrameFault) → Err fault ≡ option_map_or (λ f. Err f) o (Ok given) → option_map_or (λ f. Err f) o later ≡ Err fault
+failed None given later fault h = cc
+failed (Some f) given later fault h = let same : fault ≡ f = cc in ap (λ (g : FrameFault). Err g) (sym same)
 
-module _ (bytes : List ℕ) (n : ℕ) (told : Option ℕ) (ends : through line_end bytes ≡ Some n) where
-  -- what the first line makes of what was told, or its fault
-  abbrev first_told : Result (Option ℕ) FrameFault
-  first_told =
+module _ (bytes : List ℕ) (n : ℕ) (given : Option ℕ) (ends : through line_end bytes ≡ Some n) where
+  -- what the first line makes of what was given, or its fault
+  abbrev first_shown : Result (Option ℕ) FrameFault
+  first_shown =
       let line = take (n - 2) bytes in
-      option_map_or (λ fault. Err fault) (line_fault (is_some told) line) (Ok (option_or told (line_length line)))
+      option_map_or (λ fault. Err fault) (line_fault (is_some given) line) (Ok (option_or given (line_length line)))
 
-  -- where it has no fault, the lines behind it decide
-  pub line_passed : (rest : List ℕ) (new : Option ℕ) → rest ≡ drop n bytes → Ok new ≡ first_told → lines_length told (lines_of bytes) ≡ lines_length new (lines_of rest)
+  -- where it has no fault, the lines after it decide
+  pub line_passed : (rest : List ℕ) (new : Option ℕ) → rest ≡ drop n bytes → Ok new ≡ first_shown → lines_length given (lines_of bytes) ≡ lines_length new (lines_of rest)
   line_passed rest new is_rest h =
       let line = take (n - 2) bytes in
-      ap (lines_length told) (first_line bytes n ends) ∙ passed (line_fault (is_some told) line) (option_or told (line_length line)) new (lines_of (drop n bytes)) h ∙ ap (λ r. lines_length new (lines_of r)) (sym is_rest)
+      ap (lines_length given) (first_line bytes n ends) ∙ passed (line_fault (is_some given) line) (option_or given (line_length line)) new (lines_of (drop n bytes)) h ∙ ap (λ r. lines_length new (lines_of r)) (sym is_rest)
 
   -- else it decides
-  pub line_failed : (fault : FrameFault) → Err fault ≡ first_told → lines_length told (lines_of bytes) ≡ Err fault
+  pub line_failed : (fault : FrameFault) → Err fault ≡ first_shown → lines_length given (lines_of bytes) ≡ Err fault
   line_failed fault h =
       let line = take (n - 2) bytes in
-      let new = option_or told (line_length line) in
-      ap (lines_length told) (first_line bytes n ends) ∙ failed (line_fault (is_some told) line) new (lines_length new (lines_of (drop n bytes))) fault h
+      let new = option_or given (line_length line) in
+      ap (lines_length given) (first_line bytes n ends) ∙ failed (line_fault (is_some given) line) new (lines_length new (lines_of (drop n bytes))) fault h
 
--- behind the last line, what was told is the length
-pub lines_passed : (bytes : List ℕ) (told : Option ℕ) → through line_end bytes ≡ None → lines_length told (lines_of bytes) ≡ ok_or told NoLength
-lines_passed bytes told h = ap (lines_length told) (no_line bytes h)
+-- after the last line, what was given is the length
+pub lines_passed : (bytes : List ℕ) (given : Option ℕ) → through line_end bytes ≡ None → lines_length given (lines_of bytes) ≡ ok_or given NoLength
+lines_passed bytes given h = ap (lines_length given) (no_line bytes h)

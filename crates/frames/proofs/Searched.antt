@@ -9,45 +9,45 @@ use Rattle.frames.specs.Header.{through, header_size, header_length, line_end, b
 use Rattle.frames.specs.declared.fault.FrameFault.{FrameFault}
 use Rattle.frames.specs.declared.fault.FrameFault.TheVariants.{LongHeader}
 use Rattle.frames.specs.declared.header.Start.TheVariants.{NeedsMore, Fails}
-use Rattle.frames.specs.Frames.{start_of, start_at, unfinished, told}
+use Rattle.frames.specs.Frames.{start_of, start_at, unfinished, given}
 use Rattle.frames.specs.Kept.{HoldsNone}
-use Rattle.frames.proofs.Stable.{through_bounds}
+use Rattle.frames.proofs.PrefixDecides.{through_bounds}
 use Rattle.frames.proofs.HeaderPart.{through_ends, finds, blank_line_found, none_step}
 
--- a blank line that ends behind the bytes searched, of which it may share the last three, stands in what is searched next
-found_behind : (bytes lines : List ℕ) (searched n : ℕ) → searched < n → length lines + 4 ≡ n → take n bytes ≡ lines ++ blank_line → through blank_line (drop (searched - 3) bytes) ≢ None
-found_behind bytes lines searched n further long front behind =
+-- a blank line that ends after the bytes searched, of which it may share the last three, stands in what is searched next
+found_after : (bytes lines : List ℕ) (searched n : ℕ) → searched < n → length lines + 4 ≡ n → take n bytes ≡ lines ++ blank_line → through blank_line (drop (searched - 3) bytes) ≢ None
+found_after bytes lines searched n further long prefix after =
     let k = searched - 3 in
     let whole : k + (n - k) ≡ n = omega (arith, further) in
     let cut : take (n - k) (drop k bytes) ≡ drop k (take n bytes) = sym (drop-take k (n - k) bytes) ∙ ap (λ i. drop k (take i bytes)) whole in
     let ends : drop k (lines ++ blank_line) ≡ drop k lines ++ blank_line = drop-append-le k lines blank_line (omega (arith, further, long)) in
-    let r = blank_line_found (drop k bytes) (drop k lines) (n - k) (cut ∙ ap (drop k) front ∙ ends) in
-    (let f : Some r.0 ≡ None = sym r.1 ∙ behind in cc)
+    let r = blank_line_found (drop k bytes) (drop k lines) (n - k) (cut ∙ ap (drop k) prefix ∙ ends) in
+    (let f : Some r.0 ≡ None = sym r.1 ∙ after in cc)
 
 found_before : (bytes lines : List ℕ) (searched n : ℕ) → n ≤ searched → take n bytes ≡ lines ++ blank_line → HoldsNone bytes searched → ⊥
-found_before bytes lines searched n near front before =
-    let r = blank_line_found (take searched bytes) lines n (take-take n searched bytes near ∙ front) in
+found_before bytes lines searched n near prefix before =
+    let r = blank_line_found (take searched bytes) lines n (take-take n searched bytes near ∙ prefix) in
     (let f : Some r.0 ≡ None = sym r.1 ∙ before in cc)
 
 found_twice : (bytes : List ℕ) (searched n : ℕ) → HoldsNone bytes searched → through blank_line (drop (searched - 3) bytes) ≡ None → n ≤ length bytes → (lines : List ℕ) × (take n bytes ≡ lines ++ blank_line) → ⊥
-found_twice bytes searched n before behind within front = elim (cases_lt searched n) [
+found_twice bytes searched n before after within prefix = elim (cases_lt searched n) [
   | inl further ↦
-      let long : length front.0 + 4 ≡ n = omega (arith, within, length-take n bytes, ap length front.1, length-append front.0 blank_line) in
-      found_behind bytes front.0 searched n further long front.1 behind
-  | inr near ↦ found_before bytes front.0 searched n near front.1 before
+      let long : length prefix.0 + 4 ≡ n = omega (arith, within, length-take n bytes, ap length prefix.1, length-append prefix.0 blank_line) in
+      found_after bytes prefix.0 searched n further long prefix.1 after
+  | inr near ↦ found_before bytes prefix.0 searched n near prefix.1 before
 ]
 
--- a blank line stands in the bytes searched or in the ones behind them, of which the last three are the former's
+-- a blank line stands in the bytes searched or in the ones after them, of which the last three are the former's
 pub none_further : (bytes : List ℕ) (searched : ℕ) → HoldsNone bytes searched → through blank_line (drop (searched - 3) bytes) ≡ None → through blank_line bytes ≡ None
-none_further bytes searched before behind = by_size (through blank_line bytes) refl
+none_further bytes searched before after = by_size (through blank_line bytes) refl
   where
     by_size : (o : Option ℕ) → through blank_line bytes ≡ o → through blank_line bytes ≡ None
     by_size None h = h
-    by_size (Some n) h = absurd (found_twice bytes searched n before behind (through_bounds blank_line bytes n h).1 (through_ends blank_line bytes n h))
+    by_size (Some n) h = absurd (found_twice bytes searched n before after (through_bounds blank_line bytes n h).1 (through_ends blank_line bytes n h))
 
 pub needs_more_is : (bytes : List ℕ) (searched : ℕ) → length bytes < 4096 → starts_with nat_eq bytes line_end ≡ false → HoldsNone bytes searched → through blank_line (drop (searched - 3) bytes) ≡ None → (start_of bytes ≡ NeedsMore) × HoldsNone bytes (length bytes)
-needs_more_is bytes searched few no_end before behind =
-    let none = none_further bytes searched before behind in
+needs_more_is bytes searched few no_end before after =
+    let none = none_further bytes searched before after in
     let all : take 4096 bytes ≡ bytes = take_all 4096 bytes (omega (arith, few)) in
     let size : header_size bytes ≡ None = ap (λ t. cond t (Some 2) (through blank_line bytes)) no_end ∙ none in
     let start : start_of bytes ≡ unfinished (length bytes) = ap (λ l. start_at l (length bytes) (header_size l)) all ∙ ap (start_at bytes (length bytes)) size in
@@ -58,9 +58,9 @@ none_of None b e h = refl
 none_of (Some n) true e h = cc
 none_of (Some n) false e h = let f : false ≡ true = h in cc
 
-pub needs_more_told : (bytes rest : List ℕ) (searched from : ℕ) (o : Option ℕ) (b : Bool) → length bytes < 4096 → starts_with nat_eq bytes line_end ≡ false → HoldsNone bytes searched → from ≡ searched - 3 → rest ≡ drop from bytes → o ≡ through blank_line rest → is_some o ≡ not b → IsTrue b → (start_of bytes ≡ NeedsMore) × HoldsNone bytes (length bytes)
-needs_more_told bytes rest searched from o b few no_end before place is_rest told some h =
-    needs_more_is bytes searched few no_end before (ap (λ k. through blank_line (drop k bytes)) (sym place) ∙ ap (through blank_line) (sym is_rest) ∙ sym told ∙ none_of o b some h)
+pub needs_more_shown : (bytes rest : List ℕ) (searched from : ℕ) (o : Option ℕ) (b : Bool) → length bytes < 4096 → starts_with nat_eq bytes line_end ≡ false → HoldsNone bytes searched → from ≡ searched - 3 → rest ≡ drop from bytes → o ≡ through blank_line rest → is_some o ≡ not b → IsTrue b → (start_of bytes ≡ NeedsMore) × HoldsNone bytes (length bytes)
+needs_more_shown bytes rest searched from o b few no_end before place is_rest given some h =
+    needs_more_is bytes searched few no_end before (ap (λ k. through blank_line (drop k bytes)) (sym place) ∙ ap (through blank_line) (sym is_rest) ∙ sym given ∙ none_of o b some h)
 
 none_is : (o : Option ℕ) (b : Bool) → is_some o ≡ not b → o ≡ None → IsTrue b
 none_is o true e h = refl
@@ -74,11 +74,11 @@ none_dropped bytes k none = by_size (through blank_line (drop k bytes)) refl
     by_size : (o : Option ℕ) → through blank_line (drop k bytes) ≡ o → through blank_line (drop k bytes) ≡ None
     by_size None h = h
     by_size (Some n) h =
-        let front = through_ends blank_line (drop k bytes) n h in
+        let prefix = through_ends blank_line (drop k bytes) n h in
         let rest = drop n (drop k bytes) in
-        let behind : front.0 ++ (blank_line ++ rest) ≡ drop k bytes = sym (append_assoc front.0 blank_line rest) ∙ ap (λ l. l ++ rest) (sym front.1) ∙ take-append-drop n (drop k bytes) in
-        let all : (take k bytes ++ front.0) ++ (blank_line ++ rest) ≡ bytes = append_assoc (take k bytes) front.0 (blank_line ++ rest) ∙ ap (λ l. take k bytes ++ l) behind ∙ take-append-drop k bytes in
-        let r = finds 13 (10 ∷ 13 ∷ 10 ∷ []) (take k bytes ++ front.0) rest in
+        let after : prefix.0 ++ (blank_line ++ rest) ≡ drop k bytes = sym (append_assoc prefix.0 blank_line rest) ∙ ap (λ l. l ++ rest) (sym prefix.1) ∙ take-append-drop n (drop k bytes) in
+        let all : (take k bytes ++ prefix.0) ++ (blank_line ++ rest) ≡ bytes = append_assoc (take k bytes) prefix.0 (blank_line ++ rest) ∙ ap (λ l. take k bytes ++ l) after ∙ take-append-drop k bytes in
+        let r = finds 13 (10 ∷ 13 ∷ 10 ∷ []) (take k bytes ++ prefix.0) rest in
         (let f : Some r.0 ≡ None = sym (ap (through blank_line) (sym all) ∙ r.1) ∙ none in cc)
 
 unfinished_few : (n : ℕ) → unfinished n ≡ NeedsMore → n < 4096
@@ -87,9 +87,9 @@ unfinished_few n h = elim (cases_lt n 4096) [
   | inr many ↦ (let f : Fails LongHeader ≡ NeedsMore = sym (ap (λ t. cond t NeedsMore (Fails LongHeader)) (le-ltb _ _ many)) ∙ h in cc)
 ]
 
-told_known : (size : ℕ) (r : Result ℕ FrameFault) → told size r ≢ NeedsMore
-told_known size (Ok n) e = cc
-told_known size (Err fault) e = cc
+shown_known : (size : ℕ) (r : Result ℕ FrameFault) → given size r ≢ NeedsMore
+shown_known size (Ok n) e = cc
+shown_known size (Err fault) e = cc
 
 record IsUnfinished (bytes : List ℕ) : Type 0 where
   few : length bytes < 4096
@@ -100,7 +100,7 @@ needs_more_parts : (bytes : List ℕ) → start_of bytes ≡ NeedsMore → IsUnf
 needs_more_parts bytes h = by_size (header_size (take 4096 bytes)) refl
   where
     by_size : (o : Option ℕ) → header_size (take 4096 bytes) ≡ o → IsUnfinished bytes
-    by_size (Some size) e = absurd (told_known size (header_length (take size (take 4096 bytes))) (sym (ap (start_at (take 4096 bytes) (length bytes)) e) ∙ h))
+    by_size (Some size) e = absurd (shown_known size (header_length (take size (take 4096 bytes))) (sym (ap (start_at (take 4096 bytes) (length bytes)) e) ∙ h))
     by_size None e =
         let few = unfinished_few (length bytes) (sym (ap (start_at (take 4096 bytes) (length bytes)) e) ∙ h) in
         let all : take 4096 bytes ≡ bytes = take_all 4096 bytes (omega (arith, few)) in
@@ -114,8 +114,8 @@ pub needs_more_no_end : (bytes : List ℕ) → start_of bytes ≡ NeedsMore → 
 needs_more_no_end bytes h = (needs_more_parts bytes h).no_end
 
 pub needs_more_none : (bytes rest : List ℕ) (from : ℕ) (o : Option ℕ) (b : Bool) → rest ≡ drop from bytes → o ≡ through blank_line rest → is_some o ≡ not b → start_of bytes ≡ NeedsMore → IsTrue b
-needs_more_none bytes rest from o b is_rest told some h =
-    none_is o b some (told ∙ ap (through blank_line) is_rest ∙ none_dropped bytes from (needs_more_parts bytes h).no_blank)
+needs_more_none bytes rest from o b is_rest given some h =
+    none_is o b some (given ∙ ap (through blank_line) is_rest ∙ none_dropped bytes from (needs_more_parts bytes h).no_blank)
 
 pub not_so : (P : Type 0) → IsTrue false → P
 not_so P h = let f : false ≡ true = h in cc

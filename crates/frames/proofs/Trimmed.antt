@@ -6,7 +6,7 @@ use Rattle.std.specs.Char.{is_ascii_whitespace}
 use Rattle.std.proofs.lemmas.List.{take-append-drop, reverse-append}
 use Rattle.std.proofs.lemmas.List.Folds.{list_all-append}
 use Rattle.std.proofs.lemmas.Grind.{common_steps}
-use Rattle.frames.specs.Header.{is_value_byte, is_blank, trimmed}
+use Rattle.frames.specs.Header.{is_value_byte, is_blank, trim}
 use Rattle.frames.proofs.Digits.{both}
 
 blank_agrees : (b : ℕ) → is_value_byte b ≡ true → is_ascii_whitespace b ≡ is_blank b
@@ -33,9 +33,9 @@ of_drop n xs h =
     (both (list_all is_value_byte (take n xs)) (list_all is_value_byte (drop n xs)) whole).1
 
 -- the value without all its white space at the ends is the one without spaces and tabs
-pub trimmed_is : (value : List ℕ) → list_all is_value_byte value ≡ true → (let rest = drop (prefix_len is_ascii_whitespace value) value in take (length rest - suffix_len is_ascii_whitespace rest) rest) ≡ trimmed value
+pub trimmed_is : (value : List ℕ) → list_all is_value_byte value ≡ true → (let rest = drop (prefix_len is_ascii_whitespace value) value in take (length rest - suffix_len is_ascii_whitespace rest) rest) ≡ trim value
 trimmed_is value h =
     let rest = drop (prefix_len is_ascii_whitespace value) value in
-    let front : rest ≡ drop (prefix_len is_blank value) value = ap (λ n. drop n value) (prefix_agrees value h) in
+    let prefix : rest ≡ drop (prefix_len is_blank value) value = ap (λ n. drop n value) (prefix_agrees value h) in
     let end : suffix_len is_ascii_whitespace rest ≡ suffix_len is_blank rest = prefix_agrees (reverse rest) (of_reverse rest (of_drop (prefix_len is_ascii_whitespace value) value h)) in
-    ap (λ n. take (length rest - n) rest) end ∙ ap (λ (l : List ℕ). take (length l - suffix_len is_blank l) l) front
+    ap (λ n. take (length rest - n) rest) end ∙ ap (λ (l : List ℕ). take (length l - suffix_len is_blank l) l) prefix

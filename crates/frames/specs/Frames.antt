@@ -7,11 +7,11 @@ use Rattle.frames.specs.declared.header.Start.{Start}
 use Rattle.frames.specs.declared.header.Start.TheVariants.{NeedsMore, Fails, Announces}
 use Rattle.frames.specs.Header.{header_size, header_length}
 
--- `told size result`: what comes of a whole header part of this size that tells a length or is faulty: a content of that length is
+-- `given size result`: what comes of a whole header part of this size that gives a length or is faulty: a content of that length is
 -- announced, or the fault
-abbrev pub told : ℕ → Result ℕ FrameFault → Start
-told size (Err fault) = Fails fault
-told size (Ok n) = Announces size n
+abbrev pub given : ℕ → Result ℕ FrameFault → Start
+given size (Err fault) = Fails fault
+given size (Ok n) = Announces size n
 
 -- what comes of `n` bytes with no whole header part: more bytes are needed, or, from 4,096 on, the header is too long
 abbrev pub unfinished : ℕ → Start
@@ -19,8 +19,8 @@ unfinished n = if nat_lt n 4096 then NeedsMore else Fails LongHeader
 
 -- `start_at bytes n size`: what `n` bytes begin with, whose first 4,096 are `bytes`, with a header part of this size or none
 abbrev pub start_at : List ℕ → ℕ → Option ℕ → Start
-start_at front n None = unfinished n
-start_at front n (Some size) = told size (header_length (take size front))
+start_at prefix n None = unfinished n
+start_at prefix n (Some size) = given size (header_length (take size prefix))
 
 -- what bytes begin with: more are needed, a fault, or a header part that announces a content; it is looked for in the first 4,096 bytes,
 -- since a header part has at most so many

@@ -20,7 +20,7 @@ blank_line = 13 ∷ 10 ∷ 13 ∷ 10 ∷ []
 
 -- `IsWhole part`: the bytes are a whole header part: CR LF, or bytes that end with CR LF CR LF
 abbrev pub IsWhole : List ℕ → Type 0
-IsWhole front = (front ≡ line_end) ⊎ ((lines : List ℕ) × (front ≡ lines ++ blank_line))
+IsWhole prefix = (prefix ≡ line_end) ⊎ ((lines : List ℕ) × (prefix ≡ lines ++ blank_line))
 
 -- the first `size` bytes are the header part: the shortest prefix that is CR LF or ends with CR LF CR LF (LSP 3.17, "Header Part")
 pub record IsHeaderPart (bytes : List ℕ) (size : ℕ) : Type 0 where
@@ -50,8 +50,8 @@ abbrev pub is_blank : ℕ → Bool
 is_blank b = b == 32 || b == 9
 
 -- a value without the blanks at its ends
-abbrev pub trimmed : List ℕ → List ℕ
-trimmed value = let rest = drop (prefix_len is_blank value) value in take (length rest - suffix_len is_blank rest) rest
+abbrev pub trim : List ℕ → List ℕ
+trim value = let rest = drop (prefix_len is_blank value) value in take (length rest - suffix_len is_blank rest) rest
 
 -- whether the name is `Content-Length`, in any case
 abbrev pub is_content_length : List ℕ → Bool
@@ -78,27 +78,27 @@ is_number value = not (length value == 0) && nat_le (length value) 8 && list_all
 abbrev pub length_value : List ℕ → Option ℕ
 length_value value = if is_number value && nat_le (digits_value 10 value) 16777216 then Some (digits_value 10 value) else None
 
--- the name before the colon at this place and the value after it, `trimmed`, where they are a name and bytes of a value (RFC 7230, 3.2)
+-- the name before the colon at this place and the value after it, `trim`, where they are a name and bytes of a value (RFC 7230, 3.2)
 abbrev pub field_at : List ℕ → ℕ → Option (List ℕ × List ℕ)
 field_at line colon =
     if is_name (take colon line) && list_all is_value_byte (drop (colon + 1) line)
-    then Some (take colon line, trimmed (drop (colon + 1) line))
+    then Some (take colon line, trim (drop (colon + 1) line))
     else None
 
 -- the field of a line: `field_at` its first colon
 abbrev pub field_of : List ℕ → Option (List ℕ × List ℕ)
 field_of line = option_and_then (field_at line) (position (λ b. b == 58) line)
 
--- the length that a field tells, if it is a `Content-Length`
+-- the length that a field gives, if it is a `Content-Length`
 abbrev pub field_length : List ℕ × List ℕ → Option ℕ
 field_length field = if is_content_length field.0 then length_value field.1 else None
 
--- the length that a line tells, if its field is a `Content-Length`
+-- the length that a line gives, if its field is a `Content-Length`
 abbrev pub line_length : List ℕ → Option ℕ
 line_length line = option_and_then field_length (field_of line)
 
--- `length_fault is_told n`: the fault of a `Content-Length` with the length `n`, or with none: it is a second one, where a length was told
--- before it, whatever its value; or its value is no length
+-- `length_fault is_given n`: the fault of a `Content-Length` with the length `n`, or with none: it is a second one, where a length was
+-- given before it, whatever its value; or its value is no length
 abbrev pub length_fault : Bool → Option ℕ → Option FrameFault
 length_fault true n = Some SecondLength
 length_fault false None = Some BadLength
@@ -106,13 +106,13 @@ length_fault false (Some n) = None
 
 -- the fault of a field: that of a `Content-Length`, or a `Content-Type` that doesn't name UTF-8
 abbrev pub field_fault : Bool → List ℕ × List ℕ → Option FrameFault
-field_fault is_told field =
-    if is_content_length field.0 then length_fault is_told (length_value field.1)
+field_fault is_given field =
+    if is_content_length field.0 then length_fault is_given (length_value field.1)
     else (if is_content_type field.0 && not (is_utf8_type field.1) then Some BadCharset else None)
 
 -- the fault of a line: that of its field, or that it is no field
 abbrev pub line_fault : Bool → List ℕ → Option FrameFault
-line_fault is_told line = option_map_or (field_fault is_told) (field_of line) (Some BadField)
+line_fault is_given line = option_map_or (field_fault is_given) (field_of line) (Some BadField)
 
 -- `onto_first_line b lines`: the lines with the byte `b` before the first of them
 abbrev pub onto_first_line : ℕ → List (List ℕ) → List (List ℕ)
@@ -126,14 +126,14 @@ lines_of (b ∷ []) = []
 lines_of (b ∷ c ∷ bytes) = if starts_with nat_eq (b ∷ c ∷ bytes) line_end
     then [] ∷ lines_of bytes else onto_first_line b (lines_of (c ∷ bytes))
 
--- `lines_length told lines`: the length that lines tell after ones that told `told`, or the fault of the first faulty line; a missing
+-- `lines_length given lines`: the length that lines give after ones that gave `given`, or the fault of the first faulty line; a missing
 -- length is a fault where no line has one
 abbrev pub lines_length : Option ℕ → List (List ℕ) → Result ℕ FrameFault
-lines_length told [] = ok_or told NoLength
-lines_length told (line ∷ lines) = option_map_or Err (line_fault (is_some told) line)
-    (lines_length (option_or told (line_length line)) lines)
+lines_length given [] = ok_or given NoLength
+lines_length given (line ∷ lines) = option_map_or Err (line_fault (is_some given) line)
+    (lines_length (option_or given (line_length line)) lines)
 
--- the length that the field lines of a whole header part tell, or their fault, as `lines_length` computes it
+-- the length that the field lines of a whole header part give, or their fault, as `lines_length` computes it
 abbrev pub header_length : List ℕ → Result ℕ FrameFault
 header_length part = lines_length None (lines_of (take (length part - 2) part))
 
@@ -142,28 +142,28 @@ pub record AreFieldLines (part : List ℕ) (lines : List (List ℕ)) : Type 0 wh
   pub parts : part ≡ flat_map (λ line. line ++ line_end) lines ++ line_end
   pub single : All (λ line. through line_end line ≡ None) lines
 
--- whether one of the lines tells a length
-abbrev pub tells_length : List (List ℕ) → Bool
-tells_length lines = list_any (λ line. is_some (line_length line)) lines
+-- whether one of the lines gives a length
+abbrev pub has_length : List (List ℕ) → Bool
+has_length lines = list_any (λ line. is_some (line_length line)) lines
 
 -- none of the lines is faulty after those before it
 abbrev pub AreFaultless : List (List ℕ) → Type 0
 AreFaultless lines = (before after : List (List ℕ)) (line : List ℕ) → lines ≡ before ++ line ∷ after
-    → line_fault (tells_length before) line ≡ None
+    → line_fault (has_length before) line ≡ None
 
 -- the first faulty line has this fault
 abbrev pub IsFirstFault : List (List ℕ) → FrameFault → Type 0
 IsFirstFault lines fault =
     (before after : List (List ℕ)) × (line : List ℕ) × (lines ≡ before ++ line ∷ after) × AreFaultless before
-    × (line_fault (tells_length before) line ≡ Some fault)
+    × (line_fault (has_length before) line ≡ Some fault)
 
--- `Tell lines result`: what field lines tell: the first fault; where there is none, the length of the one `Content-Length`, or that it is
--- missing (`NoLength`)
-abbrev pub Tell : List (List ℕ) → Result ℕ FrameFault → Type 0
-Tell lines (Ok n) = AreFaultless lines × Any (λ line. line_length line ≡ Some n) lines
-Tell lines (Err fault) = IsFirstFault lines fault ⊎ (AreFaultless lines × (tells_length lines ≡ false) × (fault ≡ NoLength))
+-- `HaveLength lines result`: what field lines give: the first fault; where there is none, the length of the one `Content-Length`, or that
+-- it is missing (`NoLength`)
+abbrev pub HaveLength : List (List ℕ) → Result ℕ FrameFault → Type 0
+HaveLength lines (Ok n) = AreFaultless lines × Any (λ line. line_length line ≡ Some n) lines
+HaveLength lines (Err fault) = IsFirstFault lines fault ⊎ (AreFaultless lines × (has_length lines ≡ false) × (fault ≡ NoLength))
 
--- what the field lines of a header part tell, as `Tell` has it. The law `first_fault_decides`: of a whole header part it is what
+-- what the field lines of a header part give, as `HaveLength` has it. The law `first_fault_decides`: of a whole header part it is what
 -- `header_length` computes
 abbrev pub IsHeaderLength : List ℕ → Result ℕ FrameFault → Type 0
-IsHeaderLength part result = (lines : List (List ℕ)) × AreFieldLines part lines × Tell lines result
+IsHeaderLength part result = (lines : List (List ℕ)) × AreFieldLines part lines × HaveLength lines result

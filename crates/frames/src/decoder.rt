@@ -16,7 +16,7 @@ pub struct Frame {
     pub content: Vec<u8>,
 }
 
-/// What stands at the front of some bytes, and what is kept of the rest behind it.
+/// What stands at the start of some bytes, and what is kept of the rest after it.
 struct Found {
     frames: Vec<Frame>,
     /// How many bytes the frames take.
@@ -44,7 +44,7 @@ fn content_at(bytes: &[u8], size: usize, len: usize) -> Option<&[u8]>
     }
 }
 
-/// The whole frames at the front, how many bytes they take, and the fault behind them.
+/// The whole frames at the start, how many bytes they take, and the fault after them.
 fn split(alloc: Global, bytes: &[u8]) -> Result<Found, AllocError>
     ensures used { IfOk result (λ found. found.used ≤ length bytes.now) }
     ensures split { IfOk result (λ found.
@@ -90,7 +90,7 @@ fn split(alloc: Global, bytes: &[u8]) -> Result<Found, AllocError>
     }
 }
 
-/// What stands at the front of some bytes, of a front of which `awaited` and `searched` were kept.
+/// What stands at the start of some bytes, of a prefix of which `awaited` and `searched` were kept.
 fn found_in(
     alloc: Global,
     bytes: &[u8],
@@ -128,14 +128,14 @@ fn found_in(
 }
 
 /// Lets go of the bytes before a place.
-fn let_go(bytes: &mut Vec<u8>, until: usize)
+fn discard(bytes: &mut Vec<u8>, until: usize)
     requires { until ≤ length bytes.old.items }
     ensures { bytes.new.items ≡ drop until bytes.old.items }
 {
     bytes.drain(..until);
 }
 
-/// Puts a piece behind the rest, and takes the whole frames off its front.
+/// Puts a piece after the rest, and takes the whole frames off its start.
 fn take_frames(
     alloc: Global,
     rest: &mut Vec<u8>,
@@ -154,7 +154,7 @@ fn take_frames(
     rest.extend_from_slice(piece)?;
     match found_in(alloc, rest, awaited, searched) {
         Ok(found) => {
-            let_go(rest, found.used);
+            discard(rest, found.used);
             Ok(found)
         }
         Err(refused) => {
@@ -164,7 +164,7 @@ fn take_frames(
     }
 }
 
-/// The frames; or the fault behind them, where there are none.
+/// The frames; or the fault after them, where there are none.
 fn answer(frames: Vec<Frame>, fault: Option<FrameFault>) -> Result<Vec<Frame>, FrameFault>
     ensures ok { IfOk result (λ answered. answered.items ≡ frames.items) }
     ensures none { IfOk result (λ answered. answered.items ≡ [] → fault ≡ None) }
@@ -177,10 +177,10 @@ fn answer(frames: Vec<Frame>, fault: Option<FrameFault>) -> Result<Vec<Frame>, F
     }
 }
 
-/// Splits a stream into frames, and is seen as what is left of the stream behind the whole ones.
+/// Splits a stream into frames, and is seen as what is left of the stream after the whole ones.
 #[derive(Drop)]
 pub struct Decoder {
-    /// The bytes behind the whole frames.
+    /// The bytes after the whole frames.
     rest: Vec<u8>,
     /// How many bytes `rest` has to have before a frame of it can be whole, so that a content isn't looked at before.
     awaited: usize,
@@ -214,9 +214,9 @@ impl Decoder {
         }
     }
 
-    /// Takes the next piece of the stream, and answers the frames that are whole now, in order.
+    /// Takes the next piece of the stream, and returns the frames that are whole now, in order.
     ///
-    /// A fault behind them is answered by the next call, and where there are none by this one; then by every call, and no
+    /// A fault after them is answered by the next call, and where there are none by this one; then by every call, and no
     /// piece is taken any more. `Memory` says that memory was refused: the piece isn't taken, and may be fed again.
     pub fn feed(&mut self, alloc: Global, piece: &[u8]) -> Result<Vec<Frame>, FrameFault>
         ensures ok { IfOk result (λ frames.
@@ -229,7 +229,7 @@ impl Decoder {
         ensures ended { IfSome (fault_of self.old) (λ fault.
             IsErrOf result fault × (self.new ≡ self.old)) }
 
-        // Each piece makes something of the stream, also one that isn't taken for want of memory.
+        // Each piece makes something of the stream, also one that isn't taken because memory was refused.
         ensures goes_on { (contents : List (List ℕ)) × (new : Tail) ×
             GoesOn self.old piece.now contents new }
 
@@ -237,11 +237,11 @@ impl Decoder {
         ensures reached { IsReached self.old × IsReached self.new }
         ensures stream_fault { IfSome (fault_of self.new) IsStreamFault }
     {
-        self.take_piece(alloc, piece)
+        self.take_bytes(alloc, piece)
     }
 
     /// `feed`, by what is left of the stream.
-    fn take_piece(&mut self, alloc: Global, piece: &[u8]) -> Result<Vec<Frame>, FrameFault>
+    fn take_bytes(&mut self, alloc: Global, piece: &[u8]) -> Result<Vec<Frame>, FrameFault>
         ensures ok { IfOk result (λ frames.
             Continues self.old piece.now (contents frames.items) self.new) }
         ensures none { IfOk result (λ frames. frames.items ≡ [] → IsOpen self.new) }

@@ -8,7 +8,7 @@ use thiserror::Error;
 
 /// What is wrong with a stream of frames (LSP 3.17, "Base Protocol").
 ///
-/// What is wrong with a header part is told once it is whole, and the first faulty line decides.
+/// What is wrong with a header part is reported once it is whole, and the first faulty line decides.
 #[derive(Clone, Copy, Debug, PartialEq, Eq, Error)]
 pub enum FrameFault {
     /// A line that is no field: a name of ASCII letters, digits and `-`, a colon, and a value of bytes from 0x20 to 0x7E
@@ -33,7 +33,7 @@ pub enum FrameFault {
     /// Memory was refused.
     #[error("F7")]
     Memory,
-    /// 4,096 bytes whose front is no whole header part.
+    /// 4,096 bytes that begin with no whole header part.
     #[error("F8")]
     LongHeader,
 }

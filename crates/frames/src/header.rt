@@ -7,7 +7,7 @@ ghost use Rattle.std.specs.Char.{is_ascii_digit};
 ghost use Rattle.std.specs.Str.Parse.{digits_value};
 ghost use Rattle.frames.specs.Frames.{start_of, IsStreamFault};
 ghost use Rattle.frames.specs.Kept.{StartIsWithin, HoldsNone};
-ghost use Rattle.frames.specs.Header.{through, header_size, is_name_byte, is_value_byte, trimmed, is_number, is_content_length, is_content_type, is_utf8_type, length_value, field_at, field_of, line_length, length_fault, line_fault, header_length};
+ghost use Rattle.frames.specs.Header.{through, header_size, is_name_byte, is_value_byte, trim, is_number, is_content_length, is_content_type, is_utf8_type, length_value, field_at, field_of, line_length, length_fault, line_fault, header_length};
 
 use crate::fault::FrameFault;
 
@@ -50,7 +50,7 @@ fn through(needle: &[u8], bytes: &[u8]) -> Option<usize>
     None
 }
 
-/// The size of the header part at the front.
+/// The size of the header part at the start.
 fn header_size(bytes: &[u8]) -> Option<usize>
     ensures value { result ≡ header_size bytes.now }
     ensures low { IfSome result (λ n. 2 ≤ n) }
@@ -75,9 +75,9 @@ fn is_value_byte(byte: u8) -> bool
 }
 
 /// The value without the spaces and tabs at its ends: it has no other white space.
-fn trimmed(value: &[u8]) -> &[u8]
+fn trim(value: &[u8]) -> &[u8]
     requires { IsTrue (list_all is_value_byte value.now) }
-    ensures { result.now ≡ trimmed value.now }
+    ensures { result.now ≡ trim value.now }
 {
     value.trim_ascii()
 }
@@ -163,7 +163,7 @@ fn field_at(line: &[u8], colon: usize) -> Option<(&[u8], &[u8])>
     let name = &line[..colon];
     let value = &line[colon + 1..];
     if !name.is_empty() && has_name_bytes(name) && has_value_bytes(value) {
-        Some((name, trimmed(value)))
+        Some((name, trim(value)))
     } else {
         None
     }
@@ -186,12 +186,12 @@ fn field_of(line: &[u8]) -> Option<(&[u8], &[u8])>
     }
 }
 
-/// The length that a `Content-Length` with this value tells, where `told` was told before it; or its fault.
-fn length_told(told: Option<usize>, value: &[u8]) -> Result<Option<usize>, FrameFault>
+/// The length that a `Content-Length` with this value gives, where `given` was given before it; or its fault.
+fn add_length(given: Option<usize>, value: &[u8]) -> Result<Option<usize>, FrameFault>
     ensures { result ≡ option_map_or Err
-        (length_fault (is_some told) (length_value value.now)) (Ok (length_value value.now)) }
+        (length_fault (is_some given) (length_value value.now)) (Ok (length_value value.now)) }
 {
-    if told.is_some() {
+    if given.is_some() {
         return Err(FrameFault::SecondLength);
     }
     match length_value(value) {
@@ -200,24 +200,24 @@ fn length_told(told: Option<usize>, value: &[u8]) -> Result<Option<usize>, Frame
     }
 }
 
-/// The length told up to this line, where `told` was told before it; or the line's fault.
-fn line_told(told: Option<usize>, line: &[u8]) -> Result<Option<usize>, FrameFault>
+/// The length given up to this line, where `given` was given before it; or the line's fault.
+fn add_line(given: Option<usize>, line: &[u8]) -> Result<Option<usize>, FrameFault>
     ensures { result ≡ option_map_or Err
-        (line_fault (is_some told) line.now) (Ok (option_or told (line_length line.now))) }
+        (line_fault (is_some given) line.now) (Ok (option_or given (line_length line.now))) }
 {
     let Some((name, value)) = field_of(line) else {
         return Err(FrameFault::BadField);
     };
     if is_content_length(name) {
-        length_told(told, value)
+        add_length(given, value)
     } else if is_content_type(name) && !is_utf8_type(value) {
         Err(FrameFault::BadCharset)
     } else {
-        Ok(told)
+        Ok(given)
     }
 }
 
-/// The length that a whole header part tells, or the fault of its first faulty line.
+/// The length that a whole header part gives, or the fault of its first faulty line.
 fn header_length(part: &[u8]) -> Result<usize, FrameFault>
     ensures value { result ≡ header_length part.now }
     ensures bound { IfOk result (λ n. n ≤ 16777216) }
@@ -225,16 +225,16 @@ fn header_length(part: &[u8]) -> Result<usize, FrameFault>
 {
     // The CR LF that ends the header part ends no field line.
     let mut rest = &part[..part.len().saturating_sub(2)];
-    let mut told = None;
+    let mut given = None;
     while let Some(size) = through(b"\r\n", rest) {
-        told = line_told(told, &rest[..size - 2])?;
+        given = add_line(given, &rest[..size - 2])?;
         rest = bytes_from(rest, size);
     }
-    told.ok_or(FrameFault::NoLength)
+    given.ok_or(FrameFault::NoLength)
 }
 
 /// As many bytes as a header part has at most.
-fn front_of(bytes: &[u8]) -> &[u8]
+fn longest_header_of(bytes: &[u8]) -> &[u8]
     ensures { result.now ≡ take 4096 bytes.now }
 {
     if bytes.len() < LONGEST_HEADER {
@@ -249,9 +249,9 @@ pub fn start_of(bytes: &[u8]) -> Start
     ensures value { result ≡ start_of bytes.now }
     ensures within { StartIsWithin result bytes.now }
 {
-    let front = front_of(bytes);
-    match header_size(front) {
-        Some(size) => match header_length(&front[..size]) {
+    let prefix = longest_header_of(bytes);
+    match header_size(prefix) {
+        Some(size) => match header_length(&prefix[..size]) {
             Ok(length) => Start::Announces(size, length),
             Err(fault) => Start::Fails(fault),
         },

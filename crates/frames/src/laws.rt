@@ -20,7 +20,7 @@ pub fn shortest_header_part()
     ensures none { (bytes : List ℕ) (n : ℕ) → header_size bytes ≡ None → ¬ IsWhole (take n bytes) }
 {}
 
-/// Of a whole header part, `header_length` computes what its field lines tell: the first fault, or the one length.
+/// Of a whole header part, `header_length` computes what its field lines give: the first fault, or the one length.
 pub fn first_fault_decides()
     ensures { (part : List ℕ) (result : Result ℕ FrameFault) → IsWhole part →
         (header_length part ≡ result) ↔ IsHeaderLength part result }

@@ -8,13 +8,13 @@ use std::io::Write;
 
 /// A stream of bytes that is written. Once it has failed, it isn't called again.
 pub trait Output {
-    /// The bytes that were taken, where they are told.
+    /// The bytes that were taken, where they are known.
     ghost contents: { Self → Option (List ℕ) };
 
     /// How often the device has failed: once at most.
     ghost failures: { Self → ℕ };
 
-    /// Takes a front of the bytes, and tells how many: none only where there are none.
+    /// Takes a prefix of the bytes, and returns how many: none only where there are none.
     fn write(&mut self, bytes: &[u8]) -> Result<usize, DeviceFault>
         requires { failures self.old ≡ 0 }
         ensures bound { IfOk result (λ n. n ≤ length bytes.now) }

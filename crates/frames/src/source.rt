@@ -8,7 +8,7 @@ use std::io::Read;
 
 /// A stream of bytes that is read. Once it has failed, it isn't called again.
 pub trait Input {
-    /// The bytes that are still to come, where they are told.
+    /// The bytes that are still to come, where they are known.
     ghost remaining: { Self → Option (List ℕ) };
 
     /// How many reads can still be made.
@@ -17,7 +17,7 @@ pub trait Input {
     /// How often the device has failed: once at most.
     ghost failures: { Self → ℕ };
 
-    /// Reads some bytes to the front of `buf`, and tells how many: none only at the end of the stream, or where `buf`
+    /// Reads some bytes to the start of `buf`, and returns how many: none only at the end of the stream, or where `buf`
     /// is empty. It takes one of the reads that are left, and fails where none is.
     fn read(&mut self, buf: &mut [u8]) -> Result<usize, DeviceFault>
         requires { failures self.old ≡ 0 }

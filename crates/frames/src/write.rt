@@ -6,7 +6,7 @@ ghost use Rattle.frames.specs.Write.{frame, Writes};
 use crate::fault::DeviceFault;
 use crate::sink::Output;
 
-/// Writes all the bytes, or a front of them.
+/// Writes all the bytes, or a prefix of them.
 fn write_all<W: Output>(output: &mut W, bytes: &[u8]) -> Result<(), DeviceFault>
     requires { W.failures output.old ≡ 0 }
     ensures bytes { Writes (W.contents output.old) (W.contents output.new) result bytes.now }
@@ -20,22 +20,22 @@ fn write_all<W: Output>(output: &mut W, bytes: &[u8]) -> Result<(), DeviceFault>
     Ok(())
 }
 
-/// Puts the digits of a number to the front of the buffer, and tells how many.
+/// Puts the digits of a number to the start of the buffer, and returns how many.
 fn put_digits(buffer: &mut [u8], n: usize) -> usize
     requires { length (decimal n) ≤ length buffer.old }
     ensures size { result ≡ length (decimal n) }
     ensures digits { take result buffer.new ≡ decimal n }
 {
-    let front = if n < 10 {
+    let prefix = if n < 10 {
         0
     } else {
         put_digits(buffer, n / 10)
     };
-    buffer[front] = b'0' + (n % 10) as u8;
-    front + 1
+    buffer[prefix] = b'0' + (n % 10) as u8;
+    prefix + 1
 }
 
-/// Writes the content behind a header part that tells its length in bytes. After a fault, a front of the frame was
+/// Writes the content after a header part that gives its length in bytes. After a fault, a prefix of the frame was
 /// written. Takes no memory.
 pub fn write_frame<W: Output>(output: &mut W, content: &[u8]) -> Result<(), DeviceFault>
     requires { W.failures output.old ≡ 0 }

@@ -8,7 +8,7 @@ use Rattle.std.proofs.lemmas.Option.{slice_get_within, get_or_from_slice_get}
 use Rattle.grammar_file.specs.Statements.{Statement, Line, Nothing, Production, Rule, Start, Fold, Bad}
 use Rattle.grammar_file.specs.Contents.{ProductionLine, as_production, productions, nonterminals, with_name, is_among}
 use Rattle.grammar.specs.Faults.{is_production_of}
-use Rattle.grammar_file.specs.Said.{texts}
+use Rattle.grammar_file.specs.Kept.{texts}
 
 pub bytes_eq_same : (w : List ℕ) → bytes_eq w w ≡ true
 bytes_eq_same [] = refl

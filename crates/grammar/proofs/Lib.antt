@@ -1,10 +1,10 @@
-pub mod Marking
+pub mod NonterminalMarks
 pub mod Lefts
 pub mod Numbered
-pub mod Known
+pub mod NumbersInRange
 pub mod Ranges
 pub mod WrittenOut
-pub mod Using
-pub mod Noting
-pub mod Meant
+pub mod UsedMarks
+pub mod NotesOfUses
+pub mod FaultlessFile
 pub mod Refused

@@ -16,7 +16,7 @@ use Rattle.grammar.proofs.Lefts.{bytes_eq_same}
 use Rattle.grammar_file.specs.Statements.{Statement, Line, Nothing, Production, Rule, Start, Fold, Bad}
 use Rattle.grammar_file.specs.Contents.{ProductionLine, as_production, productions, nonterminals, is_among, number_of}
 use Rattle.grammar.specs.Contents.{rule_names, symbol_of, production_of, grammar_of}
-use Rattle.grammar_file.specs.Faults.{AreFaultless, early_fault, has_production, is_production, has_rule, or_else, told, reserved, Cause, DefinedTwice}
+use Rattle.grammar_file.specs.Faults.{AreFaultless, early_fault, has_production, is_production, has_rule, or_else, cause_if, reserved, Cause, DefinedTwice}
 
 pub same_bytes : (v w : Word) → bytes_eq v w ≡ true → v ≡ w
 same_bytes v w h = (bytes_eq-Decides v w).0 h
@@ -58,8 +58,8 @@ number_at w ws h = subst (λ n. slice_get ws n ≡ Some w) (number_is w ws h) (p
 some_same : {X : Type 0} (x y : X) → Some x ≡ Some y → x ≡ y
 some_same x y e = cc
 
-pub number_tells : (v w : Word) (ws : List Word) → is_among v ws ≡ true → is_among w ws ≡ true → number_of v ws ≡ number_of w ws → v ≡ w
-number_tells v w ws a b e = some_same v w (sym (number_at v ws a) ∙ ap (slice_get ws) e ∙ number_at w ws b)
+pub number_shows : (v w : Word) (ws : List Word) → is_among v ws ≡ true → is_among w ws ≡ true → number_of v ws ≡ number_of w ws → v ≡ w
+number_shows v w ws a b e = some_same v w (sym (number_at v ws a) ∙ ap (slice_get ws) e ∙ number_at w ws b)
 
 -- a name that stands for a symbol
 abbrev pub IsNamed : List Word → List Word → Word → Type 0
@@ -71,30 +71,30 @@ nonterminal_is ns rs w h = rw h refl
 pub terminal_is : (ns rs : List Word) (w : Word) → is_among w ns ≡ false → symbol_of ns rs w ≡ Terminal (number_of w rs)
 terminal_is ns rs w h = rw h refl
 
-symbol_tells : (ns rs : List Word) (v w : Word) → IsNamed ns rs v → IsNamed ns rs w → symbol_of ns rs v ≡ symbol_of ns rs w → v ≡ w
-symbol_tells ns rs v w (inl a) (inl b) e =
+symbol_shows : (ns rs : List Word) (v w : Word) → IsNamed ns rs v → IsNamed ns rs w → symbol_of ns rs v ≡ symbol_of ns rs w → v ≡ w
+symbol_shows ns rs v w (inl a) (inl b) e =
     let same : Nonterminal (number_of v ns) ≡ Nonterminal (number_of w ns) = sym (nonterminal_is ns rs v a) ∙ e ∙ nonterminal_is ns rs w b in
-    number_tells v w ns a b cc
-symbol_tells ns rs v w (inl a) (inr b) e =
+    number_shows v w ns a b cc
+symbol_shows ns rs v w (inl a) (inr b) e =
     let clash : Nonterminal (number_of v ns) ≡ Terminal (number_of w rs) = sym (nonterminal_is ns rs v a) ∙ e ∙ terminal_is ns rs w b.0 in cc
-symbol_tells ns rs v w (inr a) (inl b) e =
+symbol_shows ns rs v w (inr a) (inl b) e =
     let clash : Terminal (number_of v rs) ≡ Nonterminal (number_of w ns) = sym (terminal_is ns rs v a.0) ∙ e ∙ nonterminal_is ns rs w b in cc
-symbol_tells ns rs v w (inr a) (inr b) e =
+symbol_shows ns rs v w (inr a) (inr b) e =
     let same : Terminal (number_of v rs) ≡ Terminal (number_of w rs) = sym (terminal_is ns rs v a.0) ∙ e ∙ terminal_is ns rs w b.0 in
-    number_tells v w rs a.1 b.1 cc
+    number_shows v w rs a.1 b.1 cc
 
 abbrev pub AllNamed : List Word → List Word → List Word → Type 0
 AllNamed ns rs [] = Unit {0}
 AllNamed ns rs (w ∷ ws) = IsNamed ns rs w × AllNamed ns rs ws
 
-symbols_tell : (ns rs vs ws : List Word) → AllNamed ns rs vs → AllNamed ns rs ws → map (symbol_of ns rs) vs ≡ map (symbol_of ns rs) ws → vs ≡ ws
-symbols_tell ns rs [] [] a b e = refl
-symbols_tell ns rs [] (w ∷ ws) a b e = cc
-symbols_tell ns rs (v ∷ vs) [] a b e = cc
-symbols_tell ns rs (v ∷ vs) (w ∷ ws) a b e =
+symbols_show : (ns rs vs ws : List Word) → AllNamed ns rs vs → AllNamed ns rs ws → map (symbol_of ns rs) vs ≡ map (symbol_of ns rs) ws → vs ≡ ws
+symbols_show ns rs [] [] a b e = refl
+symbols_show ns rs [] (w ∷ ws) a b e = cc
+symbols_show ns rs (v ∷ vs) [] a b e = cc
+symbols_show ns rs (v ∷ vs) (w ∷ ws) a b e =
     let first : symbol_of ns rs v ≡ symbol_of ns rs w = cc in
     let rest : map (symbol_of ns rs) vs ≡ map (symbol_of ns rs) ws = cc in
-    ap (λ x. x ∷ vs) (symbol_tells ns rs v w a.0 b.0 first) ∙ ap (λ xs. w ∷ xs) (symbols_tell ns rs vs ws a.1 b.1 rest)
+    ap (λ x. x ∷ vs) (symbol_shows ns rs v w a.0 b.0 first) ∙ ap (λ xs. w ∷ xs) (symbols_show ns rs vs ws a.1 b.1 rest)
 
 pub true_not_false : true ≡ false → ⊥
 true_not_false e = cc
@@ -132,9 +132,9 @@ says_production s x h = go s.says h
     go (Fold name) e = cc
     go Bad e = cc
 
-pub not_told : (b : Bool) (c : Cause) → told b c ≡ None → b ≡ false
-not_told true c e = cc
-not_told false c e = refl
+pub not_shown : (b : Bool) (c : Cause) → cause_if b c ≡ None → b ≡ false
+not_shown true c e = cc
+not_shown false c e = refl
 
 pub neither : (o l : Option Cause) → or_else o l ≡ None → (o ≡ None) × (l ≡ None)
 neither None l e = (refl, e)
@@ -165,7 +165,7 @@ said_again l x e =
 earlier : (ss : List Statement) → AreFaultless ss → (i j : ℕ) (s r : Statement) (x : ProductionLine) → slice_get ss i ≡ Some s → slice_get ss j ≡ Some r → s.says ≡ Production x.left x.right → r.says ≡ Production x.left x.right → i < j → ⊥
 earlier ss free i j s r x a b e f l =
     let early : early_fault (take j ss) (Production x.left x.right) ≡ None = subst (λ y. early_fault (take j ss) y ≡ None) f (free j r b).early in
-    let both : (has_rule (take j ss) x.left || has_production (take j ss) x.left x.right) ≡ false = not_told (has_rule (take j ss) x.left || has_production (take j ss) x.left x.right) (DefinedTwice x.left) (neither (reserved (x.left ∷ map plain x.right)) (told (has_rule (take j ss) x.left || has_production (take j ss) x.left x.right) (DefinedTwice x.left)) early).1 in
+    let both : (has_rule (take j ss) x.left || has_production (take j ss) x.left x.right) ≡ false = not_shown (has_rule (take j ss) x.left || has_production (take j ss) x.left x.right) (DefinedTwice x.left) (neither (reserved (x.left ∷ map plain x.right)) (cause_if (has_rule (take j ss) x.left || has_production (take j ss) x.left x.right) (DefinedTwice x.left)) early).1 in
     let twice : has_production (take j ss) x.left x.right ≡ false = (or_false (has_rule (take j ss) x.left) (has_production (take j ss) x.left x.right) both).1 in
     let found : has_production (take j ss) x.left x.right ≡ true = any_at (λ y. is_production x.left x.right y.says) (take j ss) i s (get_take ss i j s l a) (said_again s.says x e) in
     true_not_false (sym found ∙ twice)
@@ -210,7 +210,7 @@ distinct ss once named p q n right a b =
     let one = made_from (production_of ns rs) (productions ss) p (record { left = n; right = right }) a in
     let two = made_from (production_of ns rs) (productions ss) q (record { left = n; right = right }) b in
     let same = one.is ∙ sym two.is in
-    let left : one.item.left ≡ two.item.left = number_tells one.item.left two.item.left ns (named p one.item one.there).0 (named q two.item two.there).0 (ap (λ x. x.left) same) in
-    let rights : one.item.right ≡ two.item.right = symbols_tell ns rs one.item.right two.item.right (named p one.item one.there).1 (named q two.item two.there).1 (ap (λ x. x.right) same) in
+    let left : one.item.left ≡ two.item.left = number_shows one.item.left two.item.left ns (named p one.item one.there).0 (named q two.item two.there).0 (ap (λ x. x.left) same) in
+    let rights : one.item.right ≡ two.item.right = symbols_show ns rs one.item.right two.item.right (named p one.item one.there).1 (named q two.item two.there).1 (ap (λ x. x.right) same) in
     let item : one.item ≡ two.item = ap (λ l. record { left = l; right = one.item.right }) left ∙ ap (λ r. record { left = two.item.left; right = r }) rights in
     once p q one.item one.there (two.there ∙ ap Some (sym item))

@@ -15,15 +15,15 @@ use Rattle.definitions.specs.Sentences.{IsProductive}
 use Rattle.grammar.specs.Grammars.{FileGrammar, IsUsable, IsKnown, IsGrammar}
 use Rattle.grammar.specs.Marks.{AreBelow}
 use Rattle.grammar.specs.Meaning.{grammar_with}
-use Rattle.grammar_file.specs.Said.{ArePatterns}
+use Rattle.grammar_file.specs.Kept.{ArePatterns}
 use Rattle.grammar_file.specs.Words.{Word, plain}
 use Rattle.grammar_file.specs.Statements.{Statement, Line, Nothing, Production, Rule, Start, Fold, Bad}
 use Rattle.grammar_file.specs.Contents.{RuleLine, ProductionLine, as_production, as_start, rules, productions, starts, nonterminals, with_name, is_among, number_of}
 use Rattle.grammar.specs.Contents.{first_of, rule_names, symbol_of, production_of, is_fold, grammar_of}
 use Rattle.grammar_file.specs.Faults.{HaveReferents, symbol_fault, right_fault, reference_fault, NotANonterminal, is_skip_rule, has_rule}
 use Rattle.grammar.proofs.Lefts.{bytes_eq_same}
-use Rattle.grammar_file.proofs.Mapped.{list_any-map}
-use Rattle.grammar.proofs.Numbered.{AllNamed, AreNamed, AreOnce, comes_from, says_production, not_told, or_false, number_below, number_at, nonterminal_is, terminal_is, IsMadeFrom, made_from, distinct}
+use Rattle.grammar_file.proofs.TestedItems.{list_any-map}
+use Rattle.grammar.proofs.Numbered.{AllNamed, AreNamed, AreOnce, comes_from, says_production, not_shown, or_false, number_below, number_at, nonterminal_is, terminal_is, IsMadeFrom, made_from, distinct}
 
 kept : (w x : Word) (names : List Word) → is_among w names ≡ true → is_among w (with_name names x) ≡ true
 kept w x names h =
@@ -133,7 +133,7 @@ first_among ss refers [] e h = cc
 first_among ss refers (w ∷ rest) e h =
     let (k, s, there, says) = start_line ss w rest e in
     let fine : reference_fault ss (Start w) ≡ None = subst (λ l. reference_fault ss l ≡ None) says (refers k s there) in
-    is_true (is_among w (nonterminals ss)) (not_told (not (is_among w (nonterminals ss))) (NotANonterminal w) fine)
+    is_true (is_among w (nonterminals ss)) (not_shown (not (is_among w (nonterminals ss))) (NotANonterminal w) fine)
 
 pub start_among : (ss : List Statement) → HaveReferents ss ss → nat_lt 0 (length (starts ss)) ≡ true → is_among (first_of (starts ss)) (nonterminals ss) ≡ true
 start_among ss refers h = first_among ss refers (starts ss) refl h

@@ -14,16 +14,16 @@ use Rattle.grammar_file.specs.Faults.{Cause, HasPattern, HasPatternFault, IsFaul
 use Rattle.grammar.specs.Faults.{IsFault, file_fault, unproductive}
 use Rattle.grammar.specs.Grammars.{FileGrammar}
 use Rattle.grammar.specs.Meaning.{IsGrammarOf}
-use Rattle.grammar_file.specs.Told.{cause_of, Tells}
-use Rattle.grammar.specs.Told.{TellsCause, IsFor}
+use Rattle.grammar_file.specs.Causes.{cause_of, Reports}
+use Rattle.grammar.specs.PublicCauses.{ReportsCause, IsFor}
 
 met : {X : Type 0} (xs : List X) (y : X) (ys : List X) → slice_get (xs ++ y ∷ ys) (length xs) ≡ Some y
 met [] y ys = refl
 met (x ∷ xs) y ys = met xs y ys
 
-front : {X : Type 0} (xs : List X) (y : X) (ys : List X) → take (length xs) (xs ++ y ∷ ys) ≡ xs
-front [] y ys = refl
-front (x ∷ xs) y ys = ap (λ zs. x ∷ zs) (front xs y ys)
+prefix : {X : Type 0} (xs : List X) (y : X) (ys : List X) → take (length xs) (xs ++ y ∷ ys) ≡ xs
+prefix [] y ys = refl
+prefix (x ∷ xs) y ys = ap (λ zs. x ∷ zs) (prefix xs y ys)
 
 either : (o : Option Cause) (c : Cause) → o ≡ Some c → o ≡ None → ⊥
 either o c some none = cc
@@ -51,7 +51,7 @@ module _ (text : List ℕ) (g : FileGrammar) (of : IsGrammarOf text g) where
   faultless_at : (before after : List Statement) (s : Statement) → ss ≡ before ++ s ∷ after → IsFaultless before s.says
   faultless_at before after s split =
       let there : slice_get ss (length before) ≡ Some s = ap (λ xs. slice_get xs (length before)) split ∙ met before s after in
-      let is : take (length before) ss ≡ before = ap (take (length before)) split ∙ front before s after in
+      let is : take (length before) ss ≡ before = ap (take (length before)) split ∙ prefix before s after in
       subst (λ (xs : List Statement). IsFaultless xs s.says) is (of.whole.faultless (length before) s there)
 
   referent_at : (before after : List Statement) (s : Statement) → ss ≡ before ++ s ∷ after → reference_fault ss s.says ≡ None
@@ -75,7 +75,7 @@ module _ (text : List ℕ) (g : FileGrammar) (of : IsGrammarOf text g) where
   no_fault n c (unproductive m k w whole refers first there at) = first.unproductive (of.productive k (slice_get_within (nonterminals (written_out ss)) k w there))
 
 -- the text that is refused for a cause is no grammar's file
-pub no_file : (text : List ℕ) (r : Refusal) (o : Option Cause) (n : ℕ) → Tells r (λ m c. IsFault text m c) → TellsCause o (λ c. IsFor r n c) → TellsCause o (λ c. (g : FileGrammar) → IsGrammarOf text g → ⊥)
-no_file text r None n tells h = tt
-no_file text (Fault m d) (Some c) n tells h = λ g of. no_fault text g of m (cause_of d) tells
-no_file text Memory (Some c) n tells h = absurd h
+pub no_file : (text : List ℕ) (r : Refusal) (o : Option Cause) (n : ℕ) → Reports r (λ m c. IsFault text m c) → ReportsCause o (λ c. IsFor r n c) → ReportsCause o (λ c. (g : FileGrammar) → IsGrammarOf text g → ⊥)
+no_file text r None n shows h = tt
+no_file text (Fault m d) (Some c) n shows h = λ g of. no_fault text g of m (cause_of d) shows
+no_file text Memory (Some c) n shows h = absurd h

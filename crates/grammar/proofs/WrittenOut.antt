@@ -12,12 +12,12 @@ use Rattle.grammar_file.specs.declared.line.Version.{Version}
 use Rattle.grammar_file.specs.declared.line.Version.TheVariants.{One}
 use Rattle.grammar_file.specs.declared.right_word.Mark.{Mark}
 use Rattle.grammar_file.specs.declared.right_word.Mark.TheVariants.{Once, Any, AtLeastOnce, AtMostOnce}
-use Rattle.grammar_file.specs.Words.{Word, words, is_name, behind_equals, mark_of, is_mark, is_marked, without_last, plain}
+use Rattle.grammar_file.specs.Words.{Word, words, is_name, after_equals, mark_of, is_mark, is_marked, without_last, plain}
 use Rattle.grammar_file.specs.Statements.{Line, Nothing, Production, Rule, Start, Fold, Bad, Statement, at, numbered, is_comment, is_right_word, production, rule, statement, longer_line, line_of_words, line_of, statements_in, version_of, statements}
 use Rattle.grammar_file.specs.Contents.{ProductionLine, as_rule, as_production, as_start, rules, productions, starts, nonterminals, is_among, with_name}
 use Rattle.grammar_file.specs.WrittenOut.{right_sides, added, marked, written_out}
 use Rattle.grammar_file.specs.Faults.{AreFaultless, HaveReferents, symbol_fault, right_fault, is_skip_rule}
-use Rattle.grammar_file.specs.Said.{AreFew}
+use Rattle.grammar_file.specs.Kept.{AreFew}
 use Rattle.grammar_file.proofs.Marked.{name_unmarked}
 use Rattle.grammar.specs.Contents.{first_of}
 use Rattle.grammar.proofs.Lefts.{bytes_eq_same, among_fold}
@@ -445,7 +445,7 @@ says_numbered n Bad s e = ap (λ (t : Statement). t.says) (some_is _ s e)
 plain_lefts_in : (v : Version) (texts : List (List ℕ)) → HavePlainLefts (statements_in v texts)
 plain_lefts_in v texts k s e =
     let c = comes_from (λ (t : ℕ × List ℕ). numbered t.0 (line_of v t.1)) (enumerate_from 2 texts) k s e in
-    ap has_plain_left (sym (says_numbered c.item.0 (line_of v c.item.1) s c.gives)) ∙ plain_words v (words c.item.1) (behind_equals c.item.1)
+    ap has_plain_left (sym (says_numbered c.item.0 (line_of v c.item.1) s c.gives)) ∙ plain_words v (words c.item.1) (after_equals c.item.1)
 
 pub plain_lefts : (text : List ℕ) → HavePlainLefts (statements text)
 plain_lefts text = plain_lefts_in (unwrap_or (version_of (lines text)) One) (drop 1 (lines text))

@@ -29,7 +29,7 @@ IsFirstProduction ss w n =
     × ((s : Statement) × (ss ≡ before ++ (s ∷ after)) × (n ≡ s.number) × (list_any (λ r. is_production_of w r.says) before ≡ false)
     × (is_production_of w s.says ≡ true))
 
--- `IsFault text n cause`: the first fault of a file, at line `n`: one that lines and names tell (`IsFileFault`), or an unproductive
+-- `IsFault text n cause`: the first fault of a file, at line `n`: one that lines and names show (`IsFileFault`), or an unproductive
 -- nonterminal of the statements that are written out, at its first production
 pub data IsFault (text : List ℕ) : ℕ → Cause → Type 0 where
   file_fault : (n : ℕ) (c : Cause) → IsFileFault text n c → IsFault text n c

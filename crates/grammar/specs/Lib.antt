@@ -2,7 +2,7 @@ pub mod Contents
 pub mod Faults
 pub mod Grammars
 pub mod Marks
-pub mod Told
+pub mod PublicCauses
 pub mod Texts
 pub mod Meaning
 pub mod Uses

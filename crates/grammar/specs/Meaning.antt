@@ -11,7 +11,7 @@ use Rattle.grammar_file.specs.WrittenOut.{written_out}
 use Rattle.grammar.specs.Contents.{rule_names, is_fold, grammar_of}
 use Rattle.grammar_file.specs.Faults.{IsWhole, HaveReferents}
 use Rattle.grammar.specs.Grammars.{FileGrammar}
-use Rattle.grammar_file.specs.Said.{ArePatterns}
+use Rattle.grammar_file.specs.Kept.{ArePatterns}
 
 -- what statements define, with these patterns of their rules, and these symbols defined on lines of the file
 abbrev pub grammar_with : List Statement → List Expression → List Symbol → FileGrammar

@@ -14,7 +14,7 @@ is_skip f (Nonterminal n) = false
 -- `AreNotes f symbols notes`: `notes` are those of the symbols that are neither skipped nor used, in order
 pub data AreNotes (f : FileGrammar) : List Symbol → List Symbol → Type 0 where
   none : AreNotes f [] []
-  told : {s : Symbol} {ss ns : List Symbol} → is_skip f s ≡ false → (IsUsed f.grammar s → ⊥) → AreNotes f ss ns
+  noted_symbol : {s : Symbol} {ss ns : List Symbol} → is_skip f s ≡ false → (IsUsed f.grammar s → ⊥) → AreNotes f ss ns
       → AreNotes f (s ∷ ss) (s ∷ ns)
   skipped : {s : Symbol} {ss ns : List Symbol} → is_skip f s ≡ true → AreNotes f ss ns → AreNotes f (s ∷ ss) ns
   used : {s : Symbol} {ss ns : List Symbol} → IsUsed f.grammar s → AreNotes f ss ns → AreNotes f (s ∷ ss) ns

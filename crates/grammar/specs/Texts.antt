@@ -2,7 +2,7 @@
 use Rattle.std.specs.Prelude.{ℕ, ◌++◌, List, codes, decimal, string_bytes}
 use Rattle.grammar_file.specs.declared.fault.Limit.{Limit}
 use Rattle.grammar_file.specs.declared.fault.Limit.TheVariants as limit
-use Rattle.grammar.specs.Told.{pattern_code}
+use Rattle.grammar.specs.PublicCauses.{pattern_code}
 use Rattle.grammar.specs.declared.fault.GrammarCause.{GrammarCause}
 use Rattle.grammar.specs.declared.fault.GrammarCause.TheVariants as cause
 use Rattle.grammar.specs.declared.fault.GrammarFault.{GrammarFault}

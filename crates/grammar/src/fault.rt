@@ -1,9 +1,9 @@
 //! Why a text is no grammar file.
 
 ghost use Rattle.std.specs.Prelude.{◌≡◌, Some, IfOk};
-ghost use Rattle.grammar_file.specs.Told.{cause_of};
+ghost use Rattle.grammar_file.specs.Causes.{cause_of};
 ghost use Rattle.grammar.specs.Texts.{cause_text, fault_text, limit_name};
-ghost use Rattle.grammar.specs.Told.{public_cause, pattern_code, TellsCause, IsFor};
+ghost use Rattle.grammar.specs.PublicCauses.{public_cause, pattern_code, ReportsCause, IsFor};
 
 use definitions::{PatternCause, PatternFault};
 use grammar_file::{Cause, Limit, Refusal};
@@ -39,7 +39,7 @@ pub enum GrammarCause {
     NoStart,
     /// A second line names the start.
     SecondStart,
-    /// The name behind `start` or `fold` is no nonterminal's.
+    /// The name after `start` or `fold` is no nonterminal's.
     NotANonterminal(String),
     /// No text is derived from the nonterminal.
     Unproductive(String),
@@ -115,7 +115,7 @@ fn pattern_code(cause: PatternCause) -> &'static str
 
 /// The cause with a name of its own.
 fn public_cause(alloc: Global, cause: Cause<'_>) -> Result<GrammarCause, AllocError>
-    ensures { IfOk result (λ told. public_cause told ≡ Some (cause_of cause.entry)) }
+    ensures { IfOk result (λ shown. public_cause shown ≡ Some (cause_of cause.entry)) }
 {
     Ok(match cause {
         Cause::FirstLine => GrammarCause::FirstLine,
@@ -139,7 +139,7 @@ fn public_cause(alloc: Global, cause: Cause<'_>) -> Result<GrammarCause, AllocEr
 
 /// The fault with a name of its own.
 pub fn public_fault(alloc: Global, refusal: Refusal<'_>) -> GrammarFault
-    ensures { TellsCause (public_cause result.cause) (λ c. IsFor refusal.entry result.line c) }
+    ensures { ReportsCause (public_cause result.cause) (λ c. IsFor refusal.entry result.line c) }
 {
     let Refusal::Fault(line, cause) = refusal else {
         return GrammarFault {

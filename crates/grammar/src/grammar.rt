@@ -10,7 +10,7 @@ ghost use Rattle.grammar.specs.Faults.{IsFault};
 ghost use Rattle.grammar.specs.Grammars.{FileGrammar, IsGrammar, left_of, right_of};
 ghost use Rattle.grammar.specs.Meaning.{IsGrammarOf};
 ghost use Rattle.grammar.specs.Notes.{AreNotes, symbol_name};
-ghost use Rattle.grammar.specs.Told.{public_cause, TellsCause};
+ghost use Rattle.grammar.specs.PublicCauses.{public_cause, ReportsCause};
 
 use crate::fault::{GrammarFault, public_fault};
 use crate::read::read;
@@ -50,7 +50,7 @@ impl Model for Name {
 }
 
 /// What a grammar file defines: its rules and nonterminals in file order, and its productions. A marked word, as `X*`, is
-/// a nonterminal of this name. The marked words stand behind what the lines define, and so do their productions.
+/// a nonterminal of this name. The marked words stand after what the lines define, and so do their productions.
 #[derive(Drop)]
 pub struct Grammar {
     /// The names of the rules, in file order.
@@ -104,16 +104,16 @@ impl Model for Grammar {
 impl Grammar {
     /// The grammar of a file, or its first fault.
     ///
-    /// Told first is a file of more than 65,536 bytes, then a first line that is neither `lrgrammar 1` nor
+    /// Reported first is a file of more than 65,536 bytes, then a first line that is neither `lrgrammar 1` nor
     /// `lrgrammar 2`, then the first line with a fault of its own, then that there is no start, then the first line that
     /// uses a name wrongly, and then the first unproductive nonterminal, at its first production. Where memory is
     /// refused the cause is `GrammarCause::Memory`, which says nothing of the file.
     pub fn read(alloc: Global, text: &str) -> Result<Grammar, GrammarFault>
         ensures grammar { IfOk result (λ g. IsGrammarOf text.now g) }
         ensures fault { IfErr result (λ f.
-            TellsCause (public_cause f.cause) (λ c. IsFault text.now f.line c)) }
+            ReportsCause (public_cause f.cause) (λ c. IsFault text.now f.line c)) }
         ensures refused { IfErr result (λ f.
-            TellsCause (public_cause f.cause) (λ _.
+            ReportsCause (public_cause f.cause) (λ _.
             (g : FileGrammar) → IsGrammarOf text.now g → ⊥)) }
     {
         match read(alloc, text) {

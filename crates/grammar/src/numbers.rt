@@ -5,7 +5,7 @@ ghost use Rattle.std.specs.Str.{chars};
 ghost use Rattle.std.specs.List.{cons_option};
 ghost use Rattle.grammar_file.specs.Contents.{number_of, as_production, productions, starts};
 ghost use Rattle.grammar.specs.Contents.{symbol_of, production_of, first_of, folds_name, is_fold};
-ghost use Rattle.grammar_file.specs.Said.{said, all_said, texts};
+ghost use Rattle.grammar_file.specs.Kept.{line_view, lines_view, texts};
 
 use crate::grammar::{Name, Production};
 use definitions::Symbol;
@@ -46,7 +46,7 @@ fn production_of(
     ensures { IfOk result (λ p.
         p
         ≡ option_map (production_of names.now.nonterminals (map (λ r. r.name) names.now.rules))
-        (as_production (said line.now))) }
+        (as_production (line_view line.now))) }
 {
     match line {
         Line::Production { left, right } => Ok(Some(Production {
@@ -66,7 +66,7 @@ pub fn productions(
     ensures { IfOk result (λ found.
         found.items
         ≡ map (production_of names.now.nonterminals (map (λ r. r.name) names.now.rules))
-        (productions (all_said statements.now))) }
+        (productions (lines_view statements.now))) }
 {
     let mut found = Vec::new(alloc);
     for statement in statements {
@@ -88,9 +88,9 @@ fn push(found: &mut Vec<Production>, production: Option<Production>) -> Result<(
     }
 }
 
-/// The name behind the first `start`; nothing where there is none.
+/// The name after the first `start`; nothing where there is none.
 fn first_start<'a>(statements: &[Numbered<'a>]) -> &'a str
-    ensures { result.now ≡ first_of (starts (all_said statements.now)) }
+    ensures { result.now ≡ first_of (starts (lines_view statements.now)) }
 {
     for statement in statements {
         if let Line::Start(name) = &statement.line {
@@ -103,7 +103,7 @@ fn first_start<'a>(statements: &[Numbered<'a>]) -> &'a str
 /// The number of the start.
 pub fn start(statements: &[Numbered<'_>], names: &Names<'_>) -> usize
     ensures { result
-        ≡ number_of (first_of (starts (all_said statements.now))) names.now.nonterminals }
+        ≡ number_of (first_of (starts (lines_view statements.now))) names.now.nonterminals }
 {
     names.nonterminals.number(first_start(statements))
 }
@@ -115,7 +115,7 @@ pub fn folds(
     names: &Names<'_>,
 ) -> Result<Vec<bool>, AllocError>
     ensures { IfOk result (λ folds.
-        folds.items ≡ map (λ w. is_fold w (all_said statements.now)) names.now.nonterminals) }
+        folds.items ≡ map (λ w. is_fold w (lines_view statements.now)) names.now.nonterminals) }
 {
     let all = names.nonterminals.as_slice();
     let mut folds = Vec::with_capacity(alloc, all.len())?;
@@ -126,7 +126,7 @@ pub fn folds(
 }
 
 fn is_fold(name: &str, statements: &[Numbered<'_>]) -> bool
-    ensures { result ≡ is_fold name.now (all_said statements.now) }
+    ensures { result ≡ is_fold name.now (lines_view statements.now) }
 {
     statements
         .iter()
@@ -135,7 +135,7 @@ fn is_fold(name: &str, statements: &[Numbered<'_>]) -> bool
 
 /// Whether the line is `fold NAME`.
 fn folds_name(name: &str, line: &Line<'_>) -> bool
-    ensures { result ≡ folds_name name.now (said line.now) }
+    ensures { result ≡ folds_name name.now (line_view line.now) }
 {
     match line {
         Line::Fold(other) => *other == name,
@@ -144,7 +144,7 @@ fn folds_name(name: &str, line: &Line<'_>) -> bool
 }
 
 /// Copies of the names.
-pub fn owned(alloc: Global, names: &[&str]) -> Result<Vec<Name>, AllocError>
+pub fn copy_names(alloc: Global, names: &[&str]) -> Result<Vec<Name>, AllocError>
     ensures { IfOk result (λ copies. copies.items ≡ map chars (texts names.now)) }
 {
     let mut copies = Vec::with_capacity(alloc, names.len())?;

@@ -4,8 +4,8 @@ ghost use Rattle.std.specs.Prelude.{◌≡◌, ◌<◌, List, length, map, IfOk,
 ghost use Rattle.std.specs.Str.{chars};
 ghost use Rattle.definitions.specs.declared.Symbol.{Symbol};
 ghost use Rattle.definitions.specs.declared.expression.Expression.{Expression};
-ghost use Rattle.grammar_file.specs.Said.{rule_line, all_said, AreNames};
-ghost use Rattle.grammar_file.specs.Told.{Tells};
+ghost use Rattle.grammar_file.specs.Kept.{rule_line, lines_view, AreNames};
+ghost use Rattle.grammar_file.specs.Causes.{Reports};
 ghost use Rattle.grammar.specs.Contents.{grammar_of};
 ghost use Rattle.grammar.specs.Faults.{IsFault};
 ghost use Rattle.grammar.specs.Grammars.{FileGrammar, IsGrammar};
@@ -18,7 +18,7 @@ use crate::grammar::{Grammar, Name, Production};
 use crate::notes::notes;
 use crate::numbers;
 use crate::unproductive::test_productive;
-use crate::used::used;
+use crate::used::mark_used;
 use definitions::Symbol;
 use grammar_file::{File, Names, Numbered, Refusal, RuleName, read_file};
 use patterns::Pattern;
@@ -42,7 +42,7 @@ struct Parts {
 /// The grammar of a file, or the first fault.
 pub fn read<'a>(alloc: Global, text: &'a str) -> Result<Grammar, Refusal<'a>>
     ensures grammar { IfOk result (λ g. IsGrammarOf text.now g) }
-    ensures fault { IfErr result (λ r. Tells r (λ n c. IsFault text.now n c)) }
+    ensures fault { IfErr result (λ r. Reports r (λ n c. IsFault text.now n c)) }
 {
     let File {
         statements,
@@ -61,13 +61,13 @@ fn grammar_of<'a>(
     patterns: Vec<Pattern>,
     defined: Vec<Symbol>,
 ) -> Result<Grammar, Refusal<'a>>
-    requires names { AreNames names.now (all_said statements.now) }
-    requires grammar { AreProductive (all_said statements.now) →
-        IsGrammar (grammar_with (all_said statements.now) patterns.items defined.items) }
-    ensures productive { IfOk result (λ _. AreProductive (all_said statements.now)) }
+    requires names { AreNames names.now (lines_view statements.now) }
+    requires grammar { AreProductive (lines_view statements.now) →
+        IsGrammar (grammar_with (lines_view statements.now) patterns.items defined.items) }
+    ensures productive { IfOk result (λ _. AreProductive (lines_view statements.now)) }
     ensures grammar { IfOk result (λ g.
-        g ≡ grammar_with (all_said statements.now) patterns.items defined.items) }
-    ensures fault { IfErr result (λ r. Tells r (IsUnproductive (all_said statements.now))) }
+        g ≡ grammar_with (lines_view statements.now) patterns.items defined.items) }
+    ensures fault { IfErr result (λ r. Reports r (IsUnproductive (lines_view statements.now))) }
 {
     let productions = productions_of(alloc, statements, names)?;
     let parts = parts_of(alloc, statements, names)?;
@@ -91,11 +91,11 @@ fn productions_of<'a>(
     statements: &[Numbered<'a>],
     names: &Names<'a>,
 ) -> Result<Vec<Production>, Refusal<'a>>
-    requires { AreNames names.now (all_said statements.now) }
+    requires { AreNames names.now (lines_view statements.now) }
     ensures productions { IfOk result (λ ps.
-        ps.items ≡ (grammar_of (all_said statements.now)).productions) }
-    ensures productive { IfOk result (λ _. AreProductive (all_said statements.now)) }
-    ensures fault { IfErr result (λ r. Tells r (IsUnproductive (all_said statements.now))) }
+        ps.items ≡ (grammar_of (lines_view statements.now)).productions) }
+    ensures productive { IfOk result (λ _. AreProductive (lines_view statements.now)) }
+    ensures fault { IfErr result (λ r. Reports r (IsUnproductive (lines_view statements.now))) }
 {
     let productions = numbers::productions(alloc, statements, names)?;
     test_productive(
@@ -113,14 +113,14 @@ fn parts_of(
     statements: &[Numbered<'_>],
     names: &Names<'_>,
 ) -> Result<Parts, AllocError>
-    requires { AreNames names.now (all_said statements.now) }
+    requires { AreNames names.now (lines_view statements.now) }
     ensures { IfOk result (λ parts. (es : List Expression) (symbols : List Symbol) →
-        AreParts parts (grammar_with (all_said statements.now) es symbols)) }
+        AreParts parts (grammar_with (lines_view statements.now) es symbols)) }
 {
     let rules = names.rules.as_slice();
     let rule_names = rule_names(alloc, rules)?;
     let skips = skips(alloc, rules)?;
-    let nonterminals = numbers::owned(alloc, names.nonterminals.as_slice())?;
+    let nonterminals = numbers::copy_names(alloc, names.nonterminals.as_slice())?;
     let folds = numbers::folds(alloc, statements, names)?;
     let start = numbers::start(statements, names);
     Ok(Parts {
@@ -144,7 +144,7 @@ fn notes_of(
     ensures { IfOk result (λ notes. (f : FileGrammar) → AreParts parts.now f →
         f.grammar.productions ≡ productions.now → AreNotes f symbols.now notes.items) }
 {
-    let marks = used(alloc, parts.nonterminals.len(), parts.start, productions)?;
+    let marks = mark_used(alloc, parts.nonterminals.len(), parts.start, productions)?;
     notes(alloc, symbols, &parts.skips, productions, &marks)
 }
 

@@ -10,8 +10,8 @@ ghost use Rattle.grammar_file.specs.Contents.{nonterminals};
 ghost use Rattle.grammar_file.specs.Faults.{Unproductive};
 ghost use Rattle.grammar.specs.Faults.{is_production_of, IsFirstProduction};
 ghost use Rattle.grammar.specs.Marks.{AreBelow, IsFirstUnmarked, AllProductiveIn, IsUnproductiveIn};
-ghost use Rattle.grammar_file.specs.Said.{said, all_said, texts};
-ghost use Rattle.grammar_file.specs.Told.{Tells};
+ghost use Rattle.grammar_file.specs.Kept.{line_view, lines_view, texts};
+ghost use Rattle.grammar_file.specs.Causes.{Reports};
 
 use crate::grammar::Production;
 use crate::productive::productive;
@@ -26,13 +26,14 @@ pub fn test_productive<'a>(
     productions: &[Production],
 ) -> Result<(), Refusal<'a>>
     requires below { AreBelow productions.now (length names.now) }
-    requires names { texts names.now ≡ nonterminals (all_said statements.now) }
+    requires names { texts names.now ≡ nonterminals (lines_view statements.now) }
     ensures fine { OnOk result (AllProductiveIn productions.now (length names.now)) }
     ensures fault { IfErr result (λ r.
-        Tells r (λ line c.
+        Reports r (λ line c.
         (n : ℕ) ×
         ((w : Word) × (slice_get (texts names.now) n ≡ Some w) × (c ≡ Unproductive w) ×
-        IsUnproductiveIn productions.now n × IsFirstProduction (all_said statements.now) w line))) }
+        IsUnproductiveIn productions.now n
+        × IsFirstProduction (lines_view statements.now) w line))) }
 {
     let marks = productive(alloc, names.len(), productions)?;
     match first_unmarked(&marks) {
@@ -59,8 +60,8 @@ fn first_unmarked(marks: &[bool]) -> Option<usize>
 
 /// The number of the first production of a nonterminal, which has one.
 fn first_line_of(name: &str, statements: &[Numbered<'_>]) -> usize
-    requires { list_any (λ s. is_production_of name.now s.says) (all_said statements.now) ≡ true }
-    ensures { IsFirstProduction (all_said statements.now) name.now result }
+    requires { list_any (λ s. is_production_of name.now s.says) (lines_view statements.now) ≡ true }
+    ensures { IsFirstProduction (lines_view statements.now) name.now result }
 {
     for statement in statements {
         if is_production_of(name, &statement.line) {
@@ -72,7 +73,7 @@ fn first_line_of(name: &str, statements: &[Numbered<'_>]) -> usize
 
 /// Whether the line is a production of the nonterminal.
 fn is_production_of(name: &str, line: &Line<'_>) -> bool
-    ensures { result ≡ is_production_of name.now (said line.now) }
+    ensures { result ≡ is_production_of name.now (line_view line.now) }
 {
     match line {
         Line::Production { left, .. } => *left == name,

@@ -12,7 +12,7 @@ use definitions::Symbol;
 use std::alloc::{AllocError, Global};
 
 /// Whether each nonterminal is used by some derivation from the start.
-pub fn used(
+pub fn mark_used(
     alloc: Global,
     nonterminals: usize,
     start: usize,

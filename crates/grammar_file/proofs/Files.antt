@@ -8,13 +8,13 @@ use Rattle.grammar_file.specs.declared.statements.File.{File}
 use Rattle.grammar_file.specs.declared.fault.Refusal.{Refusal}
 use Rattle.grammar_file.specs.Statements.{Statement, statements, statements_in, version_of, is_headed}
 use Rattle.grammar_file.specs.Faults.{NoStart, IsFileFault, line, no_start, reference, IsWhole, IsFirstLineFault, IsFirstReferenceFault}
-use Rattle.grammar_file.specs.Said.{texts, IsRead}
-use Rattle.grammar_file.specs.Told.{Tells}
-use Rattle.grammar_file.proofs.Splits.{tells_map}
+use Rattle.grammar_file.specs.Kept.{texts, IsRead}
+use Rattle.grammar_file.specs.Causes.{Reports}
+use Rattle.grammar_file.proofs.Splits.{shows_map}
 
--- the version that the first line tells
-pub version_is : (v xs : List (Bor (List ℕ))) (t : List ℕ) (told o : Option Version) → told ≡ version_of (texts v) → v ≡ xs → texts xs ≡ lines t → told ≡ o → version_of (lines t) ≡ o
-version_is v xs t told o is same all found = ap version_of (sym all) ∙ ap (λ y. version_of (texts y)) (sym same) ∙ sym is ∙ found
+-- the version that the first line gives
+pub version_is : (v xs : List (Bor (List ℕ))) (t : List ℕ) (given o : Option Version) → given ≡ version_of (texts v) → v ≡ xs → texts xs ≡ lines t → given ≡ o → version_of (lines t) ≡ o
+version_is v xs t given o is same all found = ap version_of (sym all) ∙ ap (λ y. version_of (texts y)) (sym same) ∙ sym is ∙ found
 
 pub headed : (t : List ℕ) (o : Option Version) → version_of (lines t) ≡ o → is_headed (lines t) ≡ is_some o
 headed t o e = ap is_some e
@@ -29,10 +29,10 @@ statements_are v xs ys t version rest same all is =
     ∙ ap (statements_in version) (rest_texts v ∙ ap (λ y. drop 1 (texts y)) same ∙ ap (λ y. drop 1 y) all)
     ∙ ap (λ o. statements_in (unwrap_or o One) (drop 1 (lines t))) (sym is)
 
-pub line_fault : (t : List ℕ) (ss : List Statement) (r : Refusal) → length t ≤ 65536 → is_headed (lines t) ≡ true → ss ≡ statements t → Tells r (λ n c. IsFirstLineFault ss n c) → Tells r (λ n c. IsFileFault t n c)
-line_fault t ss r small headed same tells =
-    tells_map r (λ n c. IsFirstLineFault ss n c) (λ n c. IsFileFault t n c)
-    (λ n c h. line n c small headed (subst (λ (xs : List Statement). IsFirstLineFault xs n c) same h)) tells
+pub line_fault : (t : List ℕ) (ss : List Statement) (r : Refusal) → length t ≤ 65536 → is_headed (lines t) ≡ true → ss ≡ statements t → Reports r (λ n c. IsFirstLineFault ss n c) → Reports r (λ n c. IsFileFault t n c)
+line_fault t ss r small headed same shows =
+    shows_map r (λ n c. IsFirstLineFault ss n c) (λ n c. IsFileFault t n c)
+    (λ n c h. line n c small headed (subst (λ (xs : List Statement). IsFirstLineFault xs n c) same h)) shows
 
 pub no_start_fault : (t : List ℕ) (ss : List Statement) (f : File) → length t ≤ 65536 → is_headed (lines t) ≡ true → ss ≡ statements t → IsRead f ss → f.names.started ≡ false → IsFileFault t 0 NoStart
 no_start_fault t ss f small headed same read none =
@@ -44,7 +44,7 @@ is_whole t ss f small headed same read some =
     let whole = subst (λ (xs : List Statement). IsRead f xs) same read in
     record { small = small; headed = headed; faultless = whole.faultless; started = sym whole.names.started ∙ some }
 
-pub reference_fault : (t : List ℕ) (ss : List Statement) (r : Refusal) → IsWhole t → ss ≡ statements t → Tells r (λ n c. IsFirstReferenceFault ss n c) → Tells r (λ n c. IsFileFault t n c)
-reference_fault t ss r whole same tells =
-    tells_map r (λ n c. IsFirstReferenceFault ss n c) (λ n c. IsFileFault t n c)
-    (λ n c h. reference n c whole (subst (λ (xs : List Statement). IsFirstReferenceFault xs n c) same h)) tells
+pub reference_fault : (t : List ℕ) (ss : List Statement) (r : Refusal) → IsWhole t → ss ≡ statements t → Reports r (λ n c. IsFirstReferenceFault ss n c) → Reports r (λ n c. IsFileFault t n c)
+reference_fault t ss r whole same shows =
+    shows_map r (λ n c. IsFirstReferenceFault ss n c) (λ n c. IsFileFault t n c)
+    (λ n c h. reference n c whole (subst (λ (xs : List Statement). IsFirstReferenceFault xs n c) same h)) shows

@@ -1,11 +1,11 @@
-pub mod Mapped
-pub mod Finding
+pub mod TestedItems
+pub mod NameLookUps
 pub mod Sets
 pub mod Marked
 pub mod Blanks
-pub mod Pushed
+pub mod OneMoreItem
 pub mod Lines
 pub mod Splits
 pub mod WritingOut
 pub mod Files
-pub mod Both
+pub mod AndOk

@@ -10,11 +10,11 @@ use Rattle.std.proofs.lemmas.List.Sums.{fold-append}
 use Rattle.std.proofs.lemmas.Option.{slice_get_within}
 use Rattle.definitions.specs.Spelling.{IsPattern}
 use Rattle.grammar_file.specs.declared.names.Names.{Names}
-use Rattle.grammar_file.proofs.Pushed.{push_at, take-all, cons_option-append}
+use Rattle.grammar_file.proofs.OneMoreItem.{push_at, take-all, cons_option-append}
 use Rattle.grammar_file.proofs.Sets.{skips-step, sides-step}
 use Rattle.grammar_file.specs.declared.fault.Refusal.{Refusal}
-use Rattle.grammar_file.specs.Told.{Tells}
-use Rattle.grammar_file.proofs.Splits.{tells_map}
+use Rattle.grammar_file.specs.Causes.{Reports}
+use Rattle.grammar_file.proofs.Splits.{shows_map}
 use Rattle.std.proofs.lemmas.List.Elements.{filter-append, filter_map-append}
 use Rattle.definitions.specs.declared.expression.Expression.{Expression}
 use Rattle.grammar_file.specs.Statements.{Line, Nothing, Production, Rule, Start, Fold, Bad, Statement, at}
@@ -22,8 +22,8 @@ use Rattle.definitions.specs.declared.Symbol.{Symbol}
 use Rattle.grammar_file.specs.Words.{Word, is_marked}
 use Rattle.grammar_file.specs.Contents as of
 use Rattle.grammar_file.specs.WrittenOut.{with_marked, marked}
-use Rattle.grammar_file.specs.Faults.{Cause, is_skip_rule, HasPattern, early_fault, line_limit, limit_fault, late_fault, nonterminal_count, production_count, passed_limit, told, or_else, IsFaultless, AreFaultless, IsLineFault}
-use Rattle.grammar_file.specs.Said.{are_among, with_rule, with_skip, with_left, with_right, with_sides, with_production, with_start, AreNames, ArePatterns, IsPatternOf, with_pattern, AreFew, IsRead, all_said}
+use Rattle.grammar_file.specs.Faults.{Cause, is_skip_rule, HasPattern, early_fault, line_limit, limit_fault, late_fault, nonterminal_count, production_count, exceeded_limit, cause_if, or_else, IsFaultless, AreFaultless, IsLineFault}
+use Rattle.grammar_file.specs.Kept.{are_among, with_rule, with_skip, with_left, with_right, with_sides, with_production, with_start, AreNames, ArePatterns, IsPatternOf, with_pattern, AreFew, IsRead, lines_view}
 
 pub has_pattern : (l : Line) (p : Option Expression) → IsPatternOf l p → HasPattern l
 has_pattern Nothing p h = tt
@@ -34,12 +34,12 @@ has_pattern (Start name) p h = tt
 has_pattern (Fold name) p h = tt
 has_pattern Bad p h = tt
 
-pub behind_more : (before ss : List Statement) (s : Statement) → of.defined_behind before (ss ++ s ∷ []) ≡ of.defined_behind before ss ++ cons_option (of.defines (before ++ ss) s.says) []
-behind_more before [] s = ap (λ front. cons_option (of.defines front s.says) []) (sym (append-nil before))
-behind_more before (t ∷ ss) s =
-    ap (cons_option (of.defines before t.says)) (behind_more (before ++ t ∷ []) ss s)
-    ∙ ap (λ front. cons_option (of.defines before t.says) (of.defined_behind (before ++ t ∷ []) ss ++ cons_option (of.defines front s.says) [])) (append_assoc before (t ∷ []) ss)
-    ∙ cons_option-append (of.defines before t.says) (of.defined_behind (before ++ t ∷ []) ss) (cons_option (of.defines (before ++ t ∷ ss) s.says) [])
+pub after_more : (before ss : List Statement) (s : Statement) → of.defined_after before (ss ++ s ∷ []) ≡ of.defined_after before ss ++ cons_option (of.defines (before ++ ss) s.says) []
+after_more before [] s = ap (λ prefix. cons_option (of.defines prefix s.says) []) (sym (append-nil before))
+after_more before (t ∷ ss) s =
+    ap (cons_option (of.defines before t.says)) (after_more (before ++ t ∷ []) ss s)
+    ∙ ap (λ prefix. cons_option (of.defines before t.says) (of.defined_after (before ++ t ∷ []) ss ++ cons_option (of.defines prefix s.says) [])) (append_assoc before (t ∷ []) ss)
+    ∙ cons_option-append (of.defines before t.says) (of.defined_after (before ++ t ∷ []) ss) (cons_option (of.defines (before ++ t ∷ ss) s.says) [])
 
 pub late_line_fault : (ss : List Statement) (l : Line) (p : Option Expression) (c : Cause) → early_fault ss l ≡ None → IsPatternOf l p → late_fault ss l ≡ Some c → IsLineFault ss l c
 late_line_fault ss l p c early pattern late = inr (inr (early, has_pattern l p pattern, late))
@@ -165,14 +165,14 @@ all_patterns-step rs es Bad (Some e) are is = absurd (cc)
 
 pub faultless-step : (ss : List Statement) (n : ℕ) (l : Line) → AreFaultless ss → IsFaultless ss l → AreFaultless (ss ++ at n l ∷ [])
 faultless-step ss n l before is k s found =
-    let P : List Statement → Type 0 = λ front. IsFaultless front s.says in
+    let P : List Statement → Type 0 = λ prefix. IsFaultless prefix s.says in
     let within : k ≤ length ss = omega (arith, slice_get_within (ss ++ at n l ∷ []) k s found, length-append ss (at n l ∷ [])) in
     subst P (sym (take-append-le k ss (at n l ∷ []) within))
-    (push_at (λ j t. IsFaultless (take j ss) t.says) ss (at n l) before (let Q : List Statement → Type 0 = λ front. IsFaultless front l in subst Q (sym (take-all ss)) is) k s found)
+    (push_at (λ j t. IsFaultless (take j ss) t.says) ss (at n l) before (let Q : List Statement → Type 0 = λ prefix. IsFaultless prefix l in subst Q (sym (take-all ss)) is) k s found)
 
-told-none : (b : Bool) (c : Cause) → told b c ≡ None → b ≡ false
-told-none true c h = absurd (cc)
-told-none false c h = refl
+cause_if-none : (b : Bool) (c : Cause) → cause_if b c ≡ None → b ≡ false
+cause_if-none true c h = absurd (cc)
+cause_if-none false c h = refl
 
 or_else-none : (a b : Option Cause) → or_else a b ≡ None → (a ≡ None) × (b ≡ None)
 or_else-none None b h = (refl, h)
@@ -186,7 +186,7 @@ AreShort ps = (k : ℕ) (p : of.ProductionLine) → slice_get ps k ≡ Some p �
 
 short-step : (ss : List Statement) (ps : List of.ProductionLine) (l : Line) → AreShort ps → line_limit ss l ≡ None → AreShort (with_line ps l)
 short-step ss ps Nothing short late = short
-short-step ss ps (Production left right) short late = push_at (λ k p. length p.right ≤ 16) ps (record { left = left; right = right }) short (not_above 16 (length right) (told-none _ _ late))
+short-step ss ps (Production left right) short late = push_at (λ k p. length p.right ≤ 16) ps (record { left = left; right = right }) short (not_above 16 (length right) (cause_if-none _ _ late))
 short-step ss ps (Rule skip name pattern) short late = short
 short-step ss ps (Start name) short late = short
 short-step ss ps (Fold name) short late = short
@@ -198,9 +198,9 @@ few-step ss n l few short none =
     let one = or_else-none _ _ none in
     let two = or_else-none _ _ one.1 in
     record {
-      few_rules = not_above 256 (length (of.rules (ss ++ at n l ∷ []))) (told-none _ _ one.0);
-      few_nonterminals = not_above 256 (nonterminal_count (ss ++ at n l ∷ [])) (told-none _ _ two.0);
-      few_productions = not_above 1024 (production_count (ss ++ at n l ∷ [])) (told-none _ _ two.1);
+      few_rules = not_above 256 (length (of.rules (ss ++ at n l ∷ []))) (cause_if-none _ _ one.0);
+      few_nonterminals = not_above 256 (nonterminal_count (ss ++ at n l ∷ [])) (cause_if-none _ _ two.0);
+      few_productions = not_above 1024 (production_count (ss ++ at n l ∷ [])) (cause_if-none _ _ two.1);
       short = subst AreShort (sym (productions-step ss n l)) (short-step ss (of.productions ss) l few.short short);
     }
 
@@ -211,7 +211,7 @@ limit-anywhere ss n m l =
     let ns = nonterminals-step ss n l ∙ sym (nonterminals-step ss m l) in
     let ms = marked-step ss n l ∙ sym (marked-step ss m l) in
     let ps = count-step ss n l ∙ sym (count-step ss m l) in
-    λ i. passed_limit (length (rs i)) (length (ns i) + length (ms i)) (ps i + 2 * length (ms i))
+    λ i. exceeded_limit (length (rs i)) (length (ns i) + length (ms i)) (ps i + 2 * length (ms i))
 
 then_this : (a b : Option Cause) (o : Option Cause) → a ≡ None → b ≡ o → or_else a b ≡ o
 then_this a b o none is = ap (λ x. or_else x b) none ∙ is
@@ -228,7 +228,7 @@ late-own ss l c is = first_this (line_limit ss l) (limit_fault (ss ++ at 0 l ∷
 pub is_faultless : (ss : List Statement) (n : ℕ) (l : Line) (p : Option Expression) → early_fault ss l ≡ None → IsPatternOf l p → line_limit ss l ≡ None → limit_fault (ss ++ at n l ∷ []) ≡ None → IsFaultless ss l
 is_faultless ss n l p early pattern short none = record { early = early; pattern = has_pattern l p pattern; late = late-of ss n l None short none }
 
-pub read-step : (f g : File) (ss : List Statement) (n : ℕ) (l : Line) (p : Option Expression) (symbol : Option Symbol) → IsRead f ss → early_fault ss l ≡ None → IsPatternOf l p → line_limit ss l ≡ None → limit_fault (ss ++ at n l ∷ []) ≡ None → all_said g.statements.items ≡ all_said f.statements.items ++ at n l ∷ [] → AreNames g.names (ss ++ at n l ∷ []) → g.patterns.items ≡ with_pattern f.patterns.items p → symbol ≡ of.defines ss l → g.defined.items ≡ f.defined.items ++ cons_option symbol [] → IsRead g (ss ++ at n l ∷ [])
+pub read-step : (f g : File) (ss : List Statement) (n : ℕ) (l : Line) (p : Option Expression) (symbol : Option Symbol) → IsRead f ss → early_fault ss l ≡ None → IsPatternOf l p → line_limit ss l ≡ None → limit_fault (ss ++ at n l ∷ []) ≡ None → lines_view g.statements.items ≡ lines_view f.statements.items ++ at n l ∷ [] → AreNames g.names (ss ++ at n l ∷ []) → g.patterns.items ≡ with_pattern f.patterns.items p → symbol ≡ of.defines ss l → g.defined.items ≡ f.defined.items ++ cons_option symbol [] → IsRead g (ss ++ at n l ∷ [])
 read-step f g ss n l p symbol read early pattern short none statements names patterns is defined = record {
   statements = statements ∙ ap (λ x. x ++ at n l ∷ []) read.statements;
   names = names;
@@ -236,13 +236,13 @@ read-step f g ss n l p symbol read early pattern short none statements names pat
       let P : List of.RuleLine → List Expression → Type 0 = ArePatterns in
       subst (λ (rs : List of.RuleLine). ArePatterns rs g.patterns.items) (sym (rules-step ss n l))
       (subst (λ (es : List Expression). ArePatterns (with_rule (of.rules ss) l) es) (sym patterns) (all_patterns-step (of.rules ss) f.patterns.items l p read.patterns pattern));
-  defined = defined ∙ (λ i. read.defined i ++ cons_option (is i) []) ∙ sym (behind_more [] ss (at n l));
+  defined = defined ∙ (λ i. read.defined i ++ cons_option (is i) []) ∙ sym (after_more [] ss (at n l));
   faultless = faultless-step ss n l read.faultless (is_faultless ss n l p early pattern short none);
   few = few-step ss n l read.few short none;
 }
 
 -- a limit that the lines pass with this one
-pub limit_line_fault : (ss ts : List Statement) (number : ℕ) (l : Line) (p : Option Expression) (r : Refusal) → ts ≡ ss ++ at number l ∷ [] → early_fault ss l ≡ None → IsPatternOf l p → line_limit ss l ≡ None → Tells r (λ n c. (n ≡ number) × (limit_fault ts ≡ Some c)) → Tells r (λ n c. (n ≡ number) × IsLineFault ss l c)
-limit_line_fault ss ts number l p r same early pattern short tells =
-    tells_map r (λ n c. (n ≡ number) × (limit_fault ts ≡ Some c)) (λ n c. (n ≡ number) × IsLineFault ss l c)
-    (λ n c h. (h.0, late_line_fault ss l p c early pattern (late-of ss number l (Some c) short (ap limit_fault (sym same) ∙ h.1)))) tells
+pub limit_line_fault : (ss ts : List Statement) (number : ℕ) (l : Line) (p : Option Expression) (r : Refusal) → ts ≡ ss ++ at number l ∷ [] → early_fault ss l ≡ None → IsPatternOf l p → line_limit ss l ≡ None → Reports r (λ n c. (n ≡ number) × (limit_fault ts ≡ Some c)) → Reports r (λ n c. (n ≡ number) × IsLineFault ss l c)
+limit_line_fault ss ts number l p r same early pattern short shows =
+    shows_map r (λ n c. (n ≡ number) × (limit_fault ts ≡ Some c)) (λ n c. (n ≡ number) × IsLineFault ss l c)
+    (λ n c h. (h.0, late_line_fault ss l p c early pattern (late-of ss number l (Some c) short (ap limit_fault (sym same) ∙ h.1)))) shows

@@ -10,10 +10,10 @@ last-of [] b = refl
 last-of (x ∷ []) b = refl
 last-of (x ∷ y ∷ xs) b = last-of (y ∷ xs) b
 
-front-of : (xs : List ℕ) (b : ℕ) → without_last (xs ++ b ∷ []) ≡ xs
-front-of [] b = refl
-front-of (x ∷ []) b = refl
-front-of (x ∷ y ∷ xs) b = ap (λ zs. x ∷ zs) (front-of (y ∷ xs) b)
+prefix-of : (xs : List ℕ) (b : ℕ) → without_last (xs ++ b ∷ []) ≡ xs
+prefix-of [] b = refl
+prefix-of (x ∷ []) b = refl
+prefix-of (x ∷ y ∷ xs) b = ap (λ zs. x ∷ zs) (prefix-of (y ∷ xs) b)
 
 split-last : (x : ℕ) (xs : List ℕ) → x ∷ xs ≡ without_last (x ∷ xs) ++ last_byte (x ∷ xs) ∷ []
 split-last x [] = refl
@@ -23,18 +23,18 @@ split-last x (y ∷ xs) = ap (λ zs. x ∷ zs) (split-last y xs)
 pub marked-by : (w x : Word) (c : ℕ) → w ≡ x ++ c ∷ [] → is_mark (mark_at c) ≡ true → (x ≡ plain w) × (mark_at c ≡ mark_of w)
 marked-by w x c e m =
     let last : last_byte w ≡ c = ap last_byte e ∙ last-of x c in
-    let front : without_last w ≡ x = ap without_last e ∙ front-of x c in
+    let prefix : without_last w ≡ x = ap without_last e ∙ prefix-of x c in
     let is : is_marked w ≡ true = ap (λ b. is_mark (mark_at b)) last ∙ m in
-    (sym (ap (λ t. if t then without_last w else w) is ∙ front), sym (ap mark_at last))
+    (sym (ap (λ t. if t then without_last w else w) is ∙ prefix), sym (ap mark_at last))
 
-not_last : (x : ℕ) (xs : List ℕ) (c : ℕ) → ((front : List ℕ) → x ∷ xs ≢ front ++ (c ∷ [])) → (last_byte (x ∷ xs) == c) ≡ false
+not_last : (x : ℕ) (xs : List ℕ) (c : ℕ) → ((prefix : List ℕ) → x ∷ xs ≢ prefix ++ (c ∷ [])) → (last_byte (x ∷ xs) == c) ≡ false
 not_last x xs c none = ne_eqb (last_byte (x ∷ xs)) c (λ e. none (without_last (x ∷ xs)) (split-last x xs ∙ ap (λ b. without_last (x ∷ xs) ++ b ∷ []) e))
 
 no_mark : (b : ℕ) → (b == 42) ≡ false → (b == 43) ≡ false → (b == 63) ≡ false → mark_at b ≡ Once
 no_mark b p q r = ap (λ t. if t then Any else if b == 43 then AtLeastOnce else if b == 63 then AtMostOnce else Once) p ∙ ap (λ t. if t then AtLeastOnce else if b == 63 then AtMostOnce else Once) q ∙ ap (λ t. if t then AtMostOnce else Once) r
 
 -- a word that ends with none of the marks
-pub unmarked-by : (w : Word) → ((front : List ℕ) → w ≢ front ++ (42 ∷ [])) → ((front : List ℕ) → w ≢ front ++ (43 ∷ [])) → ((front : List ℕ) → w ≢ front ++ (63 ∷ [])) → (w ≡ plain w) × (Once ≡ mark_of w)
+pub unmarked-by : (w : Word) → ((prefix : List ℕ) → w ≢ prefix ++ (42 ∷ [])) → ((prefix : List ℕ) → w ≢ prefix ++ (43 ∷ [])) → ((prefix : List ℕ) → w ≢ prefix ++ (63 ∷ [])) → (w ≡ plain w) × (Once ≡ mark_of w)
 unmarked-by [] p q r = (refl, refl)
 unmarked-by (x ∷ xs) p q r =
     let none : mark_of (x ∷ xs) ≡ Once = no_mark (last_byte (x ∷ xs)) (not_last x xs 42 p) (not_last x xs 43 q) (not_last x xs 63 r) in

@@ -10,10 +10,10 @@ use Rattle.std.proofs.lemmas.List.{map-append}
 use Rattle.grammar_file.specs.Words.{Word}
 use Rattle.grammar_file.specs.Contents.{RuleLine, is_among}
 use Rattle.grammar_file.specs.Faults.{is_production, is_skip_rule, has_production}
-use Rattle.grammar_file.specs.Said.{texts, are_among, with_names, with_rule, with_skip, with_sides}
+use Rattle.grammar_file.specs.Kept.{texts, are_among, with_names, with_rule, with_skip, with_sides}
 use Rattle.grammar_file.specs.Statements.{Line, Nothing, Production, Rule, Start, Fold, Bad, Statement, at}
-use Rattle.grammar_file.proofs.Finding.{turned}
-use Rattle.grammar_file.proofs.Mapped.{pointwise-map}
+use Rattle.grammar_file.proofs.NameLookUps.{turned}
+use Rattle.grammar_file.proofs.TestedItems.{pointwise-map}
 
 or-none : (a : Bool) → (a || false) ≡ a
 or-none true = refl

@@ -67,11 +67,11 @@ defines ss (Production left right) = if is_among left (nonterminals ss) then Non
 defines ss (Rule skip name pattern) = Some (Terminal (length (rules ss)))
 defines ss _ = None
 
--- `defined_behind before ss`: what the statements `ss` define after those before, in file order
-abbrev pub defined_behind : List Statement → List Statement → List Symbol
-defined_behind before [] = []
-defined_behind before (s ∷ ss) = cons_option (defines before s.says) (defined_behind (before ++ s ∷ []) ss)
+-- `defined_after before ss`: what the statements `ss` define after those before, in file order
+abbrev pub defined_after : List Statement → List Statement → List Symbol
+defined_after before [] = []
+defined_after before (s ∷ ss) = cons_option (defines before s.says) (defined_after (before ++ s ∷ []) ss)
 
 -- all symbols that statements define, in file order, each once
 abbrev pub defined : List Statement → List Symbol
-defined ss = defined_behind [] ss
+defined ss = defined_after [] ss

@@ -1,4 +1,4 @@
--- The first fault of a grammar file that its lines and names tell.
+-- The first fault of a grammar file that its lines and names show.
 use Rattle.std.specs.Prelude.{◌≡◌, ℕ, ◌+◌, ◌*◌, ◌<◌, ◌≤◌, ◌⊎◌, ◌&&◌, ◌||◌, Bool, not, nat_lt, true, false, if◌then◌else◌, List, [], ◌∷◌}
 use Rattle.std.specs.Prelude.{◌++◌, length, map, take, slice_get, Option, Some, None}
 use Rattle.std.specs.List.{list_any}
@@ -28,9 +28,9 @@ abbrev pub or_else : Option Cause → Option Cause → Option Cause
 or_else None later = later
 or_else (Some c) later = Some c
 
--- `told b cause`: the cause, where `b` says so
-abbrev pub told : Bool → Cause → Option Cause
-told b c = if b then Some c else None
+-- `cause_if b cause`: the cause, where `b` says so
+abbrev pub cause_if : Bool → Cause → Option Cause
+cause_if b c = if b then Some c else None
 
 -- `reserved ws`: the cause that a name is reserved, for the leftmost one that is
 abbrev pub reserved : List Word → Option Cause
@@ -50,16 +50,16 @@ has_production ss left right = list_any (λ s. is_production left right s.says) 
 abbrev pub has_rule : List Statement → Word → Bool
 has_rule ss w = list_any (λ r. bytes_eq r.name w) (rules ss)
 
--- `early_fault ss l`: the fault of the line `l` after the statements `ss` that is told before its pattern is read: it is none of the lines
--- that there are, a name is reserved, or a name is defined twice
+-- `early_fault ss l`: the fault of the line `l` after the statements `ss` that is reported before its pattern is read: it is none of the
+-- lines that there are, a name is reserved, or a name is defined twice
 abbrev pub early_fault : List Statement → Line → Option Cause
 early_fault ss Nothing = None
 early_fault ss (Production left right) =
     or_else (reserved (left ∷ map plain right))
-    (told (has_rule ss left || has_production ss left right) (DefinedTwice left))
+    (cause_if (has_rule ss left || has_production ss left right) (DefinedTwice left))
 early_fault ss (Rule skip name pattern) =
     or_else (reserved (name ∷ []))
-    (told (has_rule ss name || is_among name (nonterminals ss)) (DefinedTwice name))
+    (cause_if (has_rule ss name || is_among name (nonterminals ss)) (DefinedTwice name))
 early_fault ss (Start name) = reserved (name ∷ [])
 early_fault ss (Fold name) = reserved (name ∷ [])
 early_fault ss Bad = Some BadLine
@@ -73,23 +73,23 @@ abbrev pub production_count : List Statement → ℕ
 production_count ss = length (productions ss) + 2 * length (marked ss)
 
 -- the first limit that these numbers pass: 256, 256 and 1,024
-abbrev pub passed_limit : ℕ → ℕ → ℕ → Option Cause
-passed_limit rules nonterminals productions =
-    or_else (told (nat_lt 256 rules) (Passed Tokens))
-    (or_else (told (nat_lt 256 nonterminals) (Passed Nonterminals))
-    (told (nat_lt 1024 productions) (Passed Productions)))
+abbrev pub exceeded_limit : ℕ → ℕ → ℕ → Option Cause
+exceeded_limit rules nonterminals productions =
+    or_else (cause_if (nat_lt 256 rules) (Passed Tokens))
+    (or_else (cause_if (nat_lt 256 nonterminals) (Passed Nonterminals))
+    (cause_if (nat_lt 1024 productions) (Passed Productions)))
 
 -- the first limit that statements pass: 256 rules, 256 nonterminals, or 1,024 productions
 abbrev pub limit_fault : List Statement → Option Cause
-limit_fault ss = passed_limit (length (rules ss)) (nonterminal_count ss) (production_count ss)
+limit_fault ss = exceeded_limit (length (rules ss)) (nonterminal_count ss) (production_count ss)
 
 -- `line_limit ss line`: what is too much in a line: a right side of more than 16 symbols, or a second start
 abbrev pub line_limit : List Statement → Line → Option Cause
-line_limit ss (Production left right) = told (nat_lt 16 (length right)) (Passed Symbols)
-line_limit ss (Start name) = told (nat_lt 0 (length (starts ss))) SecondStart
+line_limit ss (Production left right) = cause_if (nat_lt 16 (length right)) (Passed Symbols)
+line_limit ss (Start name) = cause_if (nat_lt 0 (length (starts ss))) SecondStart
 line_limit ss _ = None
 
--- the fault of the line `l` after the statements `ss` that is told after its pattern is read: a right side of more than 16 symbols, a
+-- the fault of the line `l` after the statements `ss` that is reported after its pattern is read: a right side of more than 16 symbols, a
 -- second start, or `limit_fault` of the statements with it
 abbrev pub late_fault : List Statement → Line → Option Cause
 late_fault ss l = or_else (line_limit ss l) (limit_fault (ss ++ at 0 l ∷ []))
@@ -148,8 +148,8 @@ right_fault ss (w ∷ ws) = or_else (symbol_fault ss w) (right_fault ss ws)
 -- a start or a fold that the name is no nonterminal
 abbrev pub reference_fault : List Statement → Line → Option Cause
 reference_fault ss (Production left right) = right_fault ss (map plain right)
-reference_fault ss (Start name) = told (not (is_among name (nonterminals ss))) (NotANonterminal name)
-reference_fault ss (Fold name) = told (not (is_among name (nonterminals ss))) (NotANonterminal name)
+reference_fault ss (Start name) = cause_if (not (is_among name (nonterminals ss))) (NotANonterminal name)
+reference_fault ss (Fold name) = cause_if (not (is_among name (nonterminals ss))) (NotANonterminal name)
 reference_fault ss _ = None
 
 -- none of the lines `some` has a `reference_fault`
@@ -163,14 +163,14 @@ IsFirstReferenceFault ss n c =
     × ((s : Statement) × (ss ≡ before ++ (s ∷ after)) × (n ≡ s.number) × HaveReferents ss before
     × (reference_fault ss s.says ≡ Some c))
 
--- the file has at most 65,536 bytes, a first line that tells a version, no faulty line, and a start
+-- the file has at most 65,536 bytes, a first line that gives a version, no faulty line, and a start
 pub record IsWhole (text : List ℕ) : Type 0 where
   pub small : length text ≤ 65536
   pub headed : is_headed (lines text) ≡ true
   pub faultless : AreFaultless (statements text)
   pub started : nat_lt 0 (length (starts (statements text))) ≡ true
 
--- `IsFileFault text n cause`: the first fault of a file that its lines and names tell, at line `n`, or 0 where it is of the whole file: its
+-- `IsFileFault text n cause`: the first fault of a file that its lines and names show, at line `n`, or 0 where it is of the whole file: its
 -- size; the first line; the first faulty line; no start; the first line that uses a name wrongly
 pub data IsFileFault (text : List ℕ) : ℕ → Cause → Type 0 where
   too_large : 65536 < length text → IsFileFault text 0 (Passed File)

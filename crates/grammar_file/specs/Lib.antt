@@ -3,6 +3,6 @@ pub mod Statements
 pub mod Contents
 pub mod WrittenOut
 pub mod Faults
-pub mod Told
+pub mod Causes
 pub mod Numbers
-pub mod Said
+pub mod Kept

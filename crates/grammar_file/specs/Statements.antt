@@ -6,7 +6,7 @@ use Rattle.std.specs.Str.{bytes_eq}
 use Rattle.std.specs.Str.Lines.{lines}
 use Rattle.grammar_file.specs.declared.line.Version.{Version}
 use Rattle.grammar_file.specs.declared.line.Version.TheVariants.{One, Two}
-use Rattle.grammar_file.specs.Words.{Word, words, is_name, plain, behind_equals}
+use Rattle.grammar_file.specs.Words.{Word, words, is_name, plain, after_equals}
 
 -- what a line says: nothing, a production, a rule, a start, a fold, or none of these
 pub data Line : Type 0 where
@@ -42,15 +42,15 @@ rule keyword name pattern =
     else Bad
 
 -- what `KEYWORD NAME` says: a start or a fold, where the keyword is `start` or `fold` and the name is one
-abbrev pub naming : Word → Word → Line
-naming keyword name =
+abbrev pub keyword_line : Word → Word → Line
+keyword_line keyword name =
     if is_name name && bytes_eq keyword (codes "start") then Start name
     else if is_name name && bytes_eq keyword (codes "fold") then Fold name
     else Bad
 
 -- `statement a b ws pattern`: what a line of the words `a`, `b` and `ws` says that is neither a comment nor a production
 abbrev pub statement : Word → Word → List Word → Word → Line
-statement a b [] pattern = naming a b
+statement a b [] pattern = keyword_line a b
 statement a b (c ∷ ws) pattern = if bytes_eq c (codes "=") then rule a b pattern else Bad
 
 -- `longer_line version a b ws pattern`: what a line of the words `a`, `b` and `ws` says that is no comment
@@ -65,7 +65,7 @@ line_of_words v (a ∷ b ∷ ws) pattern = if is_comment a then Nothing else lon
 
 -- `line_of version line`: what a line says in a file of this version
 abbrev pub line_of : Version → List ℕ → Line
-line_of v text = line_of_words v (words text) (behind_equals text)
+line_of v text = line_of_words v (words text) (after_equals text)
 
 -- a line that says something, with its number, the first line's being 1
 pub record Statement : Type 0 where
@@ -85,19 +85,19 @@ numbered n l = Some (at n l)
 abbrev pub statements_in : Version → List (List ℕ) → List Statement
 statements_in v texts = filter_map (λ t. numbered t.0 (line_of v t.1)) (enumerate_from 2 texts)
 
--- the version that a first line tells, if it is `lrgrammar 1` or `lrgrammar 2`
-abbrev pub version_told : List ℕ → Option Version
-version_told line =
+-- the version that a first line gives, if it is `lrgrammar 1` or `lrgrammar 2`
+abbrev pub first_line_version : List ℕ → Option Version
+first_line_version line =
     if bytes_eq line (codes "lrgrammar 1") then Some One
     else if bytes_eq line (codes "lrgrammar 2") then Some Two
     else None
 
--- `version_of lines`: the version that the first line tells: `lrgrammar 1` or `lrgrammar 2`
+-- `version_of lines`: the version that the first line gives: `lrgrammar 1` or `lrgrammar 2`
 abbrev pub version_of : List (List ℕ) → Option Version
 version_of [] = None
-version_of (l ∷ ls) = version_told l
+version_of (l ∷ ls) = first_line_version l
 
--- `is_headed lines`: whether the first line tells a version
+-- `is_headed lines`: whether the first line gives a version
 abbrev pub is_headed : List (List ℕ) → Bool
 is_headed ls = is_some (version_of ls)
 

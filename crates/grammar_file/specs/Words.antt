@@ -38,8 +38,8 @@ trim_end [] = []
 trim_end (b ∷ bs) = or_nothing b (trim_end bs)
 
 -- what stands after the first `=` of a line, without blanks at its ends
-abbrev pub behind_equals : List ℕ → List ℕ
-behind_equals line = trim_end (trim_start (after_first (λ b. b == 61) line))
+abbrev pub after_equals : List ℕ → List ℕ
+after_equals line = trim_end (trim_start (after_first (λ b. b == 61) line))
 
 -- whether the byte is an ASCII letter or `_`
 abbrev pub is_letter : ℕ → Bool
@@ -74,7 +74,7 @@ without_last (b ∷ c ∷ bs) = b ∷ without_last (c ∷ bs)
 abbrev pub mark_at : ℕ → Mark
 mark_at b = if b == 42 then Any else if b == 43 then AtLeastOnce else if b == 63 then AtMostOnce else Once
 
--- the mark of a word, which its last byte tells
+-- the mark of a word, which its last byte shows
 abbrev pub mark_of : Word → Mark
 mark_of w = mark_at (last_byte w)
 

@@ -45,9 +45,9 @@ pub enum Cause<'a> {
     NoStart,
     /// A second line names the start.
     SecondStart,
-    /// The name behind `start` or `fold` is no nonterminal's.
+    /// The name after `start` or `fold` is no nonterminal's.
     NotANonterminal(&'a str),
-    /// No text is derived from the nonterminal. The lines and names of a file don't tell this.
+    /// No text is derived from the nonterminal. The lines and names of a file don't show this.
     Unproductive(&'a str),
     /// The name of a `skip` rule on a right side.
     SkipInProduction(&'a str),
@@ -55,7 +55,7 @@ pub enum Cause<'a> {
     Passed(Limit),
 }
 
-/// A fault at a line, or want of memory.
+/// A fault at a line, or that memory was refused.
 #[derive(Clone, Copy)]
 pub enum Refusal<'a> {
     /// The number of the line, the first one's being 1, and the cause; the number is 0 where the whole file is at fault.

@@ -2,10 +2,10 @@
 
 ghost use Rattle.std.specs.Prelude.{◌≡◌, [], drop, IfOk, IfErr, OnOk};
 ghost use Rattle.std.specs.Str.Lines.{lines};
-ghost use Rattle.grammar_file.specs.Statements.{statements, version_told, version_of};
+ghost use Rattle.grammar_file.specs.Statements.{statements, first_line_version, version_of};
 ghost use Rattle.grammar_file.specs.Faults.{IsWhole, HaveReferents, IsFileFault};
-ghost use Rattle.grammar_file.specs.Said.{texts, IsRead, IsWrittenOut};
-ghost use Rattle.grammar_file.specs.Told.{Tells};
+ghost use Rattle.grammar_file.specs.Kept.{texts, IsRead, IsWrittenOut};
+ghost use Rattle.grammar_file.specs.Causes.{Reports};
 
 use crate::fault::{Cause, Limit, Refusal};
 use crate::line::Version;
@@ -18,9 +18,9 @@ use std::alloc::{AllocError, Global};
 const LARGEST_FILE: usize = 65_536;
 
 /// What the lines of a file say, where no line has a fault, there is a start, and each name that is used is defined; or
-/// the first fault. Behind the lines stand the productions of the marked words.
+/// the first fault. After the lines stand the productions of the marked words.
 ///
-/// Told first is a file of more than 65,536 bytes, then a first line that is neither `lrgrammar 1` nor `lrgrammar 2`,
+/// Reported first is a file of more than 65,536 bytes, then a first line that is neither `lrgrammar 1` nor `lrgrammar 2`,
 /// then the first line with a fault of its own, then that there is no start, and then the first line that uses a name
 /// wrongly.
 pub fn read_file<'a>(alloc: Global, text: &'a str) -> Result<File<'a>, Refusal<'a>>
@@ -28,7 +28,7 @@ pub fn read_file<'a>(alloc: Global, text: &'a str) -> Result<File<'a>, Refusal<'
     ensures written { IfOk result (λ file. IsWrittenOut file (statements text.now)) }
     ensures referents { IfOk result (λ _.
         HaveReferents (statements text.now) (statements text.now)) }
-    ensures fault { IfErr result (λ r. Tells r (λ n c. IsFileFault text.now n c)) }
+    ensures fault { IfErr result (λ r. Reports r (λ n c. IsFileFault text.now n c)) }
 {
     let mut file = File::new(alloc);
     fill(alloc, &mut file, text).and(Ok(file))
@@ -40,7 +40,7 @@ fn fill<'a>(alloc: Global, file: &mut File<'a>, text: &'a str) -> Result<(), Ref
     ensures whole { OnOk result (IsWhole text.now) }
     ensures written { OnOk result (IsWrittenOut file.new (statements text.now)) }
     ensures referents { OnOk result (HaveReferents (statements text.now) (statements text.now)) }
-    ensures fault { IfErr result (λ r. Tells r (λ n c. IsFileFault text.now n c)) }
+    ensures fault { IfErr result (λ r. Reports r (λ n c. IsFileFault text.now n c)) }
 {
     read_lines(alloc, file, text)?;
     test_references(&file.names, &file.statements)?;
@@ -53,7 +53,7 @@ fn read_lines<'a>(alloc: Global, file: &mut File<'a>, text: &'a str) -> Result<(
     requires { IsRead file.old [] }
     ensures whole { OnOk result (IsWhole text.now) }
     ensures read { OnOk result (IsRead file.new (statements text.now)) }
-    ensures fault { IfErr result (λ r. Tells r (λ n c. IsFileFault text.now n c)) }
+    ensures fault { IfErr result (λ r. Reports r (λ n c. IsFileFault text.now n c)) }
 {
     if LARGEST_FILE < text.len() {
         return Err(Refusal::Fault(0, Cause::Passed(Limit::File)));
@@ -62,7 +62,7 @@ fn read_lines<'a>(alloc: Global, file: &mut File<'a>, text: &'a str) -> Result<(
     let Some(version) = version_of(&lines) else {
         return Err(Refusal::Fault(1, Cause::FirstLine));
     };
-    file.add_lines(alloc, version, behind_first(&lines))?;
+    file.add_lines(alloc, version, after_first(&lines))?;
     if !file.names.started {
         return Err(Refusal::Fault(0, Cause::NoStart));
     }
@@ -75,7 +75,7 @@ fn lines_of(alloc: Global, text: &str) -> Result<Vec<&str>, AllocError>
     text.lines().collect(alloc)
 }
 
-fn behind_first<'l, 'a>(lines: &'l [&'a str]) -> &'l [&'a str]
+fn after_first<'l, 'a>(lines: &'l [&'a str]) -> &'l [&'a str]
     ensures { result.now ≡ drop 1 lines.now }
 {
     match lines {
@@ -84,18 +84,18 @@ fn behind_first<'l, 'a>(lines: &'l [&'a str]) -> &'l [&'a str]
     }
 }
 
-/// The version that the first line tells, if it tells one.
+/// The version that the first line gives, if it gives one.
 fn version_of(lines: &[&str]) -> Option<Version>
     ensures { result ≡ version_of (texts lines.now) }
 {
     match lines {
         [] => None,
-        [first, ..] => version_told(first),
+        [first, ..] => first_line_version(first),
     }
 }
 
-fn version_told(line: &str) -> Option<Version>
-    ensures { result ≡ version_told line.now }
+fn first_line_version(line: &str) -> Option<Version>
+    ensures { result ≡ first_line_version line.now }
 {
     match line {
         "lrgrammar 1" => Some(Version::One),

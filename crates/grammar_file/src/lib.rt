@@ -1,4 +1,4 @@
-//! A grammar file, line by line: what its lines say, the names that they define, and the first fault that these tell.
+//! A grammar file, line by line: what its lines say, the names that they define, and the first fault that these show.
 //!
 //! `read_file` reads the text of a file. If you don't need the lines, call `Grammar::read` of `grammar` instead, which
 //! calls it. A `File` has the statements with the numbers of their lines, the names of rules and nonterminals, and the

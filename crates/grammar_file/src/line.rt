@@ -2,15 +2,15 @@
 
 ghost use Rattle.std.specs.Prelude.{◌≡◌, IfOk};
 ghost use Rattle.std.specs.List.{list_all};
-ghost use Rattle.grammar_file.specs.Statements.{line_of, is_comment, is_right_word, longer_line, production, rule, naming, statement};
-ghost use Rattle.grammar_file.specs.Said.{said, texts};
-ghost use Rattle.grammar_file.specs.Words.{behind_equals};
+ghost use Rattle.grammar_file.specs.Statements.{line_of, is_comment, is_right_word, longer_line, production, rule, keyword_line, statement};
+ghost use Rattle.grammar_file.specs.Kept.{line_view, texts};
+ghost use Rattle.grammar_file.specs.Words.{after_equals};
 
 use crate::right_word::plain;
-use crate::words::{behind_equals, is_name, words};
+use crate::words::{after_equals, is_name, words};
 use std::alloc::{AllocError, Global};
 
-/// The version of a grammar file, which its first line tells.
+/// The version of a grammar file, which its first line gives.
 #[derive(Clone, Copy)]
 pub enum Version {
     /// `lrgrammar 1`
@@ -37,7 +37,7 @@ pub enum Line<'a> {
         skip: bool,
         /// The rule's name.
         name: &'a str,
-        /// What stands behind the first `=`, without blanks at the ends.
+        /// What stands after the first `=`, without blanks at the ends.
         pattern: &'a str,
     },
     /// `start NAME`
@@ -50,7 +50,7 @@ pub enum Line<'a> {
 
 /// What the line says.
 pub fn read_line(alloc: Global, version: Version, line: &str) -> Result<Line<'_>, AllocError>
-    ensures { IfOk result (λ l. said l ≡ line_of version line.now) }
+    ensures { IfOk result (λ l. line_view l ≡ line_of version line.now) }
 {
     let words = words(alloc, line)?;
     match words.as_slice() {
@@ -80,8 +80,8 @@ fn longer_line<'a>(
     line: &'a str,
 ) -> Result<Line<'a>, AllocError>
     ensures { IfOk result (λ l.
-        said l
-        ≡ longer_line version first.now second.now (texts rest.now) (behind_equals line.now)) }
+        line_view l
+        ≡ longer_line version first.now second.now (texts rest.now) (after_equals line.now)) }
 {
     if second == "=" {
         production(alloc, version, first, rest)
@@ -92,12 +92,12 @@ fn longer_line<'a>(
 
 /// A line of two words or more that is neither a comment nor a production.
 fn statement<'a>(keyword: &str, name: &'a str, rest: &[&str], line: &'a str) -> Line<'a>
-    ensures { said result
-        ≡ statement keyword.now name.now (texts rest.now) (behind_equals line.now) }
+    ensures { line_view result
+        ≡ statement keyword.now name.now (texts rest.now) (after_equals line.now) }
 {
     match rest {
-        [] => naming(keyword, name),
-        [equals, ..] if *equals == "=" => rule(keyword, name, behind_equals(line)),
+        [] => keyword_line(keyword, name),
+        [equals, ..] if *equals == "=" => rule(keyword, name, after_equals(line)),
         _ => Line::Bad,
     }
 }
@@ -109,7 +109,7 @@ fn production<'a>(
     left: &'a str,
     right: &[&'a str],
 ) -> Result<Line<'a>, AllocError>
-    ensures { IfOk result (λ l. said l ≡ production version left.now (texts right.now)) }
+    ensures { IfOk result (λ l. line_view l ≡ production version left.now (texts right.now)) }
 {
     if is_name(left) && are_right_words(version, right) {
         Ok(Line::Production {
@@ -140,7 +140,7 @@ fn is_right_word(version: Version, word: &str) -> bool
 
 /// A line of a keyword, a name and a pattern.
 fn rule<'a>(keyword: &str, name: &'a str, pattern: &'a str) -> Line<'a>
-    ensures { said result ≡ rule keyword.now name.now pattern.now }
+    ensures { line_view result ≡ rule keyword.now name.now pattern.now }
 {
     match keyword {
         "token" if is_name(name) => Line::Rule {
@@ -158,8 +158,8 @@ fn rule<'a>(keyword: &str, name: &'a str, pattern: &'a str) -> Line<'a>
 }
 
 /// A line of a keyword and a name.
-fn naming<'a>(keyword: &str, name: &'a str) -> Line<'a>
-    ensures { said result ≡ naming keyword.now name.now }
+fn keyword_line<'a>(keyword: &str, name: &'a str) -> Line<'a>
+    ensures { line_view result ≡ keyword_line keyword.now name.now }
 {
     match keyword {
         "start" if is_name(name) => Line::Start(name),

@@ -2,7 +2,7 @@
 
 ghost use Rattle.std.specs.Prelude.{◌≡◌, ◌<◌, ◌^◌, [], length, OnOk};
 ghost use Rattle.grammar_file.specs.Contents.{is_among, number_of, with_name};
-ghost use Rattle.grammar_file.specs.Said.{texts};
+ghost use Rattle.grammar_file.specs.Kept.{texts};
 
 use indexmap::IndexSet;
 use std::alloc::{AllocError, Global};

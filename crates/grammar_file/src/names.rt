@@ -5,7 +5,7 @@ ghost use Rattle.definitions.specs.declared.Symbol.TheVariants.{Nonterminal};
 ghost use Rattle.grammar_file.specs.Statements.{Statement};
 ghost use Rattle.grammar_file.specs.Contents.{defines, is_among, with_name};
 ghost use Rattle.grammar_file.specs.WrittenOut.{with_marked};
-ghost use Rattle.grammar_file.specs.Said.{said, rule_line, texts, AreNames, with_rule, with_skip, with_left, with_right, with_sides, with_names, with_production, with_start};
+ghost use Rattle.grammar_file.specs.Kept.{line_view, rule_line, texts, AreNames, with_rule, with_skip, with_left, with_right, with_sides, with_names, with_production, with_start};
 
 use crate::line::Line;
 use crate::name_set::NameSet;
@@ -53,17 +53,20 @@ impl<'a> Names<'a> {
     /// Adds what a line defines.
     pub(crate) fn note(&mut self, alloc: Global, line: &Line<'a>) -> Result<(), AllocError>
         requires { self.old.productions < 2 ^ 32 }
-        ensures rules { OnOk result (self.new.rules ≡ with_rule self.old.rules (said line.now)) }
-        ensures skips { OnOk result (self.new.skips ≡ with_skip self.old.skips (said line.now)) }
+        ensures rules { OnOk result (self.new.rules
+            ≡ with_rule self.old.rules (line_view line.now)) }
+        ensures skips { OnOk result (self.new.skips
+            ≡ with_skip self.old.skips (line_view line.now)) }
         ensures nonterminals { OnOk result (self.new.nonterminals
-            ≡ with_left self.old.nonterminals (said line.now)) }
+            ≡ with_left self.old.nonterminals (line_view line.now)) }
         ensures marked { OnOk result (self.new.marked
-            ≡ with_right self.old.marked (said line.now)) }
-        ensures sides { OnOk result (self.new.sides ≡ with_sides self.old.sides (said line.now)) }
+            ≡ with_right self.old.marked (line_view line.now)) }
+        ensures sides { OnOk result (self.new.sides
+            ≡ with_sides self.old.sides (line_view line.now)) }
         ensures productions { OnOk result (self.new.productions
-            ≡ with_production self.old.productions (said line.now)) }
+            ≡ with_production self.old.productions (line_view line.now)) }
         ensures started { OnOk result (self.new.started
-            ≡ with_start self.old.started (said line.now)) }
+            ≡ with_start self.old.started (line_view line.now)) }
     {
         match line {
             Line::Rule {
@@ -122,10 +125,10 @@ impl<'a> Names<'a> {
         Ok(())
     }
 
-    /// What a line defines behind those so far: a rule, or a nonterminal at its first production.
+    /// What a line defines after those so far: a rule, or a nonterminal at its first production.
     pub(crate) fn defined_by(&self, line: &Line<'_>) -> Option<Symbol>
         ensures { (ss : List Statement) → AreNames self.now ss →
-            result ≡ defines ss (said line.now) }
+            result ≡ defines ss (line_view line.now) }
     {
         match line {
             Line::Rule { .. } => Some(Symbol::Rule(self.rules.len())),

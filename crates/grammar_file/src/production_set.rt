@@ -1,13 +1,13 @@
 //! Productions, each found by its two sides.
 
 ghost use Rattle.std.specs.Prelude.{◌≡◌, ◌∷◌, [], IfOk, OnOk};
-ghost use Rattle.grammar_file.specs.Said.{texts, are_among, with_names};
+ghost use Rattle.grammar_file.specs.Kept.{texts, are_among, with_names};
 
 use indexmap::IndexSet;
 use std::alloc::{AllocError, Global};
 use std::marker::Model;
 
-/// Productions, each once: the left side, and behind it the names of the right side.
+/// Productions, each once: the left side, and after it the names of the right side.
 #[derive(Drop)]
 pub struct ProductionSet<'a> {
     sides: IndexSet<Vec<&'a str>>,
@@ -57,7 +57,7 @@ impl<'a> ProductionSet<'a> {
     }
 }
 
-/// The left side, and behind it the right side.
+/// The left side, and after it the right side.
 fn sides_of<'a>(alloc: Global, left: &'a str, right: &[&'a str]) -> Result<Vec<&'a str>, AllocError>
     ensures { IfOk result (λ sides. texts sides.items ≡ left.now ∷ texts right.now) }
 {

@@ -3,11 +3,11 @@
 ghost use Rattle.std.specs.Prelude.{◌≡◌, IfErr, OnOk, List, map, not, option_map};
 ghost use Rattle.grammar_file.specs.Contents.{nonterminals, is_among};
 ghost use Rattle.grammar_file.specs.Faults;
-ghost use Rattle.grammar_file.specs.Faults.{told, symbol_fault, right_fault, reference_fault, HaveReferents, IsFirstReferenceFault};
+ghost use Rattle.grammar_file.specs.Faults.{cause_if, symbol_fault, right_fault, reference_fault, HaveReferents, IsFirstReferenceFault};
 ghost use Rattle.grammar_file.specs.Statements.{Statement};
 ghost use Rattle.grammar_file.specs.Words.{plain};
-ghost use Rattle.grammar_file.specs.Said.{said, all_said, texts, AreNames};
-ghost use Rattle.grammar_file.specs.Told.{cause_of, Tells};
+ghost use Rattle.grammar_file.specs.Kept.{line_view, lines_view, texts, AreNames};
+ghost use Rattle.grammar_file.specs.Causes.{cause_of, Reports};
 
 use crate::fault::{Cause, Refusal};
 use crate::line::Line;
@@ -20,10 +20,11 @@ pub fn test_references<'a>(
     names: &Names<'a>,
     statements: &[Numbered<'a>],
 ) -> Result<(), Refusal<'a>>
-    requires { AreNames names.now (all_said statements.now) }
-    ensures fine { OnOk result (HaveReferents (all_said statements.now) (all_said statements.now)) }
+    requires { AreNames names.now (lines_view statements.now) }
+    ensures fine { OnOk result
+        (HaveReferents (lines_view statements.now) (lines_view statements.now)) }
     ensures fault { IfErr result (λ r.
-        Tells r (λ n c. IsFirstReferenceFault (all_said statements.now) n c)) }
+        Reports r (λ n c. IsFirstReferenceFault (lines_view statements.now) n c)) }
 {
     for statement in statements {
         if let Some(cause) = reference_fault(names, &statement.line) {
@@ -36,7 +37,7 @@ pub fn test_references<'a>(
 /// What is wrong with the names that a line uses.
 fn reference_fault<'a>(names: &Names<'a>, line: &Line<'a>) -> Option<Cause<'a>>
     ensures { (ss : List Statement) → AreNames names.now ss →
-        option_map cause_of result ≡ reference_fault ss (said line.now) }
+        option_map cause_of result ≡ reference_fault ss (line_view line.now) }
 {
     match line {
         Line::Production { right, .. } => right_fault(names, right),
@@ -48,7 +49,7 @@ fn reference_fault<'a>(names: &Names<'a>, line: &Line<'a>) -> Option<Cause<'a>>
 fn nonterminal_fault<'a>(names: &Names<'a>, name: &'a str) -> Option<Cause<'a>>
     ensures { (ss : List Statement) → AreNames names.now ss →
         option_map cause_of result
-        ≡ told (not (is_among name.now (nonterminals ss))) (Faults.NotANonterminal name.now) }
+        ≡ cause_if (not (is_among name.now (nonterminals ss))) (Faults.NotANonterminal name.now) }
 {
     if names.nonterminals.contains(name) {
         None

@@ -32,12 +32,12 @@ impl Mark {
 pub struct RightWord<'a> {
     /// The word without its mark.
     pub name: &'a str,
-    /// The mark behind the name.
+    /// The mark after the name.
     pub mark: Mark,
 }
 
 impl<'a> RightWord<'a> {
-    /// What a word says: the byte behind the name is its mark.
+    /// What a word says: the byte after the name is its mark.
     pub fn read(word: &'a str) -> RightWord<'a>
         ensures name { result.name.now ≡ plain word.now }
         ensures mark { result.mark ≡ mark_of word.now }

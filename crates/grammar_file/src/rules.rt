@@ -5,7 +5,7 @@ ghost use Rattle.std.specs.Str.{bytes_eq};
 ghost use Rattle.std.specs.List.{list_any};
 ghost use Rattle.grammar_file.specs.Contents.{number_of};
 ghost use Rattle.grammar_file.specs.Numbers.{AreNumbers};
-ghost use Rattle.grammar_file.specs.Said.{rule_line};
+ghost use Rattle.grammar_file.specs.Kept.{rule_line};
 ghost use Rattle.grammar_file.specs.Words.{Word};
 
 use indexmap::IndexMap;
@@ -90,7 +90,7 @@ impl<'a> Rules<'a> {
     pub(crate) fn add(&mut self, rule: RuleName<'a>) -> Result<(), AllocError>
         ensures { OnOk result (self.new ≡ self.old ++ rule_line rule.entry ∷ []) }
     {
-        // With room for the rule nothing can fail behind the change of the numbers.
+        // With room for the rule nothing can fail after the change of the numbers.
         self.rules.reserve(1)?;
         add_number(&mut self.numbers, rule.name, self.rules.len())?;
         self.rules.push(rule)?;

@@ -11,8 +11,8 @@ ghost use Rattle.grammar_file.specs.Statements;
 ghost use Rattle.grammar_file.specs.Contents.{defines};
 ghost use Rattle.grammar_file.specs.Words.{plain};
 ghost use Rattle.grammar_file.specs.Faults.{reserved, has_rule, has_production, early_fault, line_limit, limit_fault, IsLineFault, IsFirstLineFault, HasPatternFault, BadPattern, Passed};
-ghost use Rattle.grammar_file.specs.Said.{said, all_said, texts, AreNames, IsRead, IsPatternOf, with_pattern};
-ghost use Rattle.grammar_file.specs.Told.{cause_of, Tells};
+ghost use Rattle.grammar_file.specs.Kept.{line_view, lines_view, texts, AreNames, IsRead, IsPatternOf, with_pattern};
+ghost use Rattle.grammar_file.specs.Causes.{cause_of, Reports};
 
 use crate::fault::{Cause, Limit, Refusal};
 use crate::line::{Line, Version, read_line};
@@ -48,7 +48,7 @@ pub struct Numbered<'a> {
 /// What is kept of a file's lines, which have no fault.
 #[derive(Drop)]
 pub struct File<'a> {
-    /// The lines that say something, in file order, and behind all of them the productions of the marked words.
+    /// The lines that say something, in file order, and after all of them the productions of the marked words.
     pub statements: Vec<Numbered<'a>>,
     /// The names that they define.
     pub names: Names<'a>,
@@ -81,7 +81,7 @@ impl<'a> File<'a> {
         requires { IsRead self.old [] }
         ensures read { OnOk result (IsRead self.new (statements_in version (texts lines.now))) }
         ensures fault { IfErr result (λ r.
-            Tells r (λ n c. IsFirstLineFault (statements_in version (texts lines.now)) n c)) }
+            Reports r (λ n c. IsFirstLineFault (statements_in version (texts lines.now)) n c)) }
     {
         for (index, text) in lines.iter().enumerate() {
             let line = read_line(alloc, version, text)?;
@@ -92,13 +92,13 @@ impl<'a> File<'a> {
 
     /// Adds a line with its number, unless it says nothing.
     fn add(&mut self, alloc: Global, number: usize, line: Line<'a>) -> Result<(), Refusal<'a>>
-        requires { IsRead self.old (all_said self.old.statements.items) }
-        ensures read { OnOk result (IsRead self.new (all_said self.old.statements.items
-            ++ cons_option (numbered number (said line.entry)) [])) }
+        requires { IsRead self.old (lines_view self.old.statements.items) }
+        ensures read { OnOk result (IsRead self.new (lines_view self.old.statements.items
+            ++ cons_option (numbered number (line_view line.entry)) [])) }
         ensures fault { IfErr result (λ r.
-            Tells r (λ n c.
-            (n ≡ number) × (said line.entry ≢ Nothing) ×
-            IsLineFault (all_said self.old.statements.items) (said line.entry) c)) }
+            Reports r (λ n c.
+            (n ≡ number) × (line_view line.entry ≢ Nothing) ×
+            IsLineFault (lines_view self.old.statements.items) (line_view line.entry) c)) }
     {
         match line {
             Line::Nothing => Ok(()),
@@ -113,14 +113,15 @@ impl<'a> File<'a> {
         number: usize,
         line: Line<'a>,
     ) -> Result<(), Refusal<'a>>
-        requires { IsRead self.old (all_said self.old.statements.items) }
-        ensures read { OnOk result (IsRead self.new (all_said self.old.statements.items
-            ++ at number (said line.entry) ∷ [])) }
+        requires { IsRead self.old (lines_view self.old.statements.items) }
+        ensures read { OnOk result (IsRead self.new (lines_view self.old.statements.items
+            ++ at number (line_view line.entry) ∷ [])) }
         ensures fault { IfErr result (λ r.
-            Tells r (λ n c.
-            (n ≡ number) × IsLineFault (all_said self.old.statements.items) (said line.entry) c)) }
+            Reports r (λ n c.
+            (n ≡ number)
+            × IsLineFault (lines_view self.old.statements.items) (line_view line.entry) c)) }
     {
-        let pattern = self.tested(alloc, number, &line)?;
+        let pattern = self.test(alloc, number, &line)?;
         self.note(alloc, &line, pattern)?;
         add_line(&mut self.statements, number, line)?;
         self.test_limits(number)
@@ -133,16 +134,17 @@ impl<'a> File<'a> {
         line: &Line<'a>,
         pattern: Option<Pattern>,
     ) -> Result<(), AllocError>
-        requires { IsRead self.old (all_said self.old.statements.items) }
+        requires { IsRead self.old (lines_view self.old.statements.items) }
         ensures statements { OnOk result (self.new.statements.items ≡ self.old.statements.items) }
         ensures names { OnOk result ((n : ℕ) → AreNames self.new.names
-            (all_said self.old.statements.items ++ at n (said line.now) ∷ [])) }
+            (lines_view self.old.statements.items ++ at n (line_view line.now) ∷ [])) }
         ensures few { OnOk result (self.new.names.productions ≤ 2 ^ 32) }
         ensures patterns { OnOk result (self.new.patterns.items
             ≡ with_pattern self.old.patterns.items pattern) }
         ensures defined { OnOk result (self.new.defined.items
             ≡ self.old.defined.items
-            ++ cons_option (defines (all_said self.old.statements.items) (said line.now)) []) }
+            ++ cons_option
+            (defines (lines_view self.old.statements.items) (line_view line.now)) []) }
     {
         add_pattern(&mut self.patterns, pattern)?;
         add_symbol(&mut self.defined, self.names.defined_by(line))?;
@@ -151,21 +153,22 @@ impl<'a> File<'a> {
     }
 
     /// Tests a line but for the limits that all lines have to keep, and hands out the pattern of a rule.
-    fn tested(
+    fn test(
         &self,
         alloc: Global,
         number: usize,
         line: &Line<'a>,
     ) -> Result<Option<Pattern>, Refusal<'a>>
-        requires { AreNames self.now.names (all_said self.now.statements.items) }
+        requires { AreNames self.now.names (lines_view self.now.statements.items) }
         ensures early { IfOk result (λ _.
-            early_fault (all_said self.now.statements.items) (said line.now) ≡ None) }
-        ensures pattern { IfOk result (λ p. IsPatternOf (said line.now) p) }
+            early_fault (lines_view self.now.statements.items) (line_view line.now) ≡ None) }
+        ensures pattern { IfOk result (λ p. IsPatternOf (line_view line.now) p) }
         ensures limit { IfOk result (λ _.
-            line_limit (all_said self.now.statements.items) (said line.now) ≡ None) }
+            line_limit (lines_view self.now.statements.items) (line_view line.now) ≡ None) }
         ensures fault { IfErr result (λ r.
-            Tells r (λ n c.
-            (n ≡ number) × IsLineFault (all_said self.now.statements.items) (said line.now) c)) }
+            Reports r (λ n c.
+            (n ≡ number)
+            × IsLineFault (lines_view self.now.statements.items) (line_view line.now) c)) }
     {
         if let Some(cause) = self.early_fault(alloc, line)? {
             return Err(Refusal::Fault(number, cause));
@@ -177,18 +180,18 @@ impl<'a> File<'a> {
         }
     }
 
-    /// A fault that is told before the pattern is read.
+    /// A fault that is reported before the pattern is read.
     fn early_fault(&self, alloc: Global, line: &Line<'a>) -> Result<Option<Cause<'a>>, AllocError>
-        requires { AreNames self.now.names (all_said self.now.statements.items) }
+        requires { AreNames self.now.names (lines_view self.now.statements.items) }
         ensures { IfOk result (λ fault.
             option_map cause_of fault
-            ≡ early_fault (all_said self.now.statements.items) (said line.now)) }
+            ≡ early_fault (lines_view self.now.statements.items) (line_view line.now)) }
     {
         match line {
             Line::Nothing => Ok(None),
             Line::Production { left, right } => self.production_fault(alloc, left, right),
             Line::Rule { name, .. } => Ok(self.rule_fault(name)),
-            Line::Start(name) | Line::Fold(name) => Ok(reserved(name)),
+            Line::Start(name) | Line::Fold(name) => Ok(if_reserved(name)),
             Line::Bad => Ok(Some(Cause::BadLine)),
         }
     }
@@ -199,10 +202,10 @@ impl<'a> File<'a> {
         left: &'a str,
         right: &[&'a str],
     ) -> Result<Option<Cause<'a>>, AllocError>
-        requires { AreNames self.now.names (all_said self.now.statements.items) }
+        requires { AreNames self.now.names (lines_view self.now.statements.items) }
         ensures { IfOk result (λ fault.
             option_map cause_of fault
-            ≡ early_fault (all_said self.now.statements.items)
+            ≡ early_fault (lines_view self.now.statements.items)
             (Statements.Production left.now (texts right.now))) }
     {
         if is_reserved(left) {
@@ -224,11 +227,11 @@ impl<'a> File<'a> {
         left: &'a str,
         right: &[&'a str],
     ) -> Result<bool, AllocError>
-        requires { AreNames self.now.names (all_said self.now.statements.items) }
+        requires { AreNames self.now.names (lines_view self.now.statements.items) }
         ensures { IfOk result (λ is.
             is
-            ≡ (has_rule (all_said self.now.statements.items) left.now
-            || has_production (all_said self.now.statements.items) left.now (texts right.now))) }
+            ≡ (has_rule (lines_view self.now.statements.items) left.now
+            || has_production (lines_view self.now.statements.items) left.now (texts right.now))) }
     {
         if self.names.rules.contains(left) {
             return Ok(true);
@@ -237,10 +240,10 @@ impl<'a> File<'a> {
     }
 
     fn rule_fault(&self, name: &'a str) -> Option<Cause<'a>>
-        requires { AreNames self.now.names (all_said self.now.statements.items) }
+        requires { AreNames self.now.names (lines_view self.now.statements.items) }
         ensures { (skip : Bool) (pattern : List ℕ) →
             option_map cause_of result
-            ≡ early_fault (all_said self.now.statements.items)
+            ≡ early_fault (lines_view self.now.statements.items)
             (Statements.Rule skip name.now pattern) }
     {
         if is_reserved(name) {
@@ -254,9 +257,9 @@ impl<'a> File<'a> {
 
     /// A second start, or a right side that is too long.
     fn line_limit(&self, line: &Line<'a>) -> Option<Cause<'a>>
-        requires { AreNames self.now.names (all_said self.now.statements.items) }
+        requires { AreNames self.now.names (lines_view self.now.statements.items) }
         ensures { option_map cause_of result
-            ≡ line_limit (all_said self.now.statements.items) (said line.now) }
+            ≡ line_limit (lines_view self.now.statements.items) (line_view line.now) }
     {
         match line {
             Line::Production { right, .. } if MOST_SYMBOLS < right.len() => {
@@ -269,14 +272,14 @@ impl<'a> File<'a> {
 
     /// Tests that the lines keep the limits.
     fn test_limits(&self, number: usize) -> Result<(), Refusal<'a>>
-        requires names { AreNames self.now.names (all_said self.now.statements.items) }
+        requires names { AreNames self.now.names (lines_view self.now.statements.items) }
         requires small { self.now.names.productions ≤ 2 ^ 32 }
-        ensures fine { OnOk result (limit_fault (all_said self.now.statements.items) ≡ None) }
+        ensures fine { OnOk result (limit_fault (lines_view self.now.statements.items) ≡ None) }
         ensures fault { IfErr result (λ r.
-            Tells r (λ n c.
-            (n ≡ number) × (limit_fault (all_said self.now.statements.items) ≡ Some c))) }
+            Reports r (λ n c.
+            (n ≡ number) × (limit_fault (lines_view self.now.statements.items) ≡ Some c))) }
     {
-        match passed_limit(&self.names) {
+        match exceeded_limit(&self.names) {
             Some(limit) => Err(Refusal::Fault(number, Cause::Passed(limit))),
             None => Ok(()),
         }
@@ -284,7 +287,7 @@ impl<'a> File<'a> {
 }
 
 /// The first limit that the lines pass, where a marked word counts as one nonterminal and two productions.
-fn passed_limit(names: &Names<'_>) -> Option<Limit>
+fn exceeded_limit(names: &Names<'_>) -> Option<Limit>
     requires { names.now.productions ≤ 2 ^ 32 }
     ensures { (ss : List Statement) → AreNames names.now ss →
         option_map Passed result ≡ limit_fault ss }
@@ -331,14 +334,14 @@ pub fn add_line<'a>(
     number: usize,
     line: Line<'a>,
 ) -> Result<(), AllocError>
-    ensures { OnOk result (all_said statements.new.items
-        ≡ all_said statements.old.items ++ at number (said line.entry) ∷ []) }
+    ensures { OnOk result (lines_view statements.new.items
+        ≡ lines_view statements.old.items ++ at number (line_view line.entry) ∷ []) }
 {
     statements.push(Numbered { number, line })?;
     Ok(())
 }
 
-fn reserved<'a>(name: &'a str) -> Option<Cause<'a>>
+fn if_reserved<'a>(name: &'a str) -> Option<Cause<'a>>
     ensures { option_map cause_of result ≡ reserved (name.now ∷ []) }
 {
     if is_reserved(name) {
@@ -367,11 +370,11 @@ fn pattern_of<'a>(
     number: usize,
     line: &Line<'_>,
 ) -> Result<Option<Pattern>, Refusal<'a>>
-    ensures pattern { IfOk result (λ p. IsPatternOf (said line.now) p) }
+    ensures pattern { IfOk result (λ p. IsPatternOf (line_view line.now) p) }
     ensures fault { IfErr result (λ r.
-        Tells r (λ n c.
+        Reports r (λ n c.
         (n ≡ number) ×
-        ((f : PatternFault) × HasPatternFault (said line.now) f × (c ≡ BadPattern f)))) }
+        ((f : PatternFault) × HasPatternFault (line_view line.now) f × (c ≡ BadPattern f)))) }
 {
     match line {
         Line::Rule { pattern, .. } => Ok(Some(read_pattern(alloc, number, pattern)?)),
@@ -382,7 +385,7 @@ fn pattern_of<'a>(
 fn read_pattern<'a>(alloc: Global, number: usize, text: &str) -> Result<Pattern, Refusal<'a>>
     ensures pattern { IfOk result (λ p. IsPattern (chars text.now) p) }
     ensures fault { IfErr result (λ r.
-        Tells r (λ n c.
+        Reports r (λ n c.
         (n ≡ number) ×
         ((f : PatternFault) × IsPatternFault (chars text.now) f × (c ≡ BadPattern f)))) }
 {

@@ -2,7 +2,7 @@
 
 ghost use Rattle.std.specs.Prelude.{◌≡◌, ◌<◌, ◌++◌, ◌==◌, map, filter, length, IfOk, OnOk, MatchOption};
 ghost use Rattle.std.specs.List.{list_all, slice_split, after_first};
-ghost use Rattle.grammar_file.specs.Words.{words, is_filled, is_blank, trim_start, trim_end, behind_equals, is_letter, is_name_byte, is_name, is_reserved};
+ghost use Rattle.grammar_file.specs.Words.{words, is_filled, is_blank, trim_start, trim_end, after_equals, is_letter, is_name_byte, is_name, is_reserved};
 
 use std::alloc::{AllocError, Global};
 
@@ -42,9 +42,9 @@ fn parts_of(alloc: Global, text: &str, separator: char) -> Result<Vec<&str>, All
     text.split(separator).collect(alloc)
 }
 
-/// What stands behind the first `=` of a line, without the blanks at its ends.
-pub fn behind_equals(line: &str) -> &str
-    ensures { result.now ≡ behind_equals line.now }
+/// What stands after the first `=` of a line, without the blanks at its ends.
+pub fn after_equals(line: &str) -> &str
+    ensures { result.now ≡ after_equals line.now }
 {
     let pattern = match line.split_once('=') {
         Some((_, pattern)) => pattern,
@@ -53,18 +53,18 @@ pub fn behind_equals(line: &str) -> &str
     trim_end(trim_start(pattern))
 }
 
-/// Without the spaces and tabs in front.
+/// Without the spaces and tabs at the start.
 fn trim_start(text: &str) -> &str
     ensures { result.now ≡ trim_start text.now }
 {
     let mut rest = text;
-    while let Some(behind) = strip_first_blank(rest) {
-        rest = behind;
+    while let Some(after) = strip_first_blank(rest) {
+        rest = after;
     }
     rest
 }
 
-/// What stands behind the first character, if it is a blank.
+/// What stands after the first character, if it is a blank.
 fn strip_first_blank(text: &str) -> Option<&str>
     ensures value { MatchOption result
         (trim_start text.now ≡ text.now) (λ r. trim_start text.now ≡ trim_start r.now) }
@@ -77,7 +77,7 @@ fn strip_first_blank(text: &str) -> Option<&str>
     }
 }
 
-/// Without the spaces and tabs behind.
+/// Without the spaces and tabs after.
 fn trim_end(text: &str) -> &str
     ensures { result.now ≡ trim_end text.now }
 {

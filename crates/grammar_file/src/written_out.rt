@@ -5,7 +5,7 @@ ghost use Rattle.grammar_file.specs.Statements.{at};
 ghost use Rattle.grammar_file.specs.Statements;
 ghost use Rattle.grammar_file.specs.Faults.{production_count};
 ghost use Rattle.grammar_file.specs.WrittenOut.{added, written_out};
-ghost use Rattle.grammar_file.specs.Said.{all_said, texts, AreNames};
+ghost use Rattle.grammar_file.specs.Kept.{lines_view, texts, AreNames};
 
 use crate::line::Line;
 use crate::names::Names;
@@ -13,17 +13,17 @@ use crate::right_word::{Mark, RightWord};
 use crate::statements::{Numbered, add_line};
 use std::alloc::{AllocError, Global};
 
-/// Adds the productions of the marked words behind the lines, in the order in which the words first stand.
+/// Adds the productions of the marked words after the lines, in the order in which the words first stand.
 pub fn write_out<'a>(
     alloc: Global,
     statements: &mut Vec<Numbered<'a>>,
     names: &mut Names<'a>,
 ) -> Result<(), AllocError>
-    requires names { AreNames names.old (all_said statements.old.items) }
-    requires few { production_count (all_said statements.old.items) ≤ 1024 }
-    ensures statements { OnOk result (all_said statements.new.items
-        ≡ written_out (all_said statements.old.items)) }
-    ensures names { OnOk result (AreNames names.new (all_said statements.new.items)) }
+    requires names { AreNames names.old (lines_view statements.old.items) }
+    requires few { production_count (lines_view statements.old.items) ≤ 1024 }
+    ensures statements { OnOk result (lines_view statements.new.items
+        ≡ written_out (lines_view statements.old.items)) }
+    ensures names { OnOk result (AreNames names.new (lines_view statements.new.items)) }
 {
     let words = names.marked.as_slice().to_vec(alloc)?;
     for word in &words {
@@ -39,11 +39,11 @@ fn add_productions<'a>(
     names: &mut Names<'a>,
     word: &'a str,
 ) -> Result<(), AllocError>
-    requires names { AreNames names.old (all_said statements.old.items) }
+    requires names { AreNames names.old (lines_view statements.old.items) }
     requires few { names.old.productions < 2 ^ 31 }
-    ensures statements { OnOk result (all_said statements.new.items
-        ≡ all_said statements.old.items ++ added word.now) }
-    ensures names { OnOk result (AreNames names.new (all_said statements.new.items)) }
+    ensures statements { OnOk result (lines_view statements.new.items
+        ≡ lines_view statements.old.items ++ added word.now) }
+    ensures names { OnOk result (AreNames names.new (lines_view statements.new.items)) }
     ensures few { OnOk result (names.new.productions ≤ names.old.productions + 2) }
 {
     let RightWord { name, mark } = RightWord::read(word);
@@ -64,13 +64,13 @@ fn add_two<'a>(
     first: &[&'a str],
     second: &[&'a str],
 ) -> Result<(), AllocError>
-    requires names { AreNames names.old (all_said statements.old.items) }
+    requires names { AreNames names.old (lines_view statements.old.items) }
     requires few { names.old.productions < 2 ^ 31 }
-    ensures statements { OnOk result (all_said statements.new.items
-        ≡ all_said statements.old.items
+    ensures statements { OnOk result (lines_view statements.new.items
+        ≡ lines_view statements.old.items
         ++ at 0 (Statements.Production left.now (texts first.now))
         ∷ at 0 (Statements.Production left.now (texts second.now)) ∷ []) }
-    ensures names { OnOk result (AreNames names.new (all_said statements.new.items)) }
+    ensures names { OnOk result (AreNames names.new (lines_view statements.new.items)) }
     ensures few { OnOk result (names.new.productions ≡ names.old.productions + 2) }
 {
     add_production(alloc, statements, names, left, first)?;
@@ -85,12 +85,12 @@ fn add_production<'a>(
     left: &'a str,
     right: &[&'a str],
 ) -> Result<(), AllocError>
-    requires names { AreNames names.old (all_said statements.old.items) }
+    requires names { AreNames names.old (lines_view statements.old.items) }
     requires few { names.old.productions < 2 ^ 32 }
-    ensures statements { OnOk result (all_said statements.new.items
-        ≡ all_said statements.old.items
+    ensures statements { OnOk result (lines_view statements.new.items
+        ≡ lines_view statements.old.items
         ++ at 0 (Statements.Production left.now (texts right.now)) ∷ []) }
-    ensures names { OnOk result (AreNames names.new (all_said statements.new.items)) }
+    ensures names { OnOk result (AreNames names.new (lines_view statements.new.items)) }
     ensures few { OnOk result (names.new.productions ≡ names.old.productions + 1) }
 {
     let line = Line::Production {

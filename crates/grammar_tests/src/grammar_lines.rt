@@ -13,7 +13,7 @@ Sum = Sum NUM
 Sum = NUM
 "#;
 
-/// Behind its line, a right side with marked words is written out: each such word is a nonterminal.
+/// After its line, a right side with marked words is written out: each such word is a nonterminal.
 const MARKED: &str = r#"lrgrammar 2
 token A = "a"
 token B = "b"
@@ -21,17 +21,17 @@ start S
 S = A* B?
 "#;
 
-/// What is told of a file: how many statements, patterns and defined names it has, its nonterminals, and the names of
+/// What is known of a file: how many statements, patterns and defined names it has, its nonterminals, and the names of
 /// nonterminal 0 and of rule 1.
 #[derive(Clone, Copy)]
-struct Told<'a> {
+struct Shown<'a> {
     counts: (usize, usize, usize),
     nonterminals: &'a [&'a str],
     nonterminal: &'a str,
     rule: &'a str,
 }
 
-fn tells(outcome: &Result<File<'_>, Refusal<'_>>, told: &Told<'_>) -> bool {
+fn shows(outcome: &Result<File<'_>, Refusal<'_>>, shown: &Shown<'_>) -> bool {
     let Ok(file) = outcome else {
         return false;
     };
@@ -40,42 +40,42 @@ fn tells(outcome: &Result<File<'_>, Refusal<'_>>, told: &Told<'_>) -> bool {
         file.statements.len(),
         file.patterns.len(),
         file.defined.len(),
-    ) == told.counts
-        && names.nonterminals.as_slice() == told.nonterminals
+    ) == shown.counts
+        && names.nonterminals.as_slice() == shown.nonterminals
         && (
-            names.nonterminals.number(told.nonterminal),
-            names.rules.number(told.rule),
+            names.nonterminals.number(shown.nonterminal),
+            names.rules.number(shown.rule),
         ) == (0, 1)
 }
 
-/// Whether a file that is read tells this.
-fn reads<'a>(alloc: Global, text: &'a str, told: &Told<'_>) -> Result<bool, Refusal<'a>> {
+/// Whether a file that is read has this.
+fn reads<'a>(alloc: Global, text: &'a str, shown: &Shown<'_>) -> Result<bool, Refusal<'a>> {
     let outcome = read_file(alloc, text);
-    let is_told = tells(&outcome, told);
-    outcome.and(Ok(is_told))
+    let is_shown = shows(&outcome, shown);
+    outcome.and(Ok(is_shown))
 }
 
 #[test]
 fn reads_lines_and_writes_out_marked_words(rt: HostRuntime) {
-    let sums = Told {
+    let sums = Shown {
         counts: (5, 2, 3),
         nonterminals: &["Sum"],
         nonterminal: "Sum",
         rule: "WS",
     };
-    let marked = Told {
+    let marked = Shown {
         counts: (8, 2, 3),
         nonterminals: &["S", "A*", "B?"],
         nonterminal: "S",
         rule: "B",
     };
-    for (text, told) in [(SUMS, sums), (MARKED, marked)] {
-        let outcome = reads(rt.alloc(), text, &told);
+    for (text, shown) in [(SUMS, sums), (MARKED, marked)] {
+        let outcome = reads(rt.alloc(), text, &shown);
         assert!(rt; matches!(outcome, Ok(true)), "at {text}");
     }
 }
 
-/// The line of the first fault that lines and names tell, and 99 where there is none.
+/// The line of the first fault that lines and names show, and 99 where there is none.
 fn line_at_fault(alloc: Global, text: &str) -> usize {
     match read_file(alloc, text).err() {
         Some(Refusal::Fault(line, _)) => line,
@@ -84,7 +84,7 @@ fn line_at_fault(alloc: Global, text: &str) -> usize {
 }
 
 #[test]
-fn tells_the_line_at_fault(rt: HostRuntime) {
+fn shows_the_line_at_fault(rt: HostRuntime) {
     let alloc = rt.alloc();
     let rows = [
         (SUMS, 99),

@@ -1,4 +1,4 @@
-//! What the grammar of a worked file tells. `tests/program` has the files that are refused.
+//! What the grammar of a worked file has. `tests/program` has the files that are refused.
 
 use grammar::{Grammar, Kind, Symbol};
 use std::alloc::Global;
@@ -6,7 +6,7 @@ use std::process::Abort;
 use worked::SUMS;
 
 /// The grammar of a file that is given in two parts.
-pub fn read_both(rt: &impl Abort, alloc: Global, front: &str, lines: &str) -> Grammar {
+pub fn read_both(rt: &impl Abort, alloc: Global, prefix: &str, lines: &str) -> Grammar {
     let file = format!(in alloc; "{front}{lines}").expect(rt, "memory");
     Grammar::read(alloc, &file).expect(rt, "a grammar")
 }
@@ -24,13 +24,13 @@ pub fn check_productions(rt: &impl Abort, grammar: &Grammar, sides: &[(usize, &[
 fn check_names_and_marks(rt: &impl Abort, grammar: &Grammar) {
     for (rule, name, is_skipped) in [(1, "PLUS", false), (3, "RP", false), (4, "WS", true)] {
         let kind = Kind::Rule(rule);
-        let told = (grammar.kind_name(kind), grammar.is_skipped(kind));
-        assert!(rt; told == (name, is_skipped), "at {rule}");
+        let shown = (grammar.kind_name(kind), grammar.is_skipped(kind));
+        assert!(rt; shown == (name, is_skipped), "at {rule}");
     }
     for (number, name, is_fold) in [(0, "Sum", false), (1, "Atom", true)] {
         assert!(rt; number < grammar.nonterminals());
-        let told = (grammar.nonterminal_name(number), grammar.is_fold(number));
-        assert!(rt; told == (name, is_fold), "at {number}");
+        let shown = (grammar.nonterminal_name(number), grammar.is_fold(number));
+        assert!(rt; shown == (name, is_fold), "at {number}");
     }
 }
 
@@ -49,7 +49,7 @@ fn check_sums(rt: &impl Abort, grammar: &Grammar) {
 }
 
 #[test]
-fn tells_counts_names_marks_and_symbols_of_sums(rt: HostRuntime) {
+fn shows_counts_names_marks_and_symbols_of_sums(rt: HostRuntime) {
     let grammar = read_both(&rt, rt.alloc(), SUMS, "");
     check_names_and_marks(&rt, &grammar);
     check_sums(&rt, &grammar);

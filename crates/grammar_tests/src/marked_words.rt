@@ -25,7 +25,7 @@ fn check(
 }
 
 #[test]
-fn numbers_marked_words_behind_the_lines(rt: HostRuntime) {
+fn numbers_marked_words_after_the_lines(rt: HostRuntime) {
     let (t, any, maybe) = (
         Symbol::Nonterminal(1),
         Symbol::Nonterminal(2),

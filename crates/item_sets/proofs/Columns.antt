@@ -10,7 +10,7 @@ lookahead_at-suc a =
     let back : suc a - 1 ≡ a = omega arith in
     ap (λ b. if b then None else Some (suc a - 1)) off ∙ ap (λ n. Some n) back
 
--- a token rule stands in the column behind its number
+-- a token rule stands in the column after its number
 pub lookahead_at-rule : (a : ℕ) → lookahead_at (a + 1) ≡ Some a
 lookahead_at-rule a = let next : suc a ≡ a + 1 = omega arith in subst (λ n. lookahead_at n ≡ Some a) next (lookahead_at-suc a)
 

@@ -8,8 +8,8 @@ use Rattle.definitions.specs.Trees.{Grammar}
 use Rattle.definitions.specs.Derivations.{first}
 use Rattle.std.proofs.lemmas.List.Elements.{All-head}
 use Rattle.item_sets.specs.declared.item.Item.{Item}
-use Rattle.item_sets.specs.Sets.{IsItem, behind}
-use Rattle.item_sets.proofs.Known.{behind_known}
+use Rattle.item_sets.specs.Sets.{IsItem, after_dot}
+use Rattle.item_sets.proofs.InRange.{after_known}
 use Rattle.item_sets.specs.Productions.{Shape, IsSound, IsKnown}
 use Rattle.item_sets.specs.Symbols.{number, symbol_of}
 
@@ -30,6 +30,6 @@ first_known : (g : Shape) (s : Symbol) (ss : List Symbol) → All (IsKnown g) ss
 first_known g s [] h e = absurd (cc e)
 first_known g s (x ∷ ss) h e = let k : x ≡ s = cc e in subst (IsKnown g) k (All-head (IsKnown g) x ss h)
 
--- a symbol behind an item's place has a number
-pub behind_first_known : (g : Shape) → IsSound g → (i : Item) → IsItem g i → (s : Symbol) → first (behind g.grammar i) ≡ Some s → IsKnown g s
-behind_first_known g sound i h s = first_known g s (behind g.grammar i) (behind_known g sound i h)
+-- a symbol after an item's dot has a number
+pub after_first_known : (g : Shape) → IsSound g → (i : Item) → IsItem g i → (s : Symbol) → first (after_dot g.grammar i) ≡ Some s → IsKnown g s
+after_first_known g sound i h s = first_known g s (after_dot g.grammar i) (after_known g sound i h)

@@ -4,7 +4,7 @@ use Rattle.std.proofs.lemmas.List.Elements.{All-push, Contains-get_or}
 use Rattle.std.proofs.lemmas.List.Quantifiers.{all_pairs_push}
 use Rattle.definitions.proofs.Ordered.{Contains-cases}
 use Rattle.item_sets.specs.declared.item.Item.{Item}
-use Rattle.item_sets.specs.Wants.{beginning_of}
+use Rattle.item_sets.specs.Worklist.{beginning_of}
 use Rattle.item_sets.specs.States.{step}
 use Rattle.item_sets.specs.Lookaheads.{rank}
 use Rattle.item_sets.specs.Order.{Below, IsRising, IsBefore}
@@ -31,7 +31,7 @@ before_next p k i (inr (e, inl l)) = inr (e, inl (omega (arith, l)))
 before_next p k i (inr (e, inr (f, l))) = inr (e, inl (omega (arith, f)))
 
 module _ (p k : ℕ) (items : List Item) (rising : IsRising items) (before : All (IsBefore p k) items) where
-  -- a beginning goes behind the items so far
+  -- a beginning goes after the items so far
   pub rising_more : IsRising (items ++ beginning_of p k ∷ [])
   rising_more = all_pairs_push Below items (beginning_of p k) rising (λ j d l. before_below p k (slice_index_or items j d) (before j d l))
 
@@ -81,7 +81,7 @@ tail_within x y xs ys rising e to i c =
     (λ d. d)
     (Contains-cases y ys i (to i (there x xs i c)))
 
--- a list in order is told by its members
+-- a list in order is determined by its members
 pub rising_same : (xs ys : List Item) → IsRising xs → IsRising ys → ((i : Item) → Contains xs i → Contains ys i) → ((i : Item) → Contains ys i → Contains xs i) → xs ≡ ys
 rising_same [] [] h k to from = refl
 rising_same [] (y ∷ ys) h k to from = let l = (from y (here y ys)).1 in absurd (omega (arith, l))

@@ -10,7 +10,7 @@ use Rattle.theory.specs.Closure.{IsFirst, ByRules, Close}
 use Rattle.theory.proofs.Rules.{rules_valid, valid_rules}
 use Rattle.theory.proofs.Sets.{closed_set}
 use Rattle.theory.specs.Closure.{IsKernel}
-use Rattle.theory.proofs.Sound.{right_trees}
+use Rattle.theory.proofs.StackIsRead.{right_trees}
 use Rattle.theory.proofs.Simulation.{roots-trees}
 use Rattle.theory.proofs.FirstLemmas.{HasTrees, first_of_rules, first_by_rules}
 use Rattle.item_sets.specs.declared.item.Item.{Item}
@@ -20,7 +20,7 @@ use Rattle.theory.specs.First.{MayFollow}
 use Rattle.item_sets.specs.Sets.{side, item_of, IsItem, IsIn, Kernel, Closed}
 use Rattle.item_sets.specs.States.{HasKernel, HasSet}
 use Rattle.item_sets.proofs.Numbers.{has_production, production_is, production_below}
-use Rattle.item_sets.proofs.Known.{in_known}
+use Rattle.item_sets.proofs.InRange.{in_known}
 
 module _ (g : Grammar) where
   drop_trees : (n : ℕ) (ss : List Symbol) → HasTrees g ss → HasTrees g (drop n ss)

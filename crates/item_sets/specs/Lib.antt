@@ -3,7 +3,7 @@ pub mod Productions
 pub mod Lookaheads
 pub mod Sets
 pub mod Symbols
-pub mod Wants
+pub mod Worklist
 pub mod States
 pub mod Order
 pub mod Collection

@@ -8,7 +8,7 @@ use Rattle.theory.specs.Closure.{IsKernel}
 use Rattle.item_sets.specs.declared.item.Item.{Item}
 use Rattle.item_sets.specs.Order.{IsRising, IsOrdered}
 use Rattle.item_sets.specs.Productions.{Shape}
-use Rattle.item_sets.specs.Sets.{item_of, behind, IsItem}
+use Rattle.item_sets.specs.Sets.{item_of, after_dot, IsItem}
 
 -- these are the items valid for the prefix
 pub record HasSet (g : Grammar) (items : List Item) (prefix : List Symbol) : Type 0 where
@@ -25,16 +25,16 @@ step i = record { production = i.production; at = i.at + 1; look = i.look }
 
 -- the items that stand before the symbol s, with their places after it
 pub record Shifted (g : Grammar) (items : List Item) (s : Symbol) (kernel : List Item) : Type 0 where
-  pub each : (i : Item) → Contains kernel i → (j : Item) × Contains items j × (first (behind g j) ≡ Some s) × (step j ≡ i)
-  pub all : (j : Item) → Contains items j → first (behind g j) ≡ Some s → Contains kernel (step j)
+  pub each : (i : Item) → Contains kernel i → (j : Item) × Contains items j × (first (after_dot g j) ≡ Some s) × (step j ≡ i)
+  pub all : (j : Item) → Contains items j → first (after_dot g j) ≡ Some s → Contains kernel (step j)
 
 -- of the items before a place, those that stand before the symbol `s`, with their places after it, in order
 pub record ShiftsUpTo (g : Grammar) (items : List Item) (at : ℕ) (s : Symbol) (kernel : List Item) : Type 0 where
   pub rising : IsRising kernel
   pub each : (i : Item) → Contains kernel i
-      → (k : ℕ) × (k < at) × (k < length items) × (first (behind g (slice_index_or items k i)) ≡ Some s)
+      → (k : ℕ) × (k < at) × (k < length items) × (first (after_dot g (slice_index_or items k i)) ≡ Some s)
       × (step (slice_index_or items k i) ≡ i)
-  pub all : (k : ℕ) (d : Item) → k < at → first (behind g (slice_index_or items k d)) ≡ Some s
+  pub all : (k : ℕ) (d : Item) → k < at → first (after_dot g (slice_index_or items k d)) ≡ Some s
       → Contains kernel (step (slice_index_or items k d))
 
 -- these are, in order, the items of the set of each prefix with this kernel
@@ -44,6 +44,6 @@ pub record IsSetOf (g : Shape) (kernel items : List Item) : Type 0 where
   pub set : (prefix : List Symbol) → HasKernel g.grammar kernel prefix → HasSet g.grammar items prefix
 
 -- the kernel of each prefix whose set these items are, with the symbol s after it
-pub record IsKernelBehind (g : Shape) (items : List Item) (s : Symbol) (kernel : List Item) : Type 0 where
+pub record IsKernelAfter (g : Shape) (items : List Item) (s : Symbol) (kernel : List Item) : Type 0 where
   pub ordered : IsOrdered g kernel
   pub leads : (prefix : List Symbol) → HasSet g.grammar items prefix → HasKernel g.grammar kernel (prefix ++ s ∷ [])

@@ -4,7 +4,7 @@ ghost use Rattle.definitions.specs.Derivations.{first};
 ghost use Rattle.grammar.specs.Grammars.{left_of, right_of};
 ghost use Rattle.item_sets.specs.Lookaheads.{rank};
 ghost use Rattle.item_sets.specs.Productions.{IsKnown, IsSound, AreByLeft};
-ghost use Rattle.item_sets.specs.Sets.{IsItem, behind};
+ghost use Rattle.item_sets.specs.Sets.{IsItem, after_dot};
 ghost use Rattle.theory.specs.First.{MayFollow};
 
 use crate::first::First;
@@ -222,10 +222,10 @@ impl AugmentedGrammar {
         self.by_left[nonterminal].list()
     }
 
-    /// The symbol behind the item's place.
+    /// The symbol after the item's dot.
     pub fn next(&self, item: Item) -> Option<Symbol>
         requires { IsItem self.now item }
-        ensures next { result ≡ first (behind self.now.grammar item) }
+        ensures next { result ≡ first (after_dot self.now.grammar item) }
         ensures known { IfSome result (IsKnown self.now) }
         ensures fits { IfSome result (λ s. item.at + 1 < 2 ^ 64) }
     {

@@ -6,7 +6,7 @@ ghost use Rattle.item_sets.specs.Order.{IsOrdered};
 ghost use Rattle.item_sets.specs.States.{HasKernel, IsSetOf};
 
 use crate::augmented::AugmentedGrammar;
-use crate::goto::kernels_behind;
+use crate::goto::kernels_after;
 use crate::indices::StateNumber;
 use crate::item::Item;
 use crate::kernels::Kernels;
@@ -97,7 +97,7 @@ impl States {
         Ok(state)
     }
 
-    /// Where the symbol leads from a state, with this kernel behind it. A state that is met for the first time is added.
+    /// Where the symbol leads from a state, with this kernel after it. A state that is met for the first time is added.
     fn goto(
         &mut self,
         alloc: Global,
@@ -139,7 +139,7 @@ impl States {
         ensures goes_on { OnOk result (GoesOn self.old.kernels self.new.kernels) }
         ensures row { IfOk result (λ to. IsRow grammar.now self.new.kernels from to.items) }
     {
-        let kernels = kernels_behind(alloc, grammar, items)?;
+        let kernels = kernels_after(alloc, grammar, items)?;
         let mut to = Vec::new(alloc);
         for kernel in &kernels {
             let symbol = symbol_at(grammar, to.len());

@@ -2,9 +2,9 @@
 ghost use Rattle.std.specs.Prelude.{◌≡◌, ◌<◌, ◌≤◌, ◌↔◌, ℕ, Bool, true, false, List, [], Option, Some, None, length, All, IsTrue, IfOk, IfSome, slice_index_or, slice_set};
 ghost use Rattle.definitions.specs.declared.Symbol.{Symbol};
 ghost use Rattle.definitions.specs.Trees.{HasProduction};
-ghost use Rattle.item_sets.specs.First.{vanish_by, begin_by, holds_by, AreTrue, AreClosed, AreExact, AreFirst, unmarked};
+ghost use Rattle.item_sets.specs.First.{nullable_by, begin_by, holds_by, AreTrue, AreClosed, AreExact, AreFirst, unmarked};
 ghost use Rattle.theory.specs.First.{MayFollow};
-ghost use Rattle.theory.specs.First.{Vanishes, Begins};
+ghost use Rattle.theory.specs.First.{IsNullable, InFirst};
 ghost use Rattle.item_sets.specs.Productions.{IsSound, IsKnown};
 
 use crate::indices::ProductionNumber;
@@ -15,10 +15,10 @@ use std::alloc::{AllocError, Global};
 use std::marker::Model;
 
 /// Whether each symbol is a marked nonterminal.
-fn vanish(productions: &Productions, marks: &Marks, symbols: &[Symbol]) -> bool
+fn are_nullable(productions: &Productions, marks: &Marks, symbols: &[Symbol]) -> bool
     requires known { All (IsKnown productions.now) symbols.now }
     requires marks { length marks.now ≡ productions.now.nonterminals }
-    ensures { result ≡ vanish_by marks.now symbols.now }
+    ensures { result ≡ nullable_by marks.now symbols.now }
 {
     for s in symbols {
         match *s {
@@ -33,18 +33,18 @@ fn vanish(productions: &Productions, marks: &Marks, symbols: &[Symbol]) -> bool
     true
 }
 
-/// Whether the symbols begin with the token rule, or with a marked nonterminal, behind what can vanish.
+/// Whether the symbols begin with the token rule, or with a marked nonterminal, after nullable ones.
 fn begin(
     productions: &Productions,
     a: usize,
-    vanishing: &Marks,
+    nullable: &Marks,
     marks: &Marks,
     symbols: &[Symbol],
 ) -> bool
     requires known { All (IsKnown productions.now) symbols.now }
-    requires vanishing { length vanishing.now ≡ productions.now.nonterminals }
+    requires nullable { length nullable.now ≡ productions.now.nonterminals }
     requires marks { length marks.now ≡ productions.now.nonterminals }
-    ensures { result ≡ begin_by a vanishing.now marks.now symbols.now }
+    ensures { result ≡ begin_by a nullable.now marks.now symbols.now }
 {
     for s in symbols {
         match *s {
@@ -53,7 +53,7 @@ fn begin(
                 if marks.has(n) {
                     return true;
                 }
-                if !vanishing.has(n) {
+                if !nullable.has(n) {
                     return false;
                 }
             }
@@ -66,37 +66,32 @@ fn begin(
 fn holds(
     productions: &Productions,
     look: Option<usize>,
-    vanishing: &Marks,
+    nullable: &Marks,
     marks: &Marks,
     symbols: &[Symbol],
 ) -> bool
     requires known { All (IsKnown productions.now) symbols.now }
-    requires vanishing { length vanishing.now ≡ productions.now.nonterminals }
+    requires nullable { length nullable.now ≡ productions.now.nonterminals }
     requires marks { length marks.now ≡ productions.now.nonterminals }
-    ensures { result ≡ holds_by look vanishing.now marks.now symbols.now }
+    ensures { result ≡ holds_by look nullable.now marks.now symbols.now }
 {
     match look {
-        None => vanish(productions, marks, symbols),
-        Some(a) => begin(productions, a, vanishing, marks, symbols),
+        None => are_nullable(productions, marks, symbols),
+        Some(a) => begin(productions, a, nullable, marks, symbols),
     }
 }
 
-/// Marks the left sides of the productions of which it holds, and tells whether one is new.
-fn pass(
-    productions: &Productions,
-    look: Option<usize>,
-    vanishing: &Marks,
-    marks: &mut Marks,
-) -> bool
+/// Marks the left sides of the productions of which it holds, and returns whether one is new.
+fn pass(productions: &Productions, look: Option<usize>, nullable: &Marks, marks: &mut Marks) -> bool
     requires sound { IsSound productions.now }
-    requires vanishing { length vanishing.now ≡ productions.now.nonterminals }
+    requires nullable { length nullable.now ≡ productions.now.nonterminals }
     requires marks { length marks.old ≡ productions.now.nonterminals }
-    requires vanish { AreTrue productions.now.grammar None vanishing.now }
+    requires are_nullable { AreTrue productions.now.grammar None nullable.now }
     requires held { AreTrue productions.now.grammar look marks.old }
     ensures marks { length marks.new ≡ productions.now.nonterminals }
     ensures held { AreTrue productions.now.grammar look marks.new }
     ensures closed { result ≡ false
-        → AreClosed productions.now.grammar look vanishing.now marks.new }
+        → AreClosed productions.now.grammar look nullable.now marks.new }
     ensures at_most { unmarked marks.new ≤ unmarked marks.old }
     ensures fewer { result ≡ true → unmarked marks.new < unmarked marks.old }
 {
@@ -105,7 +100,7 @@ fn pass(
         let p = ProductionNumber::new(index);
         let left = productions.left(p);
         if !marks.has(left) {
-            if holds(productions, look, vanishing, marks, productions.right(p)) {
+            if holds(productions, look, nullable, marks, productions.right(p)) {
                 marks.mark(left);
                 changed = true;
             }
@@ -119,19 +114,19 @@ fn fixpoint(
     alloc: Global,
     productions: &Productions,
     look: Option<usize>,
-    vanishing: &Marks,
+    nullable: &Marks,
 ) -> Result<Marks, AllocError>
     requires sound { IsSound productions.now }
-    requires vanishing { length vanishing.now ≡ productions.now.nonterminals }
-    requires vanish { AreTrue productions.now.grammar None vanishing.now }
+    requires nullable { length nullable.now ≡ productions.now.nonterminals }
+    requires are_nullable { AreTrue productions.now.grammar None nullable.now }
     ensures marks { IfOk result (λ m. length m ≡ productions.now.nonterminals) }
     ensures held { IfOk result (AreTrue productions.now.grammar look) }
-    ensures closed { IfOk result (AreClosed productions.now.grammar look vanishing.now) }
+    ensures closed { IfOk result (AreClosed productions.now.grammar look nullable.now) }
 {
     let mut marks = Marks::blank(alloc, productions.nonterminals())?;
     let mut more = true;
     while more {
-        more = pass(productions, look, vanishing, &mut marks);
+        more = pass(productions, look, nullable, &mut marks);
     }
     Ok(marks)
 }
@@ -140,7 +135,7 @@ fn fixpoint(
 #[derive(Drop)]
 pub struct First {
     /// The nonterminals that can vanish.
-    vanishing: Marks,
+    nullable: Marks,
     /// For each token rule the nonterminals that can begin with it.
     beginning: Vec<Marks>,
 }
@@ -150,7 +145,7 @@ impl Model for First {
 
     ghost Value = { FirstSets };
 
-    ghost view = { λ a. record { vanishing = a.vanishing; beginning = a.beginning.items } };
+    ghost view = { λ a. record { nullable = a.nullable; beginning = a.beginning.items } };
 }
 
 impl First {
@@ -160,22 +155,22 @@ impl First {
         ensures { IfOk result (AreFirst productions.now) }
     {
         let blank = Marks::blank(alloc, productions.nonterminals())?;
-        let vanishing = fixpoint(alloc, productions, None, &blank)?;
+        let nullable = fixpoint(alloc, productions, None, &blank)?;
         let mut rows = Vec::new(alloc);
         for a in 0..productions.rules() {
-            rows.push(fixpoint(alloc, productions, Some(a), &vanishing)?)?;
+            rows.push(fixpoint(alloc, productions, Some(a), &nullable)?)?;
         }
         Ok(First {
-            vanishing,
+            nullable,
             beginning: rows,
         })
     }
 
     /// The nonterminals that can vanish.
-    fn vanishing(&self) -> &Marks
-        ensures { result.now ≡ self.now.vanishing }
+    fn nullable(&self) -> &Marks
+        ensures { result.now ≡ self.now.nullable }
     {
-        &self.vanishing
+        &self.nullable
     }
 
     /// The nonterminals that can begin with this token rule.
@@ -187,12 +182,12 @@ impl First {
     }
 
     /// Whether the symbols can vanish.
-    fn vanishes(&self, productions: &Productions, symbols: &[Symbol]) -> bool
+    fn is_nullable(&self, productions: &Productions, symbols: &[Symbol]) -> bool
         requires first { AreFirst productions.now self.now }
         requires known { All (IsKnown productions.now) symbols.now }
-        ensures { IsTrue result ↔ Vanishes productions.now.grammar symbols.now }
+        ensures { IsTrue result ↔ IsNullable productions.now.grammar symbols.now }
     {
-        vanish(productions, self.vanishing(), symbols)
+        are_nullable(productions, self.nullable(), symbols)
     }
 
     /// Whether the symbols can begin with this token rule.
@@ -200,9 +195,9 @@ impl First {
         requires first { AreFirst productions.now self.now }
         requires known { All (IsKnown productions.now) symbols.now }
         requires rule { a < productions.now.grammar.rules }
-        ensures { IsTrue result ↔ Begins productions.now.grammar a symbols.now }
+        ensures { IsTrue result ↔ InFirst productions.now.grammar a symbols.now }
     {
-        begin(productions, a, self.vanishing(), self.beginning(a), symbols)
+        begin(productions, a, self.nullable(), self.beginning(a), symbols)
     }
 
     /// Whether `a` can follow: it begins the symbols, or they can vanish and `look` is `a`.
@@ -226,7 +221,7 @@ impl First {
             return true;
         }
         if look == a {
-            return self.vanishes(productions, symbols);
+            return self.is_nullable(productions, symbols);
         }
         false
     }

@@ -2,7 +2,7 @@
 ghost use Rattle.std.specs.Prelude.{◌≡◌, ◌<◌, ◌+◌, ◌∷◌, ◌++◌, ℕ, [], All, IfOk, OnOk, length, slice_index_or};
 ghost use Rattle.item_sets.specs.Order.{IsRising};
 ghost use Rattle.item_sets.specs.Sets.{IsItem};
-ghost use Rattle.item_sets.specs.States.{IsKernelBehind};
+ghost use Rattle.item_sets.specs.States.{IsKernelAfter};
 ghost use Rattle.item_sets.specs.Symbols.{symbol_of};
 
 use crate::augmented::AugmentedGrammar;
@@ -65,8 +65,8 @@ fn empty_kernels(alloc: Global, count: usize) -> Result<Vec<Kernel>, AllocError>
     Ok(kernels)
 }
 
-/// The kernels behind the symbols, by the numbers of these.
-pub fn kernels_behind(
+/// The kernels after the symbols, by the numbers of these.
+pub fn kernels_after(
     alloc: Global,
     grammar: &AugmentedGrammar,
     items: &[Item],
@@ -76,7 +76,7 @@ pub fn kernels_behind(
     ensures count { IfOk result (λ kernels. length kernels.items
         ≡ grammar.now.grammar.rules + grammar.now.nonterminals) }
     ensures each { IfOk result (λ kernels. (k : ℕ) → k < length kernels.items
-        → IsKernelBehind grammar.now items.now (symbol_of grammar.now.grammar k)
+        → IsKernelAfter grammar.now items.now (symbol_of grammar.now.grammar k)
         (slice_index_or kernels.items k [])) }
 {
     let mut kernels = empty_kernels(alloc, grammar.symbols())?;

@@ -33,7 +33,7 @@ mod lookahead;
 mod marks;
 mod productions;
 mod symbols;
-mod wanted;
+mod worklist;
 
 pub use augmented::AugmentedGrammar;
 pub use closure::close;

@@ -45,8 +45,8 @@ not_rejoined e xs q h = elim (cases_Bool (is_rejoined e (plain_all xs) q)) [
   | inr no' ↦ no'
 ]
 
-pub not_behind : (e : Edit) (xs : List Token) (q : ℕ) → q < e.at + e.inserted → is_rejoined e (plain_all xs) q ≡ false
-not_behind e xs q l = elim (cases_Bool (is_rejoined e (plain_all xs) q)) [
+pub not_after : (e : Edit) (xs : List Token) (q : ℕ) → q < e.at + e.inserted → is_rejoined e (plain_all xs) q ≡ false
+not_after e xs q l = elim (cases_Bool (is_rejoined e (plain_all xs) q)) [
   | inl yes' ↦ let parts = and_parts _ _ yes' in let le : e.at + e.inserted ≤ q = leb-true _ _ parts.0 in absurd (omega arith)
   | inr no' ↦ no'
 ]

@@ -6,16 +6,16 @@ use Rattle.definitions.specs.declared.expression.Expression.{Expression}
 use Rattle.definitions.specs.declared.Kind.{Kind}
 use Rattle.definitions.specs.declared.Kind.TheVariants.{Rule, Invalid}
 use Rattle.definitions.specs.Text.{IsCharacter, IsText}
-use Rattle.definitions.specs.Tokens.{IsRuleFront, IsPiece, Token, IsToken, AreTokens}
+use Rattle.definitions.specs.Tokens.{IsRulePrefix, IsPiece, Token, IsToken, AreTokens}
 use Rattle.dfa.specs.Table.{Table, follower, state_after, IsAutomaton, kind_of}
-use Rattle.dfa.proofs.Best.{IsBest, Ends, best_none, best_more_none, best_more_some, fronts_more, more_state, more_front, more_first, more_dead, piece_of, reach_of, state_after-none}
+use Rattle.dfa.proofs.LongestMatch.{IsBest, Ends, best_none, best_more_none, best_more_some, prefixes_more, more_state, more_prefix, more_first, more_dead, piece_of, reach_of, state_after-none}
 
 module _ (rules : List Expression) (table : Table) (a : IsAutomaton rules table) where
-  -- the run over the first n characters of t: its state, and the best of their fronts
+  -- the run over the first n characters of t: its state, and the best of their prefixes
   record Run (t : List ℕ) (n : ℕ) : Type 0 where
     state : ℕ
     is : state_after table (take n t) ≡ Some state
-    fronts : (m : ℕ) → 1 ≤ m → m ≤ n → IsRuleFront rules (take m t)
+    prefixes : (m : ℕ) → 1 ≤ m → m ≤ n → IsRulePrefix rules (take m t)
     rule : Option ℕ
     count : ℕ
     best : IsBest rules t n rule count
@@ -24,7 +24,7 @@ module _ (rules : List Expression) (table : Table) (a : IsAutomaton rules table)
   record Ended (t : List ℕ) : Type 0 where
     read : ℕ
     inside : read ≤ length t
-    fronts : (m : ℕ) → 1 ≤ m → m ≤ read → IsRuleFront rules (take m t)
+    prefixes : (m : ℕ) → 1 ≤ m → m ≤ read → IsRulePrefix rules (take m t)
     rule : Option ℕ
     count : ℕ
     best : IsBest rules t read rule count
@@ -34,21 +34,21 @@ module _ (rules : List Expression) (table : Table) (a : IsAutomaton rules table)
   begin t = record {
     state = 0;
     is = state_after-none table;
-    fronts = λ m p q. absurd (omega arith);
+    prefixes = λ m p q. absurd (omega arith);
     rule = None;
     count = min (length t) 1;
     best = best_none rules t (min (length t) 1) refl;
   }
 
   end : (t : List ℕ) (n : ℕ) → n ≤ length t → Ends rules t n → Run t n → Ended t
-  end t n l e r = record { read = n; inside = l; fronts = r.fronts; rule = r.rule; count = r.count; best = r.best; ends = e }
+  end t n l e r = record { read = n; inside = l; prefixes = r.prefixes; rule = r.rule; count = r.count; best = r.best; ends = e }
 
   module _ (t : List ℕ) (text : IsText t) (n : ℕ) (r : Run t n) (l : n < length t) where
     next : (x : ℕ) → follower table r.state (slice_index t n) ≡ Some x → (o : Option ℕ) → slice_index_or table.accepts x None ≡ o → Run t (n + 1)
     next x f None e = record {
       state = x;
       is = more_state rules table a t n r.state (slice_index t n) (All-take IsCharacter n t text) (text n 0 l) l refl r.is (Some x) f;
-      fronts = fronts_more rules t n r.fronts (more_front rules table a t n r.state (slice_index t n) (All-take IsCharacter n t text) (text n 0 l) l refl r.is x f);
+      prefixes = prefixes_more rules t n r.prefixes (more_prefix rules table a t n r.state (slice_index t n) (All-take IsCharacter n t text) (text n 0 l) l refl r.is x f);
       rule = r.rule;
       count = r.count;
       best = best_more_none rules t n r.rule r.count r.best (more_first rules table a t n r.state (slice_index t n) (All-take IsCharacter n t text) (text n 0 l) l refl r.is x None f e);
@@ -56,7 +56,7 @@ module _ (rules : List Expression) (table : Table) (a : IsAutomaton rules table)
     next x f (Some k) e = record {
       state = x;
       is = more_state rules table a t n r.state (slice_index t n) (All-take IsCharacter n t text) (text n 0 l) l refl r.is (Some x) f;
-      fronts = fronts_more rules t n r.fronts (more_front rules table a t n r.state (slice_index t n) (All-take IsCharacter n t text) (text n 0 l) l refl r.is x f);
+      prefixes = prefixes_more rules t n r.prefixes (more_prefix rules table a t n r.state (slice_index t n) (All-take IsCharacter n t text) (text n 0 l) l refl r.is x f);
       rule = Some k;
       count = n + 1;
       best = best_more_some rules t n k (more_first rules table a t n r.state (slice_index t n) (All-take IsCharacter n t text) (text n 0 l) l refl r.is x (Some k) f e);
@@ -78,7 +78,7 @@ module _ (rules : List Expression) (table : Table) (a : IsAutomaton rules table)
         record { kind = kind_of d.rule; length = d.count; reach = d.read + 1 },
         record {
           piece = piece_of rules t d.read d.rule d.count d.best d.ends d.inside some;
-          reach = reach_of rules t d.read d.fronts d.ends;
+          reach = reach_of rules t d.read d.prefixes d.ends;
         },
       )
 

@@ -1,5 +1,5 @@
 -- What a rescan has made, at a place where no rejoining has been.
-use Rattle.definitions.proofs.TokensLead.{GoOn, before_rejoin, chars, chars-cons, chars_from, front_before, front_leads, leads_inside, leads_join, leads_split, length-placed, placed_at}
+use Rattle.definitions.proofs.TokensLead.{GoOn, before_rejoin, chars, chars-cons, chars_from, prefix_before, prefix_leads, leads_inside, leads_join, leads_split, length-placed, placed_at}
 use Rattle.definitions.specs.Tokens.{Leads}
 use Rattle.definitions.proofs.TokensKept.{length-edit}
 use Rattle.std.specs.Prelude.{◌≡◌, ℕ, zero, suc, ◌+◌, ◌-◌, ◌<◌, ◌≤◌, ◌^◌, Bool, true, false, List, [], ◌∷◌, ◌++◌, length, take, drop, slice_get, slice_index_or, IsSomeAnd}
@@ -12,16 +12,16 @@ use Rattle.definitions.specs.declared.Edit.{Edit}
 use Rattle.definitions.specs.declared.expression.Expression.{Expression}
 use Rattle.definitions.specs.Text.{edit}
 use Rattle.definitions.specs.Tokens.{Token as PlainToken, Placed, IsToken, AreTokens, placed, boundaries}
-use Rattle.definitions.specs.TokenEdits.{front, is_rejoined}
+use Rattle.definitions.specs.TokenEdits.{kept_before, is_rejoined}
 use Rattle.definitions.proofs.TokensKept.{boundaries-end, length-boundaries}
 use Rattle.dfa.specs.Windows.{IsWithinReach}
 use Rattle.lexer.specs.declared.sums.Token.{Token}
 use Rattle.lexer.specs.Tokens.{plain, characters, Fits}
-use Rattle.lexer.specs.Rescans.{plain_all, front_end, IsEdited, IsNeeded, IsReachedByMade}
+use Rattle.lexer.specs.Rescans.{plain_all, prefix_end, IsEdited, IsNeeded, IsReachedByMade}
 use Rattle.lexer.specs.Walks.{IsPassed, horizon}
 use Rattle.lexer.proofs.Totals.{characters-cons}
-use Rattle.lexer.proofs.Boundaries.{length-plain, boundary_at, not_behind, is_rejoined_at}
-use Rattle.lexer.proofs.Fronts.{within_token}
+use Rattle.lexer.proofs.Boundaries.{length-plain, boundary_at, not_after, is_rejoined_at}
+use Rattle.lexer.proofs.WithinReach.{within_token}
 
 pub chars-plain : (xs : List Token) → chars (plain_all xs) ≡ characters xs
 chars-plain [] = refl
@@ -43,27 +43,27 @@ module _ (rules : List Expression) (skips : List Bool) (e : Edit) (items : List 
   pub removed_fits : Fits items → e.at + e.removed ≤ 2 ^ 30
   removed_fits f = omega (arith, tokens_length rules h.text items h.tokens.tokens, f.short, h.inside)
 
-  front_all : Leads rules u (plain_all (take (front e (plain_all items)) items))
-  front_all =
-      subst (λ v. Leads rules v (plain_all (take (front e (plain_all items)) items))) (sym h.new_text)
-      (subst (λ xs. Leads rules (edit h.text e.at (e.at + e.removed) h.piece) xs) (sym (plain-take (front e (plain_all items)) items))
-      (front_leads rules h.text h.piece e (plain_all items) h.inside h.tokens.tokens))
+  prefix_all : Leads rules u (plain_all (take (kept_before e (plain_all items)) items))
+  prefix_all =
+      subst (λ v. Leads rules v (plain_all (take (kept_before e (plain_all items)) items))) (sym h.new_text)
+      (subst (λ xs. Leads rules (edit h.text e.at (e.at + e.removed) h.piece) xs) (sym (plain-take (kept_before e (plain_all items)) items))
+      (prefix_leads rules h.text h.piece e (plain_all items) h.inside h.tokens.tokens))
 
-  pub front_inside : front_end e items ≤ length u
-  front_inside = subst (λ n. n ≤ length u) (chars-plain (take (front e (plain_all items)) items)) (leads_inside rules u (plain_all (take (front e (plain_all items)) items)) front_all)
+  pub prefix_inside : prefix_end e items ≤ length u
+  prefix_inside = subst (λ n. n ≤ length u) (chars-plain (take (kept_before e (plain_all items)) items)) (leads_inside rules u (plain_all (take (kept_before e (plain_all items)) items)) prefix_all)
 
-  pub front-le : front e (plain_all items) ≤ length items
-  front-le = omega (arith, prefix_len-le-length {X = Placed}, length-placed 0 (plain_all items), length-plain items)
+  pub kept_before-le : kept_before e (plain_all items) ≤ length items
+  kept_before-le = omega (arith, prefix_len-le-length {X = Placed}, length-placed 0 (plain_all items), length-plain items)
 
-  -- the tokens that are kept in front start before the edit, and no old token is looked for there
-  pub front_passed : (place at : ℕ) → place ≡ front e (plain_all items) → IsPassed (horizon e at) (record { items = items; place = place })
-  front_passed place at same j l =
-      let inside : j < front e (plain_all items) = omega (arith, same) in
-      let start = boundary_at items j 0 (omega (arith, front-le)) in
-      omega (arith, front_before rules h.text e (plain_all items) j h.tokens.tokens inside, start)
+  -- the first tokens, which are kept, start before the edit, and no old token is looked for there
+  pub prefix_passed : (place at : ℕ) → place ≡ kept_before e (plain_all items) → IsPassed (horizon e at) (record { items = items; place = place })
+  prefix_passed place at same j l =
+      let inside : j < kept_before e (plain_all items) = omega (arith, same) in
+      let start = boundary_at items j 0 (omega (arith, kept_before-le)) in
+      omega (arith, prefix_before rules h.text e (plain_all items) j h.tokens.tokens inside, start)
 
-  pub all_lead : (made : List Token) → Leads rules (drop (front_end e items) u) (plain_all made) → Leads rules u (plain_all (take (front e (plain_all items)) items) ++ plain_all made)
-  all_lead made m = leads_join rules u (plain_all (take (front e (plain_all items)) items)) (plain_all made) front_all (subst (λ n. Leads rules (drop n u) (plain_all made)) (sym (chars-plain (take (front e (plain_all items)) items))) m)
+  pub all_lead : (made : List Token) → Leads rules (drop (prefix_end e items) u) (plain_all made) → Leads rules u (plain_all (take (kept_before e (plain_all items)) items) ++ plain_all made)
+  all_lead made m = leads_join rules u (plain_all (take (kept_before e (plain_all items)) items)) (plain_all made) prefix_all (subst (λ n. Leads rules (drop n u) (plain_all made)) (sym (chars-plain (take (kept_before e (plain_all items)) items))) m)
 
   pub end_rejoins : is_rejoined e (plain_all items) (length u) ≡ true
   end_rejoins =
@@ -78,57 +78,57 @@ module _ (rules : List Expression) (skips : List Bool) (e : Edit) (items : List 
       omega (arith, long, sum, h.inserted)
 
   -- The boundaries of the new tokens up to the place that has been reached are no places of rejoining.
-  module _ (made : List Token) (m : Leads rules (drop (front_end e items) u) (plain_all made))
-      (earlier : (k : ℕ) → k < length made → is_rejoined e (plain_all items) (front_end e items + characters (take k made)) ≡ false)
-      (here : is_rejoined e (plain_all items) (front_end e items + characters made) ≡ false) where
+  module _ (made : List Token) (m : Leads rules (drop (prefix_end e items) u) (plain_all made))
+      (earlier : (k : ℕ) → k < length made → is_rejoined e (plain_all items) (prefix_end e items + characters (take k made)) ≡ false)
+      (here : is_rejoined e (plain_all items) (prefix_end e items + characters made) ≡ false) where
     abbrev kept : List Token
-    kept = take (front e (plain_all items)) items
+    kept = take (kept_before e (plain_all items)) items
 
-    many : length kept ≡ front e (plain_all items)
-    many = length-take (front e (plain_all items)) items ∙ omega (arith, front-le)
+    many : length kept ≡ kept_before e (plain_all items)
+    many = length-take (kept_before e (plain_all items)) items ∙ omega (arith, kept_before-le)
 
-    up_to : (j : ℕ) → j ≤ length made → is_rejoined e (plain_all items) (front_end e items + characters (take j made)) ≡ false
+    up_to : (j : ℕ) → j ≤ length made → is_rejoined e (plain_all items) (prefix_end e items + characters (take j made)) ≡ false
     up_to j l = elim (cases_lt j (length made)) [
       | inl lt ↦ earlier j lt
-      | inr ge ↦ subst (λ ys. is_rejoined e (plain_all items) (front_end e items + characters ys) ≡ false) (sym (take_all j made ge)) here
+      | inr ge ↦ subst (λ ys. is_rejoined e (plain_all items) (prefix_end e items + characters ys) ≡ false) (sym (take_all j made ge)) here
     ]
 
     not_here : (i : ℕ) → i ≤ length (kept ++ made) → is_rejoined e (plain_all items) (characters (take i (kept ++ made))) ≡ false
     not_here i l = elim (cases_lt i (length kept)) [
       | inl lt ↦
           let fits : i ≤ length kept = omega arith in
-          let front_only : take i (kept ++ made) ≡ take i kept = take-append-le i kept made fits in
-          let shorter : take i kept ≡ take i items = take-take i (front e (plain_all items)) items (omega (arith, many)) in
-          let at : slice_index_or (boundaries 0 (plain_all items)) i 0 ≡ characters (take i items) = boundary_at items i 0 (omega (arith, many, front-le)) in
-          let low : slice_index_or (boundaries 0 (plain_all items)) i 0 < e.at = front_before rules h.text e (plain_all items) i h.tokens.tokens (omega (arith, many)) in
-          not_behind e items (characters (take i (kept ++ made))) (omega (arith, low, at, ap characters front_only, ap characters shorter))
+          let prefix_only : take i (kept ++ made) ≡ take i kept = take-append-le i kept made fits in
+          let shorter : take i kept ≡ take i items = take-take i (kept_before e (plain_all items)) items (omega (arith, many)) in
+          let at : slice_index_or (boundaries 0 (plain_all items)) i 0 ≡ characters (take i items) = boundary_at items i 0 (omega (arith, many, kept_before-le)) in
+          let low : slice_index_or (boundaries 0 (plain_all items)) i 0 < e.at = prefix_before rules h.text e (plain_all items) i h.tokens.tokens (omega (arith, many)) in
+          not_after e items (characters (take i (kept ++ made))) (omega (arith, low, at, ap characters prefix_only, ap characters shorter))
       | inr ge ↦
           let j = i - length kept in
           let is : i ≡ length kept + j = omega arith in
           let both : take i (kept ++ made) ≡ kept ++ take j made = ap (λ n. take n (kept ++ made)) is ∙ take-append-add kept made j in
-          let sum : characters (take i (kept ++ made)) ≡ front_end e items + characters (take j made) = ap characters both ∙ sum_by-append (λ x. x.length) kept (take j made) in
+          let sum : characters (take i (kept ++ made)) ≡ prefix_end e items + characters (take j made) = ap characters both ∙ sum_by-append (λ x. x.length) kept (take j made) in
           subst (λ n. is_rejoined e (plain_all items) n ≡ false) (sym sum) (up_to j (omega (arith, length-append kept made)))
     ]
 
     joined : plain_all (kept ++ made) ≡ plain_all kept ++ plain_all made
     joined = map-append plain kept made
 
-    -- behind them stands a token whose reach holds what is within the reach there
-    reached_by : (i : ℕ) → front_end e items + characters made < length u → IsWithinReach rules u (front_end e items + characters made) i
+    -- after them stands a token whose reach holds what is within the reach there
+    reached_by : (i : ℕ) → prefix_end e items + characters made < length u → IsWithinReach rules u (prefix_end e items + characters made) i
         → (new : List PlainToken) → AreTokens rules u new → IsReachedByMade e (plain_all items) new i
     reached_by i lt w new p = go later.rest later.joined later.tokens
       where
         later : GoOn rules u (plain_all kept ++ plain_all made) new
         later = leads_split rules u (plain_all kept ++ plain_all made) new (all_lead made m) p
 
-        sum : chars (plain_all kept ++ plain_all made) ≡ front_end e items + characters made
+        sum : chars (plain_all kept ++ plain_all made) ≡ prefix_end e items + characters made
         sum = ap chars (sym joined) ∙ chars-plain (kept ++ made) ∙ sum_by-append (λ x. x.length) kept made
 
         go : (rest : List PlainToken) → new ≡ (plain_all kept ++ plain_all made) ++ rest → AreTokens rules (drop (chars (plain_all kept ++ plain_all made)) u) rest → IsReachedByMade e (plain_all items) new i
         go [] is q = absurd (omega (arith, ap length q, length-drop (chars (plain_all kept ++ plain_all made)) u, sum, lt))
         go (y ∷ ys) is q =
-            let at : IsToken rules (drop (front_end e items + characters made) u) y = subst (λ n. IsToken rules (drop n u) y) sum q.0 in
-            let past : i < front_end e items + characters made + y.reach = within_token rules u (front_end e items + characters made) i y.reach (omega arith) w at.reach in
+            let at : IsToken rules (drop (prefix_end e items + characters made) u) y = subst (λ n. IsToken rules (drop n u) y) sum q.0 in
+            let past : i < prefix_end e items + characters made + y.reach = within_token rules u (prefix_end e items + characters made) i y.reach (omega arith) w at.reach in
             let k = length (plain_all kept ++ plain_all made) in
             let size : k ≡ length (kept ++ made) = ap length (sym joined) ∙ length-plain (kept ++ made) in
             let long : length new ≡ k + length (y ∷ ys) = ap length is ∙ length-append (plain_all kept ++ plain_all made) (y ∷ ys) in (
@@ -143,8 +143,8 @@ module _ (rules : List Expression) (skips : List Bool) (e : Edit) (items : List 
                   (placed_at 0 (plain_all kept ++ plain_all made) y ys (λ x. i < x.start + x.token.reach) (omega (arith, sum, past))),
             )
 
-    pub needed : (i : ℕ) → front_end e items + characters made < length u → IsWithinReach rules u (front_end e items + characters made) i → IsNeeded rules e items u i
-    needed i lt w = record { behind = omega (arith, w.behind); inside = w.inside; reached = reached_by i lt w }
+    pub needed : (i : ℕ) → prefix_end e items + characters made < length u → IsWithinReach rules u (prefix_end e items + characters made) i → IsNeeded rules e items u i
+    needed i lt w = record { past = omega (arith, w.past); inside = w.inside; reached = reached_by i lt w }
 
 pub earlier_one : (e : Edit) (items : List Token) (from : ℕ) (made : List Token) (x : Token)
     → ((k : ℕ) → k < length made → is_rejoined e (plain_all items) (from + characters (take k made)) ≡ false)

@@ -1,5 +1,5 @@
 -- The tokens after a rescan are those of the edited text, and the kept ones are those that the edit keeps.
-use Rattle.definitions.proofs.TokensLead.{chars, front_before, leads_tokens}
+use Rattle.definitions.proofs.TokensLead.{chars, prefix_before, leads_tokens}
 use Rattle.std.specs.Prelude.{◌≡◌, ℕ, zero, suc, ◌+◌, ◌-◌, ◌<◌, ◌≤◌, ◌⊎◌, ◌^◌, Bool, true, false, List, [], ◌∷◌, ◌++◌, length, take, drop, slice_range, slice_index_or, All, count_by, if◌then◌else◌}
 use Rattle.std.proofs.Common.{arith, refl, sym, ap, subst, inl, inr, ◌∙◌, length-append, length-drop}
 use Rattle.std.proofs.lemmas.Bool.{cases_lt, and_parts, leb-true, false≢true}
@@ -11,15 +11,15 @@ use Rattle.definitions.specs.declared.Edit.{Edit}
 use Rattle.definitions.specs.declared.expression.Expression.{Expression}
 use Rattle.definitions.specs.Text.{edit}
 use Rattle.definitions.specs.Tokens.{AreTokens, boundaries, is_skipped, kinds}
-use Rattle.definitions.specs.TokenEdits.{front, is_rejoined, rejoin, same_kinds, gone, made as made_by, Splice, splice}
+use Rattle.definitions.specs.TokenEdits.{kept_before, is_rejoined, rejoin, same_kinds, gone, made as made_by, Splice, splice}
 use Rattle.definitions.proofs.TokensKept.{length-boundaries, AreTokens-drop, drop-edit}
 use Rattle.lexer.specs.declared.sums.Token.{Token}
 use Rattle.lexer.specs.Tokens.{plain, is_significant, characters, Fits}
-use Rattle.lexer.specs.Rescans.{plain_all, front_end, significant_kinds, change, IsEdited, IsRemade, AreRescanned}
+use Rattle.lexer.specs.Rescans.{plain_all, prefix_end, significant_kinds, change, IsEdited, IsRemade, AreRescanned}
 use Rattle.lexer.proofs.SignificantKinds.{length-kinds, kinds_plain, count_range}
 use Rattle.definitions.specs.declared.Kind.{Kind}
-use Rattle.lexer.proofs.Boundaries.{length-plain, boundary_at, not_behind}
-use Rattle.lexer.proofs.Remakes.{chars-plain, plain-take, all_lead, front-le, tokens_length}
+use Rattle.lexer.proofs.Boundaries.{length-plain, boundary_at, not_after}
+use Rattle.lexer.proofs.Remakes.{chars-plain, plain-take, all_lead, kept_before-le, tokens_length}
 
 plain-drop : (n : ℕ) (xs : List Token) → plain_all (drop n xs) ≡ drop n (plain_all xs)
 plain-drop zero xs = refl
@@ -32,29 +32,29 @@ replaced from to before after = if same_kinds before after then record { from = 
 
 module _ (rules : List Expression) (skips : List Bool) (e : Edit) (items : List Token) (u : List ℕ) (h : IsEdited rules skips e items u) (made : List Token) (to : ℕ) (r : IsRemade rules skips e items u made to) where
   abbrev kept : List Token
-  kept = take (front e (plain_all items)) items
+  kept = take (kept_before e (plain_all items)) items
 
   abbrev new : List Token
   new = kept ++ (made ++ drop to items)
 
-  many : length kept ≡ front e (plain_all items)
-  many = length-take (front e (plain_all items)) items ∙ omega (arith, front-le rules skips e items u h)
+  many : length kept ≡ kept_before e (plain_all items)
+  many = length-take (kept_before e (plain_all items)) items ∙ omega (arith, kept_before-le rules skips e items u h)
 
-  sum : chars (plain_all kept ++ plain_all made) ≡ front_end e items + characters made
+  sum : chars (plain_all kept ++ plain_all made) ≡ prefix_end e items + characters made
   sum = ap chars (sym (map-append plain kept made)) ∙ chars-plain (kept ++ made) ∙ sum_by-append (λ x. x.length) kept made
 
-  behind : e.at + e.inserted ≤ front_end e items + characters made
-  behind = leb-true _ _ (and_parts _ _ r.rejoins).0
+  past : e.at + e.inserted ≤ prefix_end e items + characters made
+  past = leb-true _ _ (and_parts _ _ r.rejoins).0
 
-  -- behind the place of rejoining both texts are the same
-  same_tail : drop (front_end e items + characters made) u ≡ drop (characters (take to items)) h.text
+  -- after the place of rejoining both texts are the same
+  same_tail : drop (prefix_end e items + characters made) u ≡ drop (characters (take to items)) h.text
   same_tail =
-      let k = front_end e items + characters made - (e.at + e.inserted) in
-      let here : front_end e items + characters made ≡ e.at + length h.piece + k = omega (arith, behind, h.inserted) in
-      let there : e.at + e.removed + k ≡ characters (take to items) = omega (arith, behind, r.moved) in
-      ap (λ v. drop (front_end e items + characters made) v) h.new_text ∙ ap (λ n. drop n (edit h.text e.at (e.at + e.removed) h.piece)) here ∙ drop-edit h.text h.piece e.at (e.at + e.removed) k (omega (arith, h.inside)) ∙ ap (λ n. drop n h.text) there
+      let k = prefix_end e items + characters made - (e.at + e.inserted) in
+      let here : prefix_end e items + characters made ≡ e.at + length h.piece + k = omega (arith, past, h.inserted) in
+      let there : e.at + e.removed + k ≡ characters (take to items) = omega (arith, past, r.moved) in
+      ap (λ v. drop (prefix_end e items + characters made) v) h.new_text ∙ ap (λ n. drop n (edit h.text e.at (e.at + e.removed) h.piece)) here ∙ drop-edit h.text h.piece e.at (e.at + e.removed) k (omega (arith, h.inside)) ∙ ap (λ n. drop n h.text) there
 
-  tail_tokens : AreTokens rules (drop (front_end e items + characters made) u) (plain_all (drop to items))
+  tail_tokens : AreTokens rules (drop (prefix_end e items + characters made) u) (plain_all (drop to items))
   tail_tokens =
       let old : AreTokens rules (drop (slice_index_or (boundaries 0 (plain_all items)) to 0) h.text) (drop to (plain_all items)) = AreTokens-drop rules h.text 0 0 to (plain_all items) h.tokens.tokens (omega (arith, length-plain items, r.within)) in
       let placed : AreTokens rules (drop (characters (take to items)) h.text) (drop to (plain_all items)) = subst (λ n. AreTokens rules (drop n h.text) (drop to (plain_all items))) (boundary_at items to 0 r.within) old in
@@ -71,23 +71,23 @@ module _ (rules : List Expression) (skips : List Bool) (e : Edit) (items : List 
   pub remade_marked : All (λ x. x.skipped ≡ is_skipped skips x.kind) new
   remade_marked =
       let P = λ (x : Token). x.skipped ≡ is_skipped skips x.kind in
-      All-append P kept (made ++ drop to items) (All-take P (front e (plain_all items)) items h.tokens.marked) (All-append P made (drop to items) r.marked (All-drop P to items h.tokens.marked))
+      All-append P kept (made ++ drop to items) (All-take P (kept_before e (plain_all items)) items h.tokens.marked) (All-append P made (drop to items) r.marked (All-drop P to items h.tokens.marked))
 
   -- the boundaries before the place of rejoining are none
   not_before : (i : ℕ) → i < length (kept ++ made) → is_rejoined e (plain_all items) (characters (take i (kept ++ made))) ≡ false
   not_before i l = elim (cases_lt i (length kept)) [
     | inl lt ↦
         let fits : i ≤ length kept = omega arith in
-        let front_only : take i (kept ++ made) ≡ take i kept = take-append-le i kept made fits in
-        let shorter : take i kept ≡ take i items = take-take i (front e (plain_all items)) items (omega (arith, many)) in
-        let at : slice_index_or (boundaries 0 (plain_all items)) i 0 ≡ characters (take i items) = boundary_at items i 0 (omega (arith, many, front-le rules skips e items u h)) in
-        let low : slice_index_or (boundaries 0 (plain_all items)) i 0 < e.at = front_before rules h.text e (plain_all items) i h.tokens.tokens (omega (arith, many)) in
-        not_behind e items (characters (take i (kept ++ made))) (omega (arith, low, at, ap characters front_only, ap characters shorter))
+        let prefix_only : take i (kept ++ made) ≡ take i kept = take-append-le i kept made fits in
+        let shorter : take i kept ≡ take i items = take-take i (kept_before e (plain_all items)) items (omega (arith, many)) in
+        let at : slice_index_or (boundaries 0 (plain_all items)) i 0 ≡ characters (take i items) = boundary_at items i 0 (omega (arith, many, kept_before-le rules skips e items u h)) in
+        let low : slice_index_or (boundaries 0 (plain_all items)) i 0 < e.at = prefix_before rules h.text e (plain_all items) i h.tokens.tokens (omega (arith, many)) in
+        not_after e items (characters (take i (kept ++ made))) (omega (arith, low, at, ap characters prefix_only, ap characters shorter))
     | inr ge ↦
         let j = i - length kept in
         let is : i ≡ length kept + j = omega arith in
         let both : take i (kept ++ made) ≡ kept ++ take j made = ap (λ n. take n (kept ++ made)) is ∙ take-append-add kept made j in
-        let total : characters (take i (kept ++ made)) ≡ front_end e items + characters (take j made) = ap characters both ∙ sum_by-append (λ x. x.length) kept (take j made) in
+        let total : characters (take i (kept ++ made)) ≡ prefix_end e items + characters (take j made) = ap characters both ∙ sum_by-append (λ x. x.length) kept (take j made) in
         subst (λ n. is_rejoined e (plain_all items) n ≡ false) (sym total) (r.earlier j (omega (arith, length-append kept made)))
   ]
 
@@ -99,7 +99,7 @@ module _ (rules : List Expression) (skips : List Bool) (e : Edit) (items : List 
       boundary_at new i 0 (omega (arith, ap length split_new, length-append (kept ++ made) (drop to items)))
       ∙ ap (λ xs. characters (take i xs)) split_new ∙ ap characters (take-append-le i (kept ++ made) (drop to items) l)
 
-  -- the place of rejoining stands behind the front and what was made
+  -- the place of rejoining stands after the prefix and what was made
   pub rejoin_is : rejoin e (plain_all items) (plain_all new) ≡ length (kept ++ made)
   rejoin_is = go (cases_lt (rejoin e (plain_all items) (plain_all new)) (length (kept ++ made))) (cases_lt (length (kept ++ made)) (rejoin e (plain_all items) (plain_all new)))
     where
@@ -113,33 +113,33 @@ module _ (rules : List Expression) (skips : List Bool) (e : Edit) (items : List 
           absurd (false≢true (sym none ∙ found))
       go (inr _) (inl lt) =
           let none : is_rejoined e (plain_all items) (slice_index_or (boundaries 0 (plain_all new)) (length (kept ++ made)) 0) ≡ false = fails_before_first (is_rejoined e (plain_all items)) (boundaries 0 (plain_all new)) (length (kept ++ made)) 0 lt in
-          let whole : characters (take (length (kept ++ made)) (kept ++ made)) ≡ front_end e items + characters made = ap characters (take_all (length (kept ++ made)) (kept ++ made) (omega arith)) ∙ sum_by-append (λ x. x.length) kept made in
+          let whole : characters (take (length (kept ++ made)) (kept ++ made)) ≡ prefix_end e items + characters made = ap characters (take_all (length (kept ++ made)) (kept ++ made) (omega arith)) ∙ sum_by-append (λ x. x.length) kept made in
           let found : is_rejoined e (plain_all items) (slice_index_or (boundaries 0 (plain_all new)) (length (kept ++ made)) 0) ≡ true = subst (λ n. is_rejoined e (plain_all items) n ≡ true) (sym (boundary_new (length (kept ++ made)) (omega arith) ∙ whole)) r.rejoins in
           absurd (false≢true (sym none ∙ found))
       go (inr a) (inr b) = omega arith
 
-  -- the old tokens from `to` on are those behind the place of rejoining
+  -- the old tokens from `to` on are those after the place of rejoining
   pub to_is : length items - (length new - rejoin e (plain_all items) (plain_all new)) ≡ to
   to_is = omega (arith, rejoin_is, ap length split_new, length-append (kept ++ made) (drop to items), length-drop to items, r.within)
 
-  pub front_to : Fits items → front e (plain_all items) ≤ to
-  front_to f = elim (cases_lt to (front e (plain_all items))) [
+  pub prefix_to : Fits items → kept_before e (plain_all items) ≤ to
+  prefix_to f = elim (cases_lt to (kept_before e (plain_all items))) [
     | inl lt ↦
-        let in_front : slice_index_or (boundaries 0 (plain_all items)) to 0 < e.at = front_before rules h.text e (plain_all items) to h.tokens.tokens lt in
+        let before_it : slice_index_or (boundaries 0 (plain_all items)) to 0 < e.at = prefix_before rules h.text e (plain_all items) to h.tokens.tokens lt in
         let at : slice_index_or (boundaries 0 (plain_all items)) to 0 ≡ characters (take to items) = boundary_at items to 0 r.within in
-        absurd (omega (arith, in_front, at, behind, r.moved))
+        absurd (omega (arith, before_it, at, past, r.moved))
     | inr le ↦ le
   ]
 
-  range_made : slice_range new (front e (plain_all items)) (rejoin e (plain_all items) (plain_all new)) ≡ made
+  range_made : slice_range new (kept_before e (plain_all items)) (rejoin e (plain_all items) (plain_all new)) ≡ made
   range_made =
-      let behind_front : drop (front e (plain_all items)) new ≡ made ++ drop to items = drop_at kept (made ++ drop to items) (front e (plain_all items)) many in
-      let n : length made ≡ rejoin e (plain_all items) (plain_all new) - front e (plain_all items) = omega (arith, rejoin_is, length-append kept made, many) in
-      ap (take (rejoin e (plain_all items) (plain_all new) - front e (plain_all items))) behind_front ∙ take_at made (drop to items) (rejoin e (plain_all items) (plain_all new) - front e (plain_all items)) n
+      let after_prefix : drop (kept_before e (plain_all items)) new ≡ made ++ drop to items = drop_at kept (made ++ drop to items) (kept_before e (plain_all items)) many in
+      let n : length made ≡ rejoin e (plain_all items) (plain_all new) - kept_before e (plain_all items) = omega (arith, rejoin_is, length-append kept made, many) in
+      ap (take (rejoin e (plain_all items) (plain_all new) - kept_before e (plain_all items))) after_prefix ∙ take_at made (drop to items) (rejoin e (plain_all items) (plain_all new) - kept_before e (plain_all items)) n
 
   pub remade_kept : AreRescanned e items new
   remade_kept = record {
-    front_kept = take_at kept (made ++ drop to items) (front e (plain_all items)) many;
+    prefix_kept = take_at kept (made ++ drop to items) (kept_before e (plain_all items)) many;
     rest_kept =
         ap (λ n. drop n new) rejoin_is ∙ ap (drop (length (kept ++ made))) split_new ∙ drop_at (kept ++ made) (drop to items) (length (kept ++ made)) refl ∙ ap (λ n. drop n items) (sym to_is);
     stamped = subst (λ xs. All (λ x. x.born ≡ e.number) xs) (sym range_made) r.stamped;
@@ -151,26 +151,26 @@ module _ (rules : List Expression) (skips : List Bool) (e : Edit) (items : List 
     short = omega (arith, tokens_length rules u new remade_tokens, l);
     nonempty =
         let P = λ (x : Token). 1 ≤ x.length in
-        All-append P kept (made ++ drop to items) (All-take P (front e (plain_all items)) items f.nonempty) (All-append P made (drop to items) r.nonempty (All-drop P to items f.nonempty));
+        All-append P kept (made ++ drop to items) (All-take P (kept_before e (plain_all items)) items f.nonempty) (All-append P made (drop to items) r.nonempty (All-drop P to items f.nonempty));
     near =
         let P = λ (x : Token). x.reach ≤ 2 ^ 30 in
-        All-append P kept (made ++ drop to items) (All-take P (front e (plain_all items)) items f.near) (All-append P made (drop to items) (λ k d m. let q : (slice_index_or made k d).reach ≤ 1048577 = r.near k d m in omega arith) (All-drop P to items f.near));
+        All-append P kept (made ++ drop to items) (All-take P (kept_before e (plain_all items)) items f.near) (All-append P made (drop to items) (λ k d m. let q : (slice_index_or made k d).reach ≤ 1048577 = r.near k d m in omega arith) (All-drop P to items f.near));
   }
 
-  pub scanned_is : length made ≡ length (slice_range (plain_all new) (front e (plain_all items)) (rejoin e (plain_all items) (plain_all new)))
+  pub scanned_is : length made ≡ length (slice_range (plain_all new) (kept_before e (plain_all items)) (rejoin e (plain_all items) (plain_all new)))
   scanned_is =
-      sym (length-take (rejoin e (plain_all items) (plain_all new) - front e (plain_all items)) (drop (front e (plain_all items)) (plain_all new))
-      ∙ omega (arith, length-drop (front e (plain_all items)) (plain_all new), rejoin_is, length-plain new, ap length split_new, length-append (kept ++ made) (drop to items), length-append kept made, many))
+      sym (length-take (rejoin e (plain_all items) (plain_all new) - kept_before e (plain_all items)) (drop (kept_before e (plain_all items)) (plain_all new))
+      ∙ omega (arith, length-drop (kept_before e (plain_all items)) (plain_all new), rejoin_is, length-plain new, ap length split_new, length-append (kept ++ made) (drop to items), length-append kept made, many))
 
   -- the kinds of the tokens gone give way to those of the tokens made
-  pub spliced : Fits items → change items (front e (plain_all items)) to (significant_kinds made) ≡ splice skips e (plain_all items) (plain_all new)
+  pub spliced : Fits items → change items (kept_before e (plain_all items)) to (significant_kinds made) ≡ splice skips e (plain_all items) (plain_all new)
   spliced f =
       let P = λ (x : Token). x.skipped ≡ is_skipped skips x.kind in
-      let place = front e (plain_all items) in
+      let place = kept_before e (plain_all items) in
       let rest = rejoin e (plain_all items) (plain_all new) in
-      let in_front : kinds skips (take place (plain_all items)) ≡ significant_kinds (take place items) =
+      let before_it : kinds skips (take place (plain_all items)) ≡ significant_kinds (take place items) =
       ap (kinds skips) (sym (plain-take place items)) ∙ kinds_plain skips (take place items) (All-take P place items h.tokens.marked) in
-      let from : length (kinds skips (take place (plain_all items))) ≡ count_by is_significant (take place items) = ap length in_front ∙ length-kinds (take place items) in
+      let from : length (kinds skips (take place (plain_all items))) ≡ count_by is_significant (take place items) = ap length before_it ∙ length-kinds (take place items) in
       let end : length (plain_all items) - (length (plain_all new) - rest) ≡ to = omega (arith, to_is, length-plain items, length-plain new) in
       let before : kinds skips (gone e (plain_all items) (plain_all new)) ≡ significant_kinds (slice_range items place to) =
       ap (λ n. kinds skips (slice_range (plain_all items) place n)) end
@@ -180,7 +180,7 @@ module _ (rules : List Expression) (skips : List Bool) (e : Edit) (items : List 
       ap (kinds skips) (ap (take (rest - place)) (sym (plain-drop place new)) ∙ sym (plain-take (rest - place) (drop place new)) ∙ ap plain_all range_made)
       ∙ kinds_plain skips made r.marked in
       let sum : count_by is_significant (take to items) ≡ length (kinds skips (take place (plain_all items))) + length (kinds skips (gone e (plain_all items) (plain_all new))) =
-      omega (arith, from, ap length before, count_range items place to (front_to f)) in
+      omega (arith, from, ap length before, count_range items place to (prefix_to f)) in
       ap (λ n. replaced n (count_by is_significant (take to items)) (significant_kinds (slice_range items place to)) (significant_kinds made)) (sym from)
       ∙ ap (λ n. replaced (length (kinds skips (take place (plain_all items)))) n (significant_kinds (slice_range items place to)) (significant_kinds made)) sum
       ∙ ap (λ ks. replaced (length (kinds skips (take place (plain_all items)))) (length (kinds skips (take place (plain_all items))) + length (kinds skips (gone e (plain_all items) (plain_all new)))) ks (significant_kinds made)) (sym before)

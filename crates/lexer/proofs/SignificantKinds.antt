@@ -122,57 +122,57 @@ same_list (a ∷ one) (b ∷ two) h =
     λ i. first i ∷ rest i
 
 -- the change of the kinds makes those of the new tokens
-module _ (xs made : List Token) (front to : ℕ) (ordered : front ≤ to) where
+module _ (xs made : List Token) (kept_before to : ℕ) (ordered : kept_before ≤ to) where
   abbrev a : List Kind
-  a = significant_kinds (take front xs)
+  a = significant_kinds (take kept_before xs)
 
   abbrev m : List Kind
-  m = significant_kinds (slice_range xs front to)
+  m = significant_kinds (slice_range xs kept_before to)
 
   abbrev b : List Kind
   b = significant_kinds (drop to xs)
 
   abbrev from : ℕ
-  from = count_by is_significant (take front xs)
+  from = count_by is_significant (take kept_before xs)
 
   whole : significant_kinds xs ≡ a ++ (m ++ b)
   whole =
-      ap significant_kinds (sym (take-append-drop to xs) ∙ ap (λ ys. ys ++ drop to xs) (between xs front to ordered))
-      ∙ kinds_append (take front xs ++ slice_range xs front to) (drop to xs) ∙ ap (λ ks. ks ++ b) (kinds_append (take front xs) (slice_range xs front to))
+      ap significant_kinds (sym (take-append-drop to xs) ∙ ap (λ ys. ys ++ drop to xs) (between xs kept_before to ordered))
+      ∙ kinds_append (take kept_before xs ++ slice_range xs kept_before to) (drop to xs) ∙ ap (λ ks. ks ++ b) (kinds_append (take kept_before xs) (slice_range xs kept_before to))
       ∙ append_assoc a m b
 
-  new : significant_kinds (take front xs ++ (made ++ drop to xs)) ≡ a ++ (significant_kinds made ++ b)
-  new = kinds_append (take front xs) (made ++ drop to xs) ∙ ap (λ ks. a ++ ks) (kinds_append made (drop to xs))
+  new : significant_kinds (take kept_before xs ++ (made ++ drop to xs)) ≡ a ++ (significant_kinds made ++ b)
+  new = kinds_append (take kept_before xs) (made ++ drop to xs) ∙ ap (λ ks. a ++ ks) (kinds_append made (drop to xs))
 
-  same : m ≡ significant_kinds made → IsSpliced (record { from = from; to = from; kinds = [] }) (significant_kinds xs) (significant_kinds (take front xs ++ (made ++ drop to xs)))
+  same : m ≡ significant_kinds made → IsSpliced (record { from = from; to = from; kinds = [] }) (significant_kinds xs) (significant_kinds (take kept_before xs ++ (made ++ drop to xs)))
   same e = record {
     ordered = omega arith;
-    inside = omega (arith, ap length whole, length-append a (m ++ b), length-kinds (take front xs));
+    inside = omega (arith, ap length whole, length-append a (m ++ b), length-kinds (take kept_before xs));
     new_is = new ∙ ap (λ ks. a ++ (ks ++ b)) (sym e) ∙ sym whole ∙ sym (take-append-drop from (significant_kinds xs));
   }
 
-  other : IsSpliced (record { from = from; to = count_by is_significant (take to xs); kinds = significant_kinds made }) (significant_kinds xs) (significant_kinds (take front xs ++ (made ++ drop to xs)))
+  other : IsSpliced (record { from = from; to = count_by is_significant (take to xs); kinds = significant_kinds made }) (significant_kinds xs) (significant_kinds (take kept_before xs ++ (made ++ drop to xs)))
   other =
-      let many = count_range xs front to ordered in
-      let front_kinds : take from (significant_kinds xs) ≡ a = ap (take from) whole ∙ take_at a (m ++ b) from (length-kinds (take front xs)) in
+      let many = count_range xs kept_before to ordered in
+      let prefix_kinds : take from (significant_kinds xs) ≡ a = ap (take from) whole ∙ take_at a (m ++ b) from (length-kinds (take kept_before xs)) in
       let rest_kinds : drop (count_by is_significant (take to xs)) (significant_kinds xs) ≡ b =
-      ap (drop (count_by is_significant (take to xs))) (whole ∙ sym (append_assoc a m b)) ∙ drop_at (a ++ m) b (count_by is_significant (take to xs)) (omega (arith, length-append a m, length-kinds (take front xs), many)) in
+      ap (drop (count_by is_significant (take to xs))) (whole ∙ sym (append_assoc a m b)) ∙ drop_at (a ++ m) b (count_by is_significant (take to xs)) (omega (arith, length-append a m, length-kinds (take kept_before xs), many)) in
       record {
         ordered = omega (arith, many);
-        inside = omega (arith, ap length whole, length-append a (m ++ b), length-append m b, length-kinds (take front xs), many);
-        new_is = new ∙ ap (λ ks. ks ++ (significant_kinds made ++ b)) (sym front_kinds) ∙ ap (λ ks. take from (significant_kinds xs) ++ (significant_kinds made ++ ks)) (sym rest_kinds);
+        inside = omega (arith, ap length whole, length-append a (m ++ b), length-append m b, length-kinds (take kept_before xs), many);
+        new_is = new ∙ ap (λ ks. ks ++ (significant_kinds made ++ b)) (sym prefix_kinds) ∙ ap (λ ks. take from (significant_kinds xs) ++ (significant_kinds made ++ ks)) (sym rest_kinds);
       }
 
-  pub spliced_kinds : IsSpliced (change xs front to (significant_kinds made)) (significant_kinds xs) (significant_kinds (take front xs ++ (made ++ drop to xs)))
+  pub spliced_kinds : IsSpliced (change xs kept_before to (significant_kinds made)) (significant_kinds xs) (significant_kinds (take kept_before xs ++ (made ++ drop to xs)))
   spliced_kinds = by (same_kinds m (significant_kinds made)) refl
     where
-      by : (t : Bool) → same_kinds m (significant_kinds made) ≡ t → IsSpliced (change xs front to (significant_kinds made)) (significant_kinds xs) (significant_kinds (take front xs ++ (made ++ drop to xs)))
+      by : (t : Bool) → same_kinds m (significant_kinds made) ≡ t → IsSpliced (change xs kept_before to (significant_kinds made)) (significant_kinds xs) (significant_kinds (take kept_before xs ++ (made ++ drop to xs)))
       by true e = rw e (same (same_list m (significant_kinds made) e))
       by false e = rw e other
 
 -- where k of the tokens before a place are significant, the kinds from number k on are those of the tokens from the place on
-pub kinds_behind : (xs : List Token) (k p : ℕ) → count_by is_significant (take p xs) ≡ k → significant_kinds (drop p xs) ≡ drop k (significant_kinds xs)
-kinds_behind xs k p e =
+pub kinds_after : (xs : List Token) (k p : ℕ) → count_by is_significant (take p xs) ≡ k → significant_kinds (drop p xs) ≡ drop k (significant_kinds xs)
+kinds_after xs k p e =
     sym (drop_at (significant_kinds (take p xs)) (significant_kinds (drop p xs)) k (length-kinds (take p xs) ∙ e))
     ∙ ap (drop k) (sym (kinds_append (take p xs) (drop p xs)) ∙ ap significant_kinds (take-append-drop p xs))
 

@@ -143,7 +143,7 @@ module _ (xs : List Token) (k p : ℕ) (f : Fits xs) (l : k < count_by is_signif
   pub significant_at : count_by is_significant (take (p + 1) xs) ≡ k + 1
   significant_at = omega (arith, not_past p refl, reached_here, counts_one_more xs p)
 
--- the characters of a longer front are more
+-- the characters of a longer prefix are more
 pub characters-mono : (xs : List Token) (a b : ℕ) → a ≤ b → characters (take a xs) ≤ characters (take b xs)
 characters-mono xs a b l = subst (λ ys. characters ys ≤ characters (take b xs)) (take-take a b xs l) (sum_by-take-le (λ x. x.length) (take b xs) a)
 

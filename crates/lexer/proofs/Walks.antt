@@ -17,18 +17,18 @@ module _ (items rest : List Token) (x : Token) (place start : ℕ) (w : IsWalk i
   split : x ∷ rest ≡ slice_index_or items place x ∷ drop (place + 1) items
   split = w.ahead_is ∙ drop_more items place x before_end
 
-  front : characters (take (place + 1) items) ≡ start + x.length
-  front =
+  kept_before : characters (take (place + 1) items) ≡ start + x.length
+  kept_before =
       ap characters (take_more items place x before_end)
       ∙ sum_by-append (λ y. y.length) (take place items) (slice_index_or items place x ∷ [])
       ∙ ap (λ y. characters (take place items) + characters (y ∷ [])) (sym (head-eq_of_cons-eq split))
       ∙ omega (arith, w.start_is, characters-cons x [])
 
   pub walk_on : IsWalk items rest (place + 1) (start + x.length)
-  walk_on = record { fits = w.fits; within = omega (arith, before_end); ahead_is = tail-eq_of_cons-eq split; start_is = sym front }
+  walk_on = record { fits = w.fits; within = omega (arith, before_end); ahead_is = tail-eq_of_cons-eq split; start_is = sym kept_before }
 
   pub start_fits : start + x.length < 2 ^ 64
-  start_fits = omega (arith, front, sum_by-take-le (λ y. y.length) items (place + 1), w.fits.short)
+  start_fits = omega (arith, kept_before, sum_by-take-le (λ y. y.length) items (place + 1), w.fits.short)
 
   pub passed_on : (offset : ℕ) → start < offset → IsPassed offset (record { items = items; place = place }) → IsPassed offset (record { items = items; place = place + 1 })
   passed_on offset early h j l = elim (cases_lt j place) [

@@ -6,7 +6,7 @@ use Rattle.definitions.specs.declared.Kind.{Kind}
 use Rattle.definitions.specs.declared.expression.Expression.{Expression}
 use Rattle.definitions.specs.Text.{edit}
 use Rattle.definitions.specs.Tokens.{Token as PlainToken, AreTokens, Leads, placed, is_skipped}
-use Rattle.definitions.specs.TokenEdits.{front, is_rejoined, rejoin, same_kinds, Splice}
+use Rattle.definitions.specs.TokenEdits.{kept_before, is_rejoined, rejoin, same_kinds, Splice}
 use Rattle.lexer.specs.declared.sums.Token.{Token}
 use Rattle.lexer.specs.Tokens.{plain, is_significant, characters, AreTokensOf}
 
@@ -24,36 +24,36 @@ pub record IsEdited (rules : List Expression) (skips : List Bool) (e : Edit) (it
   pub new_text : u ≡ edit text e.at (e.at + e.removed) piece
 
 -- the offset at which the tokens end that are kept before the edit
-abbrev pub front_end : Edit → List Token → ℕ
-front_end e items = characters (take (front e (plain_all items)) items)
+abbrev pub prefix_end : Edit → List Token → ℕ
+prefix_end e items = characters (take (kept_before e (plain_all items)) items)
 
 -- some token made has a start and reach that together are greater than `i`
 abbrev pub IsReachedByMade : Edit → List PlainToken → List PlainToken → ℕ → Type 0
-IsReachedByMade e old new i = (k : ℕ) × (front e old ≤ k) × (k < rejoin e old new)
+IsReachedByMade e old new i = (k : ℕ) × (kept_before e old ≤ k) × (k < rejoin e old new)
     × IsSomeAnd (slice_get (placed 0 new) k) (λ x. i < x.start + x.token.reach)
 
 -- a rescan may ask for offset `i` of `u`: it isn't before the end of the kept tokens before the edit, and some token made reaches past it
 pub record IsNeeded (rules : List Expression) (e : Edit) (items : List Token) (u : List ℕ) (i : ℕ) : Type 0 where
-  pub behind : front_end e items ≤ i
+  pub past : prefix_end e items ≤ i
   pub inside : i < length u
   pub reached : (new : List PlainToken) → AreTokens rules u new → IsReachedByMade e (plain_all items) new i
 
 -- the kept tokens are the old ones with their stamps, and the others carry the number of the edit
 pub record AreRescanned (e : Edit) (old new : List Token) : Type 0 where
-  pub front_kept : take (front e (plain_all old)) new ≡ take (front e (plain_all old)) old
+  pub prefix_kept : take (kept_before e (plain_all old)) new ≡ take (kept_before e (plain_all old)) old
   pub rest_kept : drop (rejoin e (plain_all old) (plain_all new)) new ≡ drop
       (length old - (length new - rejoin e (plain_all old) (plain_all new))) old
-  pub stamped : All (λ x. x.born ≡ e.number) (slice_range new (front e (plain_all old)) (rejoin e (plain_all old) (plain_all new)))
+  pub stamped : All (λ x. x.born ≡ e.number) (slice_range new (kept_before e (plain_all old)) (rejoin e (plain_all old) (plain_all new)))
 
 -- the kinds of stored tokens that aren't skipped
 abbrev pub significant_kinds : List Token → List Kind
 significant_kinds items = map (λ x. x.kind) (filter is_significant items)
 
--- how the significant kinds change where the tokens from `front` up to `to` give way to tokens of the kinds `after`
+-- how the significant kinds change where the tokens from `kept_before` up to `to` give way to tokens of the kinds `after`
 abbrev pub change : List Token → ℕ → ℕ → List Kind → Splice
-change items front to after =
-    let from = count_by is_significant (take front items) in
-    if same_kinds (significant_kinds (slice_range items front to)) after
+change items kept_before to after =
+    let from = count_by is_significant (take kept_before items) in
+    if same_kinds (significant_kinds (slice_range items kept_before to)) after
     then record { from = from; to = from; kinds = [] }
     else record { from = from; to = count_by is_significant (take to items); kinds = after }
 
@@ -61,12 +61,12 @@ change items front to after =
 -- numbered `to`
 pub record IsRemade (rules : List Expression) (skips : List Bool) (e : Edit) (items : List Token) (u : List ℕ) (made : List Token)
     (to : ℕ) : Type 0 where
-  pub leads : Leads rules (drop (front_end e items) u) (plain_all made)
+  pub leads : Leads rules (drop (prefix_end e items) u) (plain_all made)
   pub marked : All (λ x. x.skipped ≡ is_skipped skips x.kind) made
   pub stamped : All (λ x. x.born ≡ e.number) made
   pub nonempty : All (λ x. 1 ≤ x.length) made
   pub near : All (λ x. x.reach ≤ 1048577) made
-  pub earlier : (k : ℕ) → k < length made → is_rejoined e (plain_all items) (front_end e items + characters (take k made)) ≡ false
-  pub rejoins : is_rejoined e (plain_all items) (front_end e items + characters made) ≡ true
+  pub earlier : (k : ℕ) → k < length made → is_rejoined e (plain_all items) (prefix_end e items + characters (take k made)) ≡ false
+  pub rejoins : is_rejoined e (plain_all items) (prefix_end e items + characters made) ≡ true
   pub within : to ≤ length items
-  pub moved : characters (take to items) + e.inserted ≡ front_end e items + characters made + e.removed
+  pub moved : characters (take to items) + e.inserted ≡ prefix_end e items + characters made + e.removed

@@ -57,8 +57,8 @@ pub fn token_at<S: Source>(
     }
 }
 
-/// The next tokens from an offset on, as many as a piece takes, and the offset behind them.
-fn scan_piece<S: Source>(
+/// The next tokens from an offset on, as many as a piece takes, and the offset after them.
+fn scan_batch<S: Source>(
     alloc: Global,
     grammar: &Grammar,
     automaton: &Automaton,
@@ -84,7 +84,7 @@ fn scan_piece<S: Source>(
     Ok((made, at))
 }
 
-/// Puts tokens behind those of a list.
+/// Puts tokens after those of a list.
 fn append(alloc: Global, list: &mut Runs<Token>, tokens: &[Token]) -> Result<(), AllocError>
     requires { length list.old + length tokens.now < 2 ^ 64 }
     ensures { OnOk result (list.new ≡ list.old ++ tokens.now) }
@@ -111,7 +111,7 @@ pub fn scan_all<S: Source>(
     let mut list = Runs::new();
     let mut at = 0;
     while at < source.len() {
-        let (piece, end) = scan_piece(alloc, grammar, automaton, source, at)?;
+        let (piece, end) = scan_batch(alloc, grammar, automaton, source, at)?;
         append(alloc, &mut list, &piece)?;
         at = end;
     }

@@ -82,7 +82,7 @@ impl Measured for Token {
     }
 }
 
-/// Looks for the token behind this many.
+/// Looks for the token after this many.
 #[derive(Clone, Copy)]
 pub struct AfterCount {
     pub count: usize,
@@ -101,7 +101,7 @@ impl Goal<Sums> for AfterCount {
     }
 }
 
-/// Looks for the significant token behind this many significant ones.
+/// Looks for the significant token after this many significant ones.
 #[derive(Clone, Copy)]
 pub struct AfterSignificant {
     pub count: usize,

@@ -4,11 +4,11 @@ ghost use Rattle.definitions.specs.declared.expression.Expression.{Expression};
 ghost use Rattle.definitions.specs.Tokens.{IsToken, AreTokens, is_skipped};
 ghost use Rattle.dfa.specs.Table.{IsAutomaton, kind_of};
 ghost use Rattle.dfa.specs.Windows.{IsWithinReach};
-ghost use Rattle.definitions.specs.TokenEdits.{front, is_rejoined, rejoin, made, splice, plain_splice, IsSpliced, same_kind, same_kinds};
+ghost use Rattle.definitions.specs.TokenEdits.{kept_before, is_rejoined, rejoin, made, splice, plain_splice, IsSpliced, same_kind, same_kinds};
 ghost use Rattle.definitions.specs.declared.Kind.TheVariants.{Invalid};
 ghost use Rattle.lexer.specs.Walks.{IsPassed, horizon};
 ghost use Rattle.lexer.specs.Tokens.{plain, is_significant, characters, Fits, AreTokensOf};
-ghost use Rattle.lexer.specs.Rescans.{plain_all, front_end, significant_kinds, IsEdited, IsNeeded, IsRemade, AreRescanned, change};
+ghost use Rattle.lexer.specs.Rescans.{plain_all, prefix_end, significant_kinds, IsEdited, IsNeeded, IsRemade, AreRescanned, change};
 
 use crate::ahead::KindsAhead;
 use crate::scan::{scan_all, token_at};
@@ -125,7 +125,7 @@ impl Tokens {
     }
 
     /// The kind of significant token number `k`, and none past the last one, from the kinds that begin with it. They go on
-    /// behind it.
+    /// after it.
     pub fn next_kind(&self, ahead: &mut KindsAhead<'_>, k: usize) -> Option<Kind>
         requires { ahead.old ≡ drop k (significant_kinds self.now.items) }
         ensures is { result ≡ slice_get (significant_kinds self.now.items) k }
@@ -149,7 +149,7 @@ impl Tokens {
     }
 
     /// Brings the tokens to the text after an edit: keeps those whose reach the edit leaves alone, makes the others with
-    /// the edit's number, and answers how the list of the significant kinds changes. After a refusal nothing has
+    /// the edit's number, and returns how the list of the significant kinds changes. After a refusal nothing has
     /// changed.
     pub fn rescan<S: Source>(
         &mut self,
@@ -180,31 +180,32 @@ impl Tokens {
             self.new.items))) }
         ensures err { OnErr result (self.new ≡ self.old) }
     {
-        let (front, end) = kept_front(&self.items, edit);
-        let old = Walk::new(&self.items, front, end);
+        let (kept_before, end) = kept_prefix(&self.items, edit);
+        let old = Walk::new(&self.items, kept_before, end);
         let (made, to) = remake(alloc, grammar, automaton, source, edit, old)?;
         let kinds = kinds_of(alloc, &made)?;
-        let splice = splice_of(&self.items, front, to, kinds);
-        self.items.replace(alloc, front, to, &made)?;
+        let splice = splice_of(&self.items, kept_before, to, kinds);
+        self.items.replace(alloc, kept_before, to, &made)?;
         self.scanned = made.len();
         Ok(splice)
     }
 }
 
-/// How many tokens the edit keeps in front, and the offset behind them.
-fn kept_front(items: &Runs<Token>, edit: Edit) -> (usize, usize)
+/// How many tokens the edit keeps at the start, and the offset after them.
+fn kept_prefix(items: &Runs<Token>, edit: Edit) -> (usize, usize)
     requires { Fits items.now }
-    ensures front { (rules : List Expression) (t : List ℕ) → AreTokens rules t (plain_all items.now)
-        → result.0 ≡ front edit (plain_all items.now) }
+    ensures kept_before { (rules : List Expression) (t : List ℕ)
+        → AreTokens rules t (plain_all items.now)
+        → result.0 ≡ kept_before edit (plain_all items.now) }
     ensures end { result.1 ≡ characters (take result.0 items.now) }
     ensures within { result.0 ≤ length items.now }
 {
-    let (front, before) = items.locate(&ReachesPast { offset: edit.at });
-    (front, before.characters as usize)
+    let (kept_before, before) = items.locate(&ReachesPast { offset: edit.at });
+    (kept_before, before.characters as usize)
 }
 
-/// Where offset `at` of the new text lies behind what was inserted and an old token started there: its place.
-fn rejoined(old: &mut Walk<'_>, edit: Edit, at: usize) -> Option<usize>
+/// Where offset `at` of the new text lies after what was inserted and an old token started there: its place.
+fn rejoin_place(old: &mut Walk<'_>, edit: Edit, at: usize) -> Option<usize>
     requires inserted { edit.inserted ≤ 1048576 }
     requires removed { edit.at + edit.removed ≤ 2 ^ 30 }
     requires small { at ≤ 1048576 }
@@ -221,7 +222,7 @@ fn rejoined(old: &mut Walk<'_>, edit: Edit, at: usize) -> Option<usize>
     old.place_of(at - edit.inserted + edit.removed)
 }
 
-/// The tokens from where the old ones are no longer kept to the place of rejoining, and the place of the first old token behind it.
+/// The tokens from where the old ones are no longer kept to the place of rejoining, and the place of the first old token after it.
 fn remake<S: Source>(
     alloc: Global,
     grammar: &Grammar,
@@ -236,14 +237,14 @@ fn remake<S: Source>(
         (S.text source.now) }
     requires window { (i : ℕ) → IsNeeded grammar.now.patterns edit old.items (S.text source.now) i
         → S.in_window source.now i }
-    requires front { old.place ≡ front edit (plain_all old.items) }
+    requires kept_before { old.place ≡ kept_before edit (plain_all old.items) }
     ensures { IfOk result (λ r. IsRemade grammar.now.patterns grammar.now.skips edit old.entry.items
         (S.text source.now) r.0.items r.1) }
 {
     let mut made = Vec::new(alloc);
     let mut at = old.start();
     while at < source.len() {
-        if let Some(to) = rejoined(&mut old, edit, at) {
+        if let Some(to) = rejoin_place(&mut old, edit, at) {
             return Ok((made, to));
         }
         let token = token_at(grammar, automaton, source, at, edit.number);
@@ -319,14 +320,14 @@ fn have_kinds(items: &Runs<Token>, from: usize, to: usize, kinds: &[Kind]) -> bo
 
 /// How the list of the significant kinds changes where the tokens from one place up to another give way to tokens of
 /// these kinds.
-fn splice_of(items: &Runs<Token>, front: usize, to: usize, mut kinds: Vec<Kind>) -> KindSplice
+fn splice_of(items: &Runs<Token>, kept_before: usize, to: usize, mut kinds: Vec<Kind>) -> KindSplice
     requires fits { Fits items.now }
-    requires ordered { front ≤ to }
+    requires ordered { kept_before ≤ to }
     requires within { to ≤ length items.now }
-    ensures { plain_splice result ≡ change items.now front to kinds.items }
+    ensures { plain_splice result ≡ change items.now kept_before to kinds.items }
 {
-    let from = significant_before(items, front);
-    if have_kinds(items, front, to, &kinds) {
+    let from = significant_before(items, kept_before);
+    if have_kinds(items, kept_before, to, &kinds) {
         kinds.clear();
         return KindSplice {
             from,

@@ -19,7 +19,7 @@ use std::alloc::Global;
 use std::io::{ErrorKind, Write};
 use std::process::ExitCode;
 
-/// The words that stand behind the program's name.
+/// The words that stand after the program's name.
 fn given_words(rt: &HostRuntime) -> Result<Vec<String>, Fault> {
     let mut given = match std::env::args(rt) {
         Ok(given) => given,
@@ -42,12 +42,12 @@ fn bytes_of(rt: &HostRuntime, path: &str) -> Result<Vec<u8>, Fault> {
 }
 
 /// The language of the grammar in the file of this path, or what is printed where there is none.
-fn loaded(rt: &HostRuntime, path: &str) -> Result<Result<Language, Printed>, Fault> {
+fn load_language(rt: &HostRuntime, path: &str) -> Result<Result<Language, Printed>, Fault> {
     let bytes = bytes_of(rt, path)?;
     load(rt.alloc(), &bytes).map_err(Fault::from)
 }
 
-/// Prints what a command answers, and answers its status.
+/// Prints what a command answers, and returns its status.
 fn print(rt: &HostRuntime, printed: &Printed) -> Result<u8, Fault> {
     let _ = rt.stderr().write_all(&printed.err);
     match rt.stdout().write_all(&printed.out) {
@@ -96,14 +96,14 @@ fn perform_in(rt: &HostRuntime, task: &Task, language: Language) -> Result<u8, F
 
 /// Does a task, or prints why its grammar gives no language. No other file is read before the grammar's.
 fn perform(rt: &HostRuntime, task: &Task) -> Result<u8, Fault> {
-    match loaded(rt, grammar_of(task))? {
+    match load_language(rt, grammar_of(task))? {
         Ok(language) => perform_in(rt, task, language),
         Err(printed) => print(rt, &printed),
     }
 }
 
-/// Does what the command line asks, and answers the exit status.
-fn started(rt: &HostRuntime) -> Result<u8, Fault> {
+/// Does what the command line asks, and returns the exit status.
+fn start(rt: &HostRuntime) -> Result<u8, Fault> {
     let given = given_words(rt)?;
     match words(rt.alloc(), &given)? {
         Some(task) => perform(rt, &task),
@@ -112,7 +112,7 @@ fn started(rt: &HostRuntime) -> Result<u8, Fault> {
 }
 
 fn main(rt: HostRuntime) -> ExitCode {
-    match started(&rt) {
+    match start(&rt) {
         Ok(status) => ExitCode::from(status),
         Err(fault) => {
             let _ = eprintln!(rt; "{fault}");

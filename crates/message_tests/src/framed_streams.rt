@@ -40,7 +40,7 @@ fn feed_again(
     }
 }
 
-/// Feeds the stream in pieces of this size, and puts the frames that come of them behind the others.
+/// Feeds the stream in pieces of this size, and puts the frames that come of them after the others.
 fn feed_pieces(
     rt: &impl Abort,
     alloc: Global,
@@ -60,13 +60,13 @@ fn feed_pieces(
     }
 }
 
-/// What a decoder answers behind a stream: no frames, and the fault that it met.
-fn check_behind(rt: &impl Abort, alloc: Global, decoder: &mut Decoder, wanted: Option<FrameFault>) {
-    let told = match decoder.feed(alloc, b"") {
+/// What a decoder answers after a stream: no frames, and the fault that it met.
+fn check_after(rt: &impl Abort, alloc: Global, decoder: &mut Decoder, wanted: Option<FrameFault>) {
+    let shown = match decoder.feed(alloc, b"") {
         Ok(more) => (more.len(), None),
         Err(fault) => (0, Some(fault)),
     };
-    assert!(rt; told == (0, wanted));
+    assert!(rt; shown == (0, wanted));
 }
 
 /// Feeds the stream in pieces of this size, and compares its contents and what its end says.
@@ -89,8 +89,8 @@ fn feed_in_pieces(
         (decoder.fault(), decoder.finish()) == (wanted, end),
         "in pieces of {size}"
     );
-    check_behind(rt, alloc, &mut decoder, wanted);
-    check_behind(rt, alloc, &mut decoder, wanted);
+    check_after(rt, alloc, &mut decoder, wanted);
+    check_after(rt, alloc, &mut decoder, wanted);
 }
 
 /// Streams, the contents of their frames, and what their ends say.
@@ -203,7 +203,7 @@ fn check_writes(
 }
 
 #[test]
-fn frames_are_written_whole_or_a_front_of_them(rt: HostRuntime) {
+fn frames_are_written_whole_or_a_prefix_of_them(rt: HostRuntime) {
     let content =
         "{\"error\":{\"code\":-32700,\"message\":\"parse error\"},\"id\":null,\"jsonrpc\":\"2.0\"}";
     let wanted = format!(in rt.alloc(); "Content-Length: 75\r\n\r\n{content}");

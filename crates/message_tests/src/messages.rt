@@ -1,9 +1,9 @@
-//! What contents are heard as, and the bytes of replies, once of each kind. `tests/program` has the rows that the built program
+//! What contents are read as, and the bytes of replies, once of each kind. `tests/program` has the rows that the built program
 //! shows.
 
 use rpc::{
     Call, Change, Diagnostic, Id, Log, Loss, Message, Note, Position, Range, Refusal, Reply, Row,
-    RpcFault, Stats, each_text_is_unicode, one_hearing, read, some_hearing, to_bytes,
+    RpcFault, Stats, each_text_is_unicode, read, received_exists, received_unique, to_bytes,
 };
 use std::alloc::Global;
 use std::process::Abort;
@@ -28,7 +28,7 @@ fn fault_without_version(rt: &impl Abort, alloc: Global) -> Reply {
     }
 }
 
-/// The counts behind more edits than are counted.
+/// The counts after more edits than are counted.
 fn greatest_count() -> Reply {
     let stats = Stats {
         edit: u64::MAX,
@@ -44,7 +44,7 @@ fn greatest_count() -> Reply {
     }
 }
 
-/// That a document is lost for want of memory.
+/// That a document is lost because memory was refused.
 fn no_memory(rt: &impl Abort, alloc: Global) -> Reply {
     let id = String::from_str(alloc, r#"a""#).expect(rt, "memory");
     Reply::Error {
@@ -156,7 +156,7 @@ fn check_changes(rt: &impl Abort, changes: &[Change]) {
 }
 
 #[test]
-fn a_change_is_told(rt: HostRuntime) {
+fn a_change_is_read(rt: HostRuntime) {
     let content =
         br#"{"jsonrpc":"2.0","method":"textDocument/didChange","params":{"textDocument":{"uri":"a:x","version":2},"contentChanges":[{"range":{"start":{"line":0,"character":0},"end":{"line":0,"character":1}},"text":"12"},{"text":"3"}]}}"#;
     let outcome = read(rt.alloc(), content);
@@ -177,7 +177,7 @@ fn a_change_is_told(rt: HostRuntime) {
 }
 
 #[test]
-fn a_request_for_selections_is_told(rt: HostRuntime) {
+fn a_request_for_selections_is_read(rt: HostRuntime) {
     let content =
         br#"{"jsonrpc":"2.0","id":4,"method":"textDocument/selectionRange","params":{"textDocument":{"uri":"a:x"},"positions":[{"line":3,"character":4},{"line":0,"character":1}]}}"#;
     let outcome = read(rt.alloc(), content);
@@ -193,7 +193,7 @@ fn a_request_for_selections_is_told(rt: HostRuntime) {
     assert!(rt; positions.as_slice() == [first, before(1)].as_slice());
 }
 
-/// What a text of a document between these quotes is heard as, where the content is a message.
+/// What a text of a document between these quotes is read as, where the content is a message.
 fn heard_text(rt: &impl Abort, alloc: Global, quoted: &str) -> Option<String> {
     let content = format!(in alloc;
         r#"{{"jsonrpc":"2.0","method":"textDocument/didOpen","params":{{"textDocument":{{"uri":"a:x","version":1,"text":{quoted}}}}}}}"#
@@ -223,7 +223,7 @@ fn surrogates_stand_in_pairs(rt: HostRuntime) {
 
 #[test]
 fn laws_hold(_rt: HostRuntime) {
-    one_hearing();
-    some_hearing();
+    received_unique();
+    received_exists();
     each_text_is_unicode();
 }

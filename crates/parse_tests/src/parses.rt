@@ -67,8 +67,8 @@ fn assert_node(
 ) {
     let id = NodeId { index };
     assert!(rt; index < store.len());
-    let told = (store.production(id), store.born(id), store.child_count(id));
-    assert!(rt; told == (production, 0, children.len()));
+    let shown = (store.production(id), store.born(id), store.child_count(id));
+    assert!(rt; shown == (production, 0, children.len()));
     for (k, child) in children.iter().enumerate() {
         assert!(rt; store.child(id, k) == Some(*child));
     }
@@ -86,7 +86,7 @@ fn expected(rt: &impl Abort, alloc: Global, tables: &Tables, parse: &Parse) -> V
     looks
 }
 
-/// What a parse tells where it stops: the verdict, the stack, and the rules that may follow.
+/// What a parse returns where it stops: the verdict, the stack, and the rules that may follow.
 #[derive(Clone, Copy)]
 struct Stop<'a> {
     verdict: Verdict,
@@ -166,7 +166,7 @@ fn parses_of_sums_stop_at_the_first_fault(rt: HostRuntime) {
     sums_stop(&rt, rt.alloc(), &rows);
 }
 
-/// Parses these kinds as edit 0 behind the nodes that a store has, and compares how many branches there are and how many of them
+/// Parses these kinds as edit 0 after the nodes that a store has, and compares how many branches there are and how many of them
 /// were built, which are all.
 fn parse_whole(
     rt: &impl Abort,

@@ -7,7 +7,7 @@ use Rattle.definitions.specs.Trees.{Grammar, Tree, Leaf, Branch, trees}
 use Rattle.definitions.specs.Nodes.{all_branches}
 use Rattle.definitions.specs.TreeEdits.{Stamped, StampedBranch, StampedCons, StampedForest, StampedLeaf, StampedNil, StampedIn, StampedBelow, StampedPast, StampedTop, plain, stamped_trees}
 use Rattle.theory.specs.Machine.{Reduces}
-use Rattle.theory.proofs.Reused.{branches-append, branches-trees}
+use Rattle.theory.proofs.KeptIsReused.{branches-append, branches-trees}
 use Rattle.trees.specs.declared.store.Child.{Child}
 use Rattle.trees.specs.declared.store.Child.TheVariants.{Token}
 use Rattle.trees.specs.Cells.{Cell}
@@ -15,7 +15,7 @@ use Rattle.parser.specs.Machine.{plain_of}
 use Rattle.parser.specs.Parses.{branches_by, branches_of_by, all_branches_by}
 use Rattle.parser.specs.Stamps.{AreOlder}
 use Rattle.parser.proofs.Reductions.{plain-append}
-use Rattle.parser.proofs.Stamping.{stamped_in_front}
+use Rattle.parser.proofs.Stamping.{stamped_before}
 
 pub shift_count : (cells : List Cell) (stack : List Child) (k : Kind) → all_branches (plain_of cells (stack ++ (Token k ∷ []))) ≡ all_branches (plain_of cells stack)
 shift_count cells stack k = omega (arith, ap all_branches (plain-append cells stack (Token k ∷ [])), branches-append (plain_of cells stack) (Leaf k ∷ []))
@@ -61,7 +61,7 @@ mutual
   pub without : (n : ℕ) (ts : StampedForest) → HaveNone n (stamped_trees ts) → branches_of_by n ts ≡ 0
   without n StampedNil h = refl
   without n (StampedCons t ts) h =
-      omega (arith, without_tree n t (λ lefts p born us w. h lefts p born us (stamped_in_front (stamped_trees ts) w)), without n ts (λ lefts p born us w. h (plain t ∷ lefts) p born us (StampedPast w)))
+      omega (arith, without_tree n t (λ lefts p born us w. h lefts p born us (stamped_before (stamped_trees ts) w)), without n ts (λ lefts p born us w. h (plain t ∷ lefts) p born us (StampedPast w)))
 
 pub by-none : (n : ℕ) (s : Stamped) → AreOlder n (s ∷ []) → all_branches_by n (s ∷ []) ≡ 0
 by-none n s h = omega (arith, without_tree n s (λ lefts p born us w e. omega (arith, e, h lefts p born us w)))
@@ -81,4 +81,4 @@ none_by n ts none lefts p born us w = go lefts p born us w none
 pub older_by : (n : ℕ) (ts : List Stamped) → AreOlder n ts → all_branches_by n ts ≡ 0
 older_by n [] h = refl
 older_by n (t ∷ ts) h =
-    omega (arith, by-none n t (λ lefts p born us w. h lefts p born us (stamped_in_front ts w)), older_by n ts (λ lefts p born us w. h (plain t ∷ lefts) p born us (StampedPast w)))
+    omega (arith, by-none n t (λ lefts p born us w. h lefts p born us (stamped_before ts w)), older_by n ts (λ lefts p born us w. h (plain t ∷ lefts) p born us (StampedPast w)))

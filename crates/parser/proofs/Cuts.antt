@@ -3,10 +3,10 @@ use Rattle.std.proofs.Common.{◌≡◌, ◌⊎◌, ℕ, ◌+◌, ◌<◌, ◌�
 use Rattle.definitions.specs.Trees.{Grammar, Tree, Forest, Leaf, Branch, trees, yield, yields, all_kinds}
 use Rattle.definitions.specs.Nodes.{StandsIn, Top, Below, Past, all_branches, place_of}
 use Rattle.definitions.specs.TreeEdits.{plain, plain_trees}
-use Rattle.theory.proofs.Sound.{kinds-append, kinds-trees}
-use Rattle.theory.proofs.Stack.{stands_in_front, stands_behind}
-use Rattle.theory.proofs.Exact.{closed}
-use Rattle.theory.proofs.Reused.{branches-append, branches-trees}
+use Rattle.theory.proofs.StackIsRead.{kinds-append, kinds-trees}
+use Rattle.theory.proofs.Stack.{stands_in_prefix, stands_after}
+use Rattle.theory.proofs.ReuseIsExact.{closed}
+use Rattle.theory.proofs.KeptIsReused.{branches-append, branches-trees}
 use Rattle.trees.specs.declared.store.NodeId.{NodeId}
 use Rattle.trees.specs.declared.store.Child.{Child}
 use Rattle.trees.specs.declared.store.Child.TheVariants.{Node}
@@ -17,10 +17,10 @@ use Rattle.parser.specs.Input.{AreParts}
 use Rattle.parser.specs.Run.{ComeFrom}
 use Rattle.parser.specs.Stamps.{AreOlder}
 use Rattle.parser.specs.Cuts.{kinds_in, AreChildren, Cut, Here, Used_up, Whole, Opened}
-use Rattle.parser.proofs.Front.{open_parts, weight}
+use Rattle.parser.proofs.LeftEdge.{open_parts, weight}
 use Rattle.parser.proofs.Reductions.{below-append, plain-append, plain-children, kids_of}
-use Rattle.parser.proofs.Coming.{come_all, come_older, come_on, come_past, opened_came}
-use Rattle.parser.proofs.Stamping.{stamped_behind, stamped_in_front, stamped_split, trees_of-append}
+use Rattle.parser.proofs.WhereBranchesComeFrom.{come_all, come_older, come_on, come_past, opened_came}
+use Rattle.parser.proofs.Stamping.{stamped_after, stamped_before, stamped_split, trees_of-append}
 
 -- the tree at this place of the other list, with as many kinds before it
 abbrev pub Found : List Tree → List Tree → Tree → Type 0
@@ -41,7 +41,7 @@ FindsAside n one two = (lefts : List Tree) (t : Tree) → StandsIn one lefts t �
 same_nodes : (n : ℕ) (one two : List Tree) → one ≡ two → FindsAside n one two
 same_nodes n one two e lefts t w m a = (lefts, subst (λ l. StandsIn l lefts t) e w, refl)
 
--- one tree more in front of both lists
+-- one tree more before both lists
 past_all : (u : Tree) (one two : List Tree) → FindsAll one two → FindsAll (u ∷ one) (u ∷ two)
 past_all u one two h lefts t Top = ([], Top, refl)
 past_all u one two h lefts t (Below w) = (lefts, Below w, refl)
@@ -60,11 +60,11 @@ opened_all p us ts one h lefts t w = let r = h lefts t w in let c = closed p us 
 
 opened_aside : (p : ℕ) (us : Forest) (ts two : List Tree) (n : ℕ) → 0 < n → n < length (yields us) → FindsAside n (trees us ++ ts) two → FindsAside n (Branch p us ∷ ts) two
 opened_aside p us ts two n some less h lefts t Top k a = absurd (⊎_elim (λ x. omega (arith, x, less)) (λ x. omega (arith, x, some)) a)
-opened_aside p us ts two n some less h lefts t (Below w) k a = h lefts t (stands_in_front ts w) k a
+opened_aside p us ts two n some less h lefts t (Below w) k a = h lefts t (stands_in_prefix ts w) k a
 opened_aside p us ts two n some less h lefts t (Past {lefts = inner} w) k a =
     let same : all_kinds (trees us ++ inner) ≡ yields us ++ all_kinds inner = kinds-append (trees us) inner ∙ ap (λ l. l ++ all_kinds inner) (kinds-trees us) in
     let aside : IsAside n (trees us ++ inner) t = ⊎_elim (λ x. inl (omega (arith, x, ap length same))) (λ x. inr (omega (arith, x, ap length same))) a in
-    let r = h (trees us ++ inner) t (stands_behind (trees us) w) k aside in
+    let r = h (trees us ++ inner) t (stands_after (trees us) w) k aside in
     (r.0, r.1, r.2 ∙ same)
 
 branch_lighter : (p : ℕ) (us : Forest) (ts : List Tree) → weight (trees us ++ ts) < weight (Branch p us ∷ ts)
@@ -88,12 +88,12 @@ module _ (cells : List Cell) where
     is_branch : Branch of_id.production us ≡ plain (tree cells (Node id))
     is_branch = sym (ap plain of_id.is)
 
-    in_front : (cs : List Child) → trees us ++ plain_of cells cs ≡ plain_of cells (kids ++ cs)
-    in_front cs = ap (λ l. l ++ plain_of cells cs) (sym (plain-children (trees_from [] cells) kids)) ∙ sym (plain-append cells kids cs)
+    before_it : (cs : List Child) → trees us ++ plain_of cells cs ≡ plain_of cells (kids ++ cs)
+    before_it cs = ap (λ l. l ++ plain_of cells cs) (sym (plain-children (trees_from [] cells) kids)) ∙ sym (plain-append cells kids cs)
 
     -- what leads from the opened list to another, or back, leads from the branch
     over : (P : List Tree → List Tree → Type 0) (cs : List Child) → P (trees us ++ plain_of cells cs) (Branch of_id.production us ∷ plain_of cells cs) → P (plain_of cells (kids ++ cs)) (plain_of cells (Node id ∷ cs))
-    over P cs h = subst (λ t. P (plain_of cells (kids ++ cs)) (t ∷ plain_of cells cs)) is_branch (subst (λ l. P l (Branch of_id.production us ∷ plain_of cells cs)) (in_front cs) h)
+    over P cs h = subst (λ t. P (plain_of cells (kids ++ cs)) (t ∷ plain_of cells cs)) is_branch (subst (λ l. P l (Branch of_id.production us ∷ plain_of cells cs)) (before_it cs) h)
 
     pub opened_branches : (cs : List Child) → all_branches (plain_of cells (kids ++ cs)) < all_branches (plain_of cells (Node id ∷ cs))
     opened_branches cs = over (λ one two. all_branches one < all_branches two) cs (omega (arith, branches-append (trees us) (plain_of cells cs), branches-trees us))
@@ -116,68 +116,68 @@ module _ (cells : List Cell) where
     opened_keeps : (cs : List Child) (two : List Tree) (n : ℕ) → 0 < n → n < kinds_in cells (Node id) → FindsAside n (plain_of cells (kids ++ cs)) two → FindsAside n (plain_of cells (Node id ∷ cs)) two
     opened_keeps cs two n some less = over (λ l m. FindsAside n l two → FindsAside n m two) cs (opened_aside of_id.production us (plain_of cells cs) two n some (subst (λ t. n < length (yield t)) (sym is_branch) less))
 
-  -- front and back together have the kinds of the list
-  pub cut_kinds : {n : ℕ} {cs front back : List Child} → Cut cells n cs front back → all_kinds (plain_of cells cs) ≡ all_kinds (plain_of cells front) ++ all_kinds (plain_of cells back)
+  -- the two sides together have the kinds of the list
+  pub cut_kinds : {n : ℕ} {cs first_input back : List Child} → Cut cells n cs first_input back → all_kinds (plain_of cells cs) ≡ all_kinds (plain_of cells first_input) ++ all_kinds (plain_of cells back)
   cut_kinds Here = refl
   cut_kinds Used_up = refl
-  cut_kinds (Whole {c = c} {front = front} {back = back} e d) = ap (λ l. yield (plain (tree cells c)) ++ l) (cut_kinds d) ∙ sym (append_assoc (yield (plain (tree cells c))) (all_kinds (plain_of cells front)) (all_kinds (plain_of cells back)))
+  cut_kinds (Whole {c = c} {first_input = first_input} {back = back} e d) = ap (λ l. yield (plain (tree cells c)) ++ l) (cut_kinds d) ∙ sym (append_assoc (yield (plain (tree cells c))) (all_kinds (plain_of cells first_input)) (all_kinds (plain_of cells back)))
   cut_kinds (Opened {cs = cs} some less of_id d) = sym (opened_kinds of_id cs) ∙ cut_kinds d
 
   -- and no more branches than it
-  pub cut_branches : {n : ℕ} {cs front back : List Child} → Cut cells n cs front back → all_branches (plain_of cells front) + all_branches (plain_of cells back) ≤ all_branches (plain_of cells cs)
+  pub cut_branches : {n : ℕ} {cs first_input back : List Child} → Cut cells n cs first_input back → all_branches (plain_of cells first_input) + all_branches (plain_of cells back) ≤ all_branches (plain_of cells cs)
   cut_branches Here = omega arith
   cut_branches Used_up = omega arith
   cut_branches (Whole e d) = omega (arith, cut_branches d)
   cut_branches (Opened {cs = cs} some less of_id d) = omega (arith, cut_branches d, opened_branches of_id cs)
 
-  pub cut_below : (m : ℕ) {n : ℕ} {cs front back : List Child} → Cut cells n cs front back → AreBelow m cs → AreBelow m front × AreBelow m back
+  pub cut_below : (m : ℕ) {n : ℕ} {cs first_input back : List Child} → Cut cells n cs first_input back → AreBelow m cs → AreBelow m first_input × AreBelow m back
   cut_below m Here h = (tt, h)
   cut_below m Used_up h = (tt, tt)
   cut_below m (Whole e d) h = let r = cut_below m d h.1 in ((h.0, r.0), r.1)
   cut_below m (Opened {cs = cs} some less of_id d) h = cut_below m d (opened_below of_id m cs h)
 
-  pub cut_parts : (g : Grammar) {n : ℕ} {cs front back : List Child} → Cut cells n cs front back → AreParts g (plain_of cells cs) → AreParts g (plain_of cells front) × AreParts g (plain_of cells back)
+  pub cut_parts : (g : Grammar) {n : ℕ} {cs first_input back : List Child} → Cut cells n cs first_input back → AreParts g (plain_of cells cs) → AreParts g (plain_of cells first_input) × AreParts g (plain_of cells back)
   cut_parts g Here h = (tt, h)
   cut_parts g Used_up h = (tt, tt)
   cut_parts g (Whole e d) h = let r = cut_parts g d h.1 in ((h.0, r.0), r.1)
   cut_parts g (Opened {cs = cs} some less of_id d) h = cut_parts g d (opened_parts of_id g cs h)
 
   -- each stamped branch of the parts was one of the list
-  pub cut_came : {n : ℕ} {cs front back : List Child} → Cut cells n cs front back → ComeFrom (all_trees cells cs) 0 (all_trees cells front ++ all_trees cells back)
+  pub cut_came : {n : ℕ} {cs first_input back : List Child} → Cut cells n cs first_input back → ComeFrom (all_trees cells cs) 0 (all_trees cells first_input ++ all_trees cells back)
   cut_came (Here {cs = cs}) = come_all (all_trees cells cs)
   cut_came Used_up = come_all []
-  cut_came (Whole {c = c} {cs = cs} {front = front} {back = back} e d) = come_past (tree cells c) (all_trees cells cs) (all_trees cells front ++ all_trees cells back) (cut_came d)
-  cut_came (Opened {id = id} {kids = kids} {cs = cs} {front = front} {back = back} some less of_id d) =
-      come_on 0 0 (all_trees cells (Node id ∷ cs)) (all_trees cells (kids ++ cs)) (all_trees cells front ++ all_trees cells back) (opened_came cells kids cs id of_id.production of_id.born of_id.is) (cut_came d)
+  cut_came (Whole {c = c} {cs = cs} {first_input = first_input} {back = back} e d) = come_past (tree cells c) (all_trees cells cs) (all_trees cells first_input ++ all_trees cells back) (cut_came d)
+  cut_came (Opened {id = id} {kids = kids} {cs = cs} {first_input = first_input} {back = back} some less of_id d) =
+      come_on 0 0 (all_trees cells (Node id ∷ cs)) (all_trees cells (kids ++ cs)) (all_trees cells first_input ++ all_trees cells back) (opened_came cells kids cs id of_id.production of_id.born of_id.is) (cut_came d)
 
-  pub cut_older : (number : ℕ) {n : ℕ} {cs front back : List Child} → Cut cells n cs front back → AreOlder number (all_trees cells cs) → AreOlder number (all_trees cells front) × AreOlder number (all_trees cells back)
-  cut_older number {cs = cs} {front = front} {back = back} cut h =
-      let fronts = all_trees cells front in
+  pub cut_older : (number : ℕ) {n : ℕ} {cs first_input back : List Child} → Cut cells n cs first_input back → AreOlder number (all_trees cells cs) → AreOlder number (all_trees cells first_input) × AreOlder number (all_trees cells back)
+  cut_older number {cs = cs} {first_input = first_input} {back = back} cut h =
+      let prefixes = all_trees cells first_input in
       let backs = all_trees cells back in
-      let all = come_older number 0 (all_trees cells cs) (fronts ++ backs) (cut_came cut) h in (
-        (λ lefts p born us w. all lefts p born us (stamped_in_front backs w)),
-        (λ lefts p born us w. all (plain_trees fronts ++ lefts) p born us (stamped_behind fronts w)),
+      let all = come_older number 0 (all_trees cells cs) (prefixes ++ backs) (cut_came cut) h in (
+        (λ lefts p born us w. all lefts p born us (stamped_before backs w)),
+        (λ lefts p born us w. all (plain_trees prefixes ++ lefts) p born us (stamped_after prefixes w)),
       )
 
   -- each node of the parts stood in the list
-  pub cut_from : {n : ℕ} {cs front back : List Child} → Cut cells n cs front back → FindsAll (plain_of cells front ++ plain_of cells back) (plain_of cells cs)
+  pub cut_from : {n : ℕ} {cs first_input back : List Child} → Cut cells n cs first_input back → FindsAll (plain_of cells first_input ++ plain_of cells back) (plain_of cells cs)
   cut_from Here = λ lefts t w. (lefts, w, refl)
   cut_from Used_up = λ lefts t w. (lefts, w, refl)
-  cut_from (Whole {c = c} {cs = cs} {front = front} {back = back} e d) = past_all (plain (tree cells c)) (plain_of cells front ++ plain_of cells back) (plain_of cells cs) (cut_from d)
-  cut_from (Opened {cs = cs} {front = front} {back = back} some less of_id d) = opened_from of_id cs (plain_of cells front ++ plain_of cells back) (cut_from d)
+  cut_from (Whole {c = c} {cs = cs} {first_input = first_input} {back = back} e d) = past_all (plain (tree cells c)) (plain_of cells first_input ++ plain_of cells back) (plain_of cells cs) (cut_from d)
+  cut_from (Opened {cs = cs} {first_input = first_input} {back = back} some less of_id d) = opened_from of_id cs (plain_of cells first_input ++ plain_of cells back) (cut_from d)
 
   -- each node that is not cut stands in a part
-  pub cut_keeps : {n : ℕ} {cs front back : List Child} → Cut cells n cs front back → FindsAside n (plain_of cells cs) (plain_of cells front ++ plain_of cells back)
+  pub cut_keeps : {n : ℕ} {cs first_input back : List Child} → Cut cells n cs first_input back → FindsAside n (plain_of cells cs) (plain_of cells first_input ++ plain_of cells back)
   cut_keeps (Here {cs = cs}) = same_nodes 0 (plain_of cells cs) (plain_of cells cs) refl
   cut_keeps (Used_up {n = n}) = same_nodes n [] [] refl
-  cut_keeps (Whole {m = m} {n = n} {c = c} {cs = cs} {front = front} {back = back} e d) = past_aside (plain (tree cells c)) (plain_of cells cs) (plain_of cells front ++ plain_of cells back) m n e (cut_keeps d)
-  cut_keeps (Opened {n = n} {cs = cs} {front = front} {back = back} some less of_id d) = opened_keeps of_id cs (plain_of cells front ++ plain_of cells back) n some less (cut_keeps d)
+  cut_keeps (Whole {m = m} {n = n} {c = c} {cs = cs} {first_input = first_input} {back = back} e d) = past_aside (plain (tree cells c)) (plain_of cells cs) (plain_of cells first_input ++ plain_of cells back) m n e (cut_keeps d)
+  cut_keeps (Opened {n = n} {cs = cs} {first_input = first_input} {back = back} some less of_id d) = opened_keeps of_id cs (plain_of cells first_input ++ plain_of cells back) n some less (cut_keeps d)
 
-  -- trees that fit stay whole, in front of what is cut
-  pub cut_behind : (xs : List Child) (m n : ℕ) {ys front back : List Child} → place_of (plain_of cells xs) + m ≡ n → Cut cells m ys front back → Cut cells n (xs ++ ys) (xs ++ front) back
-  cut_behind [] m n {ys} {front} {back} e d = let same : m ≡ n = omega (arith, e) in subst (λ k. Cut cells k ys front back) same d
-  cut_behind (x ∷ xs) m n e d =
-      Whole {m = place_of (plain_of cells xs) + m} (omega (arith, e, length-append (yield (plain (tree cells x))) (all_kinds (plain_of cells xs)))) (cut_behind xs m (place_of (plain_of cells xs) + m) refl d)
+  -- trees that fit stay whole, before what is cut
+  pub cut_after : (xs : List Child) (m n : ℕ) {ys first_input back : List Child} → place_of (plain_of cells xs) + m ≡ n → Cut cells m ys first_input back → Cut cells n (xs ++ ys) (xs ++ first_input) back
+  cut_after [] m n {ys} {first_input} {back} e d = let same : m ≡ n = omega (arith, e) in subst (λ k. Cut cells k ys first_input back) same d
+  cut_after (x ∷ xs) m n e d =
+      Whole {m = place_of (plain_of cells xs) + m} (omega (arith, e, length-append (yield (plain (tree cells x))) (all_kinds (plain_of cells xs)))) (cut_after xs m (place_of (plain_of cells xs) + m) refl d)
 
 -- what the store counts is the number of kinds, where there are not too many
 pub counted : (count : ℕ) → count ≤ most → min most count ≡ count

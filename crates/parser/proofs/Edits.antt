@@ -1,4 +1,4 @@
--- An edit of the kinds: the old trees as an input, and what the stamps on the new ones tell.
+-- An edit of the kinds: the old trees as an input, and what the stamps on the new ones show.
 use Rattle.std.proofs.Common.{◌≡◌, ◌≢◌, ◌⊎◌, ◌+◌, ◌≤◌, length-append, ℕ, List, [], ◌∷◌, ◌++◌, length, take, drop, refl, sym, ap, ◌∙◌, subst, inl, inr, ⊎_elim, take-append-drop, arith}
 use Rattle.std.proofs.lemmas.List.{append-nil}
 use Rattle.std.proofs.Math.Seq.{drop-append_seam}
@@ -11,11 +11,11 @@ use Rattle.definitions.specs.TokenEdits.{Splice}
 use Rattle.definitions.specs.TreeEdits.{AreStampedExactly, Built, LiesInKept, Stamped, StampedForest, StampedIn, plain_all, plain_trees}
 use Rattle.theory.specs.Laws.{AreAnswer}
 use Rattle.theory.specs.Reuse.{Goes_on, Ends, Reuses, Takes_token, Makes, IsPrepared}
-use Rattle.theory.proofs.Exact.{EachTaken, TakenIsKept, taken_is_kept}
+use Rattle.theory.proofs.ReuseIsExact.{EachTaken, TakenIsKept, taken_is_kept}
 use Rattle.theory.proofs.LawProofs.{exact}
-use Rattle.theory.proofs.Made.{made_or_taken, stamped_stands}
-use Rattle.theory.proofs.Reused.{TakesOver}
-use Rattle.theory.proofs.Sound.{kinds-append}
+use Rattle.theory.proofs.MadeIsBuilt.{made_or_taken, stamped_stands}
+use Rattle.theory.proofs.KeptIsReused.{TakesOver}
+use Rattle.theory.proofs.StackIsRead.{kinds-append}
 use Rattle.theory.proofs.Stack.{nowhere}
 use Rattle.trees.specs.declared.store.Child.{Child}
 use Rattle.trees.specs.Cells.{Cell, most, all_trees}
@@ -25,10 +25,10 @@ use Rattle.parser.specs.Machine.{plain_of}
 use Rattle.parser.specs.Parses.{AreStacked, IsParseOf, Stop, all_branches_by, last_leaf, verdict_in}
 use Rattle.parser.specs.Run.{AreStampedBy, IsMadeByRun, SoFar}
 use Rattle.parser.proofs.Built.{built_counts}
-use Rattle.parser.proofs.Front.{roots_parts}
+use Rattle.parser.proofs.LeftEdge.{roots_parts}
 use Rattle.parser.proofs.Running.{kinds_leaves}
-use Rattle.parser.proofs.StackNodes.{stacked_front}
-use Rattle.parser.proofs.Stops.{last-append}
+use Rattle.parser.proofs.StackNodes.{stacked_prefix}
+use Rattle.parser.proofs.StopDecides.{last-append}
 
 -- the old trees begin at the first of their kinds
 pub old_input : (t : Sets) (kinds : List Kind) (cells : List Cell) (parse : Stop) → IsParseOf t kinds cells parse → IsInput t.grammar cells parse.stack kinds 0
@@ -36,19 +36,19 @@ old_input t kinds cells parse h =
     let ts = plain_of cells parse.stack in
     let all = all_kinds ts in
     let n : 0 + length all ≡ length all = omega arith in
-    let front = stacked_front t.grammar kinds (verdict_in cells parse.verdict) ts h.stop.verdict h.stop.stack in
+    let first_input = stacked_prefix t.grammar kinds (verdict_in cells parse.verdict) ts h.stop.verdict h.stop.stack in
     record {
       below = h.stop.below;
       parts = roots_parts t.grammar ts h.stop.roots h.stop.are_roots;
-      covers = kinds-append ts (leaves (drop (0 + length all) kinds)) ∙ ap (λ l. all ++ l) (kinds_leaves (drop (0 + length all) kinds)) ∙ ap (λ m. all ++ drop m kinds) n ∙ ap (λ l. all ++ drop (length all) l) front.1 ∙ ap (λ l. all ++ l) (drop-append_seam all front.0) ∙ sym front.1;
+      covers = kinds-append ts (leaves (drop (0 + length all) kinds)) ∙ ap (λ l. all ++ l) (kinds_leaves (drop (0 + length all) kinds)) ∙ ap (λ m. all ++ drop m kinds) n ∙ ap (λ l. all ++ drop (length all) l) first_input.1 ∙ ap (λ l. all ++ l) (drop-append_seam all first_input.0) ∙ sym first_input.1;
     }
 
 -- and no more kinds than can be counted
 pub stack_countable : (t : Sets) (kinds : List Kind) (cells : List Cell) (parse : Stop) → IsParseOf t kinds cells parse → place_of (plain_of cells parse.stack) ≤ most
 stack_countable t kinds cells parse h =
     let ts = plain_of cells parse.stack in
-    let front = stacked_front t.grammar kinds (verdict_in cells parse.verdict) ts h.stop.verdict h.stop.stack in
-    omega (arith, h.countable, ap length front.1, length-append (all_kinds ts) front.0)
+    let first_input = stacked_prefix t.grammar kinds (verdict_in cells parse.verdict) ts h.stop.verdict h.stop.stack in
+    omega (arith, h.countable, ap length first_input.1, length-append (all_kinds ts) first_input.0)
 
 module _ (g : Grammar) where
   settled_answer : (x tail : List Kind) (settled stack : List Tree) → IsSettled g x settled → stack ≡ settled ++ last_leaf x → AreAnswer g (x ++ tail) stack ⊎ (stack ≡ [])

@@ -80,15 +80,15 @@ module _ (g : Grammar) (a : ℕ) where
 
   viable_named : (x : List Kind) → IsViable g (x ++ (Token a ∷ [])) → a < above g.productions
   viable_named x v =
-      let kinds : Has (Token a) ((x ++ (Token a ∷ [])) ++ v.0) = has_front (x ++ (Token a ∷ [])) (has_middle (Token a) x []) in
+      let kinds : Has (Token a) ((x ++ (Token a ∷ [])) ++ v.0) = has_prefix (x ++ (Token a ∷ [])) (has_middle (Token a) x []) in
       ⊎_elim
       (λ e. absurd (let f : ⊥ = cc in f))
       (λ below. below)
       (named v.1.0 (Nonterminal g.start) v.1.1.root (subst (λ l. Has (Token a) l) (sym v.1.1.kinds) kinds))
     where
-      has_front : (y : List Kind) → Has (Token a) y → Has (Token a) (y ++ v.0)
-      has_front [] h = absurd h
-      has_front (j ∷ y) h = ⊎_elim (λ e. inl e) (λ more. inr (has_front y more)) h
+      has_prefix : (y : List Kind) → Has (Token a) y → Has (Token a) (y ++ v.0)
+      has_prefix [] h = absurd h
+      has_prefix (j ∷ y) h = ⊎_elim (λ e. inl e) (λ more. inr (has_prefix y more)) h
 
 -- ---- the numbers below a bound that have a property, in order
 
@@ -148,10 +148,10 @@ module _ (g : Grammar) (accepted : IsAccepted g) (decided : AreMovesDecided g) (
 
   pub expected_exists : (rules : List ℕ) × (at_end : Bool) × IsExpected g x rules at_end
   expected_exists =
-      let told = those (λ a. IsViable g (x ++ (Token a ∷ []))) next_decided (above g.productions) 0 in
-      let each : (a : ℕ) → Contains told.0 a ↔ IsViable g (x ++ (Token a ∷ [])) =
-      λ a. (told.1.only a, λ v. let few = viable_named g a x v in told.1.all a (omega arith) (omega (arith, few)) v) in
+      let shown = those (λ a. IsViable g (x ++ (Token a ∷ []))) next_decided (above g.productions) 0 in
+      let each : (a : ℕ) → Contains shown.0 a ↔ IsViable g (x ++ (Token a ∷ [])) =
+      λ a. (shown.1.only a, λ v. let few = viable_named g a x v in shown.1.all a (omega arith) (omega (arith, few)) v) in
       ⊎_elim
-      (λ ends. (told.0, true, record { in_order = told.1.in_order; each = each; ends = (λ _. ends, λ _. refl) }))
-      (λ goes_on. (told.0, false, record { in_order = told.1.in_order; each = each; ends = (λ e. absurd (let f : ⊥ = cc in f), λ s. absurd (goes_on s)) }))
+      (λ ends. (shown.0, true, record { in_order = shown.1.in_order; each = each; ends = (λ _. ends, λ _. refl) }))
+      (λ goes_on. (shown.0, false, record { in_order = shown.1.in_order; each = each; ends = (λ e. absurd (let f : ⊥ = cc in f), λ s. absurd (goes_on s)) }))
       end_decided

@@ -4,8 +4,8 @@ use Rattle.std.proofs.Common.{◌≡◌, ℕ, ◌+◌, ◌≤◌, List, [], ◌�
 use Rattle.definitions.specs.declared.Kind.{Kind}
 use Rattle.definitions.specs.Nodes.{branches, all_branches}
 use Rattle.definitions.specs.Trees.{Grammar, Tree, Branch, Leaf, all_kinds, trees}
-use Rattle.theory.specs.Reuse.{Front, Take, AtToken, AtEnd, Tries, Nothing_left, Dropped, Passed, Opened, At_token, Goes_on, Ends, Reuses, Takes_token, Makes}
-use Rattle.theory.proofs.Reused.{branches-append, branches-trees}
+use Rattle.theory.specs.Reuse.{FirstInput, Take, AtToken, AtEnd, Tries, Nothing_left, Dropped, Passed, Opened, At_token, Goes_on, Ends, Reuses, Takes_token, Makes}
+use Rattle.theory.proofs.KeptIsReused.{branches-append, branches-trees}
 use Rattle.trees.specs.declared.store.Child.{Child}
 use Rattle.trees.specs.Cells.{Cell}
 use Rattle.tables.specs.Tables.{Sets}
@@ -14,13 +14,13 @@ use Rattle.parser.specs.Input.{leaves, input_of}
 use Rattle.parser.specs.Run.{IsMadeByRun, makes}
 
 -- the branches of what an offer leaves
-abbrev offered : Front → ℕ
+abbrev offered : FirstInput → ℕ
 offered (Take t ts) = branches t + all_branches ts
 offered (AtToken k ts) = all_branches ts
 offered AtEnd = 0
 
 module _ (g : Grammar) where
-  tries_fit : {s i : List Tree} {f : Front} → Tries g s i f → offered f ≤ all_branches i
+  tries_fit : {s i : List Tree} {f : FirstInput} → Tries g s i f → offered f ≤ all_branches i
   tries_fit Nothing_left = omega arith
   tries_fit (Dropped e d) = omega (arith, tries_fit d)
   tries_fit (Passed c) = omega arith
@@ -41,5 +41,5 @@ no_branches (k ∷ ks) = omega (arith, no_branches ks)
 pub stack_fits : (t : Sets) (old cells : List Cell) (input stack : List Child) (kinds : List Kind) (number : ℕ) → IsMadeByRun t (input_of old input kinds 0) kinds (length old) number cells stack → all_branches (plain_of old input) ≤ length old → all_branches (plain_of cells stack) ≤ length cells
 stack_fits t old cells input stack kinds number made fits =
     let h = made.so_far in
-    let behind = drop (0 + length (all_kinds (plain_of old input))) kinds in
-    omega (arith, fits, h.count, run_fits t.grammar h.run, ap all_branches h.top_is, branches-append (plain_of old input) (leaves behind), no_branches behind)
+    let after = drop (0 + length (all_kinds (plain_of old input))) kinds in
+    omega (arith, fits, h.count, run_fits t.grammar h.run, ap all_branches h.top_is, branches-append (plain_of old input) (leaves after), no_branches after)

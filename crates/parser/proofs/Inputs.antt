@@ -1,4 +1,4 @@
--- What is taken from the front of the input, and put back there.
+-- What is taken from the start of the input, and put back there.
 use Rattle.std.proofs.Common.{◌≡◌, ℕ, ◌-◌, ◌<◌, ◌≤◌, min, List, [], ◌∷◌, ◌++◌, length, drop, Option, Some, None, MatchOption, refl, sym, ap, ◌∙◌, arith, length-append, append_assoc}
 use mathlib.Core.List.{tail-eq_of_cons-eq, head-eq_of_cons-eq}
 use Rattle.std.proofs.Math.Seq.{drop-append_seam}
@@ -6,7 +6,7 @@ use Rattle.std.proofs.lemmas.List.{append-nil}
 use Rattle.definitions.specs.declared.Kind.{Kind}
 use Rattle.definitions.specs.Trees.{all_kinds, yield}
 use Rattle.definitions.specs.TreeEdits.{StampedBranch, plain, plain_all}
-use Rattle.theory.proofs.Sound.{kinds-append, kinds-trees}
+use Rattle.theory.proofs.StackIsRead.{kinds-append, kinds-trees}
 use Rattle.trees.specs.declared.store.Child.{Child}
 use Rattle.trees.specs.declared.store.Child.TheVariants.{Node}
 use Rattle.trees.specs.declared.store.NodeId.{NodeId}
@@ -19,10 +19,10 @@ pub taken : (r : Option Child) (old new rest : List Child) (c : Child) → Match
 taken None old new rest c h e = absurd (let k : [] ≡ c ∷ rest = sym h.0 ∙ e in cc k)
 taken (Some x) old new rest c h e = h ∙ ap (λ y. y ∷ new) (head-eq_of_cons-eq (sym h ∙ e))
 
--- what stands behind the opened child is what stood behind it before
-pub behind_opened : (before now rest : List Child) (c : Child) → before ≡ c ∷ rest → IsOpened before now → drop (length now - (length before - 1)) now ≡ rest
-behind_opened [] now rest c e h = absurd (cc e)
-behind_opened (d ∷ ds) now rest c e h =
+-- what stands after the opened child is what stood after it before
+pub after_opened : (before now rest : List Child) (c : Child) → before ≡ c ∷ rest → IsOpened before now → drop (length now - (length before - 1)) now ≡ rest
+after_opened [] now rest c e h = absurd (cc e)
+after_opened (d ∷ ds) now rest c e h =
     let back : ds ≡ rest = tail-eq_of_cons-eq e in
     let n : length now - (length (d ∷ ds) - 1) ≡ length h.0 = omega (arith, ap length h.1, length-append h.0 ds) in
     (λ i. drop (n i) (h.1 i)) ∙ drop-append_seam h.0 ds ∙ back
@@ -70,7 +70,7 @@ pub below-gone : (n : ℕ) (gone new : List Child) → AreBelow n (gone ++ new) 
 below-gone n [] new h = h
 below-gone n (c ∷ gone) new h = below-gone n gone new h.1
 
--- the first child is opened, and its kinds are still in front of the others
+-- the first child is opened, and its kinds are still before the others
 abbrev pub IsOpening : List Cell → List Child → List Child → Type 0
 IsOpening cells [] now = now ≡ []
 IsOpening cells (c ∷ rest) now = (opened : List Child) × (now ≡ opened ++ rest) × (all_kinds (plain_of cells opened) ≡ yield (plain (tree cells c)))

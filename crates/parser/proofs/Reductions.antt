@@ -37,9 +37,9 @@ pub below-append : (n : ℕ) (xs ys : List Child) → AreBelow n xs → AreBelow
 below-append n [] ys h k = k
 below-append n (x ∷ xs) ys h k = (h.0, below-append n xs ys h.1 k)
 
-pub below-front : (n : ℕ) (xs ys : List Child) → AreBelow n (xs ++ ys) → AreBelow n xs
-below-front n [] ys h = tt
-below-front n (x ∷ xs) ys h = (h.0, below-front n xs ys h.1)
+pub below-first_input : (n : ℕ) (xs ys : List Child) → AreBelow n (xs ++ ys) → AreBelow n xs
+below-first_input n [] ys h = tt
+below-first_input n (x ∷ xs) ys h = (h.0, below-first_input n xs ys h.1)
 
 pub below-drop : (n k : ℕ) (cs : List Child) → AreBelow n cs → AreBelow n (drop k cs)
 below-drop n zero cs h = h
@@ -51,17 +51,17 @@ below-take n zero cs h = tt
 below-take n (suc k) [] h = tt
 below-take n (suc k) (c ∷ cs) h = (h.0, below-take n k cs h.1)
 
-take_front : {A : Type 0} → (one two : List A) → take (length one) (one ++ two) ≡ one
-take_front [] two = refl
-take_front (x ∷ one) two = ap (λ l. x ∷ l) (take_front one two)
+take_prefix : {A : Type 0} → (one two : List A) → take (length one) (one ++ two) ≡ one
+take_prefix [] two = refl
+take_prefix (x ∷ one) two = ap (λ l. x ∷ l) (take_prefix one two)
 
-get_front : (k i : ℕ) (l : List ℕ) → i < k → get_or (take k l) i 0 ≡ get_or l i 0
-get_front zero i l h = absurd (omega (arith, h))
-get_front (suc k) i [] h = refl
-get_front (suc k) zero (x ∷ l) h = refl
-get_front (suc k) (suc i) (x ∷ l) h = get_front k i l (omega (arith, h))
+get_prefix : (k i : ℕ) (l : List ℕ) → i < k → get_or (take k l) i 0 ≡ get_or l i 0
+get_prefix zero i l h = absurd (omega (arith, h))
+get_prefix (suc k) i [] h = refl
+get_prefix (suc k) zero (x ∷ l) h = refl
+get_prefix (suc k) (suc i) (x ∷ l) h = get_prefix k i l (omega (arith, h))
 
--- the stack is what stays, and the slice behind it
+-- the stack is what stays, and the slice after it
 pub parts : {A : Type 0} → (n : ℕ) (l l' : List A) → l' ≡ l → l ≡ take n l ++ take (length l' - n) (drop n l')
 parts n l l' e = subst (λ m. l ≡ take n l ++ take (length m - n) (drop n m)) (sym e) (sym (take-append-drop n l) ∙ ap (λ m. take n l ++ m) (sym (take_all (length l - n) (drop n l) (omega (arith, length-drop n l)))))
 
@@ -97,7 +97,7 @@ reduced g cells new stack stack' p number m b look symbols roots called left rig
       production = production;
       size = sym (ap length are) ∙ plain-length cells m.kids ∙ long;
       from_is = ap (plain_of cells) m.stack_is ∙ plain-append cells m.under m.kids ∙ ap (λ l. plain_of cells m.under ++ l) are;
-      to_is = ap (plain_of new) m.stack_is' ∙ made_trees cells new p number m.under m.kids m.id m.grown (below-front (length cells) m.under m.kids (subst (AreBelow (length cells)) m.stack_is b));
+      to_is = ap (plain_of new) m.stack_is' ∙ made_trees cells new p number m.under m.kids m.id m.grown (below-first_input (length cells) m.under m.kids (subst (AreBelow (length cells)) m.stack_is b));
     }
 
 module _ (t : Sets) (stack : List Tree) (states : List ℕ) (h : HasStates t stack states) (symbols : List Symbol) (roots : HaveRoots t.grammar stack symbols) (left : ℕ) (right : List Symbol) (k : Handle t.grammar stack symbols left right) (n : ℕ) (at : n + length right ≡ length stack) where
@@ -110,40 +110,40 @@ module _ (t : Sets) (stack : List Tree) (states : List ℕ) (h : HasStates t sta
   long : n + 1 ≤ length states
   long = omega (arith, depth, h.long, ap length same, length-append k.d right)
 
-  front_long : length (take (n + 1) states) ≡ n + 1
-  front_long = omega (arith, length-take (n + 1) states, long)
+  prefix_long : length (take (n + 1) states) ≡ n + 1
+  prefix_long = omega (arith, length-take (n + 1) states, long)
 
   -- the state below the handle
   pub state_under : IsStateOf t k.d (get_or (take (n + 1) states) (length (take (n + 1) states) - 1) 0)
   state_under =
-      let top : length (take (n + 1) states) - 1 ≡ length k.d = omega (arith, front_long, depth) in
+      let top : length (take (n + 1) states) - 1 ≡ length k.d = omega (arith, prefix_long, depth) in
       let lt : length k.d < n + 1 = omega (arith, depth) in
-      let is : get_or (take (n + 1) states) (length (take (n + 1) states) - 1) 0 ≡ get_or states (length k.d) 0 = ap (λ i. get_or (take (n + 1) states) i 0) top ∙ get_front (n + 1) (length k.d) states lt in
+      let is : get_or (take (n + 1) states) (length (take (n + 1) states) - 1) 0 ≡ get_or states (length k.d) 0 = ap (λ i. get_or (take (n + 1) states) i 0) top ∙ get_prefix (n + 1) (length k.d) states lt in
       let there : IsStateOf t (take (length k.d) h.symbols) (get_or states (length k.d) 0) = h.each (length k.d) (omega (arith, depth, long)) in
-      let front : take (length k.d) h.symbols ≡ k.d = ap (take (length k.d)) same ∙ take_front k.d right in
-      subst (λ s. IsStateOf t k.d s) (sym is) (subst (λ l. IsStateOf t l (get_or states (length k.d) 0)) front there)
+      let first_input : take (length k.d) h.symbols ≡ k.d = ap (take (length k.d)) same ∙ take_prefix k.d right in
+      subst (λ s. IsStateOf t k.d s) (sym is) (subst (λ l. IsStateOf t l (get_or states (length k.d) 0)) first_input there)
 
   -- and with the state that goes on from it, the states above the reduced stack
   pub states_after : (stack' : List Tree) (next : ℕ) → HaveRoots t.grammar stack' (k.d ++ (Nonterminal left ∷ [])) → IsStateOf t (k.d ++ (Nonterminal left ∷ [])) next → HasStates t stack' (take (n + 1) states ++ (next ∷ []))
   states_after stack' next roots' there =
-      let front = take (n + 1) states in
+      let first_input = take (n + 1) states in
       let whole = k.d ++ (Nonterminal left ∷ []) in
       let whole_long : length whole ≡ n + 1 = omega (arith, depth, length-append k.d (Nonterminal left ∷ [])) in
       record {
         symbols = whole;
         roots = roots';
-        long = omega (arith, length-append front (next ∷ []), front_long, whole_long);
+        long = omega (arith, length-append first_input (next ∷ []), prefix_long, whole_long);
         each = λ i lt. ⊎_elim
             (λ low.
             let le : i ≤ length k.d = omega (arith, low, depth) in
             let old : IsStateOf t (take i h.symbols) (get_or states i 0) = h.each i (omega (arith, low, long)) in
             let is : take i h.symbols ≡ take i whole = ap (take i) same ∙ take-append-le i k.d right le ∙ sym (take-append-le i k.d (Nonterminal left ∷ []) le) in
-            let there' : get_or (front ++ (next ∷ [])) i 0 ≡ get_or states i 0 = get_or_append_left front (next ∷ []) 0 i (omega (arith, low, front_long)) ∙ get_front (n + 1) i states low in
+            let there' : get_or (first_input ++ (next ∷ [])) i 0 ≡ get_or states i 0 = get_or_append_left first_input (next ∷ []) 0 i (omega (arith, low, prefix_long)) ∙ get_prefix (n + 1) i states low in
             subst (λ s. IsStateOf t (take i whole) s) (sym there') (subst (λ l. IsStateOf t l (get_or states i 0)) is old))
             (λ high.
-            let i_is : i ≡ n + 1 = omega (arith, high, lt, length-append front (next ∷ []), front_long) in
+            let i_is : i ≡ n + 1 = omega (arith, high, lt, length-append first_input (next ∷ []), prefix_long) in
             let all : take i whole ≡ whole = take_all i whole (omega (arith, i_is, whole_long)) in
-            let is : get_or (front ++ (next ∷ [])) i 0 ≡ next = ap (λ j. get_or (front ++ (next ∷ [])) j 0) (let q : i ≡ length front = omega (arith, i_is, front_long) in q) ∙ get_or-append_seam front next [] 0 in
+            let is : get_or (first_input ++ (next ∷ [])) i 0 ≡ next = ap (λ j. get_or (first_input ++ (next ∷ [])) j 0) (let q : i ≡ length first_input = omega (arith, i_is, prefix_long) in q) ∙ get_or-append_seam first_input next [] 0 in
             subst (λ s. IsStateOf t (take i whole) s) (sym is) (subst (λ l. IsStateOf t l next) (sym all) there))
             (cases_lt i (n + 1));
       }

@@ -1,4 +1,4 @@
--- What the answers of the tables tell of the test that a tree is taken over by.
+-- What the answers of the tables say of the test that a tree is taken over by.
 use Rattle.std.specs.Option.{is_some}
 use Rattle.std.proofs.Common.{◌^◌, min, true, false, ◌≡◌, ℕ, ◌-◌, ◌<◌, List, [], ◌∷◌, ◌++◌, length, drop, get_or, slice_get, zero, suc, Option, Some, None, refl, sym, ap, ◌∙◌, subst, arith}
 use Rattle.definitions.specs.declared.Kind.{Kind}
@@ -55,7 +55,7 @@ module _ (t : Sets) (stack : List Tree) (states : List ℕ) (h : HasStates t sta
   can_reuse rest look a e n k =
       record { root = left; is = is; not_empty = n; symbols = h.symbols; roots = h.roots; move = plain_move a; called = subst (λ l. HasMove t.grammar (h.symbols ++ (Nonterminal left ∷ [])) l (plain_move a)) e k }
 
-  -- the state behind the tree, whatever the symbols are called
+  -- the state after the tree, whatever the symbols are called
   pub goes : (next : ℕ) → IsStateOf t (h.symbols ++ (Nonterminal left ∷ [])) next → (symbols : List Symbol) → HaveRoots t.grammar stack symbols → IsStateOf t (symbols ++ (Nonterminal left ∷ [])) next
   goes next k symbols roots = subst (λ l. IsStateOf t (l ++ (Nonterminal left ∷ [])) next) (roots_unique t.grammar stack h.symbols symbols h.roots roots) k
 

@@ -10,10 +10,10 @@ use Rattle.definitions.specs.TreeEdits.{StampedBranch, StampedLeaf, plain, plain
 use Rattle.definitions.specs.Sentences.{AllProductive}
 use Rattle.definitions.specs.Items.{HasMove, Shift, Reduce}
 use Rattle.theory.specs.Machine.{look_at, Reduces, Shifts, Run, IsStackAfter}
-use Rattle.theory.specs.Reuse.{Front, Take, AtToken, AtEnd, IsNoTree, CanReuse, Tries, Nothing_left, Passed, At_token, Goes_on, Ends, Reuses, Takes_token, Makes, MakesAt}
+use Rattle.theory.specs.Reuse.{FirstInput, Take, AtToken, AtEnd, IsNoTree, CanReuse, Tries, Nothing_left, Passed, At_token, Goes_on, Ends, Reuses, Takes_token, Makes, MakesAt}
 use Rattle.theory.proofs.Incremental.{goes_on_passes}
 use Rattle.theory.proofs.Lists.{ends_equal}
-use Rattle.theory.proofs.Made.{goes_on_join}
+use Rattle.theory.proofs.MadeIsBuilt.{goes_on_join}
 use Rattle.theory.proofs.Simulation.{roots-append}
 use Rattle.theory.proofs.Theorems.{last_of}
 use Rattle.theory.proofs.Unique.{run_split}
@@ -25,17 +25,17 @@ use Rattle.trees.proofs.Cells.{all_below-more}
 use Rattle.tables.specs.Tables.{Sets, IsStateOf}
 use Rattle.parser.specs.Machine.{plain_of, HasStates, HasMade}
 use Rattle.parser.specs.Input.{leaves, input_of, AreParts, IsInput, Skips}
-use Rattle.parser.specs.Front.{Offers, IsReusable, BeginsWithNoNode}
+use Rattle.parser.specs.FirstInput.{Offers, IsReusable, BeginsWithNoNode}
 use Rattle.parser.specs.Parses.{AreUpTo, all_branches_by}
 use Rattle.parser.specs.Run.{makes, AreStampedBy, ComeFrom, SoFar}
 use Rattle.parser.specs.Stamps.{AreOlder}
-use Rattle.parser.proofs.Coming.{come_behind, come_older}
+use Rattle.parser.proofs.WhereBranchesComeFrom.{come_after, come_older}
 use Rattle.parser.proofs.Counts.{by-append, by-branch, by-none}
-use Rattle.parser.proofs.Front.{after_drop, dropped, first_fits}
+use Rattle.parser.proofs.LeftEdge.{after_drop, dropped, first_fits}
 use Rattle.parser.proofs.Moves.{Reached, states_push}
-use Rattle.parser.proofs.Reductions.{plain-append, plain-stay, below-append, below-front, made_trees}
+use Rattle.parser.proofs.Reductions.{plain-append, plain-stay, below-append, below-first_input, made_trees}
 use Rattle.parser.proofs.Reusing.{look_drop}
-use Rattle.parser.proofs.Stamping.{none_behind, none_first, nowhere_stamped, older_up_to, stamped-children, stamps_made, stamps_taken, stamps_token, trees_of-append, up_to-append, up_to-leaf, up_to-made}
+use Rattle.parser.proofs.Stamping.{none_after, none_first, nowhere_stamped, older_up_to, stamped-children, stamps_made, stamps_taken, stamps_token, trees_of-append, up_to-append, up_to-leaf, up_to-made}
 use Rattle.parser.proofs.Stamps.{below_on, grown_by_one, made_stamped, trees-stay}
 
 pub kinds_leaves : (ks : List Kind) → all_kinds (leaves ks) ≡ ks
@@ -50,7 +50,7 @@ drop_at kinds read k e = subst (λ n. drop read kinds ≡ k ∷ drop n kinds) (l
     go (j ∷ l) zero e = let same : j ≡ k = cc e in ap (λ m. m ∷ l) same
     go (j ∷ l) (suc i) e = go l i e
 
--- the first tree, and the input behind it
+-- the first tree, and the input after it
 pub tail_shape : (cells : List Cell) (c : Child) (rest : List Child) (kinds : List Kind) (read : ℕ) → input_of cells (c ∷ rest) kinds read ≡ plain (tree cells c) ∷ input_of cells rest kinds (read + length (yield (plain (tree cells c))))
 tail_shape cells c rest kinds read =
     let y = yield (plain (tree cells c)) in
@@ -65,45 +65,45 @@ module _ (g : Grammar) where
   makes_join (Takes_token k ts f m more) q = makes_join more q
   makes_join (Makes s1 f t n r more) q = omega (arith, makes_join more q)
 
-  -- without trees of no kinds in front, the input offers what it did
+  -- without trees of no kinds at the start, the input offers what it did
   skipped : (cells : List Cell) (kinds : List Kind) (read : ℕ) (gone rest : List Child) → all_kinds (plain_of cells gone) ≡ [] → IsInput g cells (gone ++ rest) kinds read → IsInput g cells rest kinds read × ((s : List Tree) → Offers g s (input_of cells rest kinds read) (input_of cells (gone ++ rest) kinds read))
   skipped cells kinds read [] rest e h = (h, λ s f d. d)
   skipped cells kinds read (c ∷ gone) rest e h =
       let y = yield (plain (tree cells c)) in
       let empty : length y ≡ 0 = omega (arith, ap length e, length-append y (all_kinds (plain_of cells gone))) in
-      let none = nothing_behind y (all_kinds (plain_of cells gone)) e in
+      let none = nothing_after y (all_kinds (plain_of cells gone)) e in
       let step = dropped g cells [] kinds read c (gone ++ rest) h.parts h.covers empty in
       let more = skipped cells kinds read gone rest none (record { below = h.below.1; parts = step.0; covers = step.1 }) in
       (more.0, λ s f d. (dropped g cells s kinds read c (gone ++ rest) h.parts h.covers empty).2 f (more.1 s f d))
     where
-      nothing_behind : (x y : List Kind) → x ++ y ≡ [] → y ≡ []
-      nothing_behind [] y e = e
-      nothing_behind (k ∷ x) y e = absurd (cc e)
+      nothing_after : (x y : List Kind) → x ++ y ≡ [] → y ≡ []
+      nothing_after [] y e = e
+      nothing_after (k ∷ x) y e = absurd (cc e)
 
   pub skipped_on : (cells : List Cell) (kinds : List Kind) (read : ℕ) (rest rest' : List Child) → Skips cells rest rest' → IsInput g cells rest kinds read → IsInput g cells rest' kinds read × ((s : List Tree) → Offers g s (input_of cells rest' kinds read) (input_of cells rest kinds read))
   skipped_on cells kinds read rest rest' k h =
       let both = skipped cells kinds read k.0 rest' k.2 (subst (λ l. IsInput g cells l kinds read) k.1 h) in
       (both.0, λ s f d. subst (λ l. Tries g s (input_of cells l kinds read) f) (sym k.1) (both.1 s f d))
 
-  leaves_front : (s : List Tree) (ks : List Kind) → (f : Front) × Tries g s (leaves ks) f × IsNoTree f
-  leaves_front s [] = (AtEnd, Nothing_left, tt)
-  leaves_front s (k ∷ ks) = (AtToken k (leaves ks), At_token, tt)
+  leaves_prefix : (s : List Tree) (ks : List Kind) → (f : FirstInput) × Tries g s (leaves ks) f × IsNoTree f
+  leaves_prefix s [] = (AtEnd, Nothing_left, tt)
+  leaves_prefix s (k ∷ ks) = (AtToken k (leaves ks), At_token, tt)
 
-  -- where no node stands in front, the input offers no tree
-  pub no_tree_front : (s : List Tree) (cells : List Cell) (kinds : List Kind) (read : ℕ) (now : List Child) → BeginsWithNoNode now → (f : Front) × Tries g s (input_of cells now kinds read) f × IsNoTree f
-  no_tree_front s cells kinds read [] h = leaves_front s (drop (read + 0) kinds)
-  no_tree_front s cells kinds read (TokenChild k ∷ rest) h = (AtToken k _, At_token, tt)
-  no_tree_front s cells kinds read (Node id ∷ rest) h = absurd h
+  -- where no node stands at the start, the input offers no tree
+  pub no_tree_prefix : (s : List Tree) (cells : List Cell) (kinds : List Kind) (read : ℕ) (now : List Child) → BeginsWithNoNode now → (f : FirstInput) × Tries g s (input_of cells now kinds read) f × IsNoTree f
+  no_tree_prefix s cells kinds read [] h = leaves_prefix s (drop (read + 0) kinds)
+  no_tree_prefix s cells kinds read (TokenChild k ∷ rest) h = (AtToken k _, At_token, tt)
+  no_tree_prefix s cells kinds read (Node id ∷ rest) h = absurd h
 
-  -- the input behind its first kind
-  pub record Behind (cells : List Cell) (kinds : List Kind) (read : ℕ) (now rest : List Child) (k : Kind) : Type 0 where
+  -- the input after its first kind
+  pub record After (cells : List Cell) (kinds : List Kind) (read : ℕ) (now rest : List Child) (k : Kind) : Type 0 where
     pub shape : input_of cells now kinds read ≡ Leaf k ∷ input_of cells rest kinds (read + 1)
     pub below : AreBelow (length cells) rest
     pub parts : AreParts g (plain_of cells rest)
     pub came : ComeFrom (all_trees cells now) 1 (all_trees cells rest)
 
-  behind_leaves : (cells : List Cell) (kinds : List Kind) (read : ℕ) (k : Kind) → slice_get kinds read ≡ Some k → Behind cells kinds read [] [] k
-  behind_leaves cells kinds read k is =
+  after_leaves : (cells : List Cell) (kinds : List Kind) (read : ℕ) (k : Kind) → slice_get kinds read ≡ Some k → After cells kinds read [] [] k
+  after_leaves cells kinds read k is =
       let here : read + 0 ≡ read = omega arith in
       let there : read + 1 ≡ read + 1 + 0 = omega arith in
       record {
@@ -113,9 +113,9 @@ module _ (g : Grammar) where
         came = λ lefts p born us w. absurd (nowhere_stamped w refl);
       }
 
-  behind_child : (cells : List Cell) (kinds : List Kind) (read : ℕ) (c : Child) (rest : List Child) (k : Kind) → BeginsWithNoNode (c ∷ rest) → IsInput g cells (c ∷ rest) kinds read → slice_get kinds read ≡ Some k → Behind cells kinds read (c ∷ rest) rest k
-  behind_child cells kinds read (Node id) rest k begins h is = absurd begins
-  behind_child cells kinds read (TokenChild j) rest k begins h is =
+  after_child : (cells : List Cell) (kinds : List Kind) (read : ℕ) (c : Child) (rest : List Child) (k : Kind) → BeginsWithNoNode (c ∷ rest) → IsInput g cells (c ∷ rest) kinds read → slice_get kinds read ≡ Some k → After cells kinds read (c ∷ rest) rest k
+  after_child cells kinds read (Node id) rest k begins h is = absurd begins
+  after_child cells kinds read (TokenChild j) rest k begins h is =
       let shape = tail_shape cells (TokenChild j) rest kinds read in
       let kinds_are : j ∷ all_kinds (input_of cells rest kinds (read + 1)) ≡ k ∷ drop (read + 1) kinds = sym (ap all_kinds shape) ∙ h.covers ∙ drop_at kinds read k is in
       let same : j ≡ k = head-eq_of_cons-eq kinds_are in
@@ -123,22 +123,22 @@ module _ (g : Grammar) where
         shape = shape ∙ ap (λ l. Leaf l ∷ input_of cells rest kinds (read + 1)) same;
         below = h.below.1;
         parts = h.parts.1;
-        came = come_behind (tree cells (TokenChild j)) (all_trees cells rest);
+        came = come_after (tree cells (TokenChild j)) (all_trees cells rest);
       }
 
-  pub behind_first : (cells : List Cell) (kinds : List Kind) (read : ℕ) (now rest : List Child) (r : Option Child) (k : Kind) → BeginsWithNoNode now → IsInput g cells now kinds read → slice_get kinds read ≡ Some k → MatchOption r ((now ≡ []) × (rest ≡ [])) (λ c. now ≡ c ∷ rest) → Behind cells kinds read now rest k
-  behind_first cells kinds read now rest None k begins h is taken =
-      subst (λ l. Behind cells kinds read l rest k) (sym taken.0) (subst (λ l. Behind cells kinds read [] l k) (sym taken.1) (behind_leaves cells kinds read k is))
-  behind_first cells kinds read now rest (Some c) k begins h is taken =
-      subst (λ l. Behind cells kinds read l rest k) (sym taken) (behind_child cells kinds read c rest k (subst BeginsWithNoNode taken begins) (subst (λ l. IsInput g cells l kinds read) taken h) is)
+  pub after_first : (cells : List Cell) (kinds : List Kind) (read : ℕ) (now rest : List Child) (r : Option Child) (k : Kind) → BeginsWithNoNode now → IsInput g cells now kinds read → slice_get kinds read ≡ Some k → MatchOption r ((now ≡ []) × (rest ≡ [])) (λ c. now ≡ c ∷ rest) → After cells kinds read now rest k
+  after_first cells kinds read now rest None k begins h is taken =
+      subst (λ l. After cells kinds read l rest k) (sym taken.0) (subst (λ l. After cells kinds read [] l k) (sym taken.1) (after_leaves cells kinds read k is))
+  after_first cells kinds read now rest (Some c) k begins h is taken =
+      subst (λ l. After cells kinds read l rest k) (sym taken) (after_child cells kinds read c rest k (subst BeginsWithNoNode taken begins) (subst (λ l. IsInput g cells l kinds read) taken h) is)
 
-  -- the kinds of the input behind what was taken from it
-  pub covers_on : (cells : List Cell) (kinds : List Kind) (read : ℕ) (now rest : List Child) (u : Tree) (behind : List Tree) → input_of cells now kinds read ≡ u ∷ behind → all_kinds (input_of cells now kinds read) ≡ drop read kinds → all_kinds behind ≡ drop (read + length (yield u)) kinds
-  covers_on cells kinds read now rest u behind shape covers = after_drop (yield u) (all_kinds behind) kinds read (sym (ap all_kinds shape) ∙ covers)
+  -- the kinds of the input after what was taken from it
+  pub covers_on : (cells : List Cell) (kinds : List Kind) (read : ℕ) (now rest : List Child) (u : Tree) (following : List Tree) → input_of cells now kinds read ≡ u ∷ following → all_kinds (input_of cells now kinds read) ≡ drop read kinds → all_kinds following ≡ drop (read + length (yield u)) kinds
+  covers_on cells kinds read now rest u following shape covers = after_drop (yield u) (all_kinds following) kinds read (sym (ap all_kinds shape) ∙ covers)
 
 module _ (t : Sets) (whole : List Tree) (kinds : List Kind) (before number : ℕ) (cells : List Cell) (stack : List Child) (states : List ℕ) (read : ℕ) (rest : List Child) (h : SoFar t whole kinds before number cells stack states read rest) where
   -- what the input offers above the stack, the run's input does
-  offered : (now : List Child) → Offers t.grammar (plain_of cells stack) (input_of cells now kinds read) (input_of cells rest kinds read) → (f : Front) → Tries t.grammar (plain_of cells stack) (input_of cells now kinds read) f → Tries t.grammar h.top h.now f
+  offered : (now : List Child) → Offers t.grammar (plain_of cells stack) (input_of cells now kinds read) (input_of cells rest kinds read) → (f : FirstInput) → Tries t.grammar (plain_of cells stack) (input_of cells now kinds read) f → Tries t.grammar h.top h.now f
   offered now offers f d = subst (λ s. Tries t.grammar s h.now f) h.top_is (h.offers (plain_of cells stack) f (offers f d))
 
   -- a tree is taken over
@@ -179,12 +179,12 @@ module _ (t : Sets) (whole : List Tree) (kinds : List Kind) (before number : ℕ
         stamps = subst (AreStampedBy g (goes_on_join g h.run step) number) (sym (trees_of-append (trees_from [] cells) stack (Node id ∷ []))) stamps;
         made = omega (arith, ap (all_branches_by number) (trees_of-append (trees_from [] cells) stack (Node id ∷ [])), by-append number (all_trees cells stack) (tree cells (Node id) ∷ []), by-none number (tree cells (Node id)) first, h.made, makes_join g h.run step);
         up_to = subst (AreUpTo number) (sym (trees_of-append (trees_from [] cells) stack (Node id ∷ []))) (up_to-append number (all_trees cells stack) (tree cells (Node id) ∷ []) h.up_to (older_up_to number (tree cells (Node id) ∷ []) first));
-        older = none_behind number (tree cells (Node id)) (all_trees cells rest') older;
+        older = none_after number (tree cells (Node id)) (all_trees cells rest') older;
       }
 
   -- a token comes onto the stack
-  pub shifted_on : (now' rest' : List Child) (k : Kind) (a next : ℕ) → Behind t.grammar cells kinds read now' rest' k → IsInput t.grammar cells now' kinds read → Offers t.grammar (plain_of cells stack) (input_of cells now' kinds read) (input_of cells rest kinds read) → AreOlder number (all_trees cells now') → k ≡ Token a → read < length kinds → HasMove t.grammar h.has_states.symbols (Some k) Shift → IsStateOf t (h.has_states.symbols ++ (Terminal a ∷ [])) next → SoFar t whole kinds before number cells (stack ++ (TokenChild k ∷ [])) (states ++ (next ∷ [])) (read + 1) rest'
-  shifted_on now' rest' k a next behind input offers older' rule within called there =
+  pub shifted_on : (now' rest' : List Child) (k : Kind) (a next : ℕ) → After t.grammar cells kinds read now' rest' k → IsInput t.grammar cells now' kinds read → Offers t.grammar (plain_of cells stack) (input_of cells now' kinds read) (input_of cells rest kinds read) → AreOlder number (all_trees cells now') → k ≡ Token a → read < length kinds → HasMove t.grammar h.has_states.symbols (Some k) Shift → IsStateOf t (h.has_states.symbols ++ (Terminal a ∷ [])) next → SoFar t whole kinds before number cells (stack ++ (TokenChild k ∷ [])) (states ++ (next ∷ [])) (read + 1) rest'
+  shifted_on now' rest' k a next following input offers older' rule within called there =
       let g = t.grammar in
       let trees = plain_of cells stack in
       let trees' : plain_of cells (stack ++ (TokenChild k ∷ [])) ≡ trees ++ (Leaf k ∷ []) = plain-append cells stack (TokenChild k ∷ []) in
@@ -192,8 +192,8 @@ module _ (t : Sets) (whole : List Tree) (kinds : List Kind) (before number : ℕ
       let leaf : HaveRoots g (Leaf k ∷ []) (Terminal a ∷ []) = subst (λ l. HaveRoots g (Leaf l ∷ []) (Terminal a ∷ [])) (sym rule) (refl, tt) in
       let roots : HaveRoots g (trees ++ (Leaf k ∷ [])) (symbols ++ (Terminal a ∷ [])) = roots-append g trees (Leaf k ∷ []) symbols (Terminal a ∷ []) h.has_states.roots leaf in
       let ts = input_of cells rest' kinds (read + 1) in
-      let covers : all_kinds ts ≡ drop (read + 1) kinds = covers_on g cells kinds read now' rest' (Leaf k) ts behind.shape input.covers in
-      let tries : Tries g trees (input_of cells now' kinds read) (AtToken k ts) = subst (λ l. Tries g trees l (AtToken k ts)) (sym behind.shape) At_token in
+      let covers : all_kinds ts ≡ drop (read + 1) kinds = covers_on g cells kinds read now' rest' (Leaf k) ts following.shape input.covers in
+      let tries : Tries g trees (input_of cells now' kinds read) (AtToken k ts) = subst (λ l. Tries g trees l (AtToken k ts)) (sym following.shape) At_token in
       let shift : Shifts g h.top k = record { symbols = symbols; roots = subst (λ l. HaveRoots g l symbols) h.top_is h.has_states.roots; called = called } in
       let step : Goes_on g h.top h.now (h.top ++ (Leaf k ∷ [])) ts = Takes_token k ts (offered now' offers (AtToken k ts) tries) shift Ends in
       record {
@@ -201,7 +201,7 @@ module _ (t : Sets) (whole : List Tree) (kinds : List Kind) (before number : ℕ
         below = below-append (length cells) stack (TokenChild k ∷ []) h.below (tt, tt);
         within = omega (arith, within);
         whole_is = h.whole_is;
-        input = record { below = behind.below; parts = behind.parts; covers = covers };
+        input = record { below = following.below; parts = following.parts; covers = covers };
         now = ts;
         left = covers;
         offers = λ s f d. d;
@@ -212,7 +212,7 @@ module _ (t : Sets) (whole : List Tree) (kinds : List Kind) (before number : ℕ
         stamps = subst (AreStampedBy g (goes_on_join g h.run step) number) (sym (trees_of-append (trees_from [] cells) stack (TokenChild k ∷ []))) (stamps_token g h.run step (λ below x m. m) number (all_trees cells stack) k h.stamps);
         made = omega (arith, ap (all_branches_by number) (trees_of-append (trees_from [] cells) stack (TokenChild k ∷ [])), by-append number (all_trees cells stack) (StampedLeaf k ∷ []), h.made, makes_join g h.run step);
         up_to = subst (AreUpTo number) (sym (trees_of-append (trees_from [] cells) stack (TokenChild k ∷ []))) (up_to-append number (all_trees cells stack) (StampedLeaf k ∷ []) h.up_to (up_to-leaf number k));
-        older = come_older number 1 (all_trees cells now') (all_trees cells rest') behind.came older';
+        older = come_older number 1 (all_trees cells now') (all_trees cells rest') following.came older';
       }
 
   -- a branch is made
@@ -221,13 +221,13 @@ module _ (t : Sets) (whole : List Tree) (kinds : List Kind) (before number : ℕ
       let g = t.grammar in
       let trees = plain_of cells stack in
       let top' = plain_of new stack' in
-      let front = no_tree_front g trees cells kinds read now' begins in
+      let first_input = no_tree_prefix g trees cells kinds read now' begins in
       let look : slice_get kinds read ≡ look_at (all_kinds h.now) None = look_drop kinds read ∙ ap (λ l. look_at l None) (sym h.left) in
       let r' : Reduces g h.top (look_at (all_kinds h.now) None) top' = record { symbols = r.symbols; roots = subst (λ l. HaveRoots g l r.symbols) h.top_is r.roots; number = r.number; called = subst (λ l. HasMove g r.symbols l (Reduce r.number)) look r.called; below = r.below; ts = r.ts; left = r.left; right = r.right; production = r.production; size = r.size; from_is = sym h.top_is ∙ r.from_is; to_is = r.to_is } in
-      let step : Goes_on g h.top h.now top' h.now = Makes top' front.0 (offered now' offers front.0 front.1) front.2 r' Ends in
+      let step : Goes_on g h.top h.now top' h.now = Makes top' first_input.0 (offered now' offers first_input.0 first_input.1) first_input.2 r' Ends in
       let under = made.under in
       let f = forest_in cells made.kids in
-      let under_below : AreBelow (length cells) under = below-front (length cells) under made.kids (subst (AreBelow (length cells)) made.stack_is h.below) in
+      let under_below : AreBelow (length cells) under = below-first_input (length cells) under made.kids (subst (AreBelow (length cells)) made.stack_is h.below) in
       let same_end = ends_equal r.below (plain_of cells under) (Branch r.number r.ts ∷ []) (Branch p (plain_all f) ∷ []) refl (sym r.to_is ∙ ap (plain_of new) made.stack_is' ∙ made_trees cells new p number under made.kids made.id made.grown under_below) in
       let node : Branch r.number r.ts ≡ Branch p (plain_all f) = head-eq_of_cons-eq same_end.1 in
       let makes_it : (below : List Tree) (w : Tree) → MakesAt g step below w ↔ ((plain_of cells under ≡ below) × (Branch p (plain_all f) ≡ w)) = λ below w. (
@@ -266,9 +266,9 @@ module _ (t : Sets) (whole : List Tree) (kinds : List Kind) (before number : ℕ
       let g = t.grammar in
       let p = goes_on_passes g productive h.run in
       let all : kinds ≡ p.read ++ drop read kinds = sym h.whole_is ∙ p.split ∙ ap (λ l. p.read ++ l) h.left in
-      let front : p.read ≡ take read kinds = append_cancel_right p.read (take read kinds) (drop read kinds) (sym all ∙ sym (take-append-drop read kinds)) in
+      let first_input : p.read ≡ take read kinds = append_cancel_right p.read (take read kinds) (drop read kinds) (sym all ∙ sym (take-append-drop read kinds)) in
       let look : look_at (all_kinds h.now) None ≡ slice_get kinds read = ap (λ l. look_at l None) h.left ∙ sym (look_drop kinds read) in
-      let run : Run g (slice_get kinds read) [] (take read kinds) (plain_of cells stack) = subst (λ s. Run g (slice_get kinds read) [] (take read kinds) s) (sym h.top_is) (subst (λ x. Run g (slice_get kinds read) [] x h.top) front (subst (λ l. Run g l [] p.read h.top) look p.run)) in
+      let run : Run g (slice_get kinds read) [] (take read kinds) (plain_of cells stack) = subst (λ s. Run g (slice_get kinds read) [] (take read kinds) s) (sym h.top_is) (subst (λ x. Run g (slice_get kinds read) [] x h.top) first_input (subst (λ l. Run g l [] p.read h.top) look p.run)) in
       let parts = settle (take read kinds) run in
       record { has_states = h.has_states; below = h.below; within = h.within; shifted = parts.0; after = parts.1; run = parts.2 }
     where
@@ -304,6 +304,6 @@ begun t kinds number cells start input there h older = record {
     first zero l = there
     first (suc i) l = absurd (omega (arith, l))
 
--- the list of no trees, with all kinds behind it
+-- the list of no trees, with all kinds after it
 pub no_input : (g : Grammar) (cells : List Cell) (kinds : List Kind) → IsInput g cells [] kinds 0
 no_input g cells kinds = record { below = tt; parts = tt; covers = kinds_leaves (drop 0 kinds) }

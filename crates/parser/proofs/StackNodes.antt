@@ -8,19 +8,19 @@ use Rattle.definitions.specs.Settled.{IsSettled}
 use Rattle.definitions.specs.Nodes.{StandsIn}
 use Rattle.definitions.specs.DocumentNodes.{IsNodeOf}
 use Rattle.definitions.specs.Answers.{Node}
-use Rattle.theory.proofs.Exact.{stands_split}
-use Rattle.theory.proofs.Made.{not_in_leaf}
-use Rattle.theory.proofs.Sound.{kinds-append}
-use Rattle.theory.proofs.Stack.{nowhere, stands_in_front}
+use Rattle.theory.proofs.ReuseIsExact.{stands_split}
+use Rattle.theory.proofs.MadeIsBuilt.{not_in_leaf}
+use Rattle.theory.proofs.StackIsRead.{kinds-append}
+use Rattle.theory.proofs.Stack.{nowhere, stands_in_prefix}
 use Rattle.parser.specs.Parses.{AreStacked, last_leaf}
-use Rattle.parser.proofs.Stops.{last-append}
+use Rattle.parser.proofs.StopDecides.{last-append}
 
 leaf_cases : (x : List Kind) → (last_leaf x ≡ []) ⊎ ((k : Kind) × (last_leaf x ≡ Leaf k ∷ []))
 leaf_cases [] = inl refl
 leaf_cases (k ∷ []) = inr (k, refl)
 leaf_cases (j ∷ k ∷ x) = leaf_cases (k ∷ x)
 
--- a branch of a list with a leaf behind it stands in the list
+-- a branch of a list with a leaf after it stands in the list
 before_leaf : (trees : List Tree) (x : List Kind) (lefts : List Tree) (p : ℕ) (us : Forest) → StandsIn (trees ++ last_leaf x) lefts (Branch p us) → StandsIn trees lefts (Branch p us)
 before_leaf trees x lefts p us w =
     ⊎_elim
@@ -31,7 +31,7 @@ before_leaf trees x lefts p us w =
 pub same_nodes : (g : Grammar) (trees stack : List Tree) (x : List Kind) → stack ≡ trees ++ last_leaf x → (n : Node) → IsNodeOf g stack n ↔ IsNodeOf g trees n
 same_nodes g trees stack x e n = (
   λ h. (h.0, h.1, h.2, h.3, before_leaf trees x h.0 h.1 h.2 (subst (λ l. StandsIn l h.0 (Branch h.1 h.2)) e h.4), h.5, h.6, h.7),
-  λ h. (h.0, h.1, h.2, h.3, subst (λ l. StandsIn l h.0 (Branch h.1 h.2)) (sym e) (stands_in_front (last_leaf x) h.4), h.5, h.6, h.7),
+  λ h. (h.0, h.1, h.2, h.3, subst (λ l. StandsIn l h.0 (Branch h.1 h.2)) (sym e) (stands_in_prefix (last_leaf x) h.4), h.5, h.6, h.7),
 )
 
 -- what a list of kinds settles has with its last kind these kinds
@@ -42,18 +42,18 @@ settled_kinds g (k ∷ x) trees h =
     ap (λ l. all_kinds (trees ++ l)) last ∙ kinds-append trees (Leaf h.last ∷ []) ∙ sym h.kinds
 
 -- the kinds of the stack are the first ones
-pub stacked_front : (g : Grammar) (kinds : List Kind) (v : Verdict) (stack : List Tree) → IsVerdict g kinds v → AreStacked g kinds v stack → (rest : List Kind) × (kinds ≡ all_kinds stack ++ rest)
-stacked_front g kinds (HasTree t) stack h s =
+pub stacked_prefix : (g : Grammar) (kinds : List Kind) (v : Verdict) (stack : List Tree) → IsVerdict g kinds v → AreStacked g kinds v stack → (rest : List Kind) × (kinds ≡ all_kinds stack ++ rest)
+stacked_prefix g kinds (HasTree t) stack h s =
     let all : all_kinds stack ≡ kinds = ap all_kinds s.stack_is ∙ ap (λ l. all_kinds (l ++ [])) s.are ∙ append-nil (yield t) ∙ h.kinds in
     ([], sym (append-nil (all_kinds stack) ∙ all))
-stacked_front g kinds (FaultAt k) stack h s =
+stacked_prefix g kinds (FaultAt k) stack h s =
     let all : all_kinds stack ≡ take k kinds = ap all_kinds s.stack_is ∙ settled_kinds g (take k kinds) s.trees s.are in
     (drop k kinds, sym (ap (λ l. l ++ drop k kinds) all ∙ take-append-drop k kinds))
-stacked_front g kinds FaultAtEnd stack h s =
+stacked_prefix g kinds FaultAtEnd stack h s =
     let all : all_kinds stack ≡ kinds = ap all_kinds s.stack_is ∙ settled_kinds g kinds s.trees s.are in
     ([], sym (append-nil (all_kinds stack) ∙ all))
 
 pub stacked_length : (g : Grammar) (kinds : List Kind) (v : Verdict) (stack : List Tree) → IsVerdict g kinds v → AreStacked g kinds v stack → length (all_kinds stack) ≤ length kinds
 stacked_length g kinds v stack h s =
-    let front = stacked_front g kinds v stack h s in
-    omega (arith, ap length front.1, length-append (all_kinds stack) front.0)
+    let first_input = stacked_prefix g kinds v stack h s in
+    omega (arith, ap length first_input.1, length-append (all_kinds stack) first_input.0)

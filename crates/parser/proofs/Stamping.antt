@@ -7,8 +7,8 @@ use Rattle.definitions.specs.Trees.{Grammar, Tree, Branch, trees, all_kinds}
 use Rattle.definitions.specs.Nodes.{StandsIn, branches, all_branches}
 use Rattle.definitions.specs.TreeEdits.{Stamped, StampedLeaf, StampedBranch, StampedForest, StampedNil, StampedCons, plain, plain_all, stamped_trees, plain_trees, StampedIn, StampedTop, StampedBelow, StampedPast}
 use Rattle.theory.specs.Reuse.{Take, CanReuse, Tries, Goes_on, Ends, Reuses, Takes_token, Makes, MakesAt}
-use Rattle.theory.proofs.Made.{goes_on_join, join_makes, join_takes, not_both, stamped_stands}
-use Rattle.theory.proofs.Reused.{stands_branches, branches-trees}
+use Rattle.theory.proofs.MadeIsBuilt.{goes_on_join, join_makes, join_takes, not_both, stamped_stands}
+use Rattle.theory.proofs.KeptIsReused.{stands_branches, branches-trees}
 use Rattle.trees.specs.declared.store.Child.{Child}
 use Rattle.trees.specs.Cells.{tree_of, trees_of, forest_of}
 use Rattle.parser.specs.Machine.{IsMadeBy, AreMadeBy}
@@ -23,14 +23,14 @@ stamped_split (u ∷ one) two StampedTop = inl StampedTop
 stamped_split (u ∷ one) two (StampedBelow w) = inl (StampedBelow w)
 stamped_split (u ∷ one) two (StampedPast {lefts = lefts} w) = ⊎_elim (λ l. inl (StampedPast l)) (λ r. inr (r.0, r.1, ap (λ l. plain u ∷ l) r.2)) (stamped_split one two w)
 
-pub stamped_in_front : {one : List Stamped} (two : List Stamped) {lefts : List Tree} {p born : ℕ} {us : StampedForest} → StampedIn one lefts p born us → StampedIn (one ++ two) lefts p born us
-stamped_in_front two StampedTop = StampedTop
-stamped_in_front two (StampedBelow w) = StampedBelow w
-stamped_in_front two (StampedPast w) = StampedPast (stamped_in_front two w)
+pub stamped_before : {one : List Stamped} (two : List Stamped) {lefts : List Tree} {p born : ℕ} {us : StampedForest} → StampedIn one lefts p born us → StampedIn (one ++ two) lefts p born us
+stamped_before two StampedTop = StampedTop
+stamped_before two (StampedBelow w) = StampedBelow w
+stamped_before two (StampedPast w) = StampedPast (stamped_before two w)
 
-pub stamped_behind : (one : List Stamped) {two : List Stamped} {lefts : List Tree} {p born : ℕ} {us : StampedForest} → StampedIn two lefts p born us → StampedIn (one ++ two) (plain_trees one ++ lefts) p born us
-stamped_behind [] w = w
-stamped_behind (u ∷ one) w = StampedPast (stamped_behind one w)
+pub stamped_after : (one : List Stamped) {two : List Stamped} {lefts : List Tree} {p born : ℕ} {us : StampedForest} → StampedIn two lefts p born us → StampedIn (one ++ two) (plain_trees one ++ lefts) p born us
+stamped_after [] w = w
+stamped_after (u ∷ one) w = StampedPast (stamped_after one w)
 
 pub nowhere_stamped : {l : List Stamped} {lefts : List Tree} {p born : ℕ} {us : StampedForest} → StampedIn l lefts p born us → l ≡ [] → ⊥
 nowhere_stamped StampedTop e = cc e
@@ -71,12 +71,12 @@ pub plain-stamped : (us : StampedForest) → plain_trees (stamped_trees us) ≡ 
 plain-stamped StampedNil = refl
 plain-stamped (StampedCons t ts) = ap (λ l. plain t ∷ l) (plain-stamped ts)
 
--- of a list whose trees are older, so is what is behind its first tree, and the first tree
-pub none_behind : (n : ℕ) (s : Stamped) (ts : List Stamped) → AreOlder n (s ∷ ts) → AreOlder n ts
-none_behind n s ts h lefts p born us w = h (plain s ∷ lefts) p born us (StampedPast w)
+-- of a list whose trees are older, so is what is after its first tree, and the first tree
+pub none_after : (n : ℕ) (s : Stamped) (ts : List Stamped) → AreOlder n (s ∷ ts) → AreOlder n ts
+none_after n s ts h lefts p born us w = h (plain s ∷ lefts) p born us (StampedPast w)
 
 pub none_first : (n : ℕ) (s : Stamped) (ts : List Stamped) → AreOlder n (s ∷ ts) → AreOlder n (s ∷ [])
-none_first n s ts h lefts p born us w = h lefts p born us (stamped_in_front ts w)
+none_first n s ts h lefts p born us w = h lefts p born us (stamped_before ts w)
 
 -- stamps up to a number
 pub older_up_to : (n : ℕ) (ts : List Stamped) → AreOlder n ts → AreUpTo n ts
@@ -99,8 +99,8 @@ up_to-branch n q f h (Under {lefts = lefts} {p = p} {born = born} {us = us} w) =
 pub up_to-made : (n q : ℕ) (under kids : List Stamped) (f : StampedForest) → stamped_trees f ≡ kids → AreUpTo n (under ++ kids) → AreUpTo n (under ++ (StampedBranch q n f ∷ []))
 up_to-made n q under kids f is h =
     up_to-append n under (StampedBranch q n f ∷ [])
-    (λ lefts p born us w. h lefts p born us (stamped_in_front kids w))
-    (λ lefts p born us w. up_to-branch n q f (subst (AreUpTo n) (sym is) (λ lefts p born us w. h (plain_trees under ++ lefts) p born us (stamped_behind under w))) (in_branch q n f w))
+    (λ lefts p born us w. h lefts p born us (stamped_before kids w))
+    (λ lefts p born us w. up_to-branch n q f (subst (AreUpTo n) (sym is) (λ lefts p born us w. h (plain_trees under ++ lefts) p born us (stamped_after under w))) (in_branch q n f w))
 
 module _ (g : Grammar) where
   -- a branch that two runs make is made by one of them
@@ -158,12 +158,12 @@ module _ (g : Grammar) where
     of_branch [] lefts p born us Itself e =
         ((λ same. join_makes g run step lefts (Branch q (plain_all f)) (inr ((makes lefts (Branch q (plain_all f))).1 (sym (e ∙ append-nil (plain_trees under)), refl)))), (λ m. refl))
     of_branch more lefts p born us (Under w) e =
-        other lefts p born us (not_in_kids more lefts p born us w) (subst (λ l. (born ≡ number) ↔ MakesAt g run l (Branch p (plain_all us))) (sym e) (h (plain_trees under ++ more) p born us (stamped_behind under (subst (λ l. StampedIn l more p born us) kids_are w))))
+        other lefts p born us (not_in_kids more lefts p born us w) (subst (λ l. (born ≡ number) ↔ MakesAt g run l (Branch p (plain_all us))) (sym e) (h (plain_trees under ++ more) p born us (stamped_after under (subst (λ l. StampedIn l more p born us) kids_are w))))
 
     pub stamps_made : AreStampedBy g (goes_on_join g run step) number (under ++ (StampedBranch q number f ∷ []))
     stamps_made lefts p born us w =
         ⊎_elim
-        (λ a. other lefts p born us (not_in_under lefts p born us a) (h lefts p born us (stamped_in_front kids a)))
+        (λ a. other lefts p born us (not_in_under lefts p born us a) (h lefts p born us (stamped_before kids a)))
         (λ b. of_branch b.0 lefts p born us (in_branch q number f b.1) b.2)
         (stamped_split under (StampedBranch q number f ∷ []) w)
 
@@ -176,6 +176,6 @@ mutual
   pub made_forest : (n : ℕ) (ts : StampedForest) → ((lefts : List Tree) (p born : ℕ) (us : StampedForest) → StampedIn (stamped_trees ts) lefts p born us → born ≡ n) → AreMadeBy n ts
   made_forest n StampedNil h = tt
   made_forest n (StampedCons s ts) h = (
-    made_tree n s (λ lefts p born us w. h lefts p born us (stamped_in_front (stamped_trees ts) w)),
+    made_tree n s (λ lefts p born us w. h lefts p born us (stamped_before (stamped_trees ts) w)),
     made_forest n ts (λ lefts p born us w. h (plain s ∷ lefts) p born us (StampedPast w)),
   )

@@ -20,9 +20,9 @@ use Rattle.tables.specs.Decidable.{AreMovesDecided}
 use Rattle.tables.specs.Tables.{IsAccepted}
 
 module _ (g : Grammar) where
-  -- behind a token rule that the items call for, an item is valid
-  item_behind : (symbols : List Symbol) (k : Kind) → HasMove g symbols (Some k) Shift → (a : ℕ) × (k ≡ Token a) × HasItem g (symbols ++ (Terminal a ∷ []))
-  item_behind symbols k m =
+  -- after a token rule that the items call for, an item is valid
+  item_after : (symbols : List Symbol) (k : Kind) → HasMove g symbols (Some k) Shift → (a : ℕ) × (k ≡ Token a) × HasItem g (symbols ++ (Terminal a ∷ []))
+  item_after symbols k m =
       let i = m.item in
       let a = m.calls.0 in
       let rule : k ≡ Token a = let e : Some k ≡ Some (Token a) = m.calls.3 in cc e in
@@ -33,7 +33,7 @@ module _ (g : Grammar) where
   stack_item : (x : List Kind) (stack : List Tree) → IsStackAfter g x stack → (symbols : List Symbol) × HaveRoots g stack symbols × HasItem g symbols
   stack_item [] stack e = ([], subst (λ l. HaveRoots g l []) (sym e) tt, (_, rules_valid g Start))
   stack_item (k ∷ x) stack (before, last, below, x_is, read, shift, stack_is) =
-      let next = item_behind shift.symbols last shift.called in
+      let next = item_after shift.symbols last shift.called in
       let a = next.0 in
       let leaf : HaveRoots g (Leaf last ∷ []) (Terminal a ∷ []) = subst (λ l. HaveRoots g (Leaf l ∷ []) (Terminal a ∷ [])) (sym next.1) (refl, tt) in
       let roots = roots-append g below (Leaf last ∷ []) shift.symbols (Terminal a ∷ []) shift.roots leaf in

@@ -1,5 +1,5 @@
 pub mod Cuts
-pub mod Front
+pub mod FirstInput
 pub mod Input
 pub mod Machine
 pub mod Parses

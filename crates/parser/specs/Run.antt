@@ -11,7 +11,7 @@ use Rattle.theory.specs.Reuse.{Goes_on, Ends, Reuses, Takes_token, Makes, MakesA
 use Rattle.tables.specs.Tables.{Sets}
 use Rattle.parser.specs.Machine.{plain_of, HasStates}
 use Rattle.parser.specs.Input.{input_of, IsInput}
-use Rattle.parser.specs.Front.{Offers}
+use Rattle.parser.specs.FirstInput.{Offers}
 use Rattle.parser.specs.Parses.{AreUpTo, all_branches_by}
 use Rattle.parser.specs.Stamps.{AreOlder, all_numbered}
 

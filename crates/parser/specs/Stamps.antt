@@ -20,8 +20,8 @@ KeepStamps n s old new =
     → (at : List Tree) × StampedIn old at p born us × IsMoved s (place_of at) (place_of lefts)
 
 -- each branch lies in a kept node where it doesn't carry the number `n`, and in none where it does
-abbrev pub TellsKept : ℕ → Splice → List Tree → List Stamped → Type 0
-TellsKept n s old new =
+abbrev pub StampsKept : ℕ → Splice → List Tree → List Stamped → Type 0
+StampsKept n s old new =
     (below : List Tree) (p born : ℕ) (us : StampedForest) → StampedIn new below p born us
     → let lies = LiesInKept s old (plain_trees new) below (Branch p (plain_all us)) in (born ≡ n → ¬ lies) × (born ≢ n → lies)
 

@@ -69,15 +69,15 @@ impl Input {
             (λ k. (first : Child) × (rest : List Child) × (more : List TokenKind)
             × (self.now ≡ first ∷ rest) × (all_kinds (plain_of store.now rest) ≡ k ∷ more)) }
     {
-        let (_, mut behind) = self.items.split_last()?;
+        let (_, mut after) = self.items.split_last()?;
         'empty: for _ in 0..NEARBY {
-            let (next, rest) = behind.split_last()?;
+            let (next, rest) = after.split_last()?;
             match *next {
                 Child::Token(kind) => return Some(kind),
                 Child::Node(id) if store.tokens(id) > 0 => {
                     return first_kind(store, store.children(id));
                 }
-                Child::Node(_) => behind = rest,
+                Child::Node(_) => after = rest,
             }
         }
         None
@@ -91,7 +91,7 @@ impl Input {
         self.items.pop()
     }
 
-    /// Puts a tree in front.
+    /// Puts a tree at the start.
     pub fn put(&mut self, child: Child) -> Result<(), AllocError>
         ensures { IfOk result (λ _. self.new ≡ child ∷ self.old) }
     {
@@ -99,7 +99,7 @@ impl Input {
         Ok(())
     }
 
-    /// Puts a list in front.
+    /// Puts a list at the start.
     pub fn put_all(&mut self, children: Children<'_>) -> Result<(), AllocError>
         ensures { IfOk result (λ _. self.new ≡ children.entry ++ self.old) }
     {
@@ -117,7 +117,7 @@ impl Input {
         self.items.truncate(n);
     }
 
-    /// Takes the trees of no tokens away from the front.
+    /// Takes the trees of no tokens away from the start.
     pub fn skip_empty(&mut self, store: &Store)
         requires { AreBelow (length store.now) self.old }
         ensures skips { Skips store.now self.old self.new }

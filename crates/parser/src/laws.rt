@@ -12,7 +12,7 @@ ghost use Rattle.definitions.specs.TreeEdits.{Built, Stamped, plain_trees};
 ghost use Rattle.tables.specs.Decidable.{AreMovesDecided};
 ghost use Rattle.tables.specs.Tables.{IsAccepted};
 ghost use Rattle.parser.specs.Parses.{AreStacked, all_branches_by};
-ghost use Rattle.parser.specs.Stamps.{TellsKept};
+ghost use Rattle.parser.specs.Stamps.{StampsKept};
 ghost use Rattle.parser.specs.declared.parse.Verdict.{Verdict as Answer};
 
 use theory::laws::{document_trees_unique, verdict_unique};
@@ -60,7 +60,7 @@ pub fn stack_unique()
 /// these carry it.
 pub fn built_nodes_lie_in_no_kept_one()
     ensures count { (s : Splice) (old : List Tree) (number : ℕ) (new : List Stamped)
-        → TellsKept number s old new
+        → StampsKept number s old new
         → Built s old 0 (plain_trees new) (all_branches_by number new) }
     ensures unique { (s : Splice) (old new : List Tree) (m n : ℕ) → Built s old 0 new m
         → Built s old 0 new n → m ≡ n }

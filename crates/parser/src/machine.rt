@@ -15,7 +15,7 @@ ghost use Rattle.theory.specs.Reuse.{CanReuse};
 ghost use Rattle.tables.specs.Tables.{IsAccepted, IsStateOf};
 ghost use Rattle.parser.specs.Machine.{plain_of, HasStates, HasMade};
 ghost use Rattle.parser.specs.Input.{input_of, IsFull, IsInput, IsOpened};
-ghost use Rattle.parser.specs.Front.{Offers, IsReusable, IsOffer};
+ghost use Rattle.parser.specs.FirstInput.{Offers, IsReusable, IsOffer};
 ghost use Rattle.parser.specs.Run.{CameFrom, ComeFrom, SoFar};
 ghost use Rattle.parser.specs.Parses.{IsStoppedAt};
 
@@ -27,10 +27,10 @@ use std::alloc::{AllocError, Global};
 use tables::{Move, Tables};
 use trees::{Child, Kinds, NodeId, Store};
 
-/// What stands at the front of the input.
+/// What stands at the start of the input.
 #[derive(Clone, Copy)]
-pub enum Front {
-    /// A tree to take over, and the state behind it.
+pub enum FirstInput {
+    /// A tree to take over, and the state after it.
     Tree(NodeId, usize),
     /// A token of this kind, or the end.
     Next(Option<Kind>),
@@ -84,9 +84,9 @@ impl Machine {
         Ok(())
     }
 
-    /// The kind of the token behind the first tree of the input. It is read from the next trees, where one of them begins with it
+    /// The kind of the token after the first tree of the input. It is read from the next trees, where one of them begins with it
     /// not far down.
-    fn kind_behind<K: Kinds>(
+    fn kind_after<K: Kinds>(
         &self,
         store: &Store,
         kinds: &mut Reader<'_, K>,
@@ -111,7 +111,7 @@ impl Machine {
         kinds.kind(self.read + store.tokens(id) as usize)
     }
 
-    /// The state behind the first tree of the input, where the tables have a move there on what follows it.
+    /// The state after the first tree of the input, where the tables have a move there on what follows it.
     fn passes<K: Kinds>(
         &self,
         tables: &Tables,
@@ -131,8 +131,8 @@ impl Machine {
             ≤ length kinds.old }
         ensures is { let stack = plain_of store.now self.now.stack.items in
             let meant = plain (tree store.now (Child.Node id)) in
-            let behind = drop (self.now.read + length (yield meant)) kinds.old in
-            MatchOption result (CanReuse tables.now.grammar stack meant behind → ⊥)
+            let after = drop (self.now.read + length (yield meant)) kinds.old in
+            MatchOption result (CanReuse tables.now.grammar stack meant after → ⊥)
             (λ next. IsReusable tables.now store.now stack kinds.old self.now.read id next) }
         ensures same { kinds.new ≡ kinds.old }
     {
@@ -140,7 +140,7 @@ impl Machine {
         let Some(next) = tables.goto(self.state(), root) else {
             return None;
         };
-        let look = self.kind_behind(store, kinds, input, id);
+        let look = self.kind_after(store, kinds, input, id);
         if tables.action(next, look).is_some() {
             Some(next)
         } else {
@@ -149,13 +149,13 @@ impl Machine {
     }
 
     /// Tries the nodes on the left edge of the input, from the top down. Those that fail are opened.
-    fn front<K: Kinds>(
+    fn first_input<K: Kinds>(
         &self,
         tables: &Tables,
         store: &Store,
         kinds: &mut Reader<'_, K>,
         input: &mut Input,
-    ) -> Result<Front, AllocError>
+    ) -> Result<FirstInput, AllocError>
         requires states { HasStates tables.now (plain_of store.now self.now.stack.items)
             self.now.states.items }
         requires input { IsInput tables.now.grammar store.now input.old kinds.old
@@ -179,11 +179,11 @@ impl Machine {
     {
         'edge: while let Some(child) = input.first() {
             match child {
-                Child::Token(kind) => return Ok(Front::Next(Some(kind))),
+                Child::Token(kind) => return Ok(FirstInput::Next(Some(kind))),
                 Child::Node(id) => {
                     if store.tokens(id) > 0 {
                         if let Some(next) = self.passes(tables, store, kinds, input, id) {
-                            return Ok(Front::Tree(id, next));
+                            return Ok(FirstInput::Tree(id, next));
                         }
                         input.take();
                         input.put_all(store.children(id))?;
@@ -193,7 +193,7 @@ impl Machine {
                 }
             }
         }
-        Ok(Front::Next(kinds.kind(self.read)))
+        Ok(FirstInput::Next(kinds.kind(self.read)))
     }
 
     /// Puts a branch in the place of the last trees, as many as its production's right side has symbols.
@@ -275,14 +275,14 @@ impl Machine {
             input.skip_empty(store);
             let first = input.first();
             let trees = input.len();
-            let look = match self.front(tables, store, kinds, &mut input)? {
-                Front::Tree(id, next) => {
+            let look = match self.first_input(tables, store, kinds, &mut input)? {
+                FirstInput::Tree(id, next) => {
                     input.take();
                     self.push(Child::Node(id), next)?;
                     self.read += store.tokens(id) as usize;
                     continue 'moves;
                 }
-                Front::Next(look) => look,
+                FirstInput::Next(look) => look,
             };
             match tables.action(self.state(), look) {
                 Some(Move::Shift(next)) => {

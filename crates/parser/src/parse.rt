@@ -103,7 +103,7 @@ fn verdict_on(verdict: Verdict, stack: &[Child]) -> Verdict
 
 /// The parse of the kinds, over trees that begin at the first of them. Its new nodes have this number. After a refusal some
 /// nodes may stay.
-fn parsed<K: Kinds>(
+fn parse_from<K: Kinds>(
     alloc: Global,
     tables: &Tables,
     store: &mut Store,
@@ -165,7 +165,7 @@ impl Parse {
         ensures refused { OnErr result (store.new ≡ store.old) }
     {
         let before = store.len();
-        match parsed(alloc, tables, store, kinds, Input::new(alloc), 0) {
+        match parse_from(alloc, tables, store, kinds, Input::new(alloc), 0) {
             Ok(parse) => Ok(parse),
             Err(refusal) => {
                 store.truncate(before);
@@ -216,7 +216,7 @@ impl Parse {
         ensures refused { OnErr result ((self.new ≡ self.old) × (store.new ≡ store.old)) }
     {
         let before = store.len();
-        match self.changed(alloc, tables, store, kinds, &splice, number) {
+        match self.parse_after(alloc, tables, store, kinds, &splice, number) {
             Ok(parse) => {
                 *self = parse;
                 Ok(())
@@ -229,7 +229,7 @@ impl Parse {
     }
 
     /// The same as another parse. Where memory is refused, some nodes may stay.
-    fn changed<K: Kinds>(
+    fn parse_after<K: Kinds>(
         &self,
         alloc: Global,
         tables: &Tables,
@@ -261,15 +261,15 @@ impl Parse {
             × AddsNumbered number store.old store.new (all_trees store.new p.stack)) }
         ensures refused { OnErr result (take (length store.old) store.new ≡ store.old) }
     {
-        let input = self.left_by(alloc, store, splice, number)?;
-        let parse = parsed(alloc, tables, store, kinds, input, number)?;
-        parse.bounded(alloc, store)
+        let input = self.remaining_input(alloc, store, splice, number)?;
+        let parse = parse_from(alloc, tables, store, kinds, input, number)?;
+        parse.within_bound(alloc, store)
     }
 
     /// This parse, in a store within the bound: where there are more nodes, those of no tree of the stack are given up.
     ///
     /// After a refusal the store is as before.
-    fn bounded(self, alloc: Global, store: &mut Store) -> Result<Parse, AllocError>
+    fn within_bound(self, alloc: Global, store: &mut Store) -> Result<Parse, AllocError>
         requires below { AreBelow (length store.old) self.stack }
         requires alone { IsAlone self.verdict self.stack }
         requires branches { self.branches ≡ all_branches (plain_of store.old self.stack) }
@@ -302,7 +302,7 @@ impl Parse {
 
     /// What the splice leaves of the trees of the stack, with the new kinds between. It is nothing where the number is not above
     /// every stamp of theirs.
-    fn left_by(
+    fn remaining_input(
         &self,
         alloc: Global,
         store: &Store,
@@ -341,7 +341,7 @@ impl Parse {
         self.verdict
     }
 
-    /// The tree alone; or at a fault the settled trees of the tokens before it, and behind them the last of these tokens, if
+    /// The tree alone; or at a fault the settled trees of the tokens before it, and after them the last of these tokens, if
     /// there is any.
     pub fn stack(&self) -> &[Child]
         ensures { result.now ≡ self.now.stack }
@@ -365,7 +365,7 @@ impl Parse {
         self.number
     }
 
-    /// What may stand at the fault, behind the tokens before it: the token rules in file order, and then the end. Where there is
+    /// What may stand at the fault, after the tokens before it: the token rules in file order, and then the end. Where there is
     /// a tree, nothing may. The tables are those of the parse. It takes no memory.
     pub fn expected<'a>(&self, tables: &'a Tables) -> Expected<'a>
         requires { (kinds : List Kind) × (cells : List Cell)

@@ -1,4 +1,4 @@
-//! The input of the machine behind an edit: what a splice leaves of the old trees, with the new kinds in their place.
+//! The input of the machine after an edit: what a splice leaves of the old trees, with the new kinds in their place.
 
 ghost use Rattle.std.specs.Prelude.{◌≡◌, ◌+◌, ◌<◌, ◌≤◌, ◌++◌, [], ℕ, List, length, map, take, slice_get, IfOk, IfSome};
 ghost use Rattle.definitions.specs.declared.Kind.{Kind};
@@ -20,8 +20,8 @@ use std::alloc::{AllocError, Global};
 use trees::{Child, Children, Store};
 
 /// How many of the children, from the first one on, stand whole among the first `n` kinds, and how many of these kinds are left
-/// behind them.
-fn fitting(store: &Store, children: &[Child], n: u64) -> (usize, u64)
+/// after them.
+fn count_whole(store: &Store, children: &[Child], n: u64) -> (usize, u64)
     requires below { AreBelow (length store.now) children.now }
     requires countable { place_of (plain_of store.now children.now) ≤ most }
     ensures within { result.0 ≤ length children.now }
@@ -41,9 +41,9 @@ fn fitting(store: &Store, children: &[Child], n: u64) -> (usize, u64)
     (whole, left)
 }
 
-/// Takes the trees of the first `n` kinds away, and answers them, and how many of the `n` kinds there weren't. A tree that has
+/// Takes the trees of the first `n` kinds away, and returns them, and how many of the `n` kinds there weren't. A tree that has
 /// kinds on both sides is opened.
-fn take_front(
+fn take_prefix(
     alloc: Global,
     store: &Store,
     trees: &mut Input,
@@ -72,7 +72,7 @@ fn take_front(
     Ok((taken, left))
 }
 
-/// Puts the kinds in front of the list.
+/// Puts the kinds before the list.
 fn put_kinds(trees: &mut Input, kinds: &[Kind]) -> Result<(), AllocError>
     ensures { IfOk result (λ _. trees.new ≡ map Token kinds.now ++ trees.old) }
 {
@@ -113,14 +113,14 @@ pub fn prepare(
         input.put_all(Children::of(old))?;
         return Ok(input);
     }
-    let (whole, left) = fitting(store, old, splice.from as u64);
+    let (whole, left) = count_whole(store, old, splice.from as u64);
     input.put_all(Children::of(&old[whole..]))?;
-    let (front, missing) = take_front(alloc, store, &mut input, left)?;
+    let (first_input, missing) = take_prefix(alloc, store, &mut input, left)?;
     if missing == 0 {
-        take_front(alloc, store, &mut input, (splice.to - splice.from) as u64)?;
+        take_prefix(alloc, store, &mut input, (splice.to - splice.from) as u64)?;
         put_kinds(&mut input, &splice.kinds)?;
     }
-    input.put_all(Children::of(&front))?;
+    input.put_all(Children::of(&first_input))?;
     input.put_all(Children::of(&old[..whole]))?;
     Ok(input)
 }

@@ -15,7 +15,7 @@ pub struct Reader<'a, K: Kinds> {
     number: usize,
     /// Its kind.
     kind: Option<Kind>,
-    /// The place behind that token.
+    /// The place after that token.
     ahead: K::Ahead,
 }
 

@@ -9,10 +9,10 @@ use Rattle.definitions.specs.declared.expression.PatternCause.TheVariants.{Synta
 use Rattle.definitions.specs.PatternText.{Written, Plain, Escaped, BadEscape}
 use Rattle.definitions.specs.PatternFaults.{InLiteral, InClass, Items, First, Dash, Opened, fault_from, or_later, char_in_class}
 use Rattle.definitions.specs.Spelling.{IsLiteralChar, IsLiteralRest, IsClassChar, IsClassRest}
-use Rattle.patterns.specs.Reading.{IsLiteralFront, IsClassFront, IsItemFront, Begins, HasNoClassChar, place, place_of, HasNoLiteralChar}
+use Rattle.patterns.specs.Reading.{IsLiteralPrefix, IsClassPrefix, IsItemPrefix, Begins, HasNoClassChar, place, place_of, HasNoLiteralChar}
 use Rattle.patterns.specs.Empty.{is_empty}
 
--- behind ws come v's characters, and then vs
+-- after ws come v's characters, and then vs
 abbrev pub IsLiteralSoFar : List ℕ → List Written → List Written → Type 0
 IsLiteralSoFar v ws vs =
     (us : List Written) × (ws ≡ us ++ vs) × ((more : List ℕ) (then : List Written) → IsLiteralRest more then → IsLiteralRest (v ++ more) (us ++ then))
@@ -37,7 +37,7 @@ pub one_more_literal : (v : List ℕ) (c : ℕ) (ws vs rest : List Written) (w :
 one_more_literal v c ws vs rest w (us, e, goes) f char =
     (us ++ w ∷ [], e ∙ ap (λ x. us ++ x) f ∙ sym (append_assoc us (w ∷ []) rest), λ more then h. snoc_along IsLiteralRest v c more us w then (goes (c ∷ more) (w ∷ then) (char, h)))
 
-pub literal_closed : (v : List ℕ) (o : ℕ) (ws vs rest : List Written) → IsLiteralSoFar v ws vs → vs ≡ Plain o 34 ∷ rest → IsLiteralFront v ws rest
+pub literal_closed : (v : List ℕ) (o : ℕ) (ws vs rest : List Written) → IsLiteralSoFar v ws vs → vs ≡ Plain o 34 ∷ rest → IsLiteralPrefix v ws rest
 literal_closed v o ws vs rest (us, e, goes) f =
     let Q : List ℕ → Type 0 = λ x. IsLiteralRest x (us ++ Plain o 34 ∷ []) in
     (us ++ Plain o 34 ∷ [], e ∙ ap (λ x. us ++ x) f ∙ sym (append_assoc us (Plain o 34 ∷ []) rest), subst Q (append-nil v) (goes [] (Plain o 34 ∷ []) (refl, refl)))
@@ -69,7 +69,7 @@ no_item n (Plain o c ∷ ws) none h d b negated before =
 no_item n (Escaped o c ∷ ws) none h d b negated before = absurd (none c refl)
 no_item n (BadEscape o ∷ ws) none h d b negated before = refl
 
--- a first character and a `-`, behind which none begins
+-- a first character and a `-`, after which none begins
 pub no_last : (n : ℕ) (ws : List Written) → HasNoClassChar ws → (d b : ℕ) (negated : Bool) (before : List Interval) (p a : ℕ) → fault_from n (InClass d b negated before (Dash p a)) ws ≡ Some (record { at = place_of n ws; cause = Syntax })
 no_last n [] none d b negated before p a = refl
 no_last n (Plain o c ∷ ws) none d b negated before p a =
@@ -122,7 +122,7 @@ one_ends n d b negated before p c (Plain o x ∷ ws) h =
 one_ends n d b negated before p c (Escaped o x ∷ ws) h = refl
 one_ends n d b negated before p c (BadEscape o ∷ ws) h = refl
 
--- a class, behind its bracket, where no `^` follows
+-- a class, after its bracket, where no `^` follows
 pub no_caret : (n d b : ℕ) (ws : List Written) → (Begins 94 ws → ⊥) → fault_from n (InClass d b false [] Opened) ws ≡ fault_from n (InClass d b false [] Items) ws
 no_caret n d b [] h = refl
 no_caret n d b (Plain o x ∷ ws) h =
@@ -137,7 +137,7 @@ no_caret n d b (Plain o x ∷ ws) h =
 no_caret n d b (Escaped o x ∷ ws) h = refl
 no_caret n d b (BadEscape o ∷ ws) h = refl
 
-pub one_more_item : (is : List Interval) (i : Interval) (ws vs rest : List Written) → IsClassSoFar is ws vs → IsItemFront i vs rest → IsClassSoFar (is ++ i ∷ []) ws rest
+pub one_more_item : (is : List Interval) (i : Interval) (ws vs rest : List Written) → IsClassSoFar is ws vs → IsItemPrefix i vs rest → IsClassSoFar (is ++ i ∷ []) ws rest
 one_more_item is i ws vs rest (us, e, goes) (item, f, h) = (
   us ++ item,
   e ∙ ap (λ x. us ++ x) f ∙ sym (append_assoc us item rest),
@@ -147,7 +147,7 @@ one_more_item is i ws vs rest (us, e, goes) (item, f, h) = (
       subst Q (sym (append_assoc is (i ∷ []) more)) (subst R (sym (append_assoc us item then)) (goes (i ∷ more) (item ++ then) (item, then, refl, h, g))),
 )
 
-pub class_closed : (is : List Interval) (o : ℕ) (ws vs rest : List Written) → IsClassSoFar is ws vs → vs ≡ Plain o 93 ∷ rest → IsClassFront is ws rest
+pub class_closed : (is : List Interval) (o : ℕ) (ws vs rest : List Written) → IsClassSoFar is ws vs → vs ≡ Plain o 93 ∷ rest → IsClassPrefix is ws rest
 class_closed is o ws vs rest (us, e, goes) f =
     let Q : List Interval → Type 0 = λ x. IsClassRest x (us ++ Plain o 93 ∷ []) in
     (us ++ Plain o 93 ∷ [], e ∙ ap (λ x. us ++ x) f ∙ sym (append_assoc us (Plain o 93 ∷ []) rest), subst Q (append-nil is) (goes [] (Plain o 93 ∷ []) (Plain o 93, refl, refl)))
@@ -162,6 +162,6 @@ no_literal_char n (Plain o c ∷ ws) none h d q empty = absurd (none c (refl, λ
 no_literal_char n (Escaped o c ∷ ws) none h d q empty = absurd (none c refl)
 no_literal_char n (BadEscape o ∷ ws) none h d q empty = refl
 
-pub not_empty_behind : (v : List ℕ) (c : ℕ) → is_empty (v ++ c ∷ []) ≡ false
-not_empty_behind [] c = refl
-not_empty_behind (x ∷ v) c = refl
+pub not_empty_after : (v : List ℕ) (c : ℕ) → is_empty (v ++ c ∷ []) ≡ false
+not_empty_after [] c = refl
+not_empty_after (x ∷ v) c = refl

@@ -9,7 +9,7 @@ use Rattle.patterns.specs.declared.refusals.Refusal.{Refusal}
 use Rattle.patterns.specs.declared.refusals.Refusal.TheVariants.{Fault, Memory}
 use Rattle.patterns.specs.Empty.{matches_empty}
 use Rattle.patterns.specs.Sound.{is_sound}
-use Rattle.patterns.specs.Reading.{Tells, fault_at, writing}
+use Rattle.patterns.specs.Reading.{Reports, fault_at, writing}
 use Rattle.patterns.specs.declared.characters.Character.{Character}
 use Rattle.patterns.proofs.WellMade.{well_made, empty_matched, empty_tested}
 
@@ -22,16 +22,16 @@ pub first_of : (t : List ℕ) (n : ℕ) (ws : List Written) → IsWriting t n ws
 unfolding first_fault
 first_of t n ws h = ap (λ m. fault_from m (Outside 0 Nothing) (written 0 t)) (sym h.counts) ∙ ap (fault_from n (Outside 0 Nothing)) (sym h.writes)
 
-pub told : (r : Refusal) (t : List ℕ) (n : ℕ) (ws : List Written) → IsWriting t n ws → Tells r (λ f. fault_from n (Outside 0 Nothing) ws ≡ Some f) → Tells r (λ f. IsFault t f)
-told (Fault f) t n ws h g = inl (first_of t n ws h ∙ g)
-told Memory t n ws h g = tt
+pub shown : (r : Refusal) (t : List ℕ) (n : ℕ) (ws : List Written) → IsWriting t n ws → Reports r (λ f. fault_from n (Outside 0 Nothing) ws ≡ Some f) → Reports r (λ f. IsFault t f)
+shown (Fault f) t n ws h g = inl (first_of t n ws h ∙ g)
+shown Memory t n ws h g = tt
 
 pub spelled_text : (e : Expression) (t : List ℕ) (n : ℕ) (ws : List Written) → IsWriting t n ws → SpellsAt Alt 0 e ws → Spells e t
 spelled_text e t n ws h s = let P : List Written → Type 0 = SpellsAt Alt 0 e in subst P h.writes s
 
 -- the fault of a text whose expression matches the empty text
-pub told_empty : (r : Refusal) (e : Expression) (t : List ℕ) (n : ℕ) (ws : List Written) → IsWriting t n ws → fault_from n (Outside 0 Nothing) ws ≡ None → SpellsAt Alt 0 e ws → matches_empty e ≡ true → r ≡ fault_at 0 MatchesEmpty → Tells r (λ f. IsFault t f)
-told_empty r e t n ws h g s m k = rw k (inr (first_of t n ws h ∙ g, refl, (e, spelled_text e t n ws h s, empty_matched e m)))
+pub shown_empty : (r : Refusal) (e : Expression) (t : List ℕ) (n : ℕ) (ws : List Written) → IsWriting t n ws → fault_from n (Outside 0 Nothing) ws ≡ None → SpellsAt Alt 0 e ws → matches_empty e ≡ true → r ≡ fault_at 0 MatchesEmpty → Reports r (λ f. IsFault t f)
+shown_empty r e t n ws h g s m k = rw k (inr (first_of t n ws h ∙ g, refl, (e, spelled_text e t n ws h s, empty_matched e m)))
 
 apart : (b : Bool) → b ≡ true → b ≡ false → ⊥
 apart b e f = cc
@@ -40,6 +40,6 @@ pub is_pattern : (e : Expression) (t : List ℕ) (n : ℕ) (ws : List Written) �
 is_pattern e t n ws h s g m =
     record { spelled = spelled_text e t n ws h s; well_made = well_made e g; not_empty = λ q. apart (matches_empty e) (empty_tested e q) m }
 
-pub is_writing : (t items front : List ℕ) (words behind : List Character) (n : ℕ) → items ≡ t → front ≡ items → writing words ≡ written 0 front → behind ≡ words → n ≡ length items → IsWriting t n (writing behind)
-is_writing t items front words behind n a b e f g =
+pub is_writing : (t items prefix : List ℕ) (words after : List Character) (n : ℕ) → items ≡ t → prefix ≡ items → writing words ≡ written 0 prefix → after ≡ words → n ≡ length items → IsWriting t n (writing after)
+is_writing t items prefix words after n a b e f g =
     record { writes = ap writing f ∙ e ∙ ap (written 0) (b ∙ a); counts = g ∙ ap length a }

@@ -1,4 +1,4 @@
--- An atom with its sign of repetition, and what goes on behind it.
+-- An atom with its sign of repetition, and what goes on after it.
 use Rattle.std.proofs.Common.{◌≡◌, ℕ, ◌+◌, ◌<◌, ◌==◌, ◌||◌, Bool, true, false, List, [], ◌∷◌, ◌++◌, refl, sym, ◌∙◌, ap, subst, append_assoc, add-one, Option, Some, Vec}
 use Rattle.definitions.specs.declared.expression.Expression.{Expression}
 use Rattle.definitions.specs.declared.expression.Expression.TheVariants.{Literal, Class}
@@ -10,33 +10,33 @@ use Rattle.patterns.specs.declared.refusals.Refusal.TheVariants.{Fault, Memory}
 use Rattle.definitions.specs.PatternText.{Written, Plain, Escaped, BadEscape}
 use Rattle.definitions.specs.PatternFaults.{InClass, Items, Opened, Outside, Nothing, AnAtom, ARepetition, fault_from}
 use Rattle.definitions.specs.Spelling.{Alt, Seq, Rep, Atom, SpellsAt, literal, class, group, star, plus, optional, one_atom, one_rep, one_seq, sequence, choice}
-use Rattle.patterns.specs.Reading.{Begins, HasNoBlank, IsPart, IsAtEnd, IsLiteralFront, IsClassBody, IsClosed, Tells, IsBlanks, IsRepeated, IsStar, IsPlus, IsOptional, IsSequence, IsChoice, stops}
+use Rattle.patterns.specs.Reading.{Begins, HasNoBlank, IsPart, IsAtEnd, IsLiteralPrefix, IsClassBody, IsClosed, Reports, IsBlanks, IsRepeated, IsStar, IsPlus, IsOptional, IsSequence, IsChoice, stops}
 use Rattle.std.proofs.lemmas.List.{append-nil}
 use Rattle.patterns.specs.Sound.{is_sound}
-use Rattle.patterns.proofs.Blanks.{blanks_behind_part, blanks_skipped}
+use Rattle.patterns.proofs.Blanks.{blanks_after_part, blanks_skipped}
 use Rattle.patterns.proofs.Literals.{no_caret, not_equal}
 
-behind_sign : (d : ℕ) (e : Expression) (front ws rest vs : List Written) (w : Written) → ws ≡ w ∷ rest → IsBlanks rest vs → SpellsAt Rep d e (front ++ w ∷ []) → IsPart Rep d e (front ++ ws) vs
-behind_sign d e front ws rest vs w g b s =
-    blanks_behind_part Rep d e (front ++ ws) rest vs (front ++ w ∷ [], ap (λ x. front ++ x) g ∙ sym (append_assoc front (w ∷ []) rest), s) b
+after_sign : (d : ℕ) (e : Expression) (prefix ws rest vs : List Written) (w : Written) → ws ≡ w ∷ rest → IsBlanks rest vs → SpellsAt Rep d e (prefix ++ w ∷ []) → IsPart Rep d e (prefix ++ ws) vs
+after_sign d e prefix ws rest vs w g b s =
+    blanks_after_part Rep d e (prefix ++ ws) rest vs (prefix ++ w ∷ [], ap (λ x. prefix ++ x) g ∙ sym (append_assoc prefix (w ∷ []) rest), s) b
 
 pub starred : (a e : Expression) (o : ℕ) (ws rest vs : List Written) → IsStar a e → ws ≡ Plain o 42 ∷ rest → IsBlanks rest vs → IsRepeated a e ws vs
-starred a e o ws rest vs (p, f) g b d front s =
-    let P : Expression → Type 0 = λ x. SpellsAt Rep d x (front ++ Plain o 42 ∷ []) in
-    behind_sign d e front ws rest vs (Plain o 42) g b (subst P (sym f) (star {p = p} d front (front ++ Plain o 42 ∷ []) (Plain o 42) refl refl s))
+starred a e o ws rest vs (p, f) g b d prefix s =
+    let P : Expression → Type 0 = λ x. SpellsAt Rep d x (prefix ++ Plain o 42 ∷ []) in
+    after_sign d e prefix ws rest vs (Plain o 42) g b (subst P (sym f) (star {p = p} d prefix (prefix ++ Plain o 42 ∷ []) (Plain o 42) refl refl s))
 
 pub plussed : (a e : Expression) (o : ℕ) (ws rest vs : List Written) → IsPlus a e → ws ≡ Plain o 43 ∷ rest → IsBlanks rest vs → IsRepeated a e ws vs
-plussed a e o ws rest vs (p, f) g b d front s =
-    let P : Expression → Type 0 = λ x. SpellsAt Rep d x (front ++ Plain o 43 ∷ []) in
-    behind_sign d e front ws rest vs (Plain o 43) g b (subst P (sym f) (plus {p = p} d front (front ++ Plain o 43 ∷ []) (Plain o 43) refl refl s))
+plussed a e o ws rest vs (p, f) g b d prefix s =
+    let P : Expression → Type 0 = λ x. SpellsAt Rep d x (prefix ++ Plain o 43 ∷ []) in
+    after_sign d e prefix ws rest vs (Plain o 43) g b (subst P (sym f) (plus {p = p} d prefix (prefix ++ Plain o 43 ∷ []) (Plain o 43) refl refl s))
 
 pub optioned : (a e : Expression) (o : ℕ) (ws rest vs : List Written) → IsOptional a e → ws ≡ Plain o 63 ∷ rest → IsBlanks rest vs → IsRepeated a e ws vs
-optioned a e o ws rest vs (p, f) g b d front s =
-    let P : Expression → Type 0 = λ x. SpellsAt Rep d x (front ++ Plain o 63 ∷ []) in
-    behind_sign d e front ws rest vs (Plain o 63) g b (subst P (sym f) (optional {p = p} d front (front ++ Plain o 63 ∷ []) (Plain o 63) refl refl s))
+optioned a e o ws rest vs (p, f) g b d prefix s =
+    let P : Expression → Type 0 = λ x. SpellsAt Rep d x (prefix ++ Plain o 63 ∷ []) in
+    after_sign d e prefix ws rest vs (Plain o 63) g b (subst P (sym f) (optional {p = p} d prefix (prefix ++ Plain o 63 ∷ []) (Plain o 63) refl refl s))
 
 pub not_repeated : (a : Expression) (ws : List Written) → IsRepeated a a ws ws
-not_repeated a ws d front s = (front, refl, one_atom d front s)
+not_repeated a ws d prefix s = (prefix, refl, one_atom d prefix s)
 
 pub goes_star : (n d o : ℕ) (ws rest vs : List Written) → ws ≡ Plain o 42 ∷ rest → IsBlanks rest vs → fault_from n (Outside d AnAtom) ws ≡ fault_from n (Outside d ARepetition) vs
 goes_star n d o ws rest vs g b = ap (fault_from n (Outside d AnAtom)) g ∙ blanks_skipped n d ARepetition rest vs b
@@ -81,15 +81,15 @@ no_stop n d (Plain o c ∷ ws) h b =
 no_stop n d (Escaped o c ∷ ws) h b = refl
 no_stop n d (BadEscape o ∷ ws) h b = refl
 
-pub tells_along : (r : Refusal) (a b : Option PatternFault) → a ≡ b → Tells r (λ f. b ≡ Some f) → Tells r (λ f. a ≡ Some f)
-tells_along (Fault f) a b e h = e ∙ h
-tells_along Memory a b e h = tt
+pub shows_along : (r : Refusal) (a b : Option PatternFault) → a ≡ b → Reports r (λ f. b ≡ Some f) → Reports r (λ f. a ≡ Some f)
+shows_along (Fault f) a b e h = e ∙ h
+shows_along Memory a b e h = tt
 
-pub class_tells : (r : Refusal) (n b : ℕ) (ws : List Written) → (Begins 94 ws → ⊥) → Tells r (λ f. (d : ℕ) → fault_from n (InClass d b false [] Items) ws ≡ Some f) → Tells r (λ f. (d : ℕ) → fault_from n (InClass d b false [] Opened) ws ≡ Some f)
-class_tells (Fault f) n b ws g h = λ d. no_caret n d b ws g ∙ h d
-class_tells Memory n b ws g h = tt
+pub class_shows : (r : Refusal) (n b : ℕ) (ws : List Written) → (Begins 94 ws → ⊥) → Reports r (λ f. (d : ℕ) → fault_from n (InClass d b false [] Items) ws ≡ Some f) → Reports r (λ f. (d : ℕ) → fault_from n (InClass d b false [] Opened) ws ≡ Some f)
+class_shows (Fault f) n b ws g h = λ d. no_caret n d b ws g ∙ h d
+class_shows Memory n b ws g h = tt
 
-pub as_literal : (d o : ℕ) (v : Vec ℕ Global) (ws inside rest : List Written) → ws ≡ Plain o 34 ∷ inside → IsLiteralFront v.items inside rest → IsPart Atom d (Literal v) ws rest
+pub as_literal : (d o : ℕ) (v : Vec ℕ Global) (ws inside rest : List Written) → ws ≡ Plain o 34 ∷ inside → IsLiteralPrefix v.items inside rest → IsPart Atom d (Literal v) ws rest
 as_literal d o v ws inside rest e (us, f, h) = (Plain o 34 ∷ us, e ∙ ap (λ x. Plain o 34 ∷ x) f, literal d v (Plain o 34 ∷ us) (refl, h))
 
 pub as_class : (d o : ℕ) (negated : Bool) (v : Vec Interval Global) (ws inside rest : List Written) → ws ≡ Plain o 91 ∷ inside → IsClassBody negated v.items inside rest → IsPart Atom d (Class negated v) ws rest
@@ -97,11 +97,11 @@ as_class d o false v ws inside rest e (us, f, h) = (Plain o 91 ∷ us, e ∙ ap 
 as_class d o true v ws inside rest e (w, more, g, sign, (us, f, h)) =
     (Plain o 91 ∷ w ∷ us, e ∙ ap (λ x. Plain o 91 ∷ x) (g ∙ ap (λ x. w ∷ x) f), class d true v (Plain o 91 ∷ w ∷ us) (refl, sign, h))
 
-pub as_group : (d o : ℕ) (e : Expression) (ws inside rest behind : List Written) → ws ≡ Plain o 40 ∷ inside → d < 64 → IsPart Alt (d + 1) e inside rest → IsClosed rest behind → IsPart Atom d e ws behind
-as_group d o e ws inside rest behind f small (us, g, s) (p, h) =
+pub as_group : (d o : ℕ) (e : Expression) (ws inside rest after : List Written) → ws ≡ Plain o 40 ∷ inside → d < 64 → IsPart Alt (d + 1) e inside rest → IsClosed rest after → IsPart Atom d e ws after
+as_group d o e ws inside rest after f small (us, g, s) (p, h) =
     let P : ℕ → Type 0 = λ k. SpellsAt Alt k e us in (
       Plain o 40 ∷ us ++ Plain p 41 ∷ [],
-      f ∙ ap (λ x. Plain o 40 ∷ x) (g ∙ ap (λ x. us ++ x) h ∙ sym (append_assoc us (Plain p 41 ∷ []) behind)),
+      f ∙ ap (λ x. Plain o 40 ∷ x) (g ∙ ap (λ x. us ++ x) h ∙ sym (append_assoc us (Plain p 41 ∷ []) after)),
       group d us (Plain o 40 ∷ us ++ Plain p 41 ∷ []) (Plain o 40) (Plain p 41) refl refl refl small (subst P (add-one d) s),
     )
 

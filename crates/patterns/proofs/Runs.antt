@@ -10,14 +10,14 @@ use Rattle.definitions.specs.Text.{IsCharacter}
 use Rattle.definitions.specs.Patterns.{is_member, is_within, is_in_class}
 use Rattle.definitions.specs.PatternText.{Written, Plain, Escaped, BadEscape, written}
 use Rattle.definitions.specs.PatternFaults.{IsFault, code_after, is_everything, is_nothing, Before, Nothing, AnAtom, ARepetition, is_something, Outside, InLiteral, InClass, Opened, Items, First, Dash, closed, fault_from, or_later, first_fault}
-use Rattle.definitions.specs.Spelling.{Level, Alt, Seq, Rep, Atom, SpellsAt, choice, sequence, star, plus, optional, literal, class, group, one_seq, one_rep, one_atom, blank_before, blank_behind, IsSign, IsBlank, IsLiteralRest, IsLiteral, IsItem, IsClassRest, IsClass, IsClassChar, IsWellMade, IsPattern}
+use Rattle.definitions.specs.Spelling.{Level, Alt, Seq, Rep, Atom, SpellsAt, choice, sequence, star, plus, optional, literal, class, group, one_seq, one_rep, one_atom, blank_before, blank_after, IsSign, IsBlank, IsLiteralRest, IsLiteral, IsItem, IsClassRest, IsClass, IsClassChar, IsWellMade, IsPattern}
 use Rattle.patterns.specs.Reading.{Begins, place}
 use Rattle.patterns.proofs.Blanks.{blank_step}
 use Rattle.patterns.proofs.WellMade.{and_both, or_case, or_left, or_right, le_tested}
 use Rattle.patterns.proofs.Unique.{one_meaning}
 use Rattle.patterns.proofs.Literals.{eq_or_not, not_equal, literal_step, first_step, last_step, one_ends, no_caret}
 
--- what stands behind a part of this level
+-- what stands after a part of this level
 abbrev Ends : Level → Before → Type 0
 Ends Atom b = b ≡ AnAtom
 Ends Rep b = is_something b ≡ true
@@ -72,8 +72,8 @@ before_runs l d us w blank g n b rest =
     let one = g n b rest in
     (one.0, one.1, blank_step n d b w (us ++ rest) blank ∙ one.2)
 
-behind_runs : (l : Level) (d : ℕ) (us ws : List Written) (w : Written) → ws ≡ us ++ w ∷ [] → IsBlank w → Runs l d us → Runs l d ws
-behind_runs l d us ws w f blank g n b rest =
+after_runs : (l : Level) (d : ℕ) (us ws : List Written) (w : Written) → ws ≡ us ++ w ∷ [] → IsBlank w → Runs l d us → Runs l d ws
+after_runs l d us ws w f blank g n b rest =
     let one = g n b (w ∷ rest) in
     (one.0, one.1, ap (fault_from n (Outside d b)) (ap (λ x. x ++ rest) f ∙ append_assoc us (w ∷ []) rest) ∙ one.2 ∙ blank_step n d one.0 w rest blank)
 
@@ -146,11 +146,11 @@ bracket_only (Escaped o c) g = absurd g
 bracket_only (BadEscape o) g = absurd g
 
 -- neither a `-` nor a `^` begins the items of a class
-class_front : (is : List Interval) (ws rest : List Written) → IsClassRest is ws → (Begins 45 (ws ++ rest) → ⊥) × (Begins 94 (ws ++ rest) → ⊥)
-class_front [] ws rest (w, e, sign) =
+class_prefix : (is : List Interval) (ws rest : List Written) → IsClassRest is ws → (Begins 45 (ws ++ rest) → ⊥) × (Begins 94 (ws ++ rest) → ⊥)
+class_prefix [] ws rest (w, e, sign) =
     let P : List Written → Type 0 = λ x. (Begins 45 (x ++ rest) → ⊥) × (Begins 94 (x ++ rest) → ⊥) in
     subst P (sym e) (bracket_only w sign)
-class_front (i ∷ is) ws rest (item, more, e, hi, hr) =
+class_prefix (i ∷ is) ws rest (item, more, e, hi, hr) =
     let f = first_char i item hi in
     let P : List Written → Type 0 = λ x. (Begins 45 (x ++ rest) → ⊥) × (Begins 94 (x ++ rest) → ⊥) in
     subst P (sym (e ∙ ap (λ x. x ++ more) f.2)) (char_other i.first f.0 f.3)
@@ -192,7 +192,7 @@ items_run n d b negated before [] ws rest (w, e, sign) order =
     ∙ ap (λ x. or_later (λ s. fault_from n s rest) (closed d b negated x)) (sym (append-nil before))
 items_run n d b negated before (i ∷ is) ws rest (item, more, e, hi, hr) order =
     ap (fault_from n (InClass d b negated before Items)) (ap (λ x. x ++ rest) e ∙ append_assoc item more rest)
-    ∙ item_runs n d b negated before i item (more ++ rest) hi order.0 (class_front is more rest hr).0
+    ∙ item_runs n d b negated before i item (more ++ rest) hi order.0 (class_prefix is more rest hr).0
     ∙ items_run n d b negated (before ++ i ∷ []) is more rest hr order.1
     ∙ ap (λ x. or_later (λ s. fault_from n s rest) (closed d b negated x)) (append_assoc before (i ∷ []) is)
 
@@ -215,7 +215,7 @@ class_runs d false is (w ∷ ws) h order some n b rest = (
   AnAtom,
   refl,
   bracket_step n d b w (ws ++ rest) h.0
-      ∙ no_caret n d (place w) (ws ++ rest) (class_front is ws rest h.1).1
+      ∙ no_caret n d (place w) (ws ++ rest) (class_prefix is ws rest h.1).1
       ∙ items_run n d (place w) false [] is ws rest h.1 order
       ∙ class_closed n d (place w) false is rest some,
 )
@@ -249,15 +249,15 @@ found g c (i ∷ is) m a =
 abbrev is_followed : List Interval → Interval → Bool
 is_followed is i = i.last == 0x10_FFFF || is_member (code_after i.last) is
 
--- n is in one of the intervals, or is a surrogate, and the character behind those is
+-- n is in one of the intervals, or is a surrogate, and the character after those is
 abbrev Passed : List Interval → ℕ → Type 0
 Passed is n = (is_member n is ≡ true) ⊎ (0xD800 ≤ n) × (n ≤ 0xDFFF) × (is_member 0xE000 is ≡ true)
 
 equal_from_test : (a b : ℕ) → (a == b) ≡ true → a ≡ b
 equal_from_test a b h = grind (arith, nat_tests)
 
-behind_last : (is : List Interval) (n last : ℕ) → last ≡ n → is_member (code_after last) is ≡ true → Passed is (suc n)
-behind_last is n last e m =
+after_last : (is : List Interval) (n last : ℕ) → last ≡ n → is_member (code_after last) is ≡ true → Passed is (suc n)
+after_last is n last e m =
     elim (eq_or_not last 0xD7FF) [
       | inl f ↦ let P : ℕ → Type 0 = λ x. is_member (code_after x) is ≡ true in inr (omega arith, omega arith, subst P f m)
       | inr f ↦
@@ -276,7 +276,7 @@ advance is n (inl m) a h =
       | inr e ↦ inl (f.4 (suc n) (omega arith) (omega arith))
       | inl e ↦ or_case (i.last == 0x10_FFFF) (is_member (code_after i.last) is) f.3
           (λ k. let q : i.last ≡ 0x10_FFFF = equal_from_test i.last 0x10_FFFF k in absurd (omega arith))
-          (λ k. behind_last is n i.last e k)
+          (λ k. after_last is n i.last e k)
     ]
 advance is n (inr s) a h =
     let low : 0xD800 ≤ n = s.0 in
@@ -331,7 +331,7 @@ runs (one_seq d ws s) m = runs s m
 runs (one_rep d ws s) m = runs s m
 runs (one_atom d ws s) m = atom_runs d ws (runs s m)
 runs (blank_before l d us w blank s) m = before_runs l d us w blank (runs s m)
-runs (blank_behind l d us ws w f blank s) m = behind_runs l d us ws w f blank (runs s m)
+runs (blank_after l d us ws w f blank s) m = after_runs l d us ws w f blank (runs s m)
 
 ended : (n : ℕ) (b : Before) → is_something b ≡ true → fault_from n (Outside 0 b) [] ≡ None
 ended n Nothing h = cc

@@ -1,4 +1,4 @@
--- The tests of an expression tell what they are meant to.
+-- The tests of an expression decide what they are meant to.
 use Rattle.std.proofs.Common.{◌≡◌, ◌≢◌, inl, inr, ℕ, ◌+◌, ◌==◌, ◌≤◌, nat_le, Bool, true, false, not, ◌&&◌, ◌||◌, List, [], ◌∷◌, ◌++◌, refl, sym, ap, subst, arith, lit≤}
 use Rattle.std.proofs.lemmas.Bool.Decides.{nat_tests}
 use Rattle.std.specs.List.{list_all, concat, AllByRecursion}
@@ -47,7 +47,7 @@ gap_at all i is r false false e f h later =
     let k = and_both (is_scalar i.first) (is_scalar i.last && nat_le i.first i.last) g.0 in
     (code_after i.last, next_character i.last (and_both (is_scalar i.last) (nat_le i.first i.last) k.1).0 e, f)
 
--- some character lies behind an interval and in none
+-- some character lies after an interval and in none
 gap : (all is : List Interval) → list_all is_range is ≡ true → list_all (λ i. i.last == 0x10_FFFF || is_member (code_after i.last) all) is ≡ false → (c : ℕ) × IsCharacter c × (is_member c all ≡ false)
 gap all [] r h = cc
 gap all (i ∷ is) r h = gap_at all i is r (i.last == 0x10_FFFF) (is_member (code_after i.last) all) refl refl h (gap all is (and_both (is_range i) (list_all is_range is) r).1)
@@ -117,9 +117,9 @@ empty_matched (Star' p a) h = ([], tt, refl)
 empty_matched (Plus' p a) h = ([] ∷ [], nonempty [], (empty_matched a h, tt), refl)
 empty_matched (Optional' p a) h = inl refl
 
-no_front : (u v : List ℕ) → [] ≡ u ++ v → (u ≡ []) × (v ≡ [])
-no_front [] v e = (refl, sym e)
-no_front (x ∷ u) v e = cc
+no_prefix : (u v : List ℕ) → [] ≡ u ++ v → (u ≡ []) × (v ≡ [])
+no_prefix [] v e = (refl, sym e)
+no_prefix (x ∷ u) v e = cc
 
 pub or_left : (a b : Bool) → a ≡ true → (a || b) ≡ true
 or_left a b h = rw h refl
@@ -130,14 +130,14 @@ or_right false b h = h
 
 first_of_join : (L : List ℕ → Type 0) (parts : List (List ℕ)) → parts ≢ [] → AllByRecursion L parts → [] ≡ concat parts → L []
 first_of_join L [] ne all e = absurd (ne refl)
-first_of_join L (u ∷ us) ne all e = subst L (no_front u (concat us) e).0 all.0
+first_of_join L (u ∷ us) ne all e = subst L (no_prefix u (concat us) e).0 all.0
 
 -- and all that does
 pub empty_tested : (e : Expression) → Matches e [] → matches_empty e ≡ true
 empty_tested (Literal v) h = sym (ap is_empty h)
 empty_tested (Class negated v) (c, e, k, m) = cc
 empty_tested (Sequence' p a q b) (u, v, e, f, g) =
-    let split = no_front u v e in
+    let split = no_prefix u v e in
     let P : List ℕ → Type 0 = Matches a in
     let Q : List ℕ → Type 0 = Matches b in
     rw (empty_tested a (subst P split.0 f), empty_tested b (subst Q split.1 g)) refl

@@ -1,4 +1,4 @@
--- What the steps of a reader tell of a prefix of a text.
+-- What the steps of a reader decide of a prefix of a text.
 use Rattle.std.specs.Prelude.{◌≡◌, ℕ, ◌==◌, ◌||◌, Bool, true, false, List, [], ◌∷◌, ◌++◌}
 use Rattle.std.specs.List.{AllByRecursion}
 use Rattle.definitions.specs.declared.expression.Interval.{Interval}
@@ -27,9 +27,9 @@ abbrev pub fault_at : ℕ → PatternCause → Refusal
 fault_at o cause = Fault (record { at = o; cause = cause })
 
 -- a fact of the fault, where there is one
-abbrev pub Tells : Refusal → (PatternFault → Type 0) → Type 0
-Tells (Fault f) P = P f
-Tells Memory P = Unit {0}
+abbrev pub Reports : Refusal → (PatternFault → Type 0) → Type 0
+Reports (Fault f) P = P f
+Reports Memory P = Unit {0}
 
 abbrev pub place : Written → ℕ
 place (Plain o c) = o
@@ -76,7 +76,7 @@ IsPart l d e ws vs = (us : List Written) × (ws ≡ us ++ vs) × SpellsAt l d e 
 
 -- after an atom a, ws makes it e, and vs is left
 abbrev pub IsRepeated : Expression → Expression → List Written → List Written → Type 0
-IsRepeated a e ws vs = (d : ℕ) (front : List Written) → SpellsAt Atom d a front → IsPart Rep d e (front ++ ws) vs
+IsRepeated a e ws vs = (d : ℕ) (prefix : List Written) → SpellsAt Atom d a prefix → IsPart Rep d e (prefix ++ ws) vs
 
 abbrev pub IsSequence : Expression → Expression → Expression → Type 0
 IsSequence a b e = (p q : Place) × (e ≡ Sequence' p a q b)
@@ -93,19 +93,19 @@ IsPlus a e = (p : Place) × (e ≡ Plus' p a)
 abbrev pub IsOptional : Expression → Expression → Type 0
 IsOptional a e = (p : Place) × (e ≡ Optional' p a)
 
-abbrev pub IsLiteralFront : List ℕ → List Written → List Written → Type 0
-IsLiteralFront v ws vs = (us : List Written) × (ws ≡ us ++ vs) × IsLiteralRest v us
+abbrev pub IsLiteralPrefix : List ℕ → List Written → List Written → Type 0
+IsLiteralPrefix v ws vs = (us : List Written) × (ws ≡ us ++ vs) × IsLiteralRest v us
 
-abbrev pub IsItemFront : Interval → List Written → List Written → Type 0
-IsItemFront i ws vs = (us : List Written) × (ws ≡ us ++ vs) × IsItem i us
+abbrev pub IsItemPrefix : Interval → List Written → List Written → Type 0
+IsItemPrefix i ws vs = (us : List Written) × (ws ≡ us ++ vs) × IsItem i us
 
-abbrev pub IsClassFront : List Interval → List Written → List Written → Type 0
-IsClassFront is ws vs = (us : List Written) × (ws ≡ us ++ vs) × IsClassRest is us
+abbrev pub IsClassPrefix : List Interval → List Written → List Written → Type 0
+IsClassPrefix is ws vs = (us : List Written) × (ws ≡ us ++ vs) × IsClassRest is us
 
 -- `IsClassBody negated is ws vs`: after the opening bracket, `ws` begins with the rest of a class with the intervals `is`, and `vs` is left
 abbrev pub IsClassBody : Bool → List Interval → List Written → List Written → Type 0
-IsClassBody false is ws vs = IsClassFront is ws vs
-IsClassBody true is ws vs = (w : Written) × (inside : List Written) × (ws ≡ w ∷ inside) × IsSign 94 w × IsClassFront is inside vs
+IsClassBody false is ws vs = IsClassPrefix is ws vs
+IsClassBody true is ws vs = (w : Written) × (inside : List Written) × (ws ≡ w ∷ inside) × IsSign 94 w × IsClassPrefix is inside vs
 
 -- ws begins with this character of a class, at this place, and vs is left
 abbrev pub IsClassCharAt : ℕ → ℕ → List Written → List Written → Type 0

@@ -18,7 +18,7 @@ pub enum Character {
 }
 
 /// The characters that `text` writes, up to the first escape that stands for none.
-pub fn writing(alloc: Global, text: &[char]) -> Result<Vec<Character>, AllocError>
+pub fn spelled_characters(alloc: Global, text: &[char]) -> Result<Vec<Character>, AllocError>
     ensures { IfOk result (λ words. writing words.items ≡ written 0 text.now) }
 {
     let mut words = Vec::new(alloc);
@@ -31,7 +31,7 @@ pub fn writing(alloc: Global, text: &[char]) -> Result<Vec<Character>, AllocErro
     Ok(words)
 }
 
-/// The character that is written at `place`, and the place behind it.
+/// The character that is written at `place`, and the place after it.
 fn character_at(text: &[char], place: usize) -> (Character, usize)
     requires { place < length text.now }
     ensures forward { place < result.1 }
@@ -43,14 +43,14 @@ fn character_at(text: &[char], place: usize) -> (Character, usize)
     if code != '\\' {
         return (Character::Sign { place, code }, place + 1);
     }
-    match escaped(text, place) {
+    match escape_at(text, place) {
         Some((code, next)) => (Character::Escape { place, code }, next),
         None => (Character::Broken { place }, text.len()),
     }
 }
 
-/// What the escape at `place` stands for, and the place behind it.
-fn escaped(text: &[char], place: usize) -> Option<(char, usize)>
+/// What the escape at `place` stands for, and the place after it.
+fn escape_at(text: &[char], place: usize) -> Option<(char, usize)>
     requires { place < length text.now }
     ensures { MatchOption result
         (escape place (drop (place + 1) text.now) ≡ BadEscape place ∷ [])
@@ -69,7 +69,7 @@ fn escaped(text: &[char], place: usize) -> Option<(char, usize)>
     }
 }
 
-/// What an escape by a number in braces stands for, and the place behind it.
+/// What an escape by a number in braces stands for, and the place after it.
 fn by_number(text: &[char], place: usize) -> Option<(char, usize)>
     requires { place + 2 ≤ length text.now }
     ensures { MatchOption result

@@ -9,7 +9,7 @@ ghost use Rattle.definitions.specs.PatternFaults.{code_after, is_everything, is_
 ghost use Rattle.definitions.specs.declared.expression.Interval.{Interval};
 ghost use Rattle.patterns.specs.Empty.{is_empty};
 ghost use Rattle.patterns.specs.Sound.{is_range};
-ghost use Rattle.patterns.specs.Reading.{writing, Begins, place_of, Tells, IsLiteralFront, IsClassFront, IsClassBody, IsItemFront, HasNoClassChar, IsClassCharAt, HasNoLiteralChar, IsLiteralCharAt};
+ghost use Rattle.patterns.specs.Reading.{writing, Begins, place_of, Reports, IsLiteralPrefix, IsClassPrefix, IsClassBody, IsItemPrefix, HasNoClassChar, IsClassCharAt, HasNoLiteralChar, IsLiteralCharAt};
 
 use crate::characters::Character;
 use crate::refusals::{Refusal, fault};
@@ -43,7 +43,7 @@ pub fn place_of(words: &[Character], end: usize) -> usize
     }
 }
 
-/// The literal whose opening quote is at `quote` and has these characters behind it, and the rest behind the literal.
+/// The literal whose opening quote is at `quote` and has these characters after it, and the rest after the literal.
 pub fn literal<'a>(
     alloc: Global,
     words: &'a [Character],
@@ -51,7 +51,7 @@ pub fn literal<'a>(
     end: usize,
 ) -> Result<(Vec<char>, &'a [Character]), Refusal>
     ensures spelled { IfOk result (λ r.
-        IsLiteralFront r.0.items (writing words.now) (writing r.1.now)) }
+        IsLiteralPrefix r.0.items (writing words.now) (writing r.1.now)) }
     ensures not_empty { IfOk result (λ r. is_empty r.0.items ≡ false) }
     ensures shorter { IfOk result (λ r. length r.1.now < length words.now) }
     ensures goes_on { IfOk result (λ r.
@@ -59,7 +59,7 @@ pub fn literal<'a>(
         fault_from end (InLiteral depth quote true) (writing words.now)
         ≡ fault_from end (Outside depth AnAtom) (writing r.1.now)) }
     ensures fault { IfErr result (λ r.
-        Tells r (λ f.
+        Reports r (λ f.
         (depth : ℕ) → fault_from end (InLiteral depth quote true) (writing words.now) ≡ Some f)) }
 {
     let mut characters = Vec::new(alloc);
@@ -107,7 +107,7 @@ fn append_interval(intervals: &mut Vec<Interval>, interval: Interval) -> Result<
     Ok(())
 }
 
-/// The class whose bracket is at `bracket` and has these characters behind it, and the rest behind the class.
+/// The class whose bracket is at `bracket` and has these characters after it, and the rest after the class.
 pub fn class<'a>(
     alloc: Global,
     words: &'a [Character],
@@ -124,7 +124,7 @@ pub fn class<'a>(
         fault_from end (InClass depth bracket false [] Opened) (writing words.now)
         ≡ fault_from end (Outside depth AnAtom) (writing r.2.now)) }
     ensures fault { IfErr result (λ r.
-        Tells r (λ f.
+        Reports r (λ f.
         (depth : ℕ) →
         fault_from end (InClass depth bracket false [] Opened) (writing words.now) ≡ Some f)) }
 {
@@ -140,7 +140,7 @@ pub fn class<'a>(
     }
 }
 
-/// The items of a class that has members, and the rest behind the class.
+/// The items of a class that has members, and the rest after the class.
 fn members<'a>(
     alloc: Global,
     words: &'a [Character],
@@ -149,7 +149,7 @@ fn members<'a>(
     end: usize,
 ) -> Result<(Vec<Interval>, &'a [Character]), Refusal>
     ensures spelled { IfOk result (λ r.
-        IsClassFront r.0.items (writing words.now) (writing r.1.now)) }
+        IsClassPrefix r.0.items (writing words.now) (writing r.1.now)) }
     ensures ordered { IfOk result (λ r. list_all is_range r.0.items ≡ true) }
     ensures not_empty { IfOk result (λ r. is_nothing negated r.0.items ≡ false) }
     ensures shorter { IfOk result (λ r. length r.1.now < length words.now) }
@@ -158,7 +158,7 @@ fn members<'a>(
         fault_from end (InClass depth bracket negated [] Items) (writing words.now)
         ≡ fault_from end (Outside depth AnAtom) (writing r.1.now)) }
     ensures fault { IfErr result (λ r.
-        Tells r (λ f.
+        Reports r (λ f.
         (depth : ℕ) →
         fault_from end (InClass depth bracket negated [] Items) (writing words.now) ≡ Some f)) }
 {
@@ -169,14 +169,14 @@ fn members<'a>(
     Ok((intervals, rest))
 }
 
-/// The items up to the closing bracket, and the rest behind it.
+/// The items up to the closing bracket, and the rest after it.
 fn items<'a>(
     alloc: Global,
     words: &'a [Character],
     end: usize,
 ) -> Result<(Vec<Interval>, &'a [Character]), Refusal>
     ensures spelled { IfOk result (λ r.
-        IsClassFront r.0.items (writing words.now) (writing r.1.now)) }
+        IsClassPrefix r.0.items (writing words.now) (writing r.1.now)) }
     ensures ordered { IfOk result (λ r. list_all is_range r.0.items ≡ true) }
     ensures shorter { IfOk result (λ r. length r.1.now < length words.now) }
     ensures goes_on { IfOk result (λ r.
@@ -185,7 +185,7 @@ fn items<'a>(
         ≡ or_later (λ s. fault_from end s (writing r.1.now))
         (closed depth bracket negated r.0.items)) }
     ensures fault { IfErr result (λ r.
-        Tells r (λ f.
+        Reports r (λ f.
         (depth bracket : ℕ) (negated : Bool) →
         fault_from end (InClass depth bracket negated [] Items) (writing words.now) ≡ Some f)) }
 {
@@ -201,10 +201,10 @@ fn items<'a>(
     }
 }
 
-/// The first item, and the rest behind it.
+/// The first item, and the rest after it.
 fn item<'a>(words: &'a [Character], end: usize) -> Result<(Interval, &'a [Character]), Refusal>
     requires { Begins 93 (writing words.now) → ⊥ }
-    ensures spelled { IfOk result (λ r. IsItemFront r.0 (writing words.now) (writing r.1.now)) }
+    ensures spelled { IfOk result (λ r. IsItemPrefix r.0 (writing words.now) (writing r.1.now)) }
     ensures ordered { IfOk result (λ r. is_range r.0 ≡ true) }
     ensures shorter { IfOk result (λ r. length r.1.now < length words.now) }
     ensures goes_on { IfOk result (λ r.
@@ -213,18 +213,18 @@ fn item<'a>(words: &'a [Character], end: usize) -> Result<(Interval, &'a [Charac
         ≡ fault_from end (InClass depth bracket negated (before ++ r.0 ∷ []) Items)
         (writing r.1.now)) }
     ensures fault { IfErr result (λ r.
-        Tells r (λ f.
+        Reports r (λ f.
         (depth bracket : ℕ) (negated : Bool) (before : List Interval) →
         fault_from end (InClass depth bracket negated before Items) (writing words.now) ≡ Some f)) }
 {
     let Some((place, first, rest)) = class_char(words) else {
         return Err(fault(place_of(words, end), PatternCause::Syntax));
     };
-    let Some((_, behind)) = strip(rest, '-') else {
+    let Some((_, after)) = strip(rest, '-') else {
         return Ok((range(first, first), rest));
     };
-    let Some((_, last, rest)) = class_char(behind) else {
-        return Err(fault(place_of(behind, end), PatternCause::Syntax));
+    let Some((_, last, rest)) = class_char(after) else {
+        return Err(fault(place_of(after, end), PatternCause::Syntax));
     };
     if last < first {
         return Err(fault(place, PatternCause::ReversedRange));
@@ -283,7 +283,7 @@ fn is_everything(intervals: &[Interval]) -> bool
     is_member(0, intervals) && all_are_followed(intervals)
 }
 
-/// Whether the character behind each interval lies in one of them.
+/// Whether the character after each interval lies in one of them.
 fn all_are_followed(intervals: &[Interval]) -> bool
     ensures { result
         ≡ list_all (λ i. i.last == 0x10_FFFF || is_member (code_after i.last) intervals.now)
@@ -292,7 +292,7 @@ fn all_are_followed(intervals: &[Interval]) -> bool
     intervals.iter().all(|i| is_followed(i.last, intervals))
 }
 
-/// Whether the character behind this one, if there is one, lies in one of the intervals.
+/// Whether the character after this one, if there is one, lies in one of the intervals.
 fn is_followed(last: char, intervals: &[Interval]) -> bool
     ensures { result ≡ (last == 0x10_FFFF || is_member (code_after last) intervals.now) }
 {
@@ -307,7 +307,7 @@ fn is_member(code: u32, intervals: &[Interval]) -> bool
         .any(|i| i.first as u32 <= code && code <= i.last as u32)
 }
 
-/// The code of the character behind this one, if there is one.
+/// The code of the character after this one, if there is one.
 fn code_after(character: char) -> u32
     ensures { result ≡ code_after character }
 {

@@ -26,7 +26,7 @@ ghost use Rattle.definitions.specs.declared.expression.PatternCause.TheVariants.
 ghost use Rattle.definitions.specs.declared.expression.Expression.{Expression};
 ghost use Rattle.patterns.specs.Empty.{matches_empty};
 ghost use Rattle.patterns.specs.Sound.{is_sound};
-ghost use Rattle.patterns.specs.Reading.{Tells};
+ghost use Rattle.patterns.specs.Reading.{Reports};
 
 mod characters;
 mod classes;
@@ -35,7 +35,7 @@ mod laws;
 mod parts;
 mod refusals;
 
-use characters::writing;
+use characters::spelled_characters;
 pub use definitions::{Expression, Interval, PatternCause, PatternFault};
 use empty::matches_empty;
 pub use laws::one_text_has_one_meaning;
@@ -106,10 +106,10 @@ fn read_expression(alloc: Global, text: &str) -> Result<Expression, Refusal>
     ensures no_fault { IfOk result (λ e. first_fault (chars text.now) ≡ None) }
     ensures sound { IfOk result (λ e. is_sound e ≡ true) }
     ensures not_empty { IfOk result (λ e. matches_empty e ≡ false) }
-    ensures fault { IfErr result (λ r. Tells r (λ f. IsFault (chars text.now) f)) }
+    ensures fault { IfErr result (λ r. Reports r (λ f. IsFault (chars text.now) f)) }
 {
     let characters = characters_of(alloc, text)?;
-    let words = writing(alloc, &characters)?;
+    let words = spelled_characters(alloc, &characters)?;
     let expression = whole(alloc, &words, characters.len())?;
     if matches_empty(&expression) {
         return Err(fault(0, PatternCause::MatchesEmpty));

@@ -5,7 +5,7 @@ ghost use Rattle.definitions.specs.PatternText.{Plain};
 ghost use Rattle.definitions.specs.PatternFaults.{Outside, Nothing, AnAtom, ARepetition, fault_from};
 ghost use Rattle.definitions.specs.Spelling.{Alt, Seq, Rep, Atom, SpellsAt};
 ghost use Rattle.patterns.specs.Sound.{is_sound};
-ghost use Rattle.patterns.specs.Reading.{writing, Begins, HasNoBlank, IsPart, IsBlanks, IsChoice, IsSequence, IsRepeated, IsStar, IsPlus, IsOptional, IsBlankAt, IsAtEnd, IsClosed, stops, Tells};
+ghost use Rattle.patterns.specs.Reading.{writing, Begins, HasNoBlank, IsPart, IsBlanks, IsChoice, IsSequence, IsRepeated, IsStar, IsPlus, IsOptional, IsBlankAt, IsAtEnd, IsClosed, stops, Reports};
 
 use crate::characters::Character;
 use crate::classes::{class, literal, place_of, strip};
@@ -13,14 +13,14 @@ use crate::refusals::{Refusal, fault};
 use definitions::{Expression, PatternCause};
 use std::alloc::{AllocError, Global};
 
-/// The expression that these characters spell; `end` is the place behind them.
+/// The expression that these characters spell; `end` is the place after them.
 pub fn whole(alloc: Global, words: &[Character], end: usize) -> Result<Expression, Refusal>
     ensures spelled { IfOk result (λ e. SpellsAt Alt 0 e (writing words.now)) }
     ensures sound { IfOk result (λ e. is_sound e ≡ true) }
     ensures no_fault { IfOk result (λ e.
         fault_from end (Outside 0 Nothing) (writing words.now) ≡ None) }
     ensures fault { IfErr result (λ r.
-        Tells r (λ f. fault_from end (Outside 0 Nothing) (writing words.now) ≡ Some f)) }
+        Reports r (λ f. fault_from end (Outside 0 Nothing) (writing words.now) ≡ Some f)) }
 {
     let (expression, rest) = alternatives(alloc, words, 0, end)?;
     if let Some((place, _)) = strip(rest, ')') {
@@ -29,7 +29,7 @@ pub fn whole(alloc: Global, words: &[Character], end: usize) -> Result<Expressio
     Ok(expression)
 }
 
-/// The alternatives at the front, and the rest, which is empty or begins with a closing parenthesis.
+/// The alternatives at the start, and the rest, which is empty or begins with a closing parenthesis.
 #[cycle(parts)]
 fn alternatives<'a>(
     alloc: Global,
@@ -47,18 +47,18 @@ fn alternatives<'a>(
         fault_from end (Outside depth Nothing) (writing words.now)
         ≡ fault_from end (Outside depth ARepetition) (writing r.1.now)) }
     ensures fault { IfErr result (λ r.
-        Tells r (λ f. fault_from end (Outside depth Nothing) (writing words.now) ≡ Some f)) }
+        Reports r (λ f. fault_from end (Outside depth Nothing) (writing words.now) ≡ Some f)) }
 {
     let (mut choice, mut rest) = sequence(alloc, words, depth, end)?;
-    while let Some((_, behind)) = strip(rest, '|') {
-        let (next, after) = sequence(alloc, behind, depth, end)?;
+    while let Some((_, after)) = strip(rest, '|') {
+        let (next, left) = sequence(alloc, after, depth, end)?;
         choice = either(alloc, choice, next)?;
-        rest = after;
+        rest = left;
     }
     Ok((choice, rest))
 }
 
-/// The sequence at the front, and the rest, which is empty or begins with a `|` or a closing parenthesis.
+/// The sequence at the start, and the rest, which is empty or begins with a `|` or a closing parenthesis.
 #[cycle(parts)]
 fn sequence<'a>(
     alloc: Global,
@@ -76,18 +76,18 @@ fn sequence<'a>(
         fault_from end (Outside depth Nothing) (writing words.now)
         ≡ fault_from end (Outside depth ARepetition) (writing r.1.now)) }
     ensures fault { IfErr result (λ r.
-        Tells r (λ f. fault_from end (Outside depth Nothing) (writing words.now) ≡ Some f)) }
+        Reports r (λ f. fault_from end (Outside depth Nothing) (writing words.now) ≡ Some f)) }
 {
     let (mut sequence, mut rest) = repetition(alloc, words, depth, end)?;
     while !stops(rest) {
-        let (next, after) = repetition(alloc, rest, depth, end)?;
+        let (next, left) = repetition(alloc, rest, depth, end)?;
         sequence = both(alloc, sequence, next)?;
-        rest = after;
+        rest = left;
     }
     Ok((sequence, rest))
 }
 
-/// The atom at the front with its sign of repetition, if it has one, and the rest, which begins with no blank.
+/// The atom at the start with its sign of repetition, if it has one, and the rest, which begins with no blank.
 #[cycle(parts)]
 fn repetition<'a>(
     alloc: Global,
@@ -105,14 +105,14 @@ fn repetition<'a>(
         fault_from end (Outside depth Nothing) (writing words.now)
         ≡ fault_from end (Outside depth ARepetition) (writing r.1.now)) }
     ensures fault { IfErr result (λ r.
-        Tells r (λ f. fault_from end (Outside depth Nothing) (writing words.now) ≡ Some f)) }
+        Reports r (λ f. fault_from end (Outside depth Nothing) (writing words.now) ≡ Some f)) }
 {
     let (part, rest) = atom(alloc, words, depth, end)?;
-    let (expression, rest) = repeated(alloc, part, rest)?;
+    let (expression, rest) = with_repetition(alloc, part, rest)?;
     Ok((expression, rest))
 }
 
-/// The atom at the front, with the blanks about it, and the rest, which begins with no blank.
+/// The atom at the start, with the blanks about it, and the rest, which begins with no blank.
 #[cycle(parts)]
 fn atom<'a>(
     alloc: Global,
@@ -130,13 +130,13 @@ fn atom<'a>(
         fault_from end (Outside depth Nothing) (writing words.now)
         ≡ fault_from end (Outside depth AnAtom) (writing r.1.now)) }
     ensures fault { IfErr result (λ r.
-        Tells r (λ f. fault_from end (Outside depth Nothing) (writing words.now) ≡ Some f)) }
+        Reports r (λ f. fault_from end (Outside depth Nothing) (writing words.now) ≡ Some f)) }
 {
     let (part, rest) = bare_atom(alloc, skip_blanks(words), depth, end)?;
     Ok((part, skip_blanks(rest)))
 }
 
-/// The atom at the very front, and the rest.
+/// The atom at the very start, and the rest.
 #[cycle(parts)]
 fn bare_atom<'a>(
     alloc: Global,
@@ -154,7 +154,7 @@ fn bare_atom<'a>(
         fault_from end (Outside depth Nothing) (writing words.now)
         ≡ fault_from end (Outside depth AnAtom) (writing r.1.now)) }
     ensures fault { IfErr result (λ r.
-        Tells r (λ f. fault_from end (Outside depth Nothing) (writing words.now) ≡ Some f)) }
+        Reports r (λ f. fault_from end (Outside depth Nothing) (writing words.now) ≡ Some f)) }
 {
     if let Some((quote, inside)) = strip(words, '"') {
         let (characters, rest) = literal(alloc, inside, quote, end)?;
@@ -168,36 +168,36 @@ fn bare_atom<'a>(
         && let Some((_, inside)) = strip(words, '(')
     {
         let (part, rest) = alternatives(alloc, inside, depth + 1, end)?;
-        let behind = close(rest, end)?;
-        return Ok((part, behind));
+        let after = close(rest, end)?;
+        return Ok((part, after));
     }
     Err(fault(place_of(words, end), PatternCause::Syntax))
 }
 
-/// The rest behind a closing parenthesis, or the fault of its want, which is at the end.
+/// The rest after a closing parenthesis, or the fault that it is missing, which is at the end.
 fn close<'a>(words: &'a [Character], end: usize) -> Result<&'a [Character], Refusal>
     requires { IsAtEnd (writing words.now) }
     ensures shorter { IfOk result (λ r. length r.now < length words.now) }
     ensures closed { IfOk result (λ r. IsClosed (writing words.now) (writing r.now)) }
     ensures fault { IfErr result (λ r.
-        Tells r (λ f.
+        Reports r (λ f.
         (depth : ℕ) →
         fault_from end (Outside (depth + 1) ARepetition) (writing words.now) ≡ Some f)) }
 {
     match strip(words, ')') {
-        Some((_, behind)) => Ok(behind),
+        Some((_, after)) => Ok(after),
         None => Err(fault(end, PatternCause::Syntax)),
     }
 }
 
-/// The rest behind the blanks at the front.
+/// The rest after the blanks at the start.
 fn skip_blanks(words: &[Character]) -> &[Character]
     ensures { IsBlanks (writing words.now) (writing result.now) × HasNoBlank (writing result.now) ×
         (length result.now ≤ length words.now) }
 {
     let mut rest = words;
-    while let Some((_, behind)) = strip_blank(rest) {
-        rest = behind;
+    while let Some((_, after)) = strip_blank(rest) {
+        rest = after;
     }
     rest
 }
@@ -215,7 +215,7 @@ fn strip_blank(words: &[Character]) -> Option<(usize, &[Character])>
     }
 }
 
-/// Whether nothing, a `|` or a closing parenthesis stands at the front.
+/// Whether nothing, a `|` or a closing parenthesis stands at the start.
 fn stops(words: &[Character]) -> bool
     ensures { result ≡ stops (writing words.now) }
 {
@@ -231,8 +231,8 @@ fn stops(words: &[Character]) -> bool
     }
 }
 
-/// The atom with the sign of repetition that stands at the front, if there is one, and the rest behind the blanks.
-fn repeated<'a>(
+/// The atom with the sign of repetition that stands at the start, if there is one, and the rest after the blanks.
+fn with_repetition<'a>(
     alloc: Global,
     part: Expression,
     words: &'a [Character],

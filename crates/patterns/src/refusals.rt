@@ -6,7 +6,7 @@ ghost use Rattle.patterns.specs.Reading.{fault_at};
 use definitions::{PatternCause, PatternFault};
 use std::alloc::AllocError;
 
-/// A fault of the text, or want of memory.
+/// A fault of the text, or that memory was refused.
 #[derive(Clone, Copy)]
 pub enum Refusal {
     /// The text is no pattern's.

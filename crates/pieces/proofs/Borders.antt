@@ -28,22 +28,22 @@ near bs at n u b l m none = go (IsUtf8-drop bs at u b).0 (IsUtf8-drop bs at u b)
         past (inl h) = omega (arith, h, len_utf8_bounds c)
         past (inr h) = absurd (none (at + len_utf8 c) (omega (arith, len_utf8_bounds c)) h (IsCharBoundary-past_char bs (encode_utf8_all cs) at c (omega (arith, l, m)) (IsUtf8-drop bs at u b) (sym e)))
 
--- one piece more: what is left is taken off in front
-pub concat-more : (pieces : List (List ℕ)) (piece rest front back t : List ℕ) → IsUtf8 front → rest ≡ front ++ back → piece ≡ chars front → concat pieces ++ chars rest ≡ t → concat (pieces ++ piece ∷ []) ++ chars back ≡ t
-concat-more pieces piece rest front back t u cut is before =
+-- one piece more: what is left is taken off at the start
+pub concat-more : (pieces : List (List ℕ)) (piece rest prefix back t : List ℕ) → IsUtf8 prefix → rest ≡ prefix ++ back → piece ≡ chars prefix → concat pieces ++ chars rest ≡ t → concat (pieces ++ piece ∷ []) ++ chars back ≡ t
+concat-more pieces piece rest prefix back t u cut is before =
     ap (λ l. l ++ chars back) (concat-append pieces (piece ∷ []) ∙ ap (λ l. concat pieces ++ l) (append-nil piece))
     ∙ append_assoc (concat pieces) piece (chars back)
     ∙ ap (λ l. concat pieces ++ (l ++ chars back)) is
-    ∙ ap (λ l. concat pieces ++ l) (sym (chars-append front back u) ∙ ap chars (sym cut))
+    ∙ ap (λ l. concat pieces ++ l) (sym (chars-append prefix back u) ∙ ap chars (sym cut))
     ∙ before
 
 pub concat-last : (pieces : List (List ℕ)) (piece rest t : List ℕ) → piece ≡ chars rest → concat pieces ++ chars rest ≡ t → concat (pieces ++ piece ∷ []) ≡ t
 concat-last pieces piece rest t is before = concat-append pieces (piece ∷ []) ∙ ap (λ l. concat pieces ++ l) (append-nil piece ∙ is) ∙ before
 
 -- one large piece more
-pub large-more : (pieces : List (List ℕ)) (piece front : List ℕ) → IsUtf8 front → piece ≡ chars front → SHORTEST_OF_SEVERAL ≤ length front → All IsLarge pieces → All IsLarge (pieces ++ piece ∷ [])
-large-more pieces piece front u is long before =
-    let units_are : units Utf8 piece ≡ length front = ap (units Utf8) is ∙ units-chars front u in
+pub large-more : (pieces : List (List ℕ)) (piece prefix : List ℕ) → IsUtf8 prefix → piece ≡ chars prefix → SHORTEST_OF_SEVERAL ≤ length prefix → All IsLarge pieces → All IsLarge (pieces ++ piece ∷ [])
+large-more pieces piece prefix u is long before =
+    let units_are : units Utf8 piece ≡ length prefix = ap (units Utf8) is ∙ units-chars prefix u in
     All-append IsLarge pieces (piece ∷ []) before (All-cons IsLarge piece [] (omega (arith, long, units_are)) (All-nil IsLarge))
 
 pub concat-none : (pieces : List (List ℕ)) (rest t : List ℕ) → length rest ≤ 0 → concat pieces ++ chars rest ≡ t → concat pieces ≡ t
@@ -59,22 +59,22 @@ scalars_parted (c ∷ cs) (suc n) h =
     let rest = scalars_parted cs n parts.1 in
     (and_from _ (all_scalars (take n cs)) parts.0 rest.0, rest.1)
 
--- a text cut behind so many of its characters
+-- a text cut after so many of its characters
 pub record IsBorder (bs : List ℕ) (n at : ℕ) : Type 0 where
   pub boundary : IsCharBoundary bs at
-  pub front : chars (take at bs) ≡ take n (chars bs)
+  pub prefix : chars (take at bs) ≡ take n (chars bs)
   pub back : chars (drop at bs) ≡ drop n (chars bs)
 
 pub border : (bs : List ℕ) (n at : ℕ) → IsUtf8 bs → at ≡ units Utf8 (take n (chars bs)) → IsBorder bs n at
 border bs n at u e =
     let cs : List ℕ = chars bs in
-    let front : List ℕ = encode_utf8_all (take n cs) in
+    let prefix : List ℕ = encode_utf8_all (take n cs) in
     let back : List ℕ = encode_utf8_all (drop n cs) in
     let scalars = scalars_parted cs n (scalars-chars bs u) in
-    let whole : bs ≡ front ++ back = sym (encodes-chars bs u) ∙ ap encode_utf8_all (sym (take-append-drop n cs)) ∙ encodes-append (take n cs) (drop n cs) in
-    let here : at ≡ length front = e ∙ units-bytes (take n cs) in
+    let whole : bs ≡ prefix ++ back = sym (encodes-chars bs u) ∙ ap encode_utf8_all (sym (take-append-drop n cs)) ∙ encodes-append (take n cs) (drop n cs) in
+    let here : at ≡ length prefix = e ∙ units-bytes (take n cs) in
     record {
-      boundary = subst (IsCharBoundary bs) (sym here) (IsCharBoundary-at_seam bs front back whole (drop n cs, (scalars.1, refl)));
-      front = ap chars ((λ i. take (here i) (whole i)) ∙ take-append_seam front back) ∙ chars-encodes (take n cs) scalars.0;
-      back = ap chars ((λ i. drop (here i) (whole i)) ∙ drop-append_seam front back) ∙ chars-encodes (drop n cs) scalars.1;
+      boundary = subst (IsCharBoundary bs) (sym here) (IsCharBoundary-at_seam bs prefix back whole (drop n cs, (scalars.1, refl)));
+      prefix = ap chars ((λ i. take (here i) (whole i)) ∙ take-append_seam prefix back) ∙ chars-encodes (take n cs) scalars.0;
+      back = ap chars ((λ i. drop (here i) (whole i)) ∙ drop-append_seam prefix back) ∙ chars-encodes (drop n cs) scalars.1;
     }

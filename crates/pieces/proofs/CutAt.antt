@@ -1,4 +1,4 @@
--- What lies before and behind a cut of a text in pieces.
+-- What lies before and after a cut of a text in pieces.
 use Rattle.std.specs.Prelude.{◌≡◌, ℕ, zero, suc, ◌+◌, ◌-◌, ◌<◌, ◌≤◌, List, [], ◌∷◌, ◌++◌, Option, Some, None, length, take, drop, slice_index, slice_get, encode_utf8, encode_utf8_all, MatchOption}
 use Rattle.std.specs.List.{concat}
 use Rattle.std.specs.Str.{chars}
@@ -48,9 +48,9 @@ past_piece ps i h l = go (slice_get_cases ps i).1
 
 -- a place in a piece
 module _ (ps : List (List ℕ)) (i : ℕ) (p : List ℕ) (at : Some p ≡ slice_get ps i) where
-  -- a front of the piece fits where the text does
-  pub front_le : (n : ℕ) → units Utf8 (text_before ps i) + units Utf8 (take n p) ≤ units Utf8 (concat ps)
-  front_le n =
+  -- a prefix of the piece fits where the text does
+  pub prefix_le : (n : ℕ) → units Utf8 (text_before ps i) + units Utf8 (take n p) ≤ units Utf8 (concat ps)
+  prefix_le n =
       omega (arith, ap (units Utf8) (parted ps (i + 1)), units-append Utf8 (text_before ps (i + 1)) (concat (drop (i + 1) ps)), ap (units Utf8) (before-more ps i p at), units-append Utf8 (text_before ps i) p, ap (units Utf8) (take-append-drop n p), units-append Utf8 (take n p) (drop n p))
 
   -- so many of its characters lie before the place
@@ -70,8 +70,8 @@ module _ (ps : List (List ℕ)) (i : ℕ) (p : List ℕ) (at : Some p ≡ slice_
         ∙ take-append-add (text_before ps i) (p ++ concat (drop (i + 1) ps)) (o - length (text_before ps i))
         ∙ ap (λ q. text_before ps i ++ q) (take-append-le (o - length (text_before ps i)) p (concat (drop (i + 1) ps)) short)
 
-    pub behind_cut : drop o (concat ps) ≡ drop (o - length (text_before ps i)) p ++ concat (drop (i + 1) ps)
-    behind_cut =
+    pub after_cut : drop o (concat ps) ≡ drop (o - length (text_before ps i)) p ++ concat (drop (i + 1) ps)
+    after_cut =
         (λ k. drop (far k) (sym (text-at ps i p at) k))
         ∙ drop-append-add (text_before ps i) (p ++ concat (drop (i + 1) ps)) (o - length (text_before ps i))
         ∙ drop-append-le (o - length (text_before ps i)) p (concat (drop (i + 1) ps)) short
@@ -87,17 +87,17 @@ module _ (ps : List (List ℕ)) (o i : ℕ) (e : i ≡ length ps) (l : length (t
   pub before_end : take o (concat ps) ≡ text_before ps i ++ []
   before_end = take_all o (concat ps) past_end ∙ sym (append-nil (text_before ps i) ∙ all_before)
 
-  pub behind_end : drop o (concat ps) ≡ concat (drop (i + 1) ps)
-  behind_end = drop_all o (concat ps) past_end ∙ ap concat (sym (drop_all (i + 1) ps (omega (arith, e))))
+  pub after_end : drop o (concat ps) ≡ concat (drop (i + 1) ps)
+  after_end = drop_all o (concat ps) past_end ∙ ap concat (sym (drop_all (i + 1) ps (omega (arith, e))))
 
--- where there is a character at the offset, it stands behind the cut in its piece
-pub some_behind : (ps : List (List ℕ)) (o : ℕ) (cut : Cut) → IsCut ps o cut → o < length (concat ps) → 1 ≤ length (chars cut.back.now)
-some_behind ps o cut is l = go (cases_lt cut.piece (length ps))
+-- where there is a character at the offset, it stands after the cut in its piece
+pub some_after : (ps : List (List ℕ)) (o : ℕ) (cut : Cut) → IsCut ps o cut → o < length (concat ps) → 1 ≤ length (chars cut.back.now)
+some_after ps o cut is l = go (cases_lt cut.piece (length ps))
   where
     go : (cut.piece < length ps) ⊎ (length ps ≤ cut.piece) → 1 ≤ length (chars cut.back.now)
     go (inl m) =
         let ahead : List ℕ = concat (drop (cut.piece + 1) ps) in
-        omega (arith, l, is.ends m, ap length is.behind, length-drop o (concat ps), length-append (chars cut.back.now) ahead, ap length (parted ps (cut.piece + 1)), length-append (text_before ps (cut.piece + 1)) ahead)
+        omega (arith, l, is.ends m, ap length is.units_after, length-drop o (concat ps), length-append (chars cut.back.now) ahead, ap length (parted ps (cut.piece + 1)), length-append (text_before ps (cut.piece + 1)) ahead)
     go (inr m) =
         let end : cut.piece ≡ length ps = omega (arith, m, is.within) in
         absurd (omega (arith, l, past_end ps o cut.piece end is.starts))

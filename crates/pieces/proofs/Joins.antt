@@ -11,16 +11,16 @@ use Rattle.seqtree.specs.Saturated.{saturated-exact, saturated-zero_left}
 use Rattle.definitions.specs.declared.Unit.{Unit as Encoding}
 use Rattle.definitions.specs.declared.Unit.TheVariants.{Utf8, Utf16, Utf32}
 use Rattle.definitions.specs.Text.{begins_with, ends_break, unit, units}
-use Rattle.definitions.proofs.InLine.{in_line}
+use Rattle.definitions.proofs.OffsetsInLine.{in_line}
 use Rattle.pieces.specs.declared.sums.Units.{Units}
 use Rattle.pieces.specs.declared.sums.Sums.{Sums}
 use Rattle.pieces.specs.declared.sums.Counts.{Counts}
 use Rattle.pieces.specs.declared.sums.Sums.TheVariants.{Filled}
-use Rattle.pieces.specs.Sums.{ends_with, counts_of, sums_of, shown_units, most, sum, behind_joined, counts_joined, joined}
+use Rattle.pieces.specs.Sums.{ends_with, counts_of, sums_of, shown_units, most, sum, after_joined, counts_joined, joined}
 use Rattle.pieces.specs.Laws.{joined-assoc}
-use Rattle.pieces.proofs.Fronts.{ended_in, behind_in, behind-none, behind-some, position-front}
+use Rattle.pieces.proofs.Prefixes.{ended_in, after_in, units_after-none, units_after-some, position-prefix}
 
--- what a `\n` behind a text leaves: the breaks that end in it, and the units behind them
+-- what a `\n` after a text leaves: the breaks that end in it, and the units after them
 abbrev pub feed : List ℕ
 feed = 10 ∷ []
 
@@ -28,23 +28,23 @@ abbrev ended_before : List ℕ → ℕ
 ended_before t = ended_in t feed
 
 abbrev shown : Encoding → List ℕ → ℕ
-shown encoding t = units encoding (take_while in_line (behind_in t feed))
+shown encoding t = units encoding (take_while in_line (after_in t feed))
 
 abbrev shown_all : List ℕ → Units
 shown_all t = record { utf8 = shown Utf8 t; utf16 = shown Utf16 t; utf32 = shown Utf32 t }
 
 abbrev plain : List ℕ → Counts
-plain t = record { characters = length t; bytes = units Utf8 t; breaks = ended_before t; behind = shown_all t; begins_with_feed = begins_with 10 t; ends_with_return = ends_with 13 t }
+plain t = record { characters = length t; bytes = units Utf8 t; breaks = ended_before t; units_after = shown_all t; begins_with_feed = begins_with 10 t; ends_with_return = ends_with 13 t }
 
 counts_of-plain : (t : List ℕ) → counts_of t ≡ plain t
 counts_of-plain t = λ i. record {
   characters = length t;
   bytes = units Utf8 t;
-  breaks = ap (λ p. p.line) (position-front Utf8 t feed) i;
-  behind = record {
-    utf8 = ap (λ p. p.character) (position-front Utf8 t feed) i;
-    utf16 = ap (λ p. p.character) (position-front Utf16 t feed) i;
-    utf32 = ap (λ p. p.character) (position-front Utf32 t feed) i;
+  breaks = ap (λ p. p.line) (position-prefix Utf8 t feed) i;
+  units_after = record {
+    utf8 = ap (λ p. p.character) (position-prefix Utf8 t feed) i;
+    utf16 = ap (λ p. p.character) (position-prefix Utf16 t feed) i;
+    utf32 = ap (λ p. p.character) (position-prefix Utf32 t feed) i;
   };
   begins_with_feed = begins_with 10 t;
   ends_with_return = ends_with 13 t;
@@ -86,7 +86,7 @@ pub units-nil : (encoding : Encoding) → units encoding [] ≡ 0
 unfolding units
 units-nil encoding = refl
 
--- the characters in line, with one more in front
+-- the characters in line, with one more at the start
 line-cons : (encoding : Encoding) (c : ℕ) (t : List ℕ) → in_line c ≡ true → units encoding (take_while in_line (c ∷ t)) ≡ unit encoding c + units encoding (take_while in_line t)
 line-cons encoding c t g = ap (units encoding) (take_while-cons in_line c t ∙ ap (λ b. cond b (c ∷ take_while in_line t) []) g) ∙ units-cons encoding c (take_while in_line t)
 
@@ -96,7 +96,7 @@ other_ended c t a b = ap (λ x. cond x 1 0 + ended_before t) (no_break c (t ++ f
 
 other_one : (encoding : Encoding) (c : ℕ) → (c == 10) ≡ false → (c == 13) ≡ false → shown encoding (c ∷ []) ≡ unit encoding c
 other_one encoding c a b =
-    ap (λ l. units encoding (take_while in_line l)) (behind-none (c ∷ []) feed (other_ended c [] a b))
+    ap (λ l. units encoding (take_while in_line l)) (units_after-none (c ∷ []) feed (other_ended c [] a b))
     ∙ line-cons encoding c [] (goes_on c a b)
     ∙ ap (λ n. unit encoding c + n) (units-nil encoding)
     ∙ omega arith
@@ -111,7 +111,7 @@ return_one : shown_all (13 ∷ []) ≡ record { utf8 = 0; utf16 = 0; utf32 = 0 }
 return_one = λ i. record { utf8 = units-nil Utf8 i; utf16 = units-nil Utf16 i; utf32 = units-nil Utf32 i }
 
 plain_one : ℕ → Counts
-plain_one c = record { characters = 1; bytes = len_utf8 c; breaks = cond (c == 10) 1 0; behind = shown_units c; begins_with_feed = c == 10; ends_with_return = c == 13 }
+plain_one c = record { characters = 1; bytes = len_utf8 c; breaks = cond (c == 10) 1 0; units_after = shown_units c; begins_with_feed = c == 10; ends_with_return = c == 13 }
 
 units_one : (c : ℕ) → units Utf8 (c ∷ []) ≡ len_utf8 c
 units_one c = units-cons Utf8 c [] ∙ ap (λ n. unit Utf8 c + n) (units-nil Utf8) ∙ omega arith
@@ -128,12 +128,12 @@ shown_one c (Other a b) =
     (λ i. record { utf8 = other_one Utf8 c a b i; utf16 = other_one Utf16 c a b i; utf32 = other_one Utf32 c a b i })
     ∙ sym (ap (λ x. cond (x || c == 13) (record { utf8 = 0; utf16 = 0; utf32 = 0 }) (record { utf8 = unit Utf8 c; utf16 = unit Utf16 c; utf32 = unit Utf32 c })) a ∙ ap (λ x. cond x (record { utf8 = 0; utf16 = 0; utf32 = 0 }) (record { utf8 = unit Utf8 c; utf16 = unit Utf16 c; utf32 = unit Utf32 c })) b)
 
-pub sums_of_one : (c : ℕ) → sums_of (c ∷ []) ≡ Filled (record { characters = 1; bytes = len_utf8 c; breaks = cond (c == 10) 1 0; behind = shown_units c; begins_with_feed = c == 10; ends_with_return = c == 13 })
+pub sums_of_one : (c : ℕ) → sums_of (c ∷ []) ≡ Filled (record { characters = 1; bytes = len_utf8 c; breaks = cond (c == 10) 1 0; units_after = shown_units c; begins_with_feed = c == 10; ends_with_return = c == 13 })
 sums_of_one c = ap Filled (counts_of-plain (c ∷ []) ∙ (λ i. record {
   characters = 1;
   bytes = units_one c i;
   breaks = ended_one c (class c) i;
-  behind = shown_one c (class c) i;
+  units_after = shown_one c (class c) i;
   begins_with_feed = turned 10 c i;
   ends_with_return = turned 13 c i;
 }))
@@ -176,11 +176,11 @@ pub units-append : (encoding : Encoding) (s t : List ℕ) → units encoding (s 
 unfolding units
 units-append encoding s t = sum_by-append (unit encoding) s t
 
--- one character more in front
+-- one character more at the start
 shown_later : (c : ℕ) (t : List ℕ) → 1 ≤ ended_before (c ∷ t) → shown_all (c ∷ t) ≡ shown_all t
-shown_later c t h = ap (λ l. record { utf8 = units Utf8 (take_while in_line l); utf16 = units Utf16 (take_while in_line l); utf32 = units Utf32 (take_while in_line l) }) (behind-some c t feed h)
+shown_later c t h = ap (λ l. record { utf8 = units Utf8 (take_while in_line l); utf16 = units Utf16 (take_while in_line l); utf32 = units Utf32 (take_while in_line l) }) (units_after-some c t feed h)
 
-none_first : (m : ℕ) (v : Units) → behind_joined m (record { utf8 = 0; utf16 = 0; utf32 = 0 }) v ≡ v
+none_first : (m : ℕ) (v : Units) → after_joined m (record { utf8 = 0; utf16 = 0; utf32 = 0 }) v ≡ v
 none_first zero v = λ i. record { utf8 = saturated-zero_left most v.utf8 i; utf16 = saturated-zero_left most v.utf16 i; utf32 = saturated-zero_left most v.utf32 i }
 none_first (suc m) v = refl
 
@@ -196,13 +196,13 @@ few_ended c t fits = omega (arith, fits, length-le (c ∷ t), ended-le t feed)
 feed_plain : (t : List ℕ) → units Utf8 (10 ∷ t) ≤ most → counts_joined (plain (10 ∷ [])) (plain t) ≡ plain (10 ∷ t)
 feed_plain t fits =
     let breaks : sum 1 (sum 0 (ended_before t)) ≡ 1 + ended_before t = ap (sum 1) (saturated-zero_left most (ended_before t)) ∙ saturated-exact most 1 (ended_before t) (few_ended 10 t fits) in
-    let behind : behind_joined (sum 0 (ended_before t)) (shown_all (10 ∷ [])) (shown_all t) ≡ shown_all (10 ∷ t) =
-    ap (λ u. behind_joined (sum 0 (ended_before t)) u (shown_all t)) feed_one ∙ none_first (sum 0 (ended_before t)) (shown_all t) ∙ sym (shown_later 10 t (omega arith)) in
+    let units_after : after_joined (sum 0 (ended_before t)) (shown_all (10 ∷ [])) (shown_all t) ≡ shown_all (10 ∷ t) =
+    ap (λ u. after_joined (sum 0 (ended_before t)) u (shown_all t)) feed_one ∙ none_first (sum 0 (ended_before t)) (shown_all t) ∙ sym (shown_later 10 t (omega arith)) in
     λ i. record {
       characters = fits_characters 10 t fits i;
       bytes = fits_bytes 10 t fits i;
       breaks = breaks i;
-      behind = behind i;
+      units_after = units_after i;
       begins_with_feed = true;
       ends_with_return = ends t i;
     }
@@ -229,13 +229,13 @@ return_plain d t fits =
     let m : ℕ = sum (cond (not (10 == d)) 1 0) (ended_before (d ∷ t)) in
     let breaks : sum 0 m ≡ cond (not (10 == d)) 1 0 + ended_before (d ∷ t) =
     saturated-zero_left most m ∙ saturated-exact most (cond (not (10 == d)) 1 0) (ended_before (d ∷ t)) (omega (arith, few_ended 13 (d ∷ t) fits, at_most_one (not (10 == d)))) in
-    let behind : behind_joined m (shown_all (13 ∷ [])) (shown_all (d ∷ t)) ≡ shown_all (13 ∷ d ∷ t) =
-    ap (λ u. behind_joined m u (shown_all (d ∷ t))) return_one ∙ none_first m (shown_all (d ∷ t)) ∙ sym (shown_later 13 (d ∷ t) (return_ends d t)) in
+    let units_after : after_joined m (shown_all (13 ∷ [])) (shown_all (d ∷ t)) ≡ shown_all (13 ∷ d ∷ t) =
+    ap (λ u. after_joined m u (shown_all (d ∷ t))) return_one ∙ none_first m (shown_all (d ∷ t)) ∙ sym (shown_later 13 (d ∷ t) (return_ends d t)) in
     λ i. record {
       characters = fits_characters 13 (d ∷ t) fits i;
       bytes = fits_bytes 13 (d ∷ t) fits i;
       breaks = breaks i;
-      behind = behind i;
+      units_after = units_after i;
       begins_with_feed = false;
       ends_with_return = ends_with 13 (d ∷ t);
     }
@@ -244,8 +244,8 @@ return_plain d t fits =
 other_more : (encoding : Encoding) (c : ℕ) (t : List ℕ) → (c == 10) ≡ false → (c == 13) ≡ false → ended_before t ≡ 0 → units Utf8 (c ∷ t) ≤ most → sum (shown encoding (c ∷ [])) (shown encoding t) ≡ shown encoding (c ∷ t)
 other_more encoding c t a b e fits =
     let whole : units encoding (take_while in_line (c ∷ t)) ≡ unit encoding c + units encoding (take_while in_line t) = line-cons encoding c t (goes_on c a b) in
-    let all : shown encoding (c ∷ t) ≡ units encoding (take_while in_line (c ∷ t)) = ap (λ l. units encoding (take_while in_line l)) (behind-none (c ∷ t) feed (other_ended c t a b ∙ e)) in
-    let rest : shown encoding t ≡ units encoding (take_while in_line t) = ap (λ l. units encoding (take_while in_line l)) (behind-none t feed e) in
+    let all : shown encoding (c ∷ t) ≡ units encoding (take_while in_line (c ∷ t)) = ap (λ l. units encoding (take_while in_line l)) (units_after-none (c ∷ t) feed (other_ended c t a b ∙ e)) in
+    let rest : shown encoding t ≡ units encoding (take_while in_line t) = ap (λ l. units encoding (take_while in_line l)) (units_after-none t feed e) in
     let one : shown encoding (c ∷ []) ≡ unit encoding c = other_one encoding c a b in
     let few : shown encoding (c ∷ []) + shown encoding t ≤ most = omega (arith, whole, rest, one, fits, line-le encoding (c ∷ t), units-le encoding (c ∷ t)) in
     saturated-exact most (shown encoding (c ∷ [])) (shown encoding t) few ∙ omega (arith, whole, all, rest, one)
@@ -258,7 +258,7 @@ other_plain c d t a b fits =
       characters = fits_characters c (d ∷ t) fits i;
       bytes = fits_bytes c (d ∷ t) fits i;
       breaks = breaks i;
-      behind = (ap (λ n. behind_joined n (shown_all (c ∷ [])) (shown_all (d ∷ t))) same ∙ behind (ended_before (d ∷ t)) refl) i;
+      units_after = (ap (λ n. after_joined n (shown_all (c ∷ [])) (shown_all (d ∷ t))) same ∙ units_after (ended_before (d ∷ t)) refl) i;
       begins_with_feed = 10 == c;
       ends_with_return = ends_with 13 (d ∷ t);
     }
@@ -269,9 +269,9 @@ other_plain c d t a b fits =
     same : m ≡ ended_before (d ∷ t)
     same = ap (λ x. sum (cond (x && not (10 == d)) 1 0) (ended_before (d ∷ t))) (turned 13 c ∙ b) ∙ saturated-zero_left most (ended_before (d ∷ t))
 
-    behind : (n : ℕ) → ended_before (d ∷ t) ≡ n → behind_joined n (shown_all (c ∷ [])) (shown_all (d ∷ t)) ≡ shown_all (c ∷ d ∷ t)
-    behind zero e = λ i. record { utf8 = other_more Utf8 c (d ∷ t) a b e fits i; utf16 = other_more Utf16 c (d ∷ t) a b e fits i; utf32 = other_more Utf32 c (d ∷ t) a b e fits i }
-    behind (suc n) e = sym (shown_later c (d ∷ t) (omega (arith, e, other_ended c (d ∷ t) a b)))
+    units_after : (n : ℕ) → ended_before (d ∷ t) ≡ n → after_joined n (shown_all (c ∷ [])) (shown_all (d ∷ t)) ≡ shown_all (c ∷ d ∷ t)
+    units_after zero e = λ i. record { utf8 = other_more Utf8 c (d ∷ t) a b e fits i; utf16 = other_more Utf16 c (d ∷ t) a b e fits i; utf32 = other_more Utf32 c (d ∷ t) a b e fits i }
+    units_after (suc n) e = sym (shown_later c (d ∷ t) (omega (arith, e, other_ended c (d ∷ t) a b)))
 
 plain-cons : (c d : ℕ) (t : List ℕ) → Class c → units Utf8 (c ∷ d ∷ t) ≤ most → counts_joined (plain (c ∷ [])) (plain (d ∷ t)) ≡ plain (c ∷ d ∷ t)
 plain-cons c d t (Feed e) fits = subst (λ x. counts_joined (plain (x ∷ [])) (plain (d ∷ t)) ≡ plain (x ∷ d ∷ t)) (sym e) (feed_plain (d ∷ t) (subst (λ x. units Utf8 (x ∷ d ∷ t) ≤ most) e fits))
@@ -287,17 +287,17 @@ pub sums_of_append : (s t : List ℕ) → units Utf8 (s ++ t) ≤ most → sums_
 sums_of_append [] t fits = refl
 sums_of_append (c ∷ s) t fits =
     let rest : units Utf8 (s ++ t) ≤ most = omega (arith, fits, units-cons Utf8 c (s ++ t)) in
-    let front : units Utf8 (c ∷ s) ≤ most = omega (arith, fits, units-append Utf8 (c ∷ s) t) in
+    let prefix : units Utf8 (c ∷ s) ≤ most = omega (arith, fits, units-append Utf8 (c ∷ s) t) in
     sums_of-cons c (s ++ t) fits
     ∙ ap (joined (sums_of (c ∷ []))) (sums_of_append s t rest)
     ∙ sym (joined-assoc (sums_of (c ∷ [])) (sums_of s) (sums_of t))
-    ∙ ap (λ x. joined x (sums_of t)) (sym (sums_of-cons c s front))
+    ∙ ap (λ x. joined x (sums_of t)) (sym (sums_of-cons c s prefix))
 
--- one character more behind
+-- one character more after
 pub sums_of-more : (t : List ℕ) (c : ℕ) (x y : Sums) → (units Utf8 t ≤ most → x ≡ sums_of t) → y ≡ sums_of (c ∷ []) → units Utf8 (t ++ c ∷ []) ≤ most → joined x y ≡ sums_of (t ++ c ∷ [])
 sums_of-more t c x y before one fits =
-    let front : units Utf8 t ≤ most = omega (arith, fits, units-append Utf8 t (c ∷ [])) in
-    (λ i. joined (before front i) (one i)) ∙ sym (sums_of_append t (c ∷ []) fits)
+    let prefix : units Utf8 t ≤ most = omega (arith, fits, units-append Utf8 t (c ∷ [])) in
+    (λ i. joined (before prefix i) (one i)) ∙ sym (sums_of_append t (c ∷ []) fits)
 
 -- the units of UTF-8 are bytes
 pub units-bytes : (t : List ℕ) → units Utf8 t ≡ length (encode_utf8_all t)

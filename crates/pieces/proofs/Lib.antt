@@ -1,12 +1,12 @@
 pub mod Borders
 pub mod CutAt
-pub mod Fronts
+pub mod Prefixes
 pub mod Joins
-pub mod Known
+pub mod KnownPrefix
 pub mod Lines
-pub mod Located
+pub mod LocatedPiece
 pub mod Offsets
-pub mod Past
+pub mod PastTheEnd
 pub mod Pieces
 pub mod Steps
-pub mod Turns
+pub mod CharacterLoops

@@ -1,4 +1,4 @@
--- The sum of a text by the units of what is behind its last `\r` or `\n`, with one character more.
+-- The sum of a text by the units of what is after its last `\r` or `\n`, with one character more.
 use Rattle.std.specs.Prelude.{◌≡◌, ℕ, zero, suc, ◌+◌, ◌<◌, ◌≤◌, ◌⊎◌, true, false, ◌||◌, ◌==◌, List, [], ◌∷◌, ◌++◌, length, take}
 use Rattle.std.proofs.Common.{arith, refl, sym, ap, subst, inl, inr, ◌∙◌, cond}
 use Rattle.std.proofs.lemmas.Bool.{cases_Bool, and_parts, eqb-true, ne_eqb, lt-ltb}
@@ -11,23 +11,23 @@ use Rattle.pieces.specs.declared.sums.Counts.{Counts}
 use Rattle.pieces.specs.declared.sums.Sums.{Sums}
 use Rattle.pieces.specs.declared.sums.Sums.TheVariants.{Empty, Filled}
 use Rattle.pieces.specs.declared.sums.Units.{Units}
-use Rattle.pieces.specs.Sums.{sums_of, most, sum, units_joined, later_breaks, behind_joined, joined, no_units, units_of, ascii_units, shown_units, HaveRoom, is_none, line_sums}
+use Rattle.pieces.specs.Sums.{sums_of, most, sum, units_joined, later_breaks, after_joined, joined, no_units, units_of, ascii_units, shown_units, HaveRoom, is_none, line_sums}
 use Rattle.pieces.specs.Laws.{joined-assoc}
 use Rattle.pieces.proofs.Joins.{sums_of_one, sums_of-more, units-chars, unit-le, length-le, units-append, units-cons, units-nil}
-use Rattle.pieces.proofs.Known.{character-le}
-use Rattle.pieces.proofs.Turns.{few-take}
+use Rattle.pieces.proofs.KnownPrefix.{character-le}
+use Rattle.pieces.proofs.CharacterLoops.{few-take}
 
 -- the units of a character that is no `\r` and no `\n`, and its sum
 shown-other : (c : ℕ) → (c == 10) ≡ false → (c == 13) ≡ false → shown_units c ≡ units_of c
 shown-other c a b = λ i. cond (a i || b i) no_units (units_of c)
 
 abbrev filled : Units → Sums
-filled u = Filled (record { characters = u.utf32; bytes = u.utf8; breaks = 0; behind = u; begins_with_feed = false; ends_with_return = false })
+filled u = Filled (record { characters = u.utf32; bytes = u.utf8; breaks = 0; units_after = u; begins_with_feed = false; ends_with_return = false })
 
 other_one : (c : ℕ) → (c == 10) ≡ false → (c == 13) ≡ false → sums_of (c ∷ []) ≡ filled (units_of c)
 other_one c a b =
     sums_of_one c
-    ∙ (λ i. Filled (record { characters = 1; bytes = unit Utf8 c; breaks = cond (a i) 1 0; behind = shown-other c a b i; begins_with_feed = a i; ends_with_return = b i }))
+    ∙ (λ i. Filled (record { characters = 1; bytes = unit Utf8 c; breaks = cond (a i) 1 0; units_after = shown-other c a b i; begins_with_feed = a i; ends_with_return = b i }))
 
 line-none : (u : Units) → is_none u ≡ true → line_sums u ≡ Empty
 line-none u e = ap (λ x. cond x Empty (filled u)) e
@@ -71,16 +71,16 @@ joined-line-more before line more c a b is =
 
 -- the line has at most the units of the text, so there is room for those of one character more
 abbrev empty : Counts
-empty = record { characters = 0; bytes = 0; breaks = 0; behind = no_units; begins_with_feed = false; ends_with_return = false }
+empty = record { characters = 0; bytes = 0; breaks = 0; units_after = no_units; begins_with_feed = false; ends_with_return = false }
 
 record AreWithin (line : Units) (counts : Counts) : Type 0 where
   utf8 : line.utf8 ≤ counts.bytes
-  utf16 : line.utf16 ≤ counts.behind.utf16
+  utf16 : line.utf16 ≤ counts.units_after.utf16
   utf32 : line.utf32 ≤ counts.characters
 
-behind-ge : (breaks : ℕ) (a b : Units) → b.utf16 ≤ (behind_joined breaks a b).utf16
-behind-ge zero a b = omega arith
-behind-ge (suc breaks) a b = omega arith
+units_after-ge : (breaks : ℕ) (a b : Units) → b.utf16 ≤ (after_joined breaks a b).utf16
+units_after-ge zero a b = omega arith
+units_after-ge (suc breaks) a b = omega arith
 
 counts_in : Sums → Counts
 counts_in Empty = empty
@@ -90,7 +90,7 @@ within-filled : (before : Sums) (line : Units) → AreWithin line (counts_in (jo
 unfolding counts_in
 within-filled Empty line = record { utf8 = omega arith; utf16 = omega arith; utf32 = omega arith }
 within-filled (Filled a) line =
-    record { utf8 = omega arith; utf16 = behind-ge (later_breaks a (counts_in (filled line))) a.behind line; utf32 = omega arith }
+    record { utf8 = omega arith; utf16 = units_after-ge (later_breaks a (counts_in (filled line))) a.units_after line; utf32 = omega arith }
 
 within : (before : Sums) (line : Units) → AreWithin line (counts_in (joined before (line_sums line)))
 within before line = go (cases_Bool (is_none line))
@@ -101,7 +101,7 @@ within before line = go (cases_Bool (is_none line))
         record { utf8 = omega (arith, ap (λ u. u.utf8) none); utf16 = omega (arith, ap (λ u. u.utf16) none); utf32 = omega (arith, ap (λ u. u.utf32) none) }
     go (inr e) = subst (λ s. AreWithin line (counts_in (joined before s))) (sym (line-some line e)) (within-filled before line)
 
-few-counts : (t : List ℕ) → ((counts_in (sums_of t)).bytes ≤ units Utf8 t) × (((counts_in (sums_of t)).behind.utf16 ≤ units Utf8 t) × ((counts_in (sums_of t)).characters ≤ units Utf8 t))
+few-counts : (t : List ℕ) → ((counts_in (sums_of t)).bytes ≤ units Utf8 t) × (((counts_in (sums_of t)).units_after.utf16 ≤ units Utf8 t) × ((counts_in (sums_of t)).characters ≤ units Utf8 t))
 unfolding counts_in
 few-counts [] = (omega arith, (omega arith, omega arith))
 few-counts (c ∷ t) = (omega arith, (character-le Utf16 (c ∷ t), length-le (c ∷ t)))
@@ -128,7 +128,7 @@ one_more n c low few =
 pub ascii-more : (before : Sums) (n : ℕ) (t : List ℕ) (c : ℕ) → c < 0x80 → ¬ (c ≡ 10) → ¬ (c ≡ 13) → n + 1 ≤ most → joined before (line_sums (ascii_units n)) ≡ sums_of t → units Utf8 (t ++ c ∷ []) ≤ most → joined before (line_sums (ascii_units (n + 1))) ≡ sums_of (t ++ c ∷ [])
 ascii-more before n t c low a b few is fits =
     joined-line-more before (ascii_units n) (ascii_units (n + 1)) c a b (one_more n c low few)
-    ∙ sums_of-more t c (joined before (line_sums (ascii_units n))) (sums_of (c ∷ [])) (λ front. is) refl fits
+    ∙ sums_of-more t c (joined before (line_sums (ascii_units n))) (sums_of (c ∷ [])) (λ prefix. is) refl fits
 
 pub ascii-fits : (t : List ℕ) (n c : ℕ) → IsAscii t → length t ≤ most → take (n + 1) t ≡ take n t ++ c ∷ [] → units Utf8 (take n t ++ c ∷ []) ≤ most
 ascii-fits t n c ascii few next =

@@ -1,4 +1,4 @@
--- The offset of a position, by the fronts of a text that are not past it.
+-- The offset of a position, by the prefixes of a text that are not past it.
 use Rattle.std.specs.Prelude.{◌≡◌, ℕ, suc, ◌+◌, ◌-◌, ◌<◌, ◌≤◌, ◌⊎◌, Bool, true, false, nat_le, ◌&&◌, ◌==◌, List, [], ◌∷◌, ◌++◌, length, take, drop, take_while}
 use Rattle.std.proofs.Common.{arith, refl, sym, ap, subst, inl, inr, ◌∙◌, cond, length-append, length-drop}
 use Rattle.std.proofs.lemmas.Bool.{cases_lt, cases_Bool, le-leb, lt-leb, eqb-true, eq-eqb, and_from, and_parts, and_right, false≢true}
@@ -8,13 +8,13 @@ use Rattle.definitions.specs.declared.Position.{Position}
 use Rattle.definitions.specs.declared.Unit.{Unit as Encoding}
 use Rattle.definitions.specs.Text.{ends_break, break_ends, line_of, line_start, line_from, unit, units, greatest, offset}
 use Rattle.definitions.proofs.TextLaws.{greatest-is}
-use Rattle.definitions.proofs.RoundTrip.{line_start-le, units-take-lt}
-use Rattle.definitions.proofs.InLine.{in_line}
+use Rattle.definitions.proofs.OffsetOfPosition.{line_start-le, units-take-lt}
+use Rattle.definitions.proofs.OffsetsInLine.{in_line}
 use Rattle.pieces.specs.Sums.{ends_with, end_before_feed}
-use Rattle.pieces.specs.Fronts.{IsPast}
-use Rattle.pieces.proofs.Fronts.{ended_in, behind_in, line-front, start_in, drop_front}
+use Rattle.pieces.specs.Prefixes.{IsPast}
+use Rattle.pieces.proofs.Prefixes.{ended_in, after_in, line-prefix, start_in, drop_prefix}
 use Rattle.pieces.proofs.Joins.{feed, Class, Feed, Return, Other, class, units-append, units-cons, units-nil}
-use Rattle.pieces.proofs.Steps.{breaks_at_end, is_between, end_at, end-is, taken-append, behind-in_line, last-return, end-as_before_feed, end-in_next_line, end-feed, end-return, end-other}
+use Rattle.pieces.proofs.Steps.{breaks_at_end, is_between, end_at, end-is, taken-append, units_after-in_line, last-return, end-as_before_feed, end-in_next_line, end-feed, end-return, end-other}
 
 -- how far a line has at most so many units, where it fits that far and its next character does not
 most_fitting : (encoding : Encoding) (w rest : List ℕ) (limit : ℕ) → units encoding w ≤ limit → ((c : ℕ) (v : List ℕ) → rest ≡ c ∷ v → limit < units encoding w + unit encoding c)
@@ -62,46 +62,46 @@ taken-first (d ∷ r) c v e = go (cases_Bool (in_line d)) (sym (take_while-cons 
         (r, ap (λ x. x ∷ r) same, subst (λ x. in_line x ≡ true) same p)
     go (inr p) h = absurd (not_empty c v (ap (λ b. cond b (d ∷ take_while in_line r) []) (sym p) ∙ h))
 
--- the offset of a position is the end of a front in its line that is not past it, where no character of the line fits behind it
+-- the offset of a position is the end of a prefix in its line that is not past it, where no character of the line fits after it
 pub offset-here : (encoding : Encoding) (s r : List ℕ) (p : Position) → is_between s r ≡ false → p.line ≡ (end_at encoding s r).line → (end_at encoding s r).character ≤ p.character
     → ((c : ℕ) (w : List ℕ) → r ≡ c ∷ w → in_line c ≡ true → p.character < (end_at encoding s r).character + unit encoding c)
     → offset encoding (s ++ r) p ≡ length s
 unfolding offset line_from
 offset-here encoding s r p apart line fits full =
     ap (λ l. start + greatest (λ n. nat_le (units encoding (take n l)) p.character) (length l)) whole
-    ∙ ap (λ n. start + n) (most_fitting encoding behind (take_while in_line r) p.character counted stops)
+    ∙ ap (λ n. start + n) (most_fitting encoding units_after (take_while in_line r) p.character counted stops)
     ∙ omega (arith, many, within)
   where
     start : ℕ
     start = line_start (s ++ r) p.line
 
-    behind : List ℕ
-    behind = behind_in s r
+    units_after : List ℕ
+    units_after = after_in s r
 
     same : start ≡ line_start (s ++ r) (line_of (s ++ r) (length s))
-    same = ap (line_start (s ++ r)) (line ∙ sym (line-front s r))
+    same = ap (line_start (s ++ r)) (line ∙ sym (line-prefix s r))
 
     within : start ≤ length s
     within = omega (arith, same, line_start-le (s ++ r) (length s))
 
-    rest : drop start s ≡ behind
+    rest : drop start s ≡ units_after
     rest =
         let back : start ≡ line_start (s ++ r) (line_of (s ++ r) (length s)) - 0 = omega (arith, same) in
         ap (λ n. drop n s) back ∙ (start_in s r).rest
 
-    many : length behind ≡ length s - start
+    many : length units_after ≡ length s - start
     many = ap length (sym rest) ∙ length-drop start s
 
-    of_line : take_while in_line behind ≡ behind
-    of_line = behind-in_line s r apart
+    of_line : take_while in_line units_after ≡ units_after
+    of_line = units_after-in_line s r apart
 
-    whole : take_while in_line (drop start (s ++ r)) ≡ behind ++ take_while in_line r
-    whole = ap (take_while in_line) (drop_front start s r within ∙ ap (λ l. l ++ r) rest) ∙ taken-append behind r of_line
+    whole : take_while in_line (drop start (s ++ r)) ≡ units_after ++ take_while in_line r
+    whole = ap (take_while in_line) (drop_prefix start s r within ∙ ap (λ l. l ++ r) rest) ∙ taken-append units_after r of_line
 
-    counted : units encoding behind ≤ p.character
+    counted : units encoding units_after ≤ p.character
     counted = omega (arith, ap (units encoding) of_line, fits)
 
-    stops : (c : ℕ) (v : List ℕ) → take_while in_line r ≡ c ∷ v → p.character < units encoding behind + unit encoding c
+    stops : (c : ℕ) (v : List ℕ) → take_while in_line r ≡ c ∷ v → p.character < units encoding units_after + unit encoding c
     stops c v e =
         let h = taken-first r c v e in
         omega (arith, full c h.0 h.1 h.2, ap (units encoding) of_line)
@@ -125,7 +125,7 @@ offset-past_lines encoding t p few =
     let nothing : greatest (λ n. nat_le (units encoding (take n [])) p.character) 0 ≡ 0 = refl in
     ap (λ l. line_start t p.line + greatest (λ n. nat_le (units encoding (take n l)) p.character) (length l)) none ∙ omega (arith, start, nothing)
 
--- A front of a text that is not past a position, and is past it with one character more: its end is the offset,
+-- A prefix of a text that is not past a position, and is past it with one character more: its end is the offset,
 -- but where it ends with the `\r` that ends the line.
 module _ (encoding : Encoding) (p : Position) where
   not_past-line : (q : Position) → ¬ IsPast p q → q.line ≤ p.line
@@ -170,7 +170,7 @@ module _ (encoding : Encoding) (p : Position) where
           absurd (before (subst (IsPast p) end past))
       go (Other a b) = at_other (subst (IsPast p) (end-other encoding s r c a b) past)
 
-  -- where the line ends with the `\r` at the end of the front
+  -- where the line ends with the `\r` at the end of the prefix
   offset-before_return : (s r : List ℕ) → p.line ≡ (end_at encoding (s ++ 13 ∷ []) feed).line → ¬ IsPast p (end_at encoding (s ++ 13 ∷ []) feed) → offset encoding (s ++ 13 ∷ r) p ≡ length s
   offset-before_return s r line before =
       let end = end-return encoding s r in
@@ -179,11 +179,11 @@ module _ (encoding : Encoding) (p : Position) where
       (not_past-character (end_at encoding s (13 ∷ r)) (subst (λ q. ¬ IsPast p q) end before) (line ∙ ap (λ q. q.line) end))
       (λ d w e g. absurd (false≢true (ap in_line (ap first e) ∙ g)))
 
-  -- whether the line of the position ends with the `\r` at the end of the front
+  -- whether the line of the position ends with the `\r` at the end of the prefix
   abbrev is_line_return : List ℕ → Bool
   is_line_return s = ends_with 13 s && ((end_before_feed encoding s).line == p.line)
 
-  -- where it doesn't, but the front ends with a `\r`, the line of the position is a later one
+  -- where it doesn't, but the prefix ends with a `\r`, the line of the position is a later one
   earlier : (s : List ℕ) → ends_with 13 s ≡ true → is_line_return s ≡ false → ¬ IsPast p (end_before_feed encoding s) → (end_before_feed encoding s).line < p.line
   earlier s return other before = go (cases_lt (end_before_feed encoding s).line p.line)
     where
@@ -222,7 +222,7 @@ module _ (encoding : Encoding) (p : Position) where
       go (inr b) = b
       go (inl b) = let parts = and_parts _ _ b in absurd (at_feed (sym (eqb-true 10 c parts.1)) parts.0)
 
-  -- the line ends with the `\r` at the end of the front
+  -- the line ends with the `\r` at the end of the prefix
   offset-line_return : (s r : List ℕ) → is_line_return s ≡ true → ¬ IsPast p (end_before_feed encoding s) → offset encoding (s ++ r) p ≡ length s - 1
   offset-line_return s r ends before =
       let parts = and_parts _ _ ends in

@@ -1,4 +1,4 @@
--- The sum of a text that is a list of pieces, and what lies before and behind one of them.
+-- The sum of a text that is a list of pieces, and what lies before and after one of them.
 use Rattle.std.specs.Prelude.{◌≡◌, ℕ, zero, suc, ◌+◌, ◌<◌, ◌≤◌, ◌⊎◌, Bool, true, false, List, [], ◌∷◌, ◌++◌, length, take, drop, slice_get, slice_index_or, unwrap_or, Option, Some, None}
 use Rattle.std.specs.List.{concat}
 use Rattle.std.proofs.Common.{arith, refl, sym, ap, inl, inr, ◌∙◌}
@@ -19,7 +19,7 @@ total-pieces (p ∷ pieces) few =
     let rest : units Utf8 (concat pieces) ≤ most = omega (arith, few, units-append Utf8 p (concat pieces)) in
     ap (joined (sums_of p)) (total-pieces pieces rest) ∙ sym (sums_of_append p (concat pieces) few)
 
--- the text before the piece at place i, and behind it
+-- the text before the piece at place i, and after it
 abbrev pub text_before : List (List ℕ) → ℕ → List ℕ
 text_before pieces i = concat (take i pieces)
 

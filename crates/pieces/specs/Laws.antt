@@ -11,7 +11,7 @@ use Rattle.pieces.specs.declared.sums.Units.{Units}
 use Rattle.pieces.specs.declared.sums.Counts.{Counts}
 use Rattle.pieces.specs.declared.sums.Sums.{Sums}
 use Rattle.pieces.specs.declared.sums.Sums.TheVariants.{Empty, Filled}
-use Rattle.pieces.specs.Sums.{most, sum, units_joined, count_of, later_breaks, behind_joined, counts_joined, joined, is_after_character}
+use Rattle.pieces.specs.Sums.{most, sum, units_joined, count_of, later_breaks, after_joined, counts_joined, joined, is_after_character}
 use Rattle.pieces.specs.Sums.{is_after_position}
 
 sum_assoc : (a b c : ℕ) → sum (sum a b) c ≡ sum a (sum b c)
@@ -28,14 +28,14 @@ units_assoc a b c = λ i. record {
 }
 
 -- where a number of breaks is not 0, what comes after the last one is of the second part
-pub behind_later : (n : ℕ) (a b : Units) → 1 ≤ n → behind_joined n a b ≡ b
-behind_later zero a b h = absurd (omega arith)
-behind_later (suc n) a b h = refl
+pub after_later : (n : ℕ) (a b : Units) → 1 ≤ n → after_joined n a b ≡ b
+after_later zero a b h = absurd (omega arith)
+after_later (suc n) a b h = refl
 
-behind_assoc : (m n : ℕ) (a b c : Units) → behind_joined n (behind_joined m a b) c ≡ behind_joined (sum m n) a (behind_joined n b c)
-behind_assoc zero zero a b c = units_assoc a b c
-behind_assoc (suc m) zero a b c = sym (behind_later (sum (suc m) 0) a (units_joined b c) (omega arith))
-behind_assoc m (suc n) a b c = sym (behind_later (sum m (suc n)) a c (omega arith))
+after_assoc : (m n : ℕ) (a b c : Units) → after_joined n (after_joined m a b) c ≡ after_joined (sum m n) a (after_joined n b c)
+after_assoc zero zero a b c = units_assoc a b c
+after_assoc (suc m) zero a b c = sym (after_later (sum (suc m) 0) a (units_joined b c) (omega arith))
+after_assoc m (suc n) a b c = sym (after_later (sum m (suc n)) a c (omega arith))
 
 counts_assoc : (a b c : Counts) → counts_joined (counts_joined a b) c ≡ counts_joined a (counts_joined b c)
 counts_assoc a b c =
@@ -43,15 +43,15 @@ counts_assoc a b c =
     (sum_assoc (if a.ends_with_return && not b.begins_with_feed then 1 else 0) b.breaks (later_breaks b c)) in
     let breaks : sum (sum a.breaks (later_breaks a b)) (later_breaks b c) ≡ sum a.breaks
     (later_breaks a (counts_joined b c)) = sum_assoc a.breaks (later_breaks a b) (later_breaks b c) ∙ ap (sum a.breaks) (sym more) in
-    let behind : behind_joined (later_breaks b c) (behind_joined (later_breaks a b) a.behind b.behind) c.behind ≡ behind_joined
-    (later_breaks a (counts_joined b c)) a.behind (behind_joined (later_breaks b c) b.behind c.behind) =
-    behind_assoc (later_breaks a b) (later_breaks b c) a.behind b.behind c.behind
-    ∙ ap (λ n. behind_joined n a.behind (behind_joined (later_breaks b c) b.behind c.behind)) (sym more) in
+    let units_after : after_joined (later_breaks b c) (after_joined (later_breaks a b) a.units_after b.units_after) c.units_after
+    ≡ after_joined (later_breaks a (counts_joined b c)) a.units_after (after_joined (later_breaks b c) b.units_after c.units_after) =
+    after_assoc (later_breaks a b) (later_breaks b c) a.units_after b.units_after c.units_after
+    ∙ ap (λ n. after_joined n a.units_after (after_joined (later_breaks b c) b.units_after c.units_after)) (sym more) in
     λ i. record {
       characters = sum_assoc a.characters b.characters c.characters i;
       bytes = sum_assoc a.bytes b.bytes c.bytes i;
       breaks = breaks i;
-      behind = behind i;
+      units_after = units_after i;
       begins_with_feed = a.begins_with_feed;
       ends_with_return = c.ends_with_return;
     }
@@ -83,7 +83,7 @@ count_of-ge Utf32 a b = sum_ge a.utf32 b.utf32
 -- the end of a part with more after it has no lesser position
 later : (unit : Encoding) (line character breaks m : ℕ) (a b : Units) → breaks ≡ line → line < most → character < count_of unit a
     → (nat_lt line (sum breaks m)
-    || ((sum breaks m == line && nat_lt line most) && nat_lt character (count_of unit (behind_joined m a b)))) ≡ true
+    || ((sum breaks m == line && nat_lt line most) && nat_lt character (count_of unit (after_joined m a b)))) ≡ true
 later unit line character breaks zero a b same few more =
     let stays : sum breaks 0 ≡ line = saturated-zero_right most breaks ∙ same in
     let up : character < count_of unit (units_joined a b) = omega (arith, more, count_of-ge unit a b) in
@@ -99,12 +99,12 @@ after_position_stays g (Filled a) (Filled b) h = go (or_cases _ _ h)
   where
     go : (nat_lt g.position.line a.breaks ≡ true)
         ⊎ (((a.breaks == g.position.line && nat_lt g.position.line most)
-        && nat_lt g.position.character (count_of g.unit a.behind)) ≡ true) → is_after_position g (Filled (counts_joined a b)) ≡ true
+        && nat_lt g.position.character (count_of g.unit a.units_after)) ≡ true) → is_after_position g (Filled (counts_joined a b)) ≡ true
     go (inl p) =
         let up : g.position.line < sum a.breaks (later_breaks a b) = omega (arith, ltb-true _ _ p, sum_ge a.breaks (later_breaks a b)) in
         or_left _ _ (lt-ltb _ _ up)
     go (inr p) =
         let parts = and_parts _ _ p in
         let line = and_parts _ _ parts.0 in
-        later g.unit g.position.line g.position.character a.breaks (later_breaks a b) a.behind b.behind (eqb-true _ _ line.0)
+        later g.unit g.position.line g.position.character a.breaks (later_breaks a b) a.units_after b.units_after (eqb-true _ _ line.0)
         (ltb-true _ _ line.1) (ltb-true _ _ parts.1)

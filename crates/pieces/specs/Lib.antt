@@ -2,4 +2,4 @@ pub mod Sums
 pub mod Laws
 pub mod Pieces
 pub mod Places
-pub mod Fronts
+pub mod Prefixes

@@ -1,4 +1,4 @@
--- What a cut of a text in pieces tells.
+-- What a cut of a text in pieces says.
 use Rattle.std.specs.Prelude.{◌≡◌, ◌+◌, ◌<◌, ◌≤◌, ℕ, List, ◌++◌, length, take, drop}
 use Rattle.std.specs.List.{concat}
 use Rattle.std.specs.Str.{chars}
@@ -10,8 +10,8 @@ use Rattle.pieces.specs.declared.places.Cut.{Cut}
 -- of that piece and all further ones
 pub record IsCut (pieces : List (List ℕ)) (offset : ℕ) (cut : Cut) : Type 0 where
   pub within : cut.piece ≤ length pieces
-  pub before : take offset (concat pieces) ≡ concat (take cut.piece pieces) ++ chars cut.front.now
-  pub behind : drop offset (concat pieces) ≡ chars cut.back.now ++ concat (drop (cut.piece + 1) pieces)
+  pub before : take offset (concat pieces) ≡ concat (take cut.piece pieces) ++ chars cut.prefix.now
+  pub units_after : drop offset (concat pieces) ≡ chars cut.back.now ++ concat (drop (cut.piece + 1) pieces)
   pub bytes : cut.bytes ≡ units Utf8 (take offset (concat pieces))
   pub starts : length (concat (take cut.piece pieces)) ≤ offset
   pub ends : cut.piece < length pieces → offset < length (concat (take (cut.piece + 1) pieces))

@@ -31,7 +31,7 @@ counts_of t =
       characters = length t;
       bytes = units Utf8 t;
       breaks = (end_before_feed Utf8 t).line;
-      behind =
+      units_after =
           record {
             utf8 = (end_before_feed Utf8 t).character;
             utf16 = (end_before_feed Utf16 t).character;
@@ -88,11 +88,11 @@ count_of Utf32 a = a.utf32
 abbrev pub later_breaks : Counts → Counts → ℕ
 later_breaks a b = sum (if a.ends_with_return && not b.begins_with_feed then 1 else 0) b.breaks
 
--- `behind_joined n a b`: the units after the last break of two parts, where `n` breaks end after the first: those of both where there is
+-- `after_joined n a b`: the units after the last break of two parts, where `n` breaks end after the first: those of both where there is
 -- none, and otherwise those of the second
-abbrev pub behind_joined : ℕ → Units → Units → Units
-behind_joined zero a b = units_joined a b
-behind_joined (suc n) a b = b
+abbrev pub after_joined : ℕ → Units → Units → Units
+after_joined zero a b = units_joined a b
+after_joined (suc n) a b = b
 
 -- the counts of two nonempty parts, one after the other
 abbrev pub counts_joined : Counts → Counts → Counts
@@ -101,7 +101,7 @@ counts_joined a b =
       characters = sum a.characters b.characters;
       bytes = sum a.bytes b.bytes;
       breaks = sum a.breaks (later_breaks a b);
-      behind = behind_joined (later_breaks a b) a.behind b.behind;
+      units_after = after_joined (later_breaks a b) a.units_after b.units_after;
       begins_with_feed = a.begins_with_feed;
       ends_with_return = b.ends_with_return;
     }
@@ -132,7 +132,7 @@ line_sums a =
       characters = a.utf32;
       bytes = a.utf8;
       breaks = 0;
-      behind = a;
+      units_after = a;
       begins_with_feed = false;
       ends_with_return = false;
     })
@@ -147,4 +147,4 @@ abbrev pub is_after_position : AfterPosition → Sums → Bool
 is_after_position g Empty = false
 is_after_position g (Filled a) =
     nat_lt g.position.line a.breaks
-    || ((a.breaks == g.position.line && nat_lt g.position.line most) && nat_lt g.position.character (count_of g.unit a.behind))
+    || ((a.breaks == g.position.line && nat_lt g.position.line most) && nat_lt g.position.character (count_of g.unit a.units_after))

@@ -29,8 +29,8 @@ pub fn pieces_of(alloc: Global, text: &str) -> Result<Vec<Piece>, AllocError>
     let mut pieces = Vec::new(alloc);
     let mut rest = text;
     while rest.len() > LONGEST_PIECE {
-        let (front, back) = rest.split_at(front_len(rest));
-        pieces.push(Piece::new(alloc, front)?)?;
+        let (prefix, back) = rest.split_at(prefix_len(rest));
+        pieces.push(Piece::new(alloc, prefix)?)?;
         rest = back;
     }
     if rest.len() > 0 {
@@ -41,7 +41,7 @@ pub fn pieces_of(alloc: Global, text: &str) -> Result<Vec<Piece>, AllocError>
 
 /// How many bytes the first piece of a longer text has: as many as fit, or half of those that are left where the rest
 /// would be small.
-fn front_len(text: &str) -> usize
+fn prefix_len(text: &str) -> usize
     requires { LONGEST_PIECE < length text.now }
     ensures boundary { IsCharBoundary text.now result }
     ensures few { result ≤ LONGEST_PIECE }

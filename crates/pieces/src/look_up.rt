@@ -8,7 +8,7 @@ ghost use Rattle.definitions.specs.Text as of;
 ghost use Rattle.definitions.specs.declared.Unit.{Unit as Encoding};
 ghost use Rattle.definitions.specs.declared.Unit.TheVariants.{Utf8};
 ghost use Rattle.pieces.specs.Sums.{sums_of, end_before_feed};
-ghost use Rattle.pieces.specs.Fronts.{front_of, goes_on, with_ones, room, IsPast};
+ghost use Rattle.pieces.specs.Prefixes.{prefix_of, goes_on, with_ones, room, IsPast};
 
 use crate::piece::Piece;
 use crate::sums::{AfterCharacter, AfterPosition, Sums};
@@ -22,16 +22,16 @@ pub fn position(pieces: &Seq<Piece>, unit: Unit, offset: usize) -> Position
     ensures { result ≡ of.position unit (concat pieces.now) offset }
 {
     let (place, before) = pieces.locate(&AfterCharacter { offset });
-    let front = Front::new(unit, before);
+    let prefix = Prefix::new(unit, before);
     let Some(piece) = pieces.get(place) else {
-        return front.position(false);
+        return prefix.position(false);
     };
-    let (front, before_feed) = front.with_first(
+    let (prefix, before_feed) = prefix.with_first(
         unit,
         piece.text(),
-        offset - front.characters as usize,
+        offset - prefix.characters as usize,
     );
-    front.position(before_feed)
+    prefix.position(before_feed)
 }
 
 /// The offset of a position (LSP 3.17, "Position"): past the end of a line it is the end of the line, past the last
@@ -42,16 +42,16 @@ pub fn offset(pieces: &Seq<Piece>, unit: Unit, position: Position) -> usize
     ensures within { result ≤ length (concat pieces.now) }
 {
     let (place, before) = pieces.locate(&AfterPosition { unit, position });
-    let front = Front::new(unit, before);
+    let prefix = Prefix::new(unit, before);
     let Some(piece) = pieces.get(place) else {
-        return front.end_in_line(position.line);
+        return prefix.end_in_line(position.line);
     };
-    front.offset_in(unit, piece.text(), position)
+    prefix.offset_in(unit, piece.text(), position)
 }
 
-/// What is known of a front of a text.
+/// What is known of a prefix of a text.
 #[derive(Clone, Copy)]
-struct Front {
+struct Prefix {
     /// How many characters it has.
     characters: u32,
     /// The position of its end, where a `\n` comes next: a `\r` at its end is no break there.
@@ -60,13 +60,13 @@ struct Front {
     ends_with_return: bool,
 }
 
-impl Front {
-    /// The front with this sum.
-    fn new(unit: Unit, sums: Sums) -> Front
-        ensures { (s : List ℕ) → sums ≡ sums_of s → result ≡ front_of unit s }
+impl Prefix {
+    /// The prefix with this sum.
+    fn new(unit: Unit, sums: Sums) -> Prefix
+        ensures { (s : List ℕ) → sums ≡ sums_of s → result ≡ prefix_of unit s }
     {
         let Sums::Filled(counts) = sums else {
-            return Front {
+            return Prefix {
                 characters: 0,
                 end: Position {
                     line: 0,
@@ -75,44 +75,44 @@ impl Front {
                 ends_with_return: false,
             };
         };
-        Front {
+        Prefix {
             characters: counts.characters,
             end: Position {
                 line: counts.breaks,
-                character: counts.behind.of(unit),
+                character: counts.units_after.of(unit),
             },
             ends_with_return: counts.ends_with_return,
         }
     }
 
-    /// This front and the character behind it.
-    fn with(self, unit: Unit, c: char) -> Front
-        ensures { (s : List ℕ) → units Utf8 (s ++ c ∷ []) ≤ 2 ^ 30 → self ≡ front_of unit s →
-            result ≡ front_of unit (s ++ c ∷ []) }
+    /// This prefix and the character after it.
+    fn with(self, unit: Unit, c: char) -> Prefix
+        ensures { (s : List ℕ) → units Utf8 (s ++ c ∷ []) ≤ 2 ^ 30 → self ≡ prefix_of unit s →
+            result ≡ prefix_of unit (s ++ c ∷ []) }
     {
         if self.goes_on(c) {
             return self.with_ones(1);
         }
-        Front {
+        Prefix {
             characters: self.characters.saturating_add(1),
             end: self.end_with(unit, c),
             ends_with_return: c == '\r',
         }
     }
 
-    /// Whether a character behind this front stands in its last line, with one unit in each encoding.
+    /// Whether a character after this prefix stands in its last line, with one unit in each encoding.
     fn goes_on(self, c: char) -> bool
         ensures { result ≡ goes_on self c }
     {
         c > '\r' && c < '\u{80}' && !self.ends_with_return
     }
 
-    /// This front and so many characters behind it that stand in its last line and have one unit each.
-    fn with_ones(self, count: u32) -> Front
+    /// This prefix and so many characters after it that stand in its last line and have one unit each.
+    fn with_ones(self, count: u32) -> Prefix
         ensures { (unit : Encoding) (s : List ℕ) → units Utf8 s ≤ 2 ^ 30 →
-            with_ones self count ≡ front_of unit s → result ≡ front_of unit s }
+            with_ones self count ≡ prefix_of unit s → result ≡ prefix_of unit s }
     {
-        Front {
+        Prefix {
             characters: self.characters.saturating_add(count),
             end: Position {
                 line: self.end.line,
@@ -132,9 +132,9 @@ impl Front {
         u32::MAX
     }
 
-    /// The position of the end of this front and the character behind it, where a `\n` comes next.
+    /// The position of the end of this prefix and the character after it, where a `\n` comes next.
     fn end_with(self, unit: Unit, c: char) -> Position
-        ensures { (s : List ℕ) → units Utf8 (s ++ c ∷ []) ≤ 2 ^ 30 → self ≡ front_of unit s →
+        ensures { (s : List ℕ) → units Utf8 (s ++ c ∷ []) ≤ 2 ^ 30 → self ≡ prefix_of unit s →
             result ≡ end_before_feed unit (s ++ c ∷ []) }
     {
         let before = self.position(c == '\n');
@@ -156,7 +156,7 @@ impl Front {
     /// The position of its end, where a `\n` comes next or not.
     fn position(self, before_feed: bool) -> Position
         ensures { (unit : Encoding) (s r : List ℕ) → units Utf8 s ≤ 2 ^ 30 →
-            self ≡ front_of unit s → before_feed ≡ begins_with line_feed r →
+            self ≡ prefix_of unit s → before_feed ≡ begins_with line_feed r →
             result ≡ of.position unit (s ++ r) (length s) }
     {
         if self.ends_with_return && !before_feed {
@@ -168,56 +168,56 @@ impl Front {
         self.end
     }
 
-    /// This front and the first `count` characters behind it, and whether a `\n` comes next.
-    fn with_first(self, unit: Unit, text: &str, count: usize) -> (Front, bool)
-        ensures front { (s : List ℕ) → units Utf8 (s ++ chars text.now) ≤ 2 ^ 30 →
-            self ≡ front_of unit s → result.0 ≡ front_of unit (s ++ take count (chars text.now)) }
+    /// This prefix and the first `count` characters after it, and whether a `\n` comes next.
+    fn with_first(self, unit: Unit, text: &str, count: usize) -> (Prefix, bool)
+        ensures prefix { (s : List ℕ) → units Utf8 (s ++ chars text.now) ≤ 2 ^ 30 →
+            self ≡ prefix_of unit s → result.0 ≡ prefix_of unit (s ++ take count (chars text.now)) }
         ensures feed { result.1 ≡ begins_with line_feed (drop count (chars text.now)) }
     {
-        let mut front = self;
+        let mut prefix = self;
         let mut left = count;
         let mut ones = 0;
         for c in text.chars() {
             if left == 0 {
-                return (front.with_ones(ones), c == '\n');
+                return (prefix.with_ones(ones), c == '\n');
             }
             left -= 1;
-            if ones < u32::MAX && front.goes_on(c) {
+            if ones < u32::MAX && prefix.goes_on(c) {
                 ones += 1;
                 continue;
             }
-            front = front.with_ones(ones).with(unit, c);
+            prefix = prefix.with_ones(ones).with(unit, c);
             ones = 0;
         }
-        (front.with_ones(ones), false)
+        (prefix.with_ones(ones), false)
     }
 
-    /// The offset of a position that this front is not past, and this front with `text` behind it is.
+    /// The offset of a position that this prefix is not past, and this prefix with `text` after it is.
     fn offset_in(self, unit: Unit, text: &str, position: Position) -> usize
         ensures { (s r : List ℕ) → units Utf8 (s ++ chars text.now) ≤ 2 ^ 30 →
-            self ≡ front_of unit s → ¬ IsPast position (end_before_feed unit s) →
+            self ≡ prefix_of unit s → ¬ IsPast position (end_before_feed unit s) →
             IsPast position (end_before_feed unit (s ++ chars text.now)) →
             result ≡ of.offset unit (s ++ chars text.now ++ r) position }
     {
-        let mut front = self;
+        let mut prefix = self;
         let mut room = self.room(position);
         // Such characters are counted alone, since nearly each one is of them.
         let mut ones = 0;
         for c in text.chars() {
-            if ones < room && front.goes_on(c) {
+            if ones < room && prefix.goes_on(c) {
                 ones += 1;
                 continue;
             }
-            let here = front.with_ones(ones);
+            let here = prefix.with_ones(ones);
             let longer = here.with(unit, c);
             if longer.is_past(position) {
                 return here.end_in_line(position.line);
             }
-            front = longer;
+            prefix = longer;
             room = longer.room(position);
             ones = 0;
         }
-        front.with_ones(ones).end_in_line(position.line)
+        prefix.with_ones(ones).end_in_line(position.line)
     }
 
     /// Whether its end is past a position.

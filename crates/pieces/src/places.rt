@@ -20,8 +20,8 @@ pub struct Cut<'a> {
     /// How many bytes lie before the cut.
     pub bytes: usize,
     /// What lies before the cut of the piece that comes next, or nothing where none does.
-    pub front: &'a str,
-    /// What lies behind the cut of that piece. It has at least one character.
+    pub prefix: &'a str,
+    /// What lies after the cut of that piece. It has at least one character.
     pub back: &'a str,
 }
 
@@ -37,15 +37,15 @@ pub fn cut_at(pieces: &Seq<Piece>, offset: usize) -> Cut<'_>
         return Cut {
             piece: place,
             bytes: before_place,
-            front: "",
+            prefix: "",
             back: "",
         };
     };
-    let (front, back) = split(piece, offset - characters_in(before));
+    let (prefix, back) = split(piece, offset - characters_in(before));
     Cut {
         piece: place,
-        bytes: before_place + front.len(),
-        front,
+        bytes: before_place + prefix.len(),
+        prefix,
         back,
     }
 }
@@ -98,18 +98,18 @@ fn bytes_in(sums: Sums) -> usize
     }
 }
 
-/// Splits a piece behind its first `count` characters.
+/// Splits a piece after its first `count` characters.
 fn split(piece: &Piece, count: usize) -> (&str, &str)
     requires { count ≤ length piece.now }
-    ensures front { chars result.0.now ≡ take count piece.now }
+    ensures prefix { chars result.0.now ≡ take count piece.now }
     ensures back { chars result.1.now ≡ drop count piece.now }
     ensures bytes { length result.0.now ≡ units Utf8 (take count piece.now) }
 {
-    piece.text().split_at(front_bytes(piece, count))
+    piece.text().split_at(prefix_bytes(piece, count))
 }
 
 /// How many bytes the first `count` characters of a piece have.
-fn front_bytes(piece: &Piece, count: usize) -> usize
+fn prefix_bytes(piece: &Piece, count: usize) -> usize
     requires { count ≤ length piece.now }
     ensures { result ≡ units Utf8 (take count piece.now) }
 {

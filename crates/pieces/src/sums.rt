@@ -2,7 +2,7 @@
 
 ghost use Rattle.std.specs.Prelude.{◌≡◌, ◌≤◌, [], ◌∷◌, length};
 ghost use Rattle.std.specs.Str.{IsAscii, chars};
-ghost use Rattle.pieces.specs.Sums.{sums_of, most, units_joined, count_of, counts_joined, later_breaks, behind_joined, no_units, units_of, ascii_units, shown_units, HaveRoom, is_none, line_sums};
+ghost use Rattle.pieces.specs.Sums.{sums_of, most, units_joined, count_of, counts_joined, later_breaks, after_joined, no_units, units_of, ascii_units, shown_units, HaveRoom, is_none, line_sums};
 
 use definitions::{Position, Unit};
 use seqtree::{Goal, Monoid};
@@ -16,7 +16,7 @@ pub struct Units {
 }
 
 impl Units {
-    /// The units of these characters and of others behind them.
+    /// The units of these characters and of others after them.
     fn with(self, others: Units) -> Units
         ensures { result ≡ units_joined self others }
     {
@@ -27,7 +27,7 @@ impl Units {
         }
     }
 
-    /// The units of these characters and of one behind them.
+    /// The units of these characters and of one after them.
     fn with_character(self, c: char) -> Units
         requires { HaveRoom self c }
         ensures { result ≡ units_joined self (units_of c) }
@@ -74,8 +74,8 @@ pub struct Counts {
     pub bytes: u32,
     /// How many line breaks, but for a `\r` at its end.
     pub breaks: u32,
-    /// The units behind the last of these breaks, but for a `\r` at its end.
-    pub behind: Units,
+    /// The units after the last of these breaks, but for a `\r` at its end.
+    pub units_after: Units,
     /// Whether it begins with `\n`.
     pub begins_with_feed: bool,
     /// Whether it ends with `\r`.
@@ -92,7 +92,7 @@ pub enum Sums {
 }
 
 impl Counts {
-    /// The counts of this part and of one behind it.
+    /// The counts of this part and of one after it.
     fn with(self, other: Counts) -> Counts
         ensures { result ≡ counts_joined self other }
     {
@@ -101,13 +101,13 @@ impl Counts {
             characters: self.characters.saturating_add(other.characters),
             bytes: self.bytes.saturating_add(other.bytes),
             breaks: self.breaks.saturating_add(later),
-            behind: behind(later, self.behind, other.behind),
+            units_after: units_after(later, self.units_after, other.units_after),
             begins_with_feed: self.begins_with_feed,
             ends_with_return: other.ends_with_return,
         }
     }
 
-    /// How many breaks end behind this part, where the other one follows.
+    /// How many breaks end after this part, where the other one follows.
     fn later_breaks(self, other: Counts) -> u32
         ensures { result ≡ later_breaks self other }
     {
@@ -118,10 +118,10 @@ impl Counts {
     }
 }
 
-/// The units behind the last break of two parts, where so many breaks end behind the first part.
-#[tactic(auto, using(crate::specs::Laws::behind_later))]
-fn behind(later: u32, first: Units, second: Units) -> Units
-    ensures { result ≡ behind_joined later first second }
+/// The units after the last break of two parts, where so many breaks end after the first part.
+#[tactic(auto, using(crate::specs::Laws::after_later))]
+fn units_after(later: u32, first: Units, second: Units) -> Units
+    ensures { result ≡ after_joined later first second }
 {
     if later == 0 {
         first.with(second)
@@ -163,7 +163,7 @@ pub fn of_character(c: char) -> Sums
         characters: 1,
         bytes: c.len_utf8() as u32,
         breaks: if c == '\n' { 1 } else { 0 },
-        behind: shown_units(c),
+        units_after: shown_units(c),
         begins_with_feed: c == '\n',
         ends_with_return: c == '\r',
     })
@@ -223,7 +223,7 @@ fn of_line(units: Units) -> Sums
         characters: units.utf32,
         bytes: units.utf8,
         breaks: 0,
-        behind: units,
+        units_after: units,
         begins_with_feed: false,
         ends_with_return: false,
     })
@@ -310,6 +310,6 @@ impl Goal<Sums> for AfterPosition {
         let line = self.position.line;
         // A count that is full no longer tells lines apart.
         let same = counts.breaks == line && line < u32::MAX;
-        line < counts.breaks || (same && self.position.character < counts.behind.of(self.unit))
+        line < counts.breaks || (same && self.position.character < counts.units_after.of(self.unit))
     }
 }

@@ -1,7 +1,7 @@
-mod Hearing
+mod Receiving
 mod Replies
-mod Each
-mod Methods
+mod ListItems
+mod KnownMethods
 mod Strings
 mod Values
 mod Texts

@@ -9,7 +9,7 @@ use Rattle.serde_json.specs.Written.{has_float, items_have_float}
 use Rattle.rpc.specs.declared.reply.Refusal.{Refusal}
 use Rattle.rpc.specs.declared.reply.Refusal.TheVariants.{ParseError, InvalidRequest, MethodNotFound, InvalidParams, DocumentNotOpen, DocumentLost, NotInitialized}
 use Rattle.rpc.specs.Messages.{Ident, named, numbered}
-use Rattle.rpc.specs.Replies.{Answer, told_capabilities, told_null, told_text, told_tokens, told_tree, told_stats, told_folds, told_selections, told_diagnostics, told_log, told_error, capabilities, id_data, maybe_id_data, row_data, result_data, reply_data, document_data, rows_data, stats_data, fold_data, folds_data, selection_data, selections_data, diagnostic_list, published, code_of}
+use Rattle.rpc.specs.Replies.{Answer, capabilities_reply, null_reply, text_reply, tokens_reply, tree_reply, stats_reply, folds_reply, selections_reply, published_diagnostics, log_message, error_reply, capabilities, id_data, maybe_id_data, row_data, result_data, reply_data, document_data, rows_data, stats_data, fold_data, folds_data, selection_data, selections_data, diagnostic_list, published, code_of}
 
 pub if_ok : {T E : Type 0} {P Q : T → Type 0} (r : Result T E) → ((x : T) → P x → Q x) → IfOk r P → IfOk r Q
 if_ok (Ok x) f p = f x p
@@ -63,14 +63,14 @@ refusal_is_whole (DocumentLost loss) = refl
 refusal_is_whole NotInitialized = refl
 
 pub reply_is_whole : (a : Answer) → has_float (reply_data a) ≡ false
-reply_is_whole (told_capabilities id unit) = result_is_whole (id_data id) (capabilities unit) (id_is_whole id) refl
-reply_is_whole (told_null id) = result_is_whole (id_data id) null (id_is_whole id) refl
-reply_is_whole (told_text id version text) = result_is_whole (id_data id) (document_data version text) (id_is_whole id) (ap (λ b. b || false) (integer_is_whole version))
-reply_is_whole (told_tokens id rows) = result_is_whole (id_data id) (rows_data rows) (id_is_whole id) (rows_are_whole rows)
-reply_is_whole (told_tree id text) = result_is_whole (id_data id) (string text) (id_is_whole id) refl
-reply_is_whole (told_stats id s) = result_is_whole (id_data id) (stats_data s) (id_is_whole id) refl
-reply_is_whole (told_folds id pairs) = result_is_whole (id_data id) (folds_data pairs) (id_is_whole id) (folds_are_whole pairs)
-reply_is_whole (told_selections id selections) = result_is_whole (id_data id) (selections_data selections) (id_is_whole id) (selections_are_whole selections)
-reply_is_whole (told_diagnostics uri version d) = ap (λ b. b || false) (published_is_whole uri version d)
-reply_is_whole (told_log log) = refl
-reply_is_whole (told_error id refusal) = ap (λ b. (b || false) || (has_float (maybe_id_data id) || false)) (refusal_is_whole refusal) ∙ ap (λ b. b || false) (maybe_id_is_whole id)
+reply_is_whole (capabilities_reply id unit) = result_is_whole (id_data id) (capabilities unit) (id_is_whole id) refl
+reply_is_whole (null_reply id) = result_is_whole (id_data id) null (id_is_whole id) refl
+reply_is_whole (text_reply id version text) = result_is_whole (id_data id) (document_data version text) (id_is_whole id) (ap (λ b. b || false) (integer_is_whole version))
+reply_is_whole (tokens_reply id rows) = result_is_whole (id_data id) (rows_data rows) (id_is_whole id) (rows_are_whole rows)
+reply_is_whole (tree_reply id text) = result_is_whole (id_data id) (string text) (id_is_whole id) refl
+reply_is_whole (stats_reply id s) = result_is_whole (id_data id) (stats_data s) (id_is_whole id) refl
+reply_is_whole (folds_reply id pairs) = result_is_whole (id_data id) (folds_data pairs) (id_is_whole id) (folds_are_whole pairs)
+reply_is_whole (selections_reply id selections) = result_is_whole (id_data id) (selections_data selections) (id_is_whole id) (selections_are_whole selections)
+reply_is_whole (published_diagnostics uri version d) = ap (λ b. b || false) (published_is_whole uri version d)
+reply_is_whole (log_message log) = refl
+reply_is_whole (error_reply id refusal) = ap (λ b. (b || false) || (has_float (maybe_id_data id) || false)) (refusal_is_whole refusal) ∙ ap (λ b. b || false) (maybe_id_is_whole id)

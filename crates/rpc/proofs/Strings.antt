@@ -30,26 +30,26 @@ longer : (f xs : List ℕ) (x : ℕ) → length f < length (f ++ x ∷ xs)
 longer [] xs x = omega arith
 longer (y ∷ f) xs x = let rest : length f < length (f ++ x ∷ xs) = longer f xs x in omega arith
 
-take_front : (f xs : List ℕ) → take (length f) (f ++ xs) ≡ f
-take_front [] xs = refl
-take_front (y ∷ f) xs = ap (λ l. y ∷ l) (take_front f xs)
+take_prefix : (f xs : List ℕ) → take (length f) (f ++ xs) ≡ f
+take_prefix [] xs = refl
+take_prefix (y ∷ f) xs = ap (λ l. y ∷ l) (take_prefix f xs)
 
-drop_front : (f xs : List ℕ) (x : ℕ) → drop (suc (length f)) (f ++ x ∷ xs) ≡ xs
-drop_front [] xs x = refl
-drop_front (y ∷ f) xs x = drop_front f xs x
+drop_prefix : (f xs : List ℕ) (x : ℕ) → drop (suc (length f)) (f ++ x ∷ xs) ≡ xs
+drop_prefix [] xs x = refl
+drop_prefix (y ∷ f) xs x = drop_prefix f xs x
 
 -- what stands before an ASCII byte, and after it
 pub before_ascii : (f xs : List ℕ) (x : ℕ) → x < 128 → IsUtf8 (f ++ x ∷ xs) → IsUtf8 f
 before_ascii f xs x small u =
     let byte : get_or (f ++ x ∷ xs) (length f) 0 < 128 = rw (at_end_of f xs x) small in
-    subst IsUtf8 (take_front f (x ∷ xs)) (IsUtf8-take (f ++ x ∷ xs) (length f) u (IsCharBoundary-before_ascii (f ++ x ∷ xs) (length f) (longer f xs x) byte))
+    subst IsUtf8 (take_prefix f (x ∷ xs)) (IsUtf8-take (f ++ x ∷ xs) (length f) u (IsCharBoundary-before_ascii (f ++ x ∷ xs) (length f) (longer f xs x) byte))
 
 pub past_ascii : (f xs : List ℕ) (x : ℕ) → x < 128 → IsUtf8 (f ++ x ∷ xs) → IsUtf8 xs
 past_ascii f xs x small u =
     let byte : get_or (f ++ x ∷ xs) (length f) 0 < 128 = rw (at_end_of f xs x) small in
     let next : suc (length f) ≡ length f + 1 = omega arith in
     let cut = IsUtf8-drop (f ++ x ∷ xs) (length f + 1) u (IsCharBoundary-after_ascii (f ++ x ∷ xs) (length f) u (longer f xs x) byte) in
-    subst IsUtf8 (ap (λ n. drop n (f ++ x ∷ xs)) (sym next) ∙ drop_front f xs x) cut
+    subst IsUtf8 (ap (λ n. drop n (f ++ x ∷ xs)) (sym next) ∙ drop_prefix f xs x) cut
 
 pub IsUtf8-one : (x : ℕ) → x < 128 → IsUtf8 (x ∷ [])
 IsUtf8-one x small = subst IsUtf8 (encode_ascii x small) (IsUtf8-encode x (low_scalar x (omega arith)))

@@ -1,4 +1,4 @@
--- The texts of what is heard are in UTF-8.
+-- The texts of what is received are in UTF-8.
 use Rattle.std.proofs.Common.{◌≡◌, ℕ, zero, suc, Bool, true, false, List, [], ◌∷◌, map, All, codes, Option, Some, None, IfSome, option_map, option_and_then, unwrap_or, if◌then◌else◌, ℤ, is_none, is_some, IsUtf8, refl, sym, subst, arith}
 use Rattle.std.proofs.lemmas.List.Elements.{All-append, All-nil}
 use Rattle.std.proofs.lemmas.Str.{IsUtf8-from_is_utf8, scalars-chars, encodes-chars}
@@ -12,9 +12,9 @@ use Rattle.serde_json.specs.Read.{read}
 use Rattle.definitions.specs.declared.Position.{Position}
 use Rattle.definitions.specs.declared.Range.{Range}
 use Rattle.rpc.specs.Fields.{integer_of, text_at}
-use Rattle.rpc.specs.Messages.{Ident, numbered, Question, its_text, its_tokens, its_tree, its_folds, initialize, shutdown, initialized, exit, ignored, unknown, ChangeSaid, Told, Heard, refused, invalid, params, said, request, notice}
-use Rattle.rpc.specs.Reading.{ident_of, id_at, uri_at, version_at, document_text, maybe_range, change_with, change_of, first_and, changes_of, changes_at, positions_at, unit_at, asked_about, asked_stats, asked_selections, request_of, told_open, opening, told_change, changing, told_close, closing, notice_of, of_method, is_reply, is_invalid, params_at, message_of, value_of, heard_as, Hears}
-use Rattle.rpc.specs.Texts.{IsSpelled, id_texts, told_texts, texts_of}
+use Rattle.rpc.specs.Messages.{Ident, numbered, Question, its_text, its_tokens, its_tree, its_folds, initialize, shutdown, initialized, exit, ignored, unknown, TextChange, Notification, Received, refused, invalid, params, message, request, notification}
+use Rattle.rpc.specs.Reading.{ident_of, id_at, uri_at, version_at, document_text, maybe_range, change_with, change_of, first_and, changes_of, changes_at, positions_at, unit_at, document_request, stats_request, selections_request, request_of, open_notification, read_open, change_notification, read_change, close_notification, read_close, notification_of, of_method, is_reply, is_invalid, params_at, message_of, value_of, received_as, Receives}
+use Rattle.rpc.specs.Texts.{IsSpelled, id_texts, notification_texts, texts_of}
 use Rattle.rpc.proofs.Strings.{if_map, if_then}
 use Rattle.rpc.proofs.Values.{IsSpelledData, AreSpelledItems, AreSpelledMembers, by_order, read_spelled}
 
@@ -25,8 +25,8 @@ one_spelled : (s : List ℕ) (ss : List (List ℕ)) → IsSpelled s → All IsSp
 one_spelled s ss h hs zero d less = h
 one_spelled s ss h hs (suc k) d less = hs k d (omega arith)
 
-abbrev AreSpelled : Heard → Type 0
-AreSpelled heard = All IsSpelled (texts_of heard)
+abbrev AreSpelled : Received → Type 0
+AreSpelled received = All IsSpelled (texts_of received)
 
 abbrev IsSpelledId : Ident → Type 0
 IsSpelledId id = All IsSpelled (id_texts id)
@@ -93,10 +93,10 @@ document_spelled d h =
 
 -- ---- changes
 
-abbrev IsSpelledChange : ChangeSaid → Type 0
+abbrev IsSpelledChange : TextChange → Type 0
 IsSpelledChange c = IsSpelled c.text
 
-abbrev AreSpelledChanges : List ChangeSaid → Type 0
+abbrev AreSpelledChanges : List TextChange → Type 0
 AreSpelledChanges cs = All IsSpelled (map (λ c. c.text) cs)
 
 change_from : (text : Option (List ℕ)) (range : Option (Option Range)) → IfSome text IsSpelled → IfSome (change_with text range) IsSpelledChange
@@ -104,7 +104,7 @@ change_from None range h = tt
 change_from (Some text) None h = tt
 change_from (Some text) (Some range) h = h
 
-more_changes : (c : Option ChangeSaid) (cs : Option (List ChangeSaid)) → IfSome c IsSpelledChange → IfSome cs AreSpelledChanges → IfSome (first_and c cs) AreSpelledChanges
+more_changes : (c : Option TextChange) (cs : Option (List TextChange)) → IfSome c IsSpelledChange → IfSome cs AreSpelledChanges → IfSome (first_and c cs) AreSpelledChanges
 more_changes None cs h hs = tt
 more_changes (Some c) None h hs = tt
 more_changes (Some c) (Some cs) h hs = one_spelled c.text (map (λ x. x.text) cs) h hs
@@ -121,26 +121,26 @@ changes_spelled d h =
 
 -- ---- messages
 
-abbrev IsSpelledTold : Told → Type 0
-IsSpelledTold told = All IsSpelled (told_texts told)
+abbrev IsSpelledNotification : Notification → Type 0
+IsSpelledNotification notification = All IsSpelled (notification_texts notification)
 
-either : (b : Bool) (one two : Heard) → AreSpelled one → AreSpelled two → AreSpelled (if b then one else two)
+either : (b : Bool) (one two : Received) → AreSpelled one → AreSpelled two → AreSpelled (if b then one else two)
 either true one two h k = h
 either false one two h k = k
 
 module _ (id : Ident) (hid : IsSpelledId id) where
-  about_spelled : (q : Question) (uri : Option (List ℕ)) → IfSome uri IsSpelled → AreSpelled (asked_about q id uri)
+  about_spelled : (q : Question) (uri : Option (List ℕ)) → IfSome uri IsSpelled → AreSpelled (document_request q id uri)
   about_spelled q None h = hid
   about_spelled q (Some uri) h = All-append IsSpelled (id_texts id) (uri ∷ []) hid (one_spelled uri [] h (All-nil IsSpelled))
 
-  stats_spelled : (uri : Option (List ℕ)) → IfSome uri IsSpelled → AreSpelled (asked_stats id uri)
+  stats_spelled : (uri : Option (List ℕ)) → IfSome uri IsSpelled → AreSpelled (stats_request id uri)
   stats_spelled None h = hid
   stats_spelled (Some uri) h = All-append IsSpelled (id_texts id) (uri ∷ []) hid (one_spelled uri [] h (All-nil IsSpelled))
 
-  alone : AreSpelled (said (request id shutdown))
+  alone : AreSpelled (message (request id shutdown))
   alone = All-append IsSpelled (id_texts id) [] hid (All-nil IsSpelled)
 
-  selections_spelled : (uri : Option (List ℕ)) (positions : Option (List Position)) → IfSome uri IsSpelled → AreSpelled (asked_selections id uri positions)
+  selections_spelled : (uri : Option (List ℕ)) (positions : Option (List Position)) → IfSome uri IsSpelled → AreSpelled (selections_request id uri positions)
   selections_spelled None positions h = hid
   selections_spelled (Some uri) None h = hid
   selections_spelled (Some uri) (Some positions) h = All-append IsSpelled (id_texts id) (uri ∷ []) hid (one_spelled uri [] h (All-nil IsSpelled))
@@ -148,8 +148,8 @@ module _ (id : Ident) (hid : IsSpelledId id) where
   request_spelled : (method : List ℕ) (d : Data) → IsSpelledData d → AreSpelled (request_of method id d)
   request_spelled method d h =
       let u = uri_spelled d h in
-      either (bytes_eq method (codes "initialize")) _ _ (either (is_some (as_object d)) (said (request id (initialize (unit_at d)))) (refused (params id true)) alone hid)
-      (either (bytes_eq method (codes "shutdown")) (said (request id shutdown)) _ alone
+      either (bytes_eq method (codes "initialize")) _ _ (either (is_some (as_object d)) (message (request id (initialize (unit_at d)))) (refused (params id true)) alone hid)
+      (either (bytes_eq method (codes "shutdown")) (message (request id shutdown)) _ alone
       (either (bytes_eq method (codes "textDocument/foldingRange")) _ _ (about_spelled its_folds (uri_at d) u)
       (either (bytes_eq method (codes "textDocument/selectionRange")) _ _ (selections_spelled (uri_at d) (positions_at d) u)
       (either (bytes_eq method (codes "lr/text")) _ _ (about_spelled its_text (uri_at d) u)
@@ -157,30 +157,30 @@ module _ (id : Ident) (hid : IsSpelledId id) where
       (either (bytes_eq method (codes "lr/tree")) _ _ (about_spelled its_tree (uri_at d) u)
       (either (bytes_eq method (codes "lr/stats")) _ (refused (unknown id)) (stats_spelled (uri_at d) u) hid)))))))
 
-open_spelled : (uri : Option (List ℕ)) (version : Option ℤ) (text : Option (List ℕ)) → IfSome uri IsSpelled → IfSome text IsSpelled → IsSpelledTold (told_open uri version text)
+open_spelled : (uri : Option (List ℕ)) (version : Option ℤ) (text : Option (List ℕ)) → IfSome uri IsSpelled → IfSome text IsSpelled → IsSpelledNotification (open_notification uri version text)
 open_spelled None version text h k = All-nil IsSpelled
 open_spelled (Some uri) None text h k = All-nil IsSpelled
 open_spelled (Some uri) (Some version) None h k = All-nil IsSpelled
 open_spelled (Some uri) (Some version) (Some text) h k = one_spelled uri (text ∷ []) h (one_spelled text [] k (All-nil IsSpelled))
 
-change_spelled : (uri : Option (List ℕ)) (version : Option ℤ) (changes : Option (List ChangeSaid)) → IfSome uri IsSpelled → IfSome changes AreSpelledChanges → IsSpelledTold (told_change uri version changes)
+change_spelled : (uri : Option (List ℕ)) (version : Option ℤ) (changes : Option (List TextChange)) → IfSome uri IsSpelled → IfSome changes AreSpelledChanges → IsSpelledNotification (change_notification uri version changes)
 change_spelled None version changes h k = All-nil IsSpelled
 change_spelled (Some uri) None changes h k = one_spelled uri [] h (All-nil IsSpelled)
 change_spelled (Some uri) (Some version) None h k = one_spelled uri [] h (All-nil IsSpelled)
 change_spelled (Some uri) (Some version) (Some changes) h k = one_spelled uri (map (λ c. c.text) changes) h k
 
-close_spelled : (uri : Option (List ℕ)) → IfSome uri IsSpelled → IsSpelledTold (told_close uri)
+close_spelled : (uri : Option (List ℕ)) → IfSome uri IsSpelled → IsSpelledNotification (close_notification uri)
 close_spelled None h = All-nil IsSpelled
 close_spelled (Some uri) h = one_spelled uri [] h (All-nil IsSpelled)
 
-notice_spelled : (method : List ℕ) (d : Data) → IsSpelledData d → AreSpelled (notice_of method d)
+notice_spelled : (method : List ℕ) (d : Data) → IsSpelledData d → AreSpelled (notification_of method d)
 notice_spelled method d h =
     let u = uri_spelled d h in
-    either (bytes_eq method (codes "initialized")) (said (notice initialized)) _ (All-nil IsSpelled)
-    (either (bytes_eq method (codes "exit")) (said (notice exit)) _ (All-nil IsSpelled)
-    (either (bytes_eq method (codes "textDocument/didOpen")) (said (notice (opening d))) _ (open_spelled (uri_at d) (version_at d) (document_text d) u (document_spelled d h))
-    (either (bytes_eq method (codes "textDocument/didChange")) (said (notice (changing d))) _ (change_spelled (uri_at d) (version_at d) (changes_at d) u (changes_spelled d h))
-    (either (bytes_eq method (codes "textDocument/didClose")) (said (notice (closing d))) (said ignored) (close_spelled (uri_at d) u) (All-nil IsSpelled)))))
+    either (bytes_eq method (codes "initialized")) (message (notification initialized)) _ (All-nil IsSpelled)
+    (either (bytes_eq method (codes "exit")) (message (notification exit)) _ (All-nil IsSpelled)
+    (either (bytes_eq method (codes "textDocument/didOpen")) (message (notification (read_open d))) _ (open_spelled (uri_at d) (version_at d) (document_text d) u (document_spelled d h))
+    (either (bytes_eq method (codes "textDocument/didChange")) (message (notification (read_change d))) _ (change_spelled (uri_at d) (version_at d) (changes_at d) u (changes_spelled d h))
+    (either (bytes_eq method (codes "textDocument/didClose")) (message (notification (read_close d))) (message ignored) (close_spelled (uri_at d) u) (All-nil IsSpelled)))))
 
 invalid_spelled : (id : Option Ident) → IfSome id IsSpelledId → AreSpelled (refused (invalid id))
 invalid_spelled None h = All-nil IsSpelled
@@ -199,7 +199,7 @@ params_spelled (Some d) h = h
 message_spelled : (d : Data) → IsSpelledData d → AreSpelled (message_of d)
 message_spelled d h =
     either (is_none (as_object d)) (refused (invalid None)) _ (All-nil IsSpelled)
-    (either (is_reply d) (said ignored) _ (All-nil IsSpelled)
+    (either (is_reply d) (message ignored) _ (All-nil IsSpelled)
     (either (is_invalid d) (refused (invalid (id_at d))) _ (invalid_spelled (id_at d) (id_spelled d h))
     (method_spelled (text_at (codes "method") d) (id_at d) (params_at d) (id_spelled d h) (params_spelled (get (codes "params") d) (get_spelled (codes "params") d h)))))
 
@@ -207,9 +207,9 @@ value_spelled : (content : List ℕ) (b : Bool) → b ≡ is_utf8 content → If
 value_spelled content true e = read_spelled content (IsUtf8-from_is_utf8 content (sym e))
 value_spelled content false e = tt
 
-heard_spelled : (o : Option Data) → IfSome o IsSpelledData → AreSpelled (heard_as o)
+heard_spelled : (o : Option Data) → IfSome o IsSpelledData → AreSpelled (received_as o)
 heard_spelled None h = All-nil IsSpelled
 heard_spelled (Some d) h = message_spelled d h
 
-pub each_text_is_spelled : (content : List ℕ) (heard : Heard) → Hears content heard → All IsSpelled (texts_of heard)
-each_text_is_spelled content heard e = subst AreSpelled (sym e) (heard_spelled (value_of content) (value_spelled content (is_utf8 content) refl))
+pub each_text_is_spelled : (content : List ℕ) (received : Received) → Receives content received → All IsSpelled (texts_of received)
+each_text_is_spelled content received e = subst AreSpelled (sym e) (heard_spelled (value_of content) (value_spelled content (is_utf8 content) refl))

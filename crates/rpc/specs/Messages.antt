@@ -32,14 +32,14 @@ pub data Question : Type 0 where
 
 -- what a request asks: to initialize, with the unit that positions are to count; to shut down; a question about a document, or its counts,
 -- with the document's URI
-pub data Asked : Type 0 where
-  initialize : Encoding → Asked
-  shutdown : Asked
-  about : List ℕ → Question → Asked
-  stats : List ℕ → Asked
+pub data Request : Type 0 where
+  initialize : Encoding → Request
+  shutdown : Request
+  about : List ℕ → Question → Request
+  stats : List ℕ → Request
 
 -- a change: a text for a range, or for the whole
-pub record ChangeSaid : Type 0 where
+pub record TextChange : Type 0 where
   pub range : Option Range
   pub text : List ℕ
 
@@ -49,20 +49,20 @@ pub data Unfit : Type 0 where
   unfit_change : Option (List ℕ) → Unfit
   unfit_close : Unfit
 
--- what a notification tells; a document's URI comes first, then its version
-pub data Told : Type 0 where
-  initialized : Told
-  exit : Told
-  open_text : List ℕ → ℤ → List ℕ → Told
-  change_text : List ℕ → ℤ → List ChangeSaid → Told
-  close : List ℕ → Told
-  malformed : Unfit → Told
+-- what a notification carries; a document's URI comes first, then its version
+pub data Notification : Type 0 where
+  initialized : Notification
+  exit : Notification
+  open_text : List ℕ → ℤ → List ℕ → Notification
+  change_text : List ℕ → ℤ → List TextChange → Notification
+  close : List ℕ → Notification
+  malformed : Unfit → Notification
 
 -- a message: a request, a notification, or one that is ignored
-pub data Said : Type 0 where
-  request : Ident → Asked → Said
-  notice : Told → Said
-  ignored : Said
+pub data ReceivedMessage : Type 0 where
+  request : Ident → Request → ReceivedMessage
+  notification : Notification → ReceivedMessage
+  ignored : ReceivedMessage
 
 -- why a JSON value is no message: invalid, with its id where that can be read; an unknown method; or parameters that don't fit, and whether
 -- they are those of `initialize`
@@ -71,19 +71,19 @@ pub data Refused : Type 0 where
   unknown : Ident → Refused
   params : Ident → Bool → Refused
 
--- what a content is heard as: nothing that can be read, a refused value, or a message
-pub data Heard : Type 0 where
-  unread : Heard
-  refused : Refused → Heard
-  said : Said → Heard
+-- what a content is read as: nothing that can be read, a refused value, or a message
+pub data Received : Type 0 where
+  unread : Received
+  refused : Refused → Received
+  message : ReceivedMessage → Received
 
 -- `id_view id`: an id of the code as an `Ident`
 abbrev pub id_view : Id → Ident
 id_view (Text s) = named (string_bytes s)
 id_view (Number z) = numbered z
 
--- `call_view call`: a call of the code as an `Asked`
-abbrev pub call_view : Call → Asked
+-- `call_view call`: a call of the code as an `Request`
+abbrev pub call_view : Call → Request
 call_view (call.Initialize unit) = initialize unit
 call_view call.Shutdown = shutdown
 call_view (call.Text uri) = about (string_bytes uri) its_text
@@ -93,8 +93,8 @@ call_view (call.Stats uri) = stats (string_bytes uri)
 call_view (call.FoldingRange uri) = about (string_bytes uri) its_folds
 call_view (call.SelectionRange uri positions) = about (string_bytes uri) (its_selections positions.items)
 
--- `change_view change`: a change of the code as a `ChangeSaid`
-abbrev pub change_view : Change → ChangeSaid
+-- `change_view change`: a change of the code as a `TextChange`
+abbrev pub change_view : Change → TextChange
 change_view c = record { range = c.range; text = string_bytes c.text }
 
 -- `malformed_view m`: an unfit notification of the code as an `Unfit`
@@ -103,8 +103,8 @@ malformed_view form.DidOpen = unfit_open
 malformed_view (form.DidChange uri) = unfit_change (option_map string_bytes uri)
 malformed_view form.DidClose = unfit_close
 
--- `note_view note`: a notification of the code as a `Told`
-abbrev pub note_view : Note → Told
+-- `note_view note`: a notification of the code as a `Notification`
+abbrev pub note_view : Note → Notification
 note_view note.Initialized = initialized
 note_view note.Exit = exit
 note_view (note.DidOpen uri version text) = open_text (string_bytes uri) version (string_bytes text)
@@ -112,21 +112,21 @@ note_view (note.DidChange uri version changes) = change_text (string_bytes uri) 
 note_view (note.DidClose uri) = close (string_bytes uri)
 note_view (note.Malformed m) = malformed (malformed_view m)
 
--- `message_view message`: a message of the code as a `Said`
-abbrev pub message_view : Message → Said
+-- `message_view message`: a message of the code as a `ReceivedMessage`
+abbrev pub message_view : Message → ReceivedMessage
 message_view (message.Request id c) = request (id_view id) (call_view c)
-message_view (message.Notice n) = notice (note_view n)
+message_view (message.Notice n) = notification (note_view n)
 message_view message.Ignored = ignored
 
--- `fault_view fault`: a fault of the code as a `Heard`; none where it is memory
-abbrev pub fault_view : RpcFault → Option Heard
+-- `fault_view fault`: a fault of the code as a `Received`; none where it is memory
+abbrev pub fault_view : RpcFault → Option Received
 fault_view fault.Parse = Some unread
 fault_view (fault.Invalid id) = Some (refused (invalid (option_map id_view id)))
 fault_view (fault.Unknown id) = Some (refused (unknown (id_view id)))
 fault_view (fault.Params id first) = Some (refused (params (id_view id) first))
 fault_view fault.Memory = None
 
--- `heard_of result`: a result of the code as a `Heard`; none where memory was refused
-abbrev pub heard_of : Result Message RpcFault → Option Heard
-heard_of (Ok m) = Some (said (message_view m))
-heard_of (Err e) = fault_view e
+-- `received_of result`: a result of the code as a `Received`; none where memory was refused
+abbrev pub received_of : Result Message RpcFault → Option Received
+received_of (Ok m) = Some (message (message_view m))
+received_of (Err e) = fault_view e

@@ -1,4 +1,4 @@
--- What a content is heard as (JSON-RPC 2.0, "Request object"; LSP 3.17, "Base Protocol").
+-- What a content is read as (JSON-RPC 2.0, "Request object"; LSP 3.17, "Base Protocol").
 use Rattle.std.specs.Prelude.{◌≡◌, ℕ, ℤ, ◌&&◌, ◌||◌, Bool, true, false, not, if◌then◌else◌, List, [], ◌∷◌, codes, Option, Some, None}
 use Rattle.std.specs.Prelude.{Result, IfSome, option_map, option_and_then, unwrap_or, is_some, is_none}
 use Rattle.std.specs.Option.{option_or}
@@ -14,9 +14,9 @@ use Rattle.rpc.specs.declared.message.Message.{Message}
 use Rattle.rpc.specs.declared.message.RpcFault.{RpcFault}
 use Rattle.rpc.specs.Fields.{integer_of, text_at, integer_at, natural_at, has_key}
 use Rattle.rpc.specs.Messages.{Ident, named, numbered, Question, its_text, its_tokens, its_tree, its_folds, its_selections, initialize}
-use Rattle.rpc.specs.Messages.{shutdown, about, stats, ChangeSaid, unfit_open, unfit_change, unfit_close, Told, initialized, exit}
-use Rattle.rpc.specs.Messages.{open_text, change_text, close, malformed, request, notice, ignored, invalid, unknown, params, Heard}
-use Rattle.rpc.specs.Messages.{unread, refused, said, heard_of}
+use Rattle.rpc.specs.Messages.{shutdown, about, stats, TextChange, unfit_open, unfit_change, unfit_close, Notification, initialized, exit}
+use Rattle.rpc.specs.Messages.{open_text, change_text, close, malformed, request, notification, ignored, invalid, unknown, params, Received}
+use Rattle.rpc.specs.Messages.{unread, refused, message, received_of}
 
 -- ---- parts of a value
 
@@ -88,21 +88,21 @@ maybe_range None = Some None
 maybe_range (Some d) = option_map (λ (r : Range). Some r) (range_of d)
 
 -- `change_with text range`: the change of a text and perhaps a range, where they could be read
-abbrev pub change_with : Option (List ℕ) → Option (Option Range) → Option ChangeSaid
+abbrev pub change_with : Option (List ℕ) → Option (Option Range) → Option TextChange
 change_with (Some text) (Some range) = Some (record { range = range; text = text })
 change_with _ _ = None
 
 -- the change that a JSON value is: a text and perhaps a range (LSP 3.17, "TextDocumentContentChangeEvent")
-abbrev pub change_of : Data → Option ChangeSaid
+abbrev pub change_of : Data → Option TextChange
 change_of d = change_with (text_at (codes "text") d) (maybe_range (get (codes "range") d))
 
 -- `changes_of ds`: the changes of a list, where each item is one
-abbrev pub changes_of : Items → Option (List ChangeSaid)
+abbrev pub changes_of : Items → Option (List TextChange)
 changes_of no_items = Some []
 changes_of (item d ds) = first_and (change_of d) (changes_of ds)
 
 -- the changes under `contentChanges`, where each item is one
-abbrev pub changes_at : Data → Option (List ChangeSaid)
+abbrev pub changes_at : Data → Option (List TextChange)
 changes_at d = option_and_then changes_of (option_and_then as_array (get (codes "contentChanges") d))
 
 -- ---- the unit of positions
@@ -134,79 +134,79 @@ unit_at d = unwrap_or (option_and_then first_unit (option_and_then as_array (enc
 
 -- ---- requests (the last argument is the parameters)
 
--- what `initialize` is heard as: a request with the unit that its parameters choose, which have to be an object
-abbrev pub asked_initialize : Ident → Data → Heard
-asked_initialize id d = if is_some (as_object d) then said (request id (initialize (unit_at d))) else refused (params id true)
+-- what `initialize` is read as: a request with the unit that its parameters choose, which have to be an object
+abbrev pub initialize_request : Ident → Data → Received
+initialize_request id d = if is_some (as_object d) then message (request id (initialize (unit_at d))) else refused (params id true)
 
--- `asked_about question id uri`: what a question is heard as: a request about the document of the URI, or, with none, parameters that don't
--- fit
-abbrev pub asked_about : Question → Ident → Option (List ℕ) → Heard
-asked_about question id (Some uri) = said (request id (about uri question))
-asked_about question id None = refused (params id false)
-
--- `asked_stats id uri`: what `lr/stats` is heard as: a request for the counts of the document of the URI, or, with none, parameters that
+-- `document_request question id uri`: what a question is read as: a request about the document of the URI, or, with none, parameters that
 -- don't fit
-abbrev pub asked_stats : Ident → Option (List ℕ) → Heard
-asked_stats id (Some uri) = said (request id (stats uri))
-asked_stats id None = refused (params id false)
+abbrev pub document_request : Question → Ident → Option (List ℕ) → Received
+document_request question id (Some uri) = message (request id (about uri question))
+document_request question id None = refused (params id false)
 
--- `asked_selections id uri positions`: what `textDocument/selectionRange` is heard as: a request about the document of the URI and these
+-- `stats_request id uri`: what `lr/stats` is read as: a request for the counts of the document of the URI, or, with none, parameters that
+-- don't fit
+abbrev pub stats_request : Ident → Option (List ℕ) → Received
+stats_request id (Some uri) = message (request id (stats uri))
+stats_request id None = refused (params id false)
+
+-- `selections_request id uri positions`: what `textDocument/selectionRange` is read as: a request about the document of the URI and these
 -- positions, or, where one is missing, parameters that don't fit
-abbrev pub asked_selections : Ident → Option (List ℕ) → Option (List Position) → Heard
-asked_selections id (Some uri) (Some positions) = said (request id (about uri (its_selections positions)))
-asked_selections id _ _ = refused (params id false)
+abbrev pub selections_request : Ident → Option (List ℕ) → Option (List Position) → Received
+selections_request id (Some uri) (Some positions) = message (request id (about uri (its_selections positions)))
+selections_request id _ _ = refused (params id false)
 
--- what a request of a method is heard as; one of an unknown method is refused
-abbrev pub request_of : List ℕ → Ident → Data → Heard
+-- what a request of a method is read as; one of an unknown method is refused
+abbrev pub request_of : List ℕ → Ident → Data → Received
 request_of method id d =
-    if bytes_eq method (codes "initialize") then asked_initialize id d else (
-    if bytes_eq method (codes "shutdown") then said (request id shutdown) else (
-    if bytes_eq method (codes "textDocument/foldingRange") then asked_about its_folds id (uri_at d) else (
-    if bytes_eq method (codes "textDocument/selectionRange") then asked_selections id (uri_at d) (positions_at d) else (
-    if bytes_eq method (codes "lr/text") then asked_about its_text id (uri_at d) else (
-    if bytes_eq method (codes "lr/tokens") then asked_about its_tokens id (uri_at d) else (
-    if bytes_eq method (codes "lr/tree") then asked_about its_tree id (uri_at d) else (
-    if bytes_eq method (codes "lr/stats") then asked_stats id (uri_at d) else
+    if bytes_eq method (codes "initialize") then initialize_request id d else (
+    if bytes_eq method (codes "shutdown") then message (request id shutdown) else (
+    if bytes_eq method (codes "textDocument/foldingRange") then document_request its_folds id (uri_at d) else (
+    if bytes_eq method (codes "textDocument/selectionRange") then selections_request id (uri_at d) (positions_at d) else (
+    if bytes_eq method (codes "lr/text") then document_request its_text id (uri_at d) else (
+    if bytes_eq method (codes "lr/tokens") then document_request its_tokens id (uri_at d) else (
+    if bytes_eq method (codes "lr/tree") then document_request its_tree id (uri_at d) else (
+    if bytes_eq method (codes "lr/stats") then stats_request id (uri_at d) else
     refused (unknown id))))))))
 
 -- ---- notifications (the last argument is the parameters)
 
--- `told_open uri version text`: what `textDocument/didOpen` tells of these, or, where one is missing, that they don't fit
-abbrev pub told_open : Option (List ℕ) → Option ℤ → Option (List ℕ) → Told
-told_open (Some uri) (Some version) (Some text) = open_text uri version text
-told_open _ _ _ = malformed unfit_open
+-- `open_notification uri version text`: what `textDocument/didOpen` says of these, or, where one is missing, that they don't fit
+abbrev pub open_notification : Option (List ℕ) → Option ℤ → Option (List ℕ) → Notification
+open_notification (Some uri) (Some version) (Some text) = open_text uri version text
+open_notification _ _ _ = malformed unfit_open
 
--- what `textDocument/didOpen` with the parameters `d` tells, as `told_open`
-abbrev pub opening : Data → Told
-opening d = told_open (uri_at d) (version_at d) (document_text d)
+-- what `textDocument/didOpen` with the parameters `d` says, as `open_notification`
+abbrev pub read_open : Data → Notification
+read_open d = open_notification (uri_at d) (version_at d) (document_text d)
 
--- `told_change uri version changes`: what `textDocument/didChange` tells of these, or, where one is missing, that they don't fit
-abbrev pub told_change : Option (List ℕ) → Option ℤ → Option (List ChangeSaid) → Told
-told_change (Some uri) (Some version) (Some changes) = change_text uri version changes
-told_change uri _ _ = malformed (unfit_change uri)
+-- `change_notification uri version changes`: what `textDocument/didChange` says of these, or, where one is missing, that they don't fit
+abbrev pub change_notification : Option (List ℕ) → Option ℤ → Option (List TextChange) → Notification
+change_notification (Some uri) (Some version) (Some changes) = change_text uri version changes
+change_notification uri _ _ = malformed (unfit_change uri)
 
--- what `textDocument/didChange` with the parameters `d` tells, as `told_change`
-abbrev pub changing : Data → Told
-changing d = told_change (uri_at d) (version_at d) (changes_at d)
+-- what `textDocument/didChange` with the parameters `d` says, as `change_notification`
+abbrev pub read_change : Data → Notification
+read_change d = change_notification (uri_at d) (version_at d) (changes_at d)
 
--- `told_close uri`: what `textDocument/didClose` tells of the URI, or, where it is missing, that it doesn't fit
-abbrev pub told_close : Option (List ℕ) → Told
-told_close (Some uri) = close uri
-told_close None = malformed unfit_close
+-- `close_notification uri`: what `textDocument/didClose` says of the URI, or, where it is missing, that it doesn't fit
+abbrev pub close_notification : Option (List ℕ) → Notification
+close_notification (Some uri) = close uri
+close_notification None = malformed unfit_close
 
--- what `textDocument/didClose` with the parameters `d` tells, as `told_close`
-abbrev pub closing : Data → Told
-closing d = told_close (uri_at d)
+-- what `textDocument/didClose` with the parameters `d` says, as `close_notification`
+abbrev pub read_close : Data → Notification
+read_close d = close_notification (uri_at d)
 
--- what a notification of a method is heard as; one of an unknown method is ignored
-abbrev pub notice_of : List ℕ → Data → Heard
-notice_of method d =
-    if bytes_eq method (codes "initialized") then said (notice initialized) else (
-    if bytes_eq method (codes "exit") then said (notice exit) else (
-    if bytes_eq method (codes "textDocument/didOpen") then said (notice (opening d)) else (
-    if bytes_eq method (codes "textDocument/didChange") then said (notice (changing d)) else (
-    if bytes_eq method (codes "textDocument/didClose") then said (notice (closing d)) else
-    said ignored))))
+-- what a notification of a method is read as; one of an unknown method is ignored
+abbrev pub notification_of : List ℕ → Data → Received
+notification_of method d =
+    if bytes_eq method (codes "initialized") then message (notification initialized) else (
+    if bytes_eq method (codes "exit") then message (notification exit) else (
+    if bytes_eq method (codes "textDocument/didOpen") then message (notification (read_open d)) else (
+    if bytes_eq method (codes "textDocument/didChange") then message (notification (read_change d)) else (
+    if bytes_eq method (codes "textDocument/didClose") then message (notification (read_close d)) else
+    message ignored))))
 
 -- ---- messages
 
@@ -225,19 +225,19 @@ is_invalid d =
 abbrev pub params_at : Data → Data
 params_at d = unwrap_or (get (codes "params") d) null
 
--- `of_method method id d`: what is heard of a method: with an id a request, without one a notification; with no method it is invalid
-abbrev pub of_method : Option (List ℕ) → Option Ident → Data → Heard
+-- `of_method method id d`: what is read of a method: with an id a request, without one a notification; with no method it is invalid
+abbrev pub of_method : Option (List ℕ) → Option Ident → Data → Received
 of_method (Some method) (Some id) d = request_of method id d
-of_method (Some method) None d = notice_of method d
+of_method (Some method) None d = notification_of method d
 of_method None id d = refused (invalid id)
 
--- what a JSON value is heard as, by the tests in their order: no object; a reply; no valid message; then by its method (JSON-RPC 2.0)
-abbrev pub message_of : Data → Heard
+-- what a JSON value is read as, by the tests in their order: no object; a reply; no valid message; then by its method (JSON-RPC 2.0)
+abbrev pub message_of : Data → Received
 message_of d =
     -- the value isn't an object
     if is_none (as_object d) then refused (invalid None) else (
     -- it is a reply: there is no `method`, and there is `result` or `error`
-    if is_reply d then said ignored else (
+    if is_reply d then message ignored else (
     -- the version isn't 2.0, there is no method, or the id can't be read
     if is_invalid d then refused (invalid (id_at d)) else
     -- with an id it is a request, without one a notification
@@ -247,19 +247,19 @@ message_of d =
 abbrev pub value_of : List ℕ → Option Data
 value_of content = if is_utf8 content then read content else None
 
--- `heard_as d`: what is heard of a JSON value, as `message_of`; nothing that can be read where there is none
-abbrev pub heard_as : Option Data → Heard
-heard_as None = unread
-heard_as (Some d) = message_of d
+-- `received_as d`: what is read of a JSON value, as `message_of`; nothing that can be read where there is none
+abbrev pub received_as : Option Data → Received
+received_as None = unread
+received_as (Some d) = message_of d
 
--- what a content is heard as
-abbrev pub hearing : List ℕ → Heard
-hearing content = heard_as (value_of content)
+-- what a content is read as
+abbrev pub received_in : List ℕ → Received
+received_in content = received_as (value_of content)
 
--- the content is heard as this: it is `hearing content`
-abbrev pub Hears : List ℕ → Heard → Type 0
-Hears content heard = heard ≡ hearing content
+-- the content is read as this: it is `received_in content`
+abbrev pub Receives : List ℕ → Received → Type 0
+Receives content received = received ≡ received_in content
 
--- what a function returned is heard as this, where memory was not refused
-abbrev pub Gives : Result Message RpcFault → Heard → Type 0
-Gives result heard = IfSome (heard_of result) (λ h. h ≡ heard)
+-- what a function returned is read as this, where memory was not refused
+abbrev pub Gives : Result Message RpcFault → Received → Type 0
+Gives result received = IfSome (received_of result) (λ h. h ≡ received)

@@ -23,19 +23,19 @@ use Rattle.rpc.specs.declared.reply.Reply.TheVariants.{Error, Diagnostics, Log}
 use Rattle.rpc.specs.Messages.{Ident, named, numbered, id_view}
 
 -- what is sent, as plain data: a reply, with the id of its request, the diagnostics of a document, or a log message. Folds are pairs of
--- lines; each selection is its ranges from inner to outer; diagnostics have the version that they are of, if one is told
+-- lines; each selection is its ranges from inner to outer; diagnostics have the version that they are of, if one is given
 pub data Answer : Type 0 where
-  told_capabilities : Ident → Encoding → Answer
-  told_null : Ident → Answer
-  told_text : Ident → ℤ → List ℕ → Answer
-  told_tokens : Ident → List (List ℕ × Range) → Answer
-  told_tree : Ident → List ℕ → Answer
-  told_stats : Ident → Stats → Answer
-  told_folds : Ident → List (ℕ × ℕ) → Answer
-  told_selections : Ident → List (List Range) → Answer
-  told_error : Option Ident → Refusal → Answer
-  told_diagnostics : List ℕ → Option ℤ → Option (Range × List ℕ) → Answer
-  told_log : Event → Answer
+  capabilities_reply : Ident → Encoding → Answer
+  null_reply : Ident → Answer
+  text_reply : Ident → ℤ → List ℕ → Answer
+  tokens_reply : Ident → List (List ℕ × Range) → Answer
+  tree_reply : Ident → List ℕ → Answer
+  stats_reply : Ident → Stats → Answer
+  folds_reply : Ident → List (ℕ × ℕ) → Answer
+  selections_reply : Ident → List (List Range) → Answer
+  error_reply : Option Ident → Refusal → Answer
+  published_diagnostics : List ℕ → Option ℤ → Option (Range × List ℕ) → Answer
+  log_message : Event → Answer
 
 -- `row_view row`: a token's row of the code as its name in UTF-8 and its range
 abbrev pub row_view : Row → List ℕ × Range
@@ -47,17 +47,17 @@ diagnostic_view d = (d.range, string_bytes d.message)
 
 -- `reply_view reply`: a reply of the code as an `Answer`
 abbrev pub reply_view : Reply → Answer
-reply_view (Capabilities id unit) = told_capabilities (id_view id) unit
-reply_view (Null id) = told_null (id_view id)
-reply_view (Text id version text) = told_text (id_view id) version (string_bytes text)
-reply_view (Tokens id rows) = told_tokens (id_view id) (map row_view rows.items)
-reply_view (Tree id text) = told_tree (id_view id) (string_bytes text)
-reply_view (StatsReply id s) = told_stats (id_view id) s
-reply_view (Folds id pairs) = told_folds (id_view id) pairs.items
-reply_view (Selections id selections) = told_selections (id_view id) (map (λ s. s.items) selections.items)
-reply_view (Diagnostics uri version d) = told_diagnostics (string_bytes uri) version (option_map diagnostic_view d)
-reply_view (Log log) = told_log log
-reply_view (Error id refusal) = told_error (option_map id_view id) refusal
+reply_view (Capabilities id unit) = capabilities_reply (id_view id) unit
+reply_view (Null id) = null_reply (id_view id)
+reply_view (Text id version text) = text_reply (id_view id) version (string_bytes text)
+reply_view (Tokens id rows) = tokens_reply (id_view id) (map row_view rows.items)
+reply_view (Tree id text) = tree_reply (id_view id) (string_bytes text)
+reply_view (StatsReply id s) = stats_reply (id_view id) s
+reply_view (Folds id pairs) = folds_reply (id_view id) pairs.items
+reply_view (Selections id selections) = selections_reply (id_view id) (map (λ s. s.items) selections.items)
+reply_view (Diagnostics uri version d) = published_diagnostics (string_bytes uri) version (option_map diagnostic_view d)
+reply_view (Log log) = log_message log
+reply_view (Error id refusal) = error_reply (option_map id_view id) refusal
 
 -- `id_data id`: the JSON value of an id
 abbrev pub id_data : Ident → Data
@@ -257,15 +257,15 @@ error_data id code text = object
 
 -- `reply_data answer`: the JSON value of what is sent, with the keys in byte order
 abbrev pub reply_data : Answer → Data
-reply_data (told_capabilities id unit) = result_data (id_data id) (capabilities unit)
-reply_data (told_null id) = result_data (id_data id) null
-reply_data (told_text id version text) = result_data (id_data id) (document_data version text)
-reply_data (told_tokens id rows) = result_data (id_data id) (rows_data rows)
-reply_data (told_tree id text) = result_data (id_data id) (string text)
-reply_data (told_stats id s) = result_data (id_data id) (stats_data s)
-reply_data (told_folds id pairs) = result_data (id_data id) (folds_data pairs)
-reply_data (told_selections id selections) = result_data (id_data id) (selections_data selections)
-reply_data (told_diagnostics uri version d) =
+reply_data (capabilities_reply id unit) = result_data (id_data id) (capabilities unit)
+reply_data (null_reply id) = result_data (id_data id) null
+reply_data (text_reply id version text) = result_data (id_data id) (document_data version text)
+reply_data (tokens_reply id rows) = result_data (id_data id) (rows_data rows)
+reply_data (tree_reply id text) = result_data (id_data id) (string text)
+reply_data (stats_reply id s) = result_data (id_data id) (stats_data s)
+reply_data (folds_reply id pairs) = result_data (id_data id) (folds_data pairs)
+reply_data (selections_reply id selections) = result_data (id_data id) (selections_data selections)
+reply_data (published_diagnostics uri version d) =
     notice_data (codes "textDocument/publishDiagnostics") (published uri version (diagnostic_list d))
-reply_data (told_log log) = notice_data (codes "window/logMessage") (log_data log)
-reply_data (told_error id refusal) = error_data (maybe_id_data id) (code_of refusal) (message_text refusal)
+reply_data (log_message log) = notice_data (codes "window/logMessage") (log_data log)
+reply_data (error_reply id refusal) = error_data (maybe_id_data id) (code_of refusal) (message_text refusal)

@@ -30,7 +30,7 @@ mod reply;
 mod sending;
 
 pub use definitions::{Diagnostic, Position, Range, Stats, Unit};
-pub use laws::{each_text_is_unicode, one_hearing, some_hearing};
+pub use laws::{each_text_is_unicode, received_exists, received_unique};
 pub use message::{Call, Change, Id, Malformed, Message, Note, RpcFault};
 pub use reading::read;
 pub use reply::{Log, Loss, Refusal, Reply, Row};

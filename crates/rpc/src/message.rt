@@ -62,12 +62,12 @@ pub enum Call {
 #[derive(Debug, Drop)]
 pub enum Malformed {
     DidOpen,
-    /// The URI is told where it is a text.
+    /// The URI is given where it is a text.
     DidChange { uri: Option<String> },
     DidClose,
 }
 
-/// What a notification tells.
+/// What a notification carries.
 #[derive(Debug, Drop)]
 pub enum Note {
     /// `initialized` (LSP 3.17, "Initialized Notification").
@@ -108,11 +108,11 @@ pub enum Message {
 pub enum RpcFault {
     /// It is no JSON value.
     Parse,
-    /// The value is no request, notification or reply. Its id is told where it can be read.
+    /// The value is no request, notification or reply. Its id is given where it can be read.
     Invalid { id: Option<Id> },
     /// A request of an unknown method.
     Unknown { id: Id },
-    /// A request whose parameters don't fit. `initialize` tells whether that is its method.
+    /// A request whose parameters don't fit. `initialize` says whether that is its method.
     Params { id: Id, initialize: bool },
     /// There was no memory to read it.
     Memory,

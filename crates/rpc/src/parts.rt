@@ -39,14 +39,14 @@ pub fn uri_at(params: &Value) -> Option<&str>
     text_at(params.get("textDocument")?, "uri")
 }
 
-/// The version of the document that the parameters tell.
+/// The version of the document that the parameters give.
 pub fn version_at(params: &Value) -> Option<i32>
     ensures { result ≡ version_at (view params.now) }
 {
     integer_at(params.get("textDocument")?, "version")
 }
 
-/// The text of the document that the parameters tell.
+/// The text of the document that the parameters give.
 pub fn document_text(params: &Value) -> Option<&str>
     ensures { option_map (λ s. s.now) result ≡ document_text (view params.now) }
 {

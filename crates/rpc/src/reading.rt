@@ -4,8 +4,8 @@ ghost use Rattle.std.specs.Prelude.{◌≡◌, Some, codes, map, option_map, opt
 ghost use Rattle.serde_json.specs.Find.{get};
 ghost use Rattle.serde_json.specs.View.{view, items_view};
 ghost use Rattle.rpc.specs.Fields.{text_at};
-ghost use Rattle.rpc.specs.Messages.{said, refused, params, its_text, its_tokens, its_tree, its_folds, id_view, change_view, note_view, message_view, fault_view, heard_of};
-ghost use Rattle.rpc.specs.Reading.{maybe_range, change_of, changes_of, changes_at, opening, changing, closing, asked_initialize, asked_about, asked_stats, asked_selections, request_of, notice_of, of_method, message_of, uri_at, positions_at, params_at, Gives, Hears};
+ghost use Rattle.rpc.specs.Messages.{message, refused, params, its_text, its_tokens, its_tree, its_folds, id_view, change_view, note_view, message_view, fault_view, received_of};
+ghost use Rattle.rpc.specs.Reading.{maybe_range, change_of, changes_of, changes_at, read_open, read_change, read_close, initialize_request, document_request, stats_request, selections_request, request_of, notification_of, of_method, message_of, uri_at, positions_at, params_at, Gives, Receives};
 
 use crate::fields::text_at;
 use crate::message::{Call, Change, Id, Malformed, Message, Note, RpcFault};
@@ -65,9 +65,9 @@ fn changes_at(alloc: Global, params: &Value) -> Result<Option<Vec<Change>>, Allo
     }
 }
 
-/// What a `textDocument/didOpen` with these parameters tells.
-fn opening(alloc: Global, params: &Value) -> Result<Note, AllocError>
-    ensures { IfOk result (λ note. note_view note ≡ opening (view params.now)) }
+/// What a `textDocument/didOpen` with these parameters carries.
+fn read_open(alloc: Global, params: &Value) -> Result<Note, AllocError>
+    ensures { IfOk result (λ note. note_view note ≡ read_open (view params.now)) }
 {
     match (uri_at(params), version_at(params), document_text(params)) {
         (Some(uri), Some(version), Some(text)) => Ok(Note::DidOpen {
@@ -79,9 +79,9 @@ fn opening(alloc: Global, params: &Value) -> Result<Note, AllocError>
     }
 }
 
-/// What a `textDocument/didChange` with these parameters tells.
-fn changing(alloc: Global, params: &Value) -> Result<Note, AllocError>
-    ensures { IfOk result (λ note. note_view note ≡ changing (view params.now)) }
+/// What a `textDocument/didChange` with these parameters carries.
+fn read_change(alloc: Global, params: &Value) -> Result<Note, AllocError>
+    ensures { IfOk result (λ note. note_view note ≡ read_change (view params.now)) }
 {
     let Some(uri) = uri_at(params) else {
         return Ok(Note::Malformed(Malformed::DidChange { uri: None }));
@@ -97,9 +97,9 @@ fn changing(alloc: Global, params: &Value) -> Result<Note, AllocError>
     }
 }
 
-/// What a `textDocument/didClose` with these parameters tells.
-fn closing(alloc: Global, params: &Value) -> Result<Note, AllocError>
-    ensures { IfOk result (λ note. note_view note ≡ closing (view params.now)) }
+/// What a `textDocument/didClose` with these parameters carries.
+fn read_close(alloc: Global, params: &Value) -> Result<Note, AllocError>
+    ensures { IfOk result (λ note. note_view note ≡ read_close (view params.now)) }
 {
     match copied_uri(alloc, params)? {
         Some(uri) => Ok(Note::DidClose { uri }),
@@ -108,8 +108,8 @@ fn closing(alloc: Global, params: &Value) -> Result<Note, AllocError>
 }
 
 /// An `initialize`, whose parameters are an object that may name units of positions.
-fn asked_initialize(id: Id, params: &Value) -> Result<Message, RpcFault>
-    ensures { Gives result (asked_initialize (id_view id) (view params.now)) }
+fn initialize_request(id: Id, params: &Value) -> Result<Message, RpcFault>
+    ensures { Gives result (initialize_request (id_view id) (view params.now)) }
 {
     if params.is_object() {
         let unit = unit_at(params);
@@ -133,7 +133,7 @@ fn copied_uri(alloc: Global, params: &Value) -> Result<Option<String>, AllocErro
 }
 
 /// The refusal of parameters that don't fit, of another method than `initialize`.
-fn misfit(id: Id) -> RpcFault
+fn params_fault(id: Id) -> RpcFault
     ensures { fault_view result ≡ Some (refused (params (id_view id) false)) }
 {
     RpcFault::Params {
@@ -143,65 +143,65 @@ fn misfit(id: Id) -> RpcFault
 }
 
 /// An `lr/text`, whose parameters name a document.
-fn asked_text(alloc: Global, id: Id, params: &Value) -> Result<Message, RpcFault>
-    ensures { Gives result (asked_about its_text (id_view id) (uri_at (view params.now))) }
+fn text_request(alloc: Global, id: Id, params: &Value) -> Result<Message, RpcFault>
+    ensures { Gives result (document_request its_text (id_view id) (uri_at (view params.now))) }
 {
     match copied_uri(alloc, params)? {
         Some(uri) => Ok(Message::Request(id, Call::Text { uri })),
-        None => Err(misfit(id)),
+        None => Err(params_fault(id)),
     }
 }
 
 /// An `lr/tokens`, whose parameters name a document.
-fn asked_tokens(alloc: Global, id: Id, params: &Value) -> Result<Message, RpcFault>
-    ensures { Gives result (asked_about its_tokens (id_view id) (uri_at (view params.now))) }
+fn tokens_request(alloc: Global, id: Id, params: &Value) -> Result<Message, RpcFault>
+    ensures { Gives result (document_request its_tokens (id_view id) (uri_at (view params.now))) }
 {
     match copied_uri(alloc, params)? {
         Some(uri) => Ok(Message::Request(id, Call::Tokens { uri })),
-        None => Err(misfit(id)),
+        None => Err(params_fault(id)),
     }
 }
 
 /// An `lr/tree`, whose parameters name a document.
-fn asked_tree(alloc: Global, id: Id, params: &Value) -> Result<Message, RpcFault>
-    ensures { Gives result (asked_about its_tree (id_view id) (uri_at (view params.now))) }
+fn tree_request(alloc: Global, id: Id, params: &Value) -> Result<Message, RpcFault>
+    ensures { Gives result (document_request its_tree (id_view id) (uri_at (view params.now))) }
 {
     match copied_uri(alloc, params)? {
         Some(uri) => Ok(Message::Request(id, Call::Tree { uri })),
-        None => Err(misfit(id)),
+        None => Err(params_fault(id)),
     }
 }
 
 /// An `lr/stats`, whose parameters name a document.
-fn asked_stats(alloc: Global, id: Id, params: &Value) -> Result<Message, RpcFault>
-    ensures { Gives result (asked_stats (id_view id) (uri_at (view params.now))) }
+fn stats_request(alloc: Global, id: Id, params: &Value) -> Result<Message, RpcFault>
+    ensures { Gives result (stats_request (id_view id) (uri_at (view params.now))) }
 {
     match copied_uri(alloc, params)? {
         Some(uri) => Ok(Message::Request(id, Call::Stats { uri })),
-        None => Err(misfit(id)),
+        None => Err(params_fault(id)),
     }
 }
 
 /// A `textDocument/foldingRange`, whose parameters name a document.
-fn asked_folds(alloc: Global, id: Id, params: &Value) -> Result<Message, RpcFault>
-    ensures { Gives result (asked_about its_folds (id_view id) (uri_at (view params.now))) }
+fn folds_request(alloc: Global, id: Id, params: &Value) -> Result<Message, RpcFault>
+    ensures { Gives result (document_request its_folds (id_view id) (uri_at (view params.now))) }
 {
     match copied_uri(alloc, params)? {
         Some(uri) => Ok(Message::Request(id, Call::FoldingRange { uri })),
-        None => Err(misfit(id)),
+        None => Err(params_fault(id)),
     }
 }
 
 /// A `textDocument/selectionRange`, whose parameters name a document and positions in it.
-fn asked_selections(alloc: Global, id: Id, params: &Value) -> Result<Message, RpcFault>
+fn selections_request(alloc: Global, id: Id, params: &Value) -> Result<Message, RpcFault>
     ensures { let uri = uri_at (view params.now) in
-        Gives result (asked_selections (id_view id) uri (positions_at (view params.now))) }
+        Gives result (selections_request (id_view id) uri (positions_at (view params.now))) }
 {
     match (copied_uri(alloc, params)?, positions_at(alloc, params)?) {
         (Some(uri), Some(positions)) => {
             Ok(Message::Request(id, Call::SelectionRange { uri, positions }))
         }
-        _ => Err(misfit(id)),
+        _ => Err(params_fault(id)),
     }
 }
 
@@ -210,29 +210,29 @@ fn request_of(alloc: Global, method: &str, id: Id, params: &Value) -> Result<Mes
     ensures { Gives result (request_of method.now (id_view id) (view params.now)) }
 {
     match method {
-        "initialize" => asked_initialize(id, params),
+        "initialize" => initialize_request(id, params),
         "shutdown" => Ok(Message::Request(id, Call::Shutdown)),
-        "textDocument/foldingRange" => asked_folds(alloc, id, params),
-        "textDocument/selectionRange" => asked_selections(alloc, id, params),
-        "lr/text" => asked_text(alloc, id, params),
-        "lr/tokens" => asked_tokens(alloc, id, params),
-        "lr/tree" => asked_tree(alloc, id, params),
-        "lr/stats" => asked_stats(alloc, id, params),
+        "textDocument/foldingRange" => folds_request(alloc, id, params),
+        "textDocument/selectionRange" => selections_request(alloc, id, params),
+        "lr/text" => text_request(alloc, id, params),
+        "lr/tokens" => tokens_request(alloc, id, params),
+        "lr/tree" => tree_request(alloc, id, params),
+        "lr/stats" => stats_request(alloc, id, params),
         _ => Err(RpcFault::Unknown { id }),
     }
 }
 
 /// The notification of a method. One of an unknown method is ignored.
-fn notice_of(alloc: Global, method: &str, params: &Value) -> Result<Message, AllocError>
+fn notification_of(alloc: Global, method: &str, params: &Value) -> Result<Message, AllocError>
     ensures { IfOk result (λ message.
-        said (message_view message) ≡ notice_of method.now (view params.now)) }
+        message (message_view message) ≡ notification_of method.now (view params.now)) }
 {
     match method {
         "initialized" => Ok(Message::Notice(Note::Initialized)),
         "exit" => Ok(Message::Notice(Note::Exit)),
-        "textDocument/didOpen" => opening(alloc, params).map(Message::Notice),
-        "textDocument/didChange" => changing(alloc, params).map(Message::Notice),
-        "textDocument/didClose" => closing(alloc, params).map(Message::Notice),
+        "textDocument/didOpen" => read_open(alloc, params).map(Message::Notice),
+        "textDocument/didChange" => read_change(alloc, params).map(Message::Notice),
+        "textDocument/didClose" => read_close(alloc, params).map(Message::Notice),
         _ => Ok(Message::Ignored),
     }
 }
@@ -249,12 +249,12 @@ fn of_method(
 {
     match id {
         Some(id) => request_of(alloc, method, id, params),
-        None => Ok(notice_of(alloc, method, params)?),
+        None => Ok(notification_of(alloc, method, params)?),
     }
 }
 
 /// The message of a value with this id, which has a method. Without `params` they are `null`.
-fn called(alloc: Global, value: &Value, id: Option<Id>) -> Result<Message, RpcFault>
+fn method_message(alloc: Global, value: &Value, id: Option<Id>) -> Result<Message, RpcFault>
     ensures { Gives result (of_method
         (text_at (codes "method") (view value.now))
         (option_map id_view id)
@@ -281,16 +281,16 @@ fn message_of(alloc: Global, value: &Value) -> Result<Message, RpcFault>
     if is_invalid(value, &id) {
         return Err(RpcFault::Invalid { id });
     }
-    called(alloc, value, id)
+    method_message(alloc, value, id)
 }
 
 /// The message that a content is (JSON-RPC 2.0). It is refused where the content is no JSON value in
 /// UTF-8 or is nested too deep, where the value is no request, notification or reply, and where the
 /// method of a request is unknown or its parameters don't fit.
-#[tactic(auto, using(crate::proofs::Hearing::hearing_value, crate::proofs::Hearing::hearing_unread))]
+#[tactic(auto, using(crate::proofs::Hearing::received_value, crate::proofs::Hearing::received_unread))]
 pub fn read(alloc: Global, content: &[u8]) -> Result<Message, RpcFault>
-    // Nothing is heard where memory was refused.
-    ensures { IfSome (heard_of result) (λ heard. Hears content.now heard) }
+    // Nothing is received where memory was refused.
+    ensures { IfSome (received_of result) (λ received. Receives content.now received) }
 {
     match Value::from_slice(alloc, content) {
         Ok(value) => message_of(alloc, &value),

@@ -45,7 +45,7 @@ pub enum Refusal {
     NotInitialized,
 }
 
-/// A token's name and range, as they are told.
+/// A token's name and range, as they are sent.
 #[derive(Debug, Drop)]
 pub struct Row {
     pub name: String,

@@ -6,7 +6,7 @@ ghost use Rattle.serde_json.specs.Events.{SendsValue};
 ghost use Rattle.serde_json.specs.Find.{of_integer};
 ghost use Rattle.serde_json.specs.Written.{compact_text};
 ghost use Rattle.rpc.specs.Messages.{id_view};
-ghost use Rattle.rpc.specs.Replies.{id_data, maybe_id_data, code_of, message_text, capability_list, capabilities, synchronisation, result_data, error_object, document_data, row_data, row_view, rows_data, stats_data, fold_data, folds_data, position_data, range_data, with_parent, nested, selection_data, selections_data, diagnostic_data, diagnostic_view, diagnostic_list, published, log_data, told_diagnostics, told_log, told_error, reply_data, reply_view};
+ghost use Rattle.rpc.specs.Replies.{id_data, maybe_id_data, code_of, message_text, capability_list, capabilities, synchronisation, result_data, error_object, document_data, row_data, row_view, rows_data, stats_data, fold_data, folds_data, position_data, range_data, with_parent, nested, selection_data, selections_data, diagnostic_data, diagnostic_view, diagnostic_list, published, log_data, published_diagnostics, log_message, error_reply, reply_data, reply_view};
 ghost use Rattle.rpc.specs.Sending.{outcome_data};
 
 use crate::message::Id;
@@ -102,7 +102,7 @@ fn send_capability_list<S: Serializer>(unit: Unit, out: &mut S) -> Result<(), S:
     out.end_map()
 }
 
-/// What is told to `initialize` (LSP 3.17, "InitializeResult").
+/// The reply to `initialize` (LSP 3.17, "InitializeResult").
 fn send_capabilities<S: Serializer>(unit: Unit, out: &mut S) -> Result<(), S::Error>
     ensures { OnOk result
         (SendsValue (capabilities unit) (S.written out.old) (S.written out.new)) }
@@ -362,8 +362,8 @@ fn send_diagnostics<S: Serializer>(
     diagnostic: &Option<Diagnostic>,
     out: &mut S,
 ) -> Result<(), S::Error>
-    ensures { let told = option_map diagnostic_view diagnostic.now in
-        OnOk result (SendsValue (reply_data (told_diagnostics uri.now version told))
+    ensures { let notification = option_map diagnostic_view diagnostic.now in
+        OnOk result (SendsValue (reply_data (published_diagnostics uri.now version notification))
         (S.written out.old) (S.written out.new)) }
 {
     out.begin_map(Some(3))?;
@@ -391,7 +391,7 @@ fn send_logged<S: Serializer>(log: Log, out: &mut S) -> Result<(), S::Error>
 /// The notification of what is logged (LSP 3.17, "LogMessage Notification").
 fn send_log<S: Serializer>(log: Log, out: &mut S) -> Result<(), S::Error>
     ensures { OnOk result
-        (SendsValue (reply_data (told_log log)) (S.written out.old) (S.written out.new)) }
+        (SendsValue (reply_data (log_message log)) (S.written out.old) (S.written out.new)) }
 {
     out.begin_map(Some(3))?;
     out.key("jsonrpc")?;
@@ -419,7 +419,7 @@ fn send_refusal<S: Serializer>(refusal: Refusal, out: &mut S) -> Result<(), S::E
 /// A reply with an error (JSON-RPC 2.0, "Response object").
 fn send_error<S: Serializer>(id: &Option<Id>, refusal: Refusal, out: &mut S) -> Result<(), S::Error>
     ensures { OnOk result
-        (SendsValue (reply_data (told_error (option_map id_view id.now) refusal))
+        (SendsValue (reply_data (error_reply (option_map id_view id.now) refusal))
         (S.written out.old) (S.written out.new)) }
 {
     out.begin_map(Some(3))?;

@@ -1,4 +1,4 @@
--- The items of runs, and what lies before and behind one of them.
+-- The items of runs, and what lies before and after one of them.
 use Rattle.std.specs.Prelude.{◌≡◌, ℕ, zero, suc, ◌+◌, ◌-◌, ◌<◌, ◌≤◌, ◌⊎◌, List, [], ◌∷◌, ◌++◌, length, take, drop, slice_get, slice_index_or, unwrap_or, Some, None, All}
 use Rattle.std.proofs.Common.{arith, refl, sym, ap, inl, inr, ◌∙◌, get_or, length-append, append_assoc}
 use Rattle.std.proofs.lemmas.Bool.{cases_lt}
@@ -15,21 +15,21 @@ module _ {A : Type 0} where
   flattened-append (x ∷ xs) ys = ap (λ t. x ++ t) (flattened-append xs ys) ∙ sym (append_assoc x (flattened xs) (flattened ys))
 
   -- the items before the run at place i
-  abbrev pub front : List (List A) → ℕ → List A
-  front runs i = flattened (take i runs)
+  abbrev pub prefix : List (List A) → ℕ → List A
+  prefix runs i = flattened (take i runs)
 
-  pub parted : (runs : List (List A)) (i : ℕ) → flattened runs ≡ front runs i ++ flattened (drop i runs)
+  pub parted : (runs : List (List A)) (i : ℕ) → flattened runs ≡ prefix runs i ++ flattened (drop i runs)
   parted runs i = ap flattened (sym (take-append-drop i runs)) ∙ flattened-append (take i runs) (drop i runs)
 
-  pub front-le : (runs : List (List A)) (i : ℕ) → length (front runs i) ≤ length (flattened runs)
-  front-le runs i = omega (arith, ap length (parted runs i), length-append (front runs i) (flattened (drop i runs)))
+  pub prefix-le : (runs : List (List A)) (i : ℕ) → length (prefix runs i) ≤ length (flattened runs)
+  prefix-le runs i = omega (arith, ap length (parted runs i), length-append (prefix runs i) (flattened (drop i runs)))
 
   -- no fewer items lie before a later run
-  pub front_later : (m n : ℕ) (runs : List (List A)) → m ≤ n → length (front runs m) ≤ length (front runs n)
-  front_later zero n runs l = omega arith
-  front_later (suc m) n [] l = omega arith
-  front_later (suc m) zero (r ∷ runs) l = absurd (omega (arith, l))
-  front_later (suc m) (suc n) (r ∷ runs) l = omega (arith, front_later m n runs (omega (arith, l)), length-append r (front runs m), length-append r (front runs n))
+  pub prefix_later : (m n : ℕ) (runs : List (List A)) → m ≤ n → length (prefix runs m) ≤ length (prefix runs n)
+  prefix_later zero n runs l = omega arith
+  prefix_later (suc m) n [] l = omega arith
+  prefix_later (suc m) zero (r ∷ runs) l = absurd (omega (arith, l))
+  prefix_later (suc m) (suc n) (r ∷ runs) l = omega (arith, prefix_later m n runs (omega (arith, l)), length-append r (prefix runs m), length-append r (prefix runs n))
 
   -- past the last run
   pub past_run : (runs : List (List A)) (i : ℕ) → slice_get runs i ≡ None → i ≤ length runs → i ≡ length runs
@@ -47,60 +47,60 @@ module _ {A : Type 0} (runs : List (List A)) (i : ℕ) (run : List A) (at : Some
   is_at : run ≡ slice_index_or runs i run
   is_at = ap (λ o. unwrap_or o run) at ∙ unwrap_or-slice_get runs i run
 
-  pub front-more : front runs (i + 1) ≡ front runs i ++ run
-  front-more =
+  pub prefix-more : prefix runs (i + 1) ≡ prefix runs i ++ run
+  prefix-more =
       ap flattened (take_more runs i run within_runs)
       ∙ flattened-append (take i runs) (slice_index_or runs i run ∷ [])
-      ∙ ap (λ l. front runs i ++ l) (append-nil (slice_index_or runs i run) ∙ sym is_at)
+      ∙ ap (λ l. prefix runs i ++ l) (append-nil (slice_index_or runs i run) ∙ sym is_at)
 
-  pub whole_at : front runs i ++ (run ++ flattened (drop (i + 1) runs)) ≡ flattened runs
+  pub whole_at : prefix runs i ++ (run ++ flattened (drop (i + 1) runs)) ≡ flattened runs
   whole_at =
-      ap (λ r. front runs i ++ (r ++ flattened (drop (i + 1) runs))) is_at
-      ∙ ap (λ l. front runs i ++ flattened l) (sym (drop_more runs i run within_runs))
+      ap (λ r. prefix runs i ++ (r ++ flattened (drop (i + 1) runs))) is_at
+      ∙ ap (λ l. prefix runs i ++ flattened l) (sym (drop_more runs i run within_runs))
       ∙ sym (parted runs i)
 
-  module _ (o : ℕ) (l : length (front runs i) ≤ o) (m : o < length (front runs (i + 1))) where
-    pub inside : o - length (front runs i) < length run
-    inside = omega (arith, m, l, ap length front-more, length-append (front runs i) run)
+  module _ (o : ℕ) (l : length (prefix runs i) ≤ o) (m : o < length (prefix runs (i + 1))) where
+    pub inside : o - length (prefix runs i) < length run
+    inside = omega (arith, m, l, ap length prefix-more, length-append (prefix runs i) run)
 
-    far : o ≡ length (front runs i) + (o - length (front runs i))
+    far : o ≡ length (prefix runs i) + (o - length (prefix runs i))
     far = omega (arith, l)
 
-    short : o - length (front runs i) ≤ length run
+    short : o - length (prefix runs i) ≤ length run
     short = omega (arith, inside)
 
-    pub before_cut : take o (flattened runs) ≡ front runs i ++ take (o - length (front runs i)) run
+    pub before_cut : take o (flattened runs) ≡ prefix runs i ++ take (o - length (prefix runs i)) run
     before_cut =
         (λ k. take (far k) (sym whole_at k))
-        ∙ take-append-add (front runs i) (run ++ flattened (drop (i + 1) runs)) (o - length (front runs i))
-        ∙ ap (λ q. front runs i ++ q) (take-append-le (o - length (front runs i)) run (flattened (drop (i + 1) runs)) short)
+        ∙ take-append-add (prefix runs i) (run ++ flattened (drop (i + 1) runs)) (o - length (prefix runs i))
+        ∙ ap (λ q. prefix runs i ++ q) (take-append-le (o - length (prefix runs i)) run (flattened (drop (i + 1) runs)) short)
 
-    pub behind_cut : drop o (flattened runs) ≡ drop (o - length (front runs i)) run ++ flattened (drop (i + 1) runs)
-    behind_cut =
+    pub after_cut : drop o (flattened runs) ≡ drop (o - length (prefix runs i)) run ++ flattened (drop (i + 1) runs)
+    after_cut =
         (λ k. drop (far k) (sym whole_at k))
-        ∙ drop-append-add (front runs i) (run ++ flattened (drop (i + 1) runs)) (o - length (front runs i))
-        ∙ drop-append-le (o - length (front runs i)) run (flattened (drop (i + 1) runs)) short
+        ∙ drop-append-add (prefix runs i) (run ++ flattened (drop (i + 1) runs)) (o - length (prefix runs i))
+        ∙ drop-append-le (o - length (prefix runs i)) run (flattened (drop (i + 1) runs)) short
 
 -- at the end
-module _ {A : Type 0} (runs : List (List A)) (o i : ℕ) (e : i ≡ length runs) (l : length (front runs i) ≤ o) where
-  pub all_before : front runs i ≡ flattened runs
+module _ {A : Type 0} (runs : List (List A)) (o i : ℕ) (e : i ≡ length runs) (l : length (prefix runs i) ≤ o) where
+  pub all_before : prefix runs i ≡ flattened runs
   all_before = ap flattened (take_all i runs (omega (arith, e)))
 
   pub past_end : length (flattened runs) ≤ o
   past_end = omega (arith, l, ap length all_before)
 
-  pub before_end : take o (flattened runs) ≡ front runs i ++ []
-  before_end = take_all o (flattened runs) past_end ∙ sym (append-nil (front runs i) ∙ all_before)
+  pub before_end : take o (flattened runs) ≡ prefix runs i ++ []
+  before_end = take_all o (flattened runs) past_end ∙ sym (append-nil (prefix runs i) ∙ all_before)
 
-  pub behind_end : drop o (flattened runs) ≡ flattened (drop (i + 1) runs)
-  behind_end = drop_all o (flattened runs) past_end ∙ ap flattened (sym (drop_all (i + 1) runs (omega (arith, e))))
+  pub after_end : drop o (flattened runs) ≡ flattened (drop (i + 1) runs)
+  after_end = drop_all o (flattened runs) past_end ∙ ap flattened (sym (drop_all (i + 1) runs (omega (arith, e))))
 
 -- the run of a later cut is no earlier one
 pub in_order : {A : Type 0} (runs : List (List A)) (a b m n : ℕ) (f g s t : List A) → a ≤ b → IsCut runs a m f g → IsCut runs b n s t → m ≤ n
 in_order runs a b m n f g s t l p q = go (cases_lt n m)
   where
     go : (n < m) ⊎ (m ≤ n) → m ≤ n
-    go (inl h) = absurd (omega (arith, l, p.starts, q.ends (omega (arith, h, p.within)), front_later (n + 1) m runs (omega (arith, h))))
+    go (inl h) = absurd (omega (arith, l, p.starts, q.ends (omega (arith, h, p.within)), prefix_later (n + 1) m runs (omega (arith, h))))
     go (inr h) = h
 
 -- the first of two lists joined, where the first list is empty only where the second is
@@ -114,27 +114,27 @@ first_dropped zero xs = refl
 first_dropped (suc i) [] = refl
 first_dropped (suc i) (x ∷ xs) = first_dropped i xs
 
--- nothing lies behind a cut only where nothing comes behind it at all
-pub none_behind : {A : Type 0} (runs : List (List A)) (o run : ℕ) (f b : List A) → IsCut runs o run f b → length b ≡ 0 → length (flattened (drop (run + 1) runs)) ≡ 0
-none_behind {A} runs o run f b is none = go (cases_lt run (length runs))
+-- nothing lies after a cut only where nothing comes after it at all
+pub none_after : {A : Type 0} (runs : List (List A)) (o run : ℕ) (f b : List A) → IsCut runs o run f b → length b ≡ 0 → length (flattened (drop (run + 1) runs)) ≡ 0
+none_after {A} runs o run f b is none = go (cases_lt run (length runs))
   where
     ahead : List A
     ahead = flattened (drop (run + 1) runs)
 
-    whole : length (front runs (run + 1)) + length ahead ≡ length (flattened runs)
-    whole = sym (ap length (parted runs (run + 1)) ∙ length-append (front runs (run + 1)) ahead)
+    whole : length (prefix runs (run + 1)) + length ahead ≡ length (flattened runs)
+    whole = sym (ap length (parted runs (run + 1)) ∙ length-append (prefix runs (run + 1)) ahead)
 
     cut : length (take o (flattened runs)) + length (drop o (flattened runs)) ≡ length (flattened runs)
     cut = sym (length-append (take o (flattened runs)) (drop o (flattened runs))) ∙ ap length (take-append-drop o (flattened runs))
 
     go : (run < length runs) ⊎ (length runs ≤ run) → length ahead ≡ 0
-    go (inl l) = absurd (omega (arith, is.ends l, whole, cut, none, ap length is.behind, length-append b ahead, length-take o (flattened runs)))
+    go (inl l) = absurd (omega (arith, is.ends l, whole, cut, none, ap length is.after, length-append b ahead, length-take o (flattened runs)))
     go (inr l) = ap (λ r. length (flattened r)) (drop_all (run + 1) runs (omega (arith, l)))
 
 -- one run more, where the rest is cut, and where it is the last one
-pub flattened-more : {A : Type 0} (runs : List (List A)) (run rest front back all : List A) → rest ≡ front ++ back → run ≡ front → flattened runs ++ rest ≡ all → flattened (runs ++ run ∷ []) ++ back ≡ all
-flattened-more runs run rest front back all cut is before =
-    ap (λ t. t ++ back) (flattened-append runs (run ∷ []) ∙ ap (λ t. flattened runs ++ t) (append-nil run ∙ is)) ∙ append_assoc (flattened runs) front back ∙ ap (λ t. flattened runs ++ t) (sym cut) ∙ before
+pub flattened-more : {A : Type 0} (runs : List (List A)) (run rest prefix back all : List A) → rest ≡ prefix ++ back → run ≡ prefix → flattened runs ++ rest ≡ all → flattened (runs ++ run ∷ []) ++ back ≡ all
+flattened-more runs run rest prefix back all cut is before =
+    ap (λ t. t ++ back) (flattened-append runs (run ∷ []) ∙ ap (λ t. flattened runs ++ t) (append-nil run ∙ is)) ∙ append_assoc (flattened runs) prefix back ∙ ap (λ t. flattened runs ++ t) (sym cut) ∙ before
 
 pub flattened-last : {A : Type 0} (runs : List (List A)) (run rest all : List A) → run ≡ rest → flattened runs ++ rest ≡ all → flattened (runs ++ run ∷ []) ≡ all
 flattened-last runs run rest all is before = flattened-append runs (run ∷ []) ∙ ap (λ t. flattened runs ++ t) (append-nil run ∙ is) ∙ before
@@ -143,8 +143,8 @@ pub flattened-none : {A : Type 0} (runs : List (List A)) (rest all : List A) →
 flattened-none runs [] all none before = sym (append-nil (flattened runs)) ∙ before
 flattened-none runs (x ∷ rest) all none before = absurd (omega (arith, none))
 
-pub large-more : {A : Type 0} (runs : List (List A)) (run front : List A) → run ≡ front → SHORTEST_OF_SEVERAL ≤ length front → All IsLarge runs → All IsLarge (runs ++ run ∷ [])
-large-more runs run front is long large = All-append IsLarge runs (run ∷ []) large (All-cons IsLarge run [] (omega (arith, long, ap length is)) (All-nil IsLarge))
+pub large-more : {A : Type 0} (runs : List (List A)) (run prefix : List A) → run ≡ prefix → SHORTEST_OF_SEVERAL ≤ length prefix → All IsLarge runs → All IsLarge (runs ++ run ∷ [])
+large-more runs run prefix is long large = All-append IsLarge runs (run ∷ []) large (All-cons IsLarge run [] (omega (arith, long, ap length is)) (All-nil IsLarge))
 
-pub short-more : {A : Type 0} (runs : List (List A)) (run front : List A) → run ≡ front → length front ≤ LONGEST_RUN → All IsShort runs → All IsShort (runs ++ run ∷ [])
-short-more runs run front is few short = All-append IsShort runs (run ∷ []) short (All-cons IsShort run [] (omega (arith, few, ap length is)) (All-nil IsShort))
+pub short-more : {A : Type 0} (runs : List (List A)) (run prefix : List A) → run ≡ prefix → length prefix ≤ LONGEST_RUN → All IsShort runs → All IsShort (runs ++ run ∷ [])
+short-more runs run prefix is few short = All-append IsShort runs (run ∷ []) short (All-cons IsShort run [] (omega (arith, few, ap length is)) (All-nil IsShort))

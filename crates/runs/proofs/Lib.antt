@@ -1,5 +1,5 @@
-mod Few
-mod Filled
+mod FewRuns
+mod RefilledRuns
 mod Flat
-mod Found
+mod FirstReached
 mod Totals

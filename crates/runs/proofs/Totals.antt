@@ -7,13 +7,13 @@ use Rattle.seqtree.specs.Monoid.{MonoidLaws, total}
 use Rattle.seqtree.specs.Saturated.{saturated, saturated-exact}
 use Rattle.seqtree.proofs.Totals.{total-append}
 use Rattle.runs.specs.declared.counted.Counted.{Counted}
-use Rattle.runs.specs.Counted.{most, nothing, joined, counted}
+use Rattle.runs.specs.Counted.{most, nothing, join_three, counted}
 use Rattle.runs.specs.Runs.{flattened}
-use Rattle.runs.proofs.Flat.{front, front-le}
+use Rattle.runs.proofs.Flat.{prefix, prefix-le}
 
 module _ {A S : Type 0} {zero : S} {op : S → S → S} (measure : A → S) (laws : MonoidLaws zero op) where
   abbrev pub all_of : List (List A) → Counted S
-  all_of runs = total (nothing zero) (joined op) (counted zero op measure) runs
+  all_of runs = total (nothing zero) (join_three op) (counted zero op measure) runs
 
   pub total-sum : (runs : List (List A)) → (all_of runs).sum ≡ total zero op measure (flattened runs)
   total-sum [] = refl
@@ -31,19 +31,19 @@ module _ {A S : Type 0} {zero : S} {op : S → S → S} (measure : A → S) (law
   total-more items i d l = ap (total zero op measure) (take_more items i d l) ∙ total-append measure laws (take i items) (slice_index_or items i d ∷ []) ∙ ap (op (total zero op measure (take i items))) (laws.right_unit (measure (slice_index_or items i d)))
 
   module _ (runs : List (List A)) (few : length (flattened runs) ≤ most) (offset : ℕ) where
-    pub items_before : (i : ℕ) → (all_of (take i runs)).items ≡ length (front runs i)
-    items_before i = total-items (take i runs) (omega (arith, few, front-le runs i))
+    pub items_before : (i : ℕ) → (all_of (take i runs)).items ≡ length (prefix runs i)
+    items_before i = total-items (take i runs) (omega (arith, few, prefix-le runs i))
 
-    -- no more items than the offset lie before the first run behind which more do
-    pub starts_before : (i : ℕ) → ((k : ℕ) → k < i → nat_lt offset (all_of (take (k + 1) runs)).items ≡ false) → length (front runs i) ≤ offset
+    -- no more items than the offset lie before the first run after which more do
+    pub starts_before : (i : ℕ) → ((k : ℕ) → k < i → nat_lt offset (all_of (take (k + 1) runs)).items ≡ false) → length (prefix runs i) ≤ offset
     starts_before nought h = omega arith
     starts_before (suc k) h =
         let same : k + 1 ≡ suc k = omega arith in
         let low = ltb-false offset _ (h k (omega arith)) in
-        omega (arith, low, items_before (k + 1), ap (λ n. length (front runs n)) same)
+        omega (arith, low, items_before (k + 1), ap (λ n. length (prefix runs n)) same)
 
-    pub ends_behind : (i : ℕ) → nat_lt offset (all_of (take (i + 1) runs)).items ≡ true → offset < length (front runs (i + 1))
-    ends_behind i h = omega (arith, ltb-true offset _ h, items_before (i + 1))
+    pub ends_after : (i : ℕ) → nat_lt offset (all_of (take (i + 1) runs)).items ≡ true → offset < length (prefix runs (i + 1))
+    ends_after i h = omega (arith, ltb-true offset _ h, items_before (i + 1))
 
   -- a walk over items, with what stands before them
   pub walked : (before : S) (items : List A) (i : ℕ) (d : A) (s m past : S) → i < length items → d ≡ slice_index_or items i d → s ≡ op before (total zero op measure (take i items)) → m ≡ measure d → past ≡ op s m → past ≡ op before (total zero op measure (take (i + 1) items))

@@ -13,8 +13,8 @@ abbrev pub nothing : {S : Type 0} → S → Counted S
 nothing zero = record { items = 0; sum = zero }
 
 -- the count and sum of what has `a` and, after it, of what has `b`
-abbrev pub joined : {S : Type 0} → (S → S → S) → Counted S → Counted S → Counted S
-joined op a b = record { items = saturated most a.items b.items; sum = op a.sum b.sum }
+abbrev pub join_three : {S : Type 0} → (S → S → S) → Counted S → Counted S → Counted S
+join_three op a b = record { items = saturated most a.items b.items; sum = op a.sum b.sum }
 
 -- `counted zero op measure items`: how many items there are, and their sum
 abbrev pub counted : {A S : Type 0} → S → (S → S → S) → (A → S) → List A → Counted S

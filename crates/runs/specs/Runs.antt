@@ -32,11 +32,11 @@ pub record IsStored {A : Type 0} (runs : List (List A)) : Type 0 where
   pub short : All IsShort runs
   pub small : count_by is_small runs ≤ 1
 
--- before the offset lie `run` whole runs and the items `front` of the next one; after it lie its other items, `back`, and all further runs
-pub record IsCut {A : Type 0} (runs : List (List A)) (offset run : ℕ) (front back : List A) : Type 0 where
+-- before the offset lie `run` whole runs and the items `prefix` of the next one; after it lie its other items, `back`, and all further runs
+pub record IsCut {A : Type 0} (runs : List (List A)) (offset run : ℕ) (prefix back : List A) : Type 0 where
   pub within : run ≤ length runs
-  pub before : take offset (flattened runs) ≡ flattened (take run runs) ++ front
-  pub behind : drop offset (flattened runs) ≡ back ++ flattened (drop (run + 1) runs)
+  pub before : take offset (flattened runs) ≡ flattened (take run runs) ++ prefix
+  pub after : drop offset (flattened runs) ≡ back ++ flattened (drop (run + 1) runs)
   pub starts : length (flattened (take run runs)) ≤ offset
   pub ends : run < length runs → offset < length (flattened (take (run + 1) runs))
 

@@ -11,12 +11,12 @@ pub struct Counted<S> {
 }
 
 impl<S: Monoid> Monoid for Counted<S> {
-    ghost use Rattle.runs.specs.Counted.{nothing, joined};
+    ghost use Rattle.runs.specs.Counted.{nothing, join_three};
     ghost use Rattle.runs.specs.Laws.{counted_laws};
 
     ghost empty = { nothing S.empty };
 
-    ghost op = { joined S.op };
+    ghost op = { join_three S.op };
 
     ghost laws = { counted_laws S.empty S.op S.laws };
 

@@ -34,21 +34,21 @@ pub fn splice_between<T: Measured + Copy>(
     new: &[T],
 ) -> Result<Splice<T>, AllocError>
     ensures { (a b : ℕ) → a ≤ b →
-        IsCut runs.now a start.now.run start.now.front.now start.now.back.now →
-        IsCut runs.now b end.now.run end.now.front.now end.now.back.now →
+        IsCut runs.now a start.now.run start.now.prefix.now start.now.back.now →
+        IsCut runs.now b end.now.run end.now.prefix.now end.now.back.now →
         count_by is_small runs.now ≤ 1 →
         IfOk result (λ s. IsSplice runs.now
         (take a (flattened runs.now) ++ new.now ++ drop b (flattened runs.now))
         s.from s.to s.runs) }
 {
-    let gap = between(alloc, start, end, runs.len(), new)?;
-    let Gap { from, to, items } = widened(alloc, runs, gap)?;
+    let gap = gap_between(alloc, start, end, runs.len(), new)?;
+    let Gap { from, to, items } = widen(alloc, runs, gap)?;
     let runs = Slots::make(alloc, runs_of(alloc, &items)?)?;
     Ok(Splice { from, to, runs })
 }
 
 /// The gap between two cuts of a list of `count` runs, with `new` in the place of what lies between them.
-fn between<T: Copy>(
+fn gap_between<T: Copy>(
     alloc: Global,
     start: &Cut<'_, T>,
     end: &Cut<'_, T>,
@@ -56,14 +56,14 @@ fn between<T: Copy>(
     new: &[T],
 ) -> Result<Gap<T>, AllocError>
     ensures { (runs : List (List T)) (a b : ℕ) → count ≡ length runs → a ≤ b →
-        IsCut runs a start.now.run start.now.front.now start.now.back.now →
-        IsCut runs b end.now.run end.now.front.now end.now.back.now →
+        IsCut runs a start.now.run start.now.prefix.now start.now.back.now →
+        IsCut runs b end.now.run end.now.prefix.now end.now.back.now →
         IfOk result (λ g. IsGap runs
         (take a (flattened runs) ++ new.now ++ drop b (flattened runs))
         g.from g.to g.items.items) }
 {
     let to = if end.run < count { end.run + 1 } else { count };
-    let items = joined(alloc, start.front, new, end.back)?;
+    let items = join_three(alloc, start.prefix, new, end.back)?;
     Ok(Gap {
         from: start.run,
         to,
@@ -71,8 +71,8 @@ fn between<T: Copy>(
     })
 }
 
-/// The gap with the run before it, or else the one behind it, where its items are too few for one of several runs.
-fn widened<T: Measured + Copy>(
+/// The gap with the run before it, or else the one after it, where its items are too few for one of several runs.
+fn widen<T: Measured + Copy>(
     alloc: Global,
     runs: &Seq<Run<T>>,
     gap: Gap<T>,
@@ -88,7 +88,7 @@ fn widened<T: Measured + Copy>(
         return Ok(Gap { from, to, items });
     }
     if from > 0 {
-        let items = joined(alloc, items_at(runs, from - 1), &items, &[])?;
+        let items = join_three(alloc, items_at(runs, from - 1), &items, &[])?;
         return Ok(Gap {
             from: from - 1,
             to,
@@ -96,7 +96,7 @@ fn widened<T: Measured + Copy>(
         });
     }
     if to < runs.len() {
-        let items = joined(alloc, &[], &items, items_at(runs, to))?;
+        let items = join_three(alloc, &[], &items, items_at(runs, to))?;
         return Ok(Gap {
             from,
             to: to + 1,
@@ -116,16 +116,16 @@ fn items_at<T: Measured>(runs: &Seq<Run<T>>, place: usize) -> &[T]
     }
 }
 
-/// Three lists, one behind the other.
-fn joined<T: Copy>(
+/// Three lists, one after another.
+fn join_three<T: Copy>(
     alloc: Global,
-    front: &[T],
+    prefix: &[T],
     middle: &[T],
     back: &[T],
 ) -> Result<Vec<T>, AllocError>
-    ensures { IfOk result (λ items. items.items ≡ front.now ++ middle.now ++ back.now) }
+    ensures { IfOk result (λ items. items.items ≡ prefix.now ++ middle.now ++ back.now) }
 {
-    let mut items = Vec::from_slice(alloc, front)?;
+    let mut items = Vec::from_slice(alloc, prefix)?;
     items.extend_from_slice(middle)?;
     items.extend_from_slice(back)?;
     Ok(items)

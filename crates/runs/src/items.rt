@@ -13,7 +13,7 @@ use std::marker::Model;
 pub struct Iter<'a, T: Measured> {
     /// What is left of the present run, empty only where nothing is left at all.
     present: &'a [T],
-    /// The runs behind it.
+    /// The runs after it.
     runs: seqtree::Iter<'a, Run<T>>,
 }
 
@@ -33,7 +33,7 @@ impl<'a, T: Measured> Iter<'a, T> {
     pub fn new(present: &'a [T], mut runs: seqtree::Iter<'a, Run<T>>) -> Iter<'a, T>
         ensures { result ≡ present.now ++ flattened runs.entry }
     {
-        let present = refilled(present, &mut runs);
+        let present = refill(present, &mut runs);
         Iter { present, runs }
     }
 }
@@ -47,13 +47,13 @@ impl<'a, T: Measured> Iterator for Iter<'a, T> {
 
     fn next(&mut self) -> Option<&'a T> {
         let (first, rest) = self.present.split_first()?;
-        self.present = refilled(rest, &mut self.runs);
+        self.present = refill(rest, &mut self.runs);
         Some(first)
     }
 }
 
 /// What is left of the present run, or the next run where nothing is.
-fn refilled<'a, T: Measured>(present: &'a [T], runs: &mut seqtree::Iter<'a, Run<T>>) -> &'a [T]
+fn refill<'a, T: Measured>(present: &'a [T], runs: &mut seqtree::Iter<'a, Run<T>>) -> &'a [T]
     ensures same { result.now ++ flattened runs.new ≡ present.now ++ flattened runs.old }
     ensures filled { length result.now ≡ 0 → length runs.new ≡ 0 }
 {

@@ -13,7 +13,7 @@ use seqtree::{Goal, Measured, Monoid, Seq};
 use std::alloc::{AllocError, Global};
 use std::marker::Model;
 
-/// A list of items, which tells the sum of any front of it. The items lie in runs, so that a change costs the runs that it
+/// A list of items, which returns the sum of any prefix of it. The items lie in runs, so that a change costs the runs that it
 /// touches, the new items, and the logarithm of the length.
 #[derive(Drop)]
 pub struct Runs<T: Measured> {

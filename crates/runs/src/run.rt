@@ -98,8 +98,8 @@ pub fn runs_of<T: Measured + Copy>(alloc: Global, items: &[T]) -> Result<Vec<Run
     let mut runs = Vec::new(alloc);
     let mut rest = items;
     while rest.len() > LONGEST_RUN {
-        let (front, back) = rest.split_at(front_len(rest.len()));
-        runs.push(Run::new(alloc, front)?)?;
+        let (prefix, back) = rest.split_at(prefix_len(rest.len()));
+        runs.push(Run::new(alloc, prefix)?)?;
         rest = back;
     }
     if rest.len() > 0 {
@@ -110,7 +110,7 @@ pub fn runs_of<T: Measured + Copy>(alloc: Global, items: &[T]) -> Result<Vec<Run
 
 /// How many items the first run of `len` has, which are too many for one: as many as fit, or half of those that are left
 /// where the rest would be small.
-fn front_len(len: usize) -> usize
+fn prefix_len(len: usize) -> usize
     requires { LONGEST_RUN < len }
     ensures few { result ≤ LONGEST_RUN }
     ensures large { SHORTEST_OF_SEVERAL ≤ result }

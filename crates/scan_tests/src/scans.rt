@@ -154,7 +154,7 @@ fn born_by(tokens: &Tokens, number: u64) -> usize {
     count
 }
 
-/// Makes the edit of a step, sees that what comes of it is what is to come, and answers how many characters were read.
+/// Makes the edit of a step, sees that what comes of it is what is to come, and returns how many characters were read.
 fn check_step(
     rt: &impl Abort,
     alloc: Global,
@@ -182,7 +182,7 @@ fn check_step(
     rescan.reads
 }
 
-/// Opens a text, makes the edits of the steps in turn, and answers how many characters were read for the last one.
+/// Opens a text, makes the edits of the steps in turn, and returns how many characters were read for the last one.
 fn check(
     rt: &impl Abort,
     alloc: Global,
@@ -331,7 +331,7 @@ fn check_significant(rt: &impl Abort, tokens: &Tokens) {
 }
 
 #[test]
-fn tells_the_significant_tokens(rt: HostRuntime) {
+fn shows_the_significant_tokens(rt: HostRuntime) {
     let alloc = rt.alloc();
     let text = Text::open(alloc, "1 +\r\n2").expect(&rt, "a text");
     let sums = load(&rt, alloc, SUMS);
@@ -359,7 +359,7 @@ fn step_by_7<'a>(
 }
 
 /// A text, the edit that puts a piece in the place of so many characters, how many tokens are scanned for it and how many there
-/// are behind it, and the splice of kinds.
+/// are after it, and the splice of kinds.
 type Row = (
     &'static str,
     (usize, usize, &'static str),
@@ -435,7 +435,7 @@ fn tokens_lie_in_few_runs(rt: HostRuntime) {
     assert!(rt; tokens.items().runs() == 3);
 }
 
-/// So many words in quotes, and the kinds that they have once the quote behind them is taken away.
+/// So many words in quotes, and the kinds that they have once the quote after them is taken away.
 fn quoted_words(rt: &impl Abort, alloc: Global, count: usize) -> (String, Vec<Kind>) {
     let mut text = String::from_str(alloc, "\"").expect(rt, "memory");
     let mut kinds = vec![in alloc; Kind::Invalid].expect(rt, "memory");
@@ -447,7 +447,7 @@ fn quoted_words(rt: &impl Abort, alloc: Global, count: usize) -> (String, Vec<Ki
     (text, kinds)
 }
 
-/// The quote behind the words is taken away, so that each of them is a token again.
+/// The quote after the words is taken away, so that each of them is a token again.
 #[test]
 fn rescans_ten_thousand_tokens(rt: HostRuntime) {
     let alloc = rt.alloc();

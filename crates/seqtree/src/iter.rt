@@ -10,7 +10,7 @@ use crate::tree::{self, Node, Tree};
 use std::alloc::AllocError;
 use std::marker::Model;
 
-/// What is left of a tree behind its first items.
+/// What is left of a tree after its first items.
 pub struct Part<'a, T: Measured> {
     tree: &'a Tree<T>,
     /// How many of its first items are left out.

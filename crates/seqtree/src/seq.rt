@@ -8,7 +8,7 @@ use crate::{Goal, Iter, Measured};
 use std::alloc::{AllocError, Global};
 use std::marker::Model;
 
-/// A list of items, which tells the sum of any front of it.
+/// A list of items, which returns the sum of any prefix of it.
 #[derive(Drop)]
 pub struct Seq<T: Measured> {
     root: Tree<T>,
@@ -98,7 +98,7 @@ impl<T: Measured> Seq<T> {
         tree::locate(&self.root, goal)
     }
 
-    /// Puts the given items in the place of `from..to`, and answers the removed ones. Takes no memory.
+    /// Puts the given items in the place of `from..to`, and returns the removed ones. Takes no memory.
     pub fn replace(&mut self, from: usize, to: usize, items: Slots<T>) -> Slots<T>
         requires ordered { from ≤ to }
         requires in_range { to ≤ length self.old }
@@ -107,8 +107,8 @@ impl<T: Measured> Seq<T> {
         ensures removed { result ≡ drop from (take to self.old) }
     {
         let (rest, back) = tree::split(self.root.take(), to);
-        let (front, middle) = tree::split(rest, from);
-        self.root = tree::append(tree::append(front, items.root), back);
+        let (prefix, middle) = tree::split(rest, from);
+        self.root = tree::append(tree::append(prefix, items.root), back);
         Slots { root: middle }
     }
 }

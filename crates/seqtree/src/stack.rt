@@ -6,7 +6,7 @@ use std::marker::Model;
 /// Up to 128 elements, the last one on top: as many as the nodes on the longest way down a tree. Takes no memory.
 #[derive(Drop)]
 pub struct Stack<E: Copy> {
-    /// The elements, from the lowest up, and behind them free places.
+    /// The elements, from the lowest up, and after them free places.
     places: [E; 128],
     /// How many places are taken.
     len: usize,

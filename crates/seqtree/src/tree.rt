@@ -24,7 +24,7 @@ pub struct Node<T: Measured> {
     tall: u8,
     /// The sum of all these items.
     all: T::Sum,
-    /// The items behind its own.
+    /// The items after its own.
     pub right: Tree<T>,
 }
 
@@ -88,7 +88,7 @@ pub fn sum_of<T: Measured>(tree: &Tree<T>) -> T::Sum
     }
 }
 
-/// The sum of the items of a left side and, behind them, of what has this sum.
+/// The sum of the items of a left side and, after them, of what has this sum.
 fn sum_with_left<T: Measured>(left: &Tree<T>, sum: T::Sum) -> T::Sum
     ensures { result ≡ T.Sum.op (total T.Sum.empty T.Sum.op T.measure (items_of left.now)) sum }
 {
@@ -101,7 +101,7 @@ fn sum_with_left<T: Measured>(left: &Tree<T>, sum: T::Sum) -> T::Sum
     }
 }
 
-/// The sum of what has this sum and, behind it, of the items of a right side.
+/// The sum of what has this sum and, after it, of the items of a right side.
 fn sum_with_right<T: Measured>(sum: T::Sum, right: &Tree<T>) -> T::Sum
     ensures { result ≡ T.Sum.op sum (total T.Sum.empty T.Sum.op T.measure (items_of right.now)) }
 {

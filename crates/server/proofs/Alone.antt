@@ -5,20 +5,20 @@ use Rattle.std.specs.Str.{chars}
 use Rattle.std.specs.FinMap.{get}
 use Rattle.std.proofs.lemmas.List.Elements.{All-from_recursion}
 use Rattle.rpc.specs.Unit.{Unit as Encoding}
-use Rattle.docs.specs.Text.{changed}
+use Rattle.docs.specs.Text.{apply_changes}
 use Rattle.docs.specs.Answers.{AnswersOnce}
 use Rattle.docs.specs.Edits.{CountsOnce}
 use Rattle.docs.specs.Texts.{LastEdit, OpenDocument}
 use Rattle.docs.specs.Grammars.{FileGrammar}
-use Rattle.rpc.specs.Messages.{Ident, Asked, initialize, shutdown, about, stats, Question, Told, initialized, exit, open_text, change_text, close, malformed, unfit_open, unfit_change, unfit_close, request, notice, ignored, Heard, unread, refused, said, ChangeSaid}
-use Rattle.rpc.specs.Replies.{Answer, told_diagnostics, told_log, told_stats}
+use Rattle.rpc.specs.Messages.{Ident, Request, initialize, shutdown, about, stats, Question, Notification, initialized, exit, open_text, change_text, close, malformed, unfit_open, unfit_change, unfit_close, call, notification, ignored, Received, unread, refused, message, TextChange}
+use Rattle.rpc.specs.Replies.{Answer, published_diagnostics, log_message, stats_reply}
 use Rattle.rpc.specs.declared.reply.Log.TheVariants.{Lost}
 use Rattle.rpc.specs.declared.reply.Loss.TheVariants.{TooLarge, MalformedChange, NoMemory}
-use Rattle.server.specs.Alone.{named, LookAlike, loses, loses_memory, SameFor, EachDocumentIsAlone}
+use Rattle.server.specs.Alone.{named, AreAlikeFor, loses, loses_memory, SameFor, EachDocumentIsAlone}
 use Rattle.server.specs.Answers.{IsAnswer, IsCount, IsPublished, but_nodes}
 use Rattle.server.specs.Documents.{DocumentState, is_open, is_lost, Becomes, IsLastAfter, has_room}
 use Rattle.server.specs.Fresh.{Publishes}
-use Rattle.server.specs.Steps.{State, Asks, Changes, Closes, Forgets, Holds, Ignores, Opens, Replies, Spoils, Step, Tells, opened}
+use Rattle.server.specs.Steps.{State, OnRequest, Changes, Closes, Forgets, Holds, Ignores, Opens, Replies, Spoils, Step, OnNotification, new_document}
 use Rattle.server.specs.declared.state.Phase.{Phase}
 use Rattle.server.specs.declared.state.Phase.TheVariants.{New, Ready, Down}
 use Rattle.server.proofs.Effects.{Effect, stays, stands, goes, step_effect}
@@ -42,32 +42,32 @@ effect_left name old answers stop new (stays quiet file documents units) uri apa
 effect_left name old answers stop new (stands other (is_open d) is fit unit s) uri apart =
     let away = apart_from name uri other is apart in (
       ap (λ (x : State). get x.documents uri) s.3.1 ∙ get_other old.documents other uri (is_open d) away,
-      subst (λ (told : List Answer). All (λ a. ¬ Publishes uri a) told) (sym s.2) (All-from_recursion (λ a. ¬ Publishes uri a) (s.0 ∷ []) (published_elsewhere old.file uri other d s.0 s.1 away, tt)),
+      subst (λ (notification : List Answer). All (λ a. ¬ Publishes uri a) notification) (sym s.2) (All-from_recursion (λ a. ¬ Publishes uri a) (s.0 ∷ []) (published_elsewhere old.file uri other d s.0 s.1 away, tt)),
     )
 effect_left name old answers stop new (stands other (is_lost loss) is fit unit s) uri apart =
     let away = apart_from name uri other is apart in
-    let told : List Answer = told_diagnostics other None None ∷ told_log (Lost loss) ∷ [] in (
+    let notification : List Answer = published_diagnostics other None None ∷ log_message (Lost loss) ∷ [] in (
       ap (λ (x : State). get x.documents uri) s.1.1 ∙ get_other old.documents other uri (is_lost loss) away,
-      subst (λ (told : List Answer). All (λ a. ¬ Publishes uri a) told) (sym s.0) (All-from_recursion (λ a. ¬ Publishes uri a) told (λ p. away (sym p), ((λ p. p), tt))),
+      subst (λ (notification : List Answer). All (λ a. ¬ Publishes uri a) notification) (sym s.0) (All-from_recursion (λ a. ¬ Publishes uri a) notification (λ p. away (sym p), ((λ p. p), tt))),
     )
 effect_left name old answers stop new (goes other is s) uri apart =
     let away = apart_from name uri other is apart in
-    let told : List Answer = told_diagnostics other None None ∷ [] in (
+    let notification : List Answer = published_diagnostics other None None ∷ [] in (
       ap (λ (x : State). get x.documents uri) s.1.1 ∙ get_other_removed old.documents other uri away,
-      subst (λ (told : List Answer). All (λ a. ¬ Publishes uri a) told) (sym s.0) (All-from_recursion (λ a. ¬ Publishes uri a) told (λ p. away (sym p), tt)),
+      subst (λ (notification : List Answer). All (λ a. ¬ Publishes uri a) notification) (sym s.0) (All-from_recursion (λ a. ¬ Publishes uri a) notification (λ p. away (sym p), tt)),
     )
 
 -- ---- a message that names it
 
 -- what the last edit is
-one_last : (encoding : Encoding) (file : FileGrammar) → CountsOnce file → (text : List ℕ) (changes : List ChangeSaid) (last one other : Option LastEdit) → IsLastAfter encoding file text changes last one → IsLastAfter encoding file text changes last other → other ≡ one
+one_last : (encoding : Encoding) (file : FileGrammar) → CountsOnce file → (text : List ℕ) (changes : List TextChange) (last one other : Option LastEdit) → IsLastAfter encoding file text changes last one → IsLastAfter encoding file text changes last other → other ≡ one
 one_last encoding file counts text [] last one other a b = b ∙ sym a
 one_last encoding file counts text (c ∷ cs) last one other a b =
     let same : b.0 ≡ a.0 = counts.edits encoding text c.range (chars c.text) last a.0 b.0 a.1 b.1 in
-    one_last encoding file counts (changed encoding text c.range (chars c.text)) cs (Some a.0) one other a.2 (subst (λ (e : LastEdit). IsLastAfter encoding file (changed encoding text c.range (chars c.text)) cs (Some e) other) same b.2)
+    one_last encoding file counts (apply_changes encoding text c.range (chars c.text)) cs (Some a.0) one other a.2 (subst (λ (e : LastEdit). IsLastAfter encoding file (apply_changes encoding text c.range (chars c.text)) cs (Some e) other) same b.2)
 
 -- what an open document becomes, where memory is refused in both or in neither
-one_becomes : (file : FileGrammar) → CountsOnce file → (version : ℤ) (now : OpenDocument) (changes : List ChangeSaid) (s t : DocumentState) → loses (Some (is_open now)) (Some t) ≡ loses (Some (is_open now)) (Some s) → Becomes file version now changes s → Becomes file version now changes t → t ≡ s
+one_becomes : (file : FileGrammar) → CountsOnce file → (version : ℤ) (now : OpenDocument) (changes : List TextChange) (s t : DocumentState) → loses (Some (is_open now)) (Some t) ≡ loses (Some (is_open now)) (Some s) → Becomes file version now changes s → Becomes file version now changes t → t ≡ s
 one_becomes file counts version now changes (is_open d) (is_open e) alike a b =
     let texts : Some e.text ≡ Some d.text = sym b.0 ∙ a.0 in
     let same : e.text ≡ d.text = cc in
@@ -91,8 +91,8 @@ module _ (file : FileGrammar) (once : AnswersOnce file) (counts : CountsOnce fil
   Same = SameFor uri answers other_answers stop other_stop new other
 
   -- nothing changes in either
-  both_stay : (told : List Answer) (halt : Option ℕ) → answers ≡ told → other_answers ≡ told → stop ≡ halt → other_stop ≡ halt → new.documents ≡ old.documents → other.documents ≡ two.documents → Same
-  both_stay told halt a b s t n o = record {
+  both_stay : (notification : List Answer) (halt : Option ℕ) → answers ≡ notification → other_answers ≡ notification → stop ≡ halt → other_stop ≡ halt → new.documents ≡ old.documents → other.documents ≡ two.documents → Same
+  both_stay notification halt a b s t n o = record {
     sent = ap (map but_nodes) (b ∙ sym a);
     stops = t ∙ sym s;
     held = ap (λ h. get h uri) o ∙ (held ∙ sym (ap (λ h. get h uri) n));
@@ -132,8 +132,8 @@ module _ (file : FileGrammar) (once : AnswersOnce file) (counts : CountsOnce fil
   both_answer (Some (is_lost loss)) id question one yours a b = b ∙ sym a
   both_answer (Some (is_open d)) id question one yours a b = one_answer file once d id question one yours a b
 
-  both_tell : (unit : Encoding) (id : Ident) (question : Question) → Asks (Ready unit) old id (about uri question) answers stop new → Asks (Ready unit) two id (about uri question) other_answers other_stop other → Same
-  both_tell unit id question a b =
+  both_show : (unit : Encoding) (id : Ident) (question : Question) → OnRequest (Ready unit) old id (about uri question) answers stop new → OnRequest (Ready unit) two id (about uri question) other_answers other_stop other → Same
+  both_show unit id question a b =
       let mine : IsAnswer file id (get old.documents uri) question a.0 = subst (λ (f : FileGrammar). IsAnswer f id (get old.documents uri) question a.0) by_file a.1 in
       let theirs : IsAnswer file id (get two.documents uri) question b.0 = subst (λ (f : FileGrammar). IsAnswer f id (get two.documents uri) question b.0) two_file b.1 in
       let yours : IsAnswer file id (get old.documents uri) question b.0 = subst (λ (o : Option DocumentState). IsAnswer file id o question b.0) held theirs in
@@ -144,9 +144,9 @@ module _ (file : FileGrammar) (once : AnswersOnce file) (counts : CountsOnce fil
   both_counts : (o : Option DocumentState) (id : Ident) (one yours : Answer) → IsCount file id o one → IsCount file id o yours → but_nodes yours ≡ but_nodes one
   both_counts None id one yours a b = ap but_nodes (b ∙ sym a)
   both_counts (Some (is_lost loss)) id one yours a b = ap but_nodes (b ∙ sym a)
-  both_counts (Some (is_open d)) id one yours a b = ap but_nodes b.2 ∙ (ap (told_stats id) (counts.stats d a.0 b.0 a.1 b.1) ∙ sym (ap but_nodes a.2))
+  both_counts (Some (is_open d)) id one yours a b = ap but_nodes b.2 ∙ (ap (stats_reply id) (counts.stats d a.0 b.0 a.1 b.1) ∙ sym (ap but_nodes a.2))
 
-  both_count : (unit : Encoding) (id : Ident) → Asks (Ready unit) old id (stats uri) answers stop new → Asks (Ready unit) two id (stats uri) other_answers other_stop other → Same
+  both_count : (unit : Encoding) (id : Ident) → OnRequest (Ready unit) old id (stats uri) answers stop new → OnRequest (Ready unit) two id (stats uri) other_answers other_stop other → Same
   both_count unit id a b =
       let mine : IsCount file id (get old.documents uri) a.0 = subst (λ (f : FileGrammar). IsCount f id (get old.documents uri) a.0) by_file a.1 in
       let theirs : IsCount file id (get two.documents uri) b.0 = subst (λ (f : FileGrammar). IsCount f id (get two.documents uri) b.0) two_file b.1 in
@@ -161,11 +161,11 @@ module _ (file : FileGrammar) (once : AnswersOnce file) (counts : CountsOnce fil
   both_open true state a b = both_hold state a b
   both_open false state a b = both_reply _ a b
 
-  held_after : (x y : State) (told : List Answer) (halt : Option ℕ) (state : DocumentState) → Holds x uri state told halt y → get y.documents uri ≡ Some state
-  held_after x y told halt (is_open d) s = ap (λ (z : State). get z.documents uri) s.3.1 ∙ get_inserted x.documents uri (is_open d)
-  held_after x y told halt (is_lost loss) s = ap (λ (z : State). get z.documents uri) s.1.1 ∙ get_inserted x.documents uri (is_lost loss)
+  held_after : (x y : State) (notification : List Answer) (halt : Option ℕ) (state : DocumentState) → Holds x uri state notification halt y → get y.documents uri ≡ Some state
+  held_after x y notification halt (is_open d) s = ap (λ (z : State). get z.documents uri) s.3.1 ∙ get_inserted x.documents uri (is_open d)
+  held_after x y notification halt (is_lost loss) s = ap (λ (z : State). get z.documents uri) s.1.1 ∙ get_inserted x.documents uri (is_lost loss)
 
-  both_change : (o : Option DocumentState) (version : ℤ) (changes : List ChangeSaid) → get old.documents uri ≡ o → loses_memory uri two other ≡ loses_memory uri old new → Changes o old uri version changes answers stop new → Changes o two uri version changes other_answers other_stop other → Same
+  both_change : (o : Option DocumentState) (version : ℤ) (changes : List TextChange) → get old.documents uri ≡ o → loses_memory uri two other ≡ loses_memory uri old new → Changes o old uri version changes answers stop new → Changes o two uri version changes other_answers other_stop other → Same
   both_change None version changes e alike a b = both_reply _ a b
   both_change (Some (is_lost loss)) version changes e alike a b = both_ignore a b
   both_change (Some (is_open d)) version changes e alike a b =
@@ -185,32 +185,32 @@ module _ (file : FileGrammar) (once : AnswersOnce file) (counts : CountsOnce fil
   both_close None a b = both_reply _ a b
   both_close (Some state) a b = both_forget a b
 
-  both_ask : (phase : Phase) (id : Ident) (question : Question) → Asks phase old id (about uri question) answers stop new → Asks phase two id (about uri question) other_answers other_stop other → Same
+  both_ask : (phase : Phase) (id : Ident) (question : Question) → OnRequest phase old id (about uri question) answers stop new → OnRequest phase two id (about uri question) other_answers other_stop other → Same
   both_ask New id question a b = both_reply _ a b
-  both_ask (Ready unit) id question a b = both_tell unit id question a b
+  both_ask (Ready unit) id question a b = both_show unit id question a b
   both_ask Down id question a b = both_reply _ a b
 
-  both_ask_counts : (phase : Phase) (id : Ident) → Asks phase old id (stats uri) answers stop new → Asks phase two id (stats uri) other_answers other_stop other → Same
+  both_ask_counts : (phase : Phase) (id : Ident) → OnRequest phase old id (stats uri) answers stop new → OnRequest phase two id (stats uri) other_answers other_stop other → Same
   both_ask_counts New id a b = both_reply _ a b
   both_ask_counts (Ready unit) id a b = both_count unit id a b
   both_ask_counts Down id a b = both_reply _ a b
 
-  both_hear_open : (phase : Phase) (version : ℤ) (text : List ℕ) → has_room uri two.documents ≡ has_room uri old.documents → Tells phase old (open_text uri version text) answers stop new → Tells phase two (open_text uri version text) other_answers other_stop other → Same
+  both_hear_open : (phase : Phase) (version : ℤ) (text : List ℕ) → has_room uri two.documents ≡ has_room uri old.documents → OnNotification phase old (open_text uri version text) answers stop new → OnNotification phase two (open_text uri version text) other_answers other_stop other → Same
   both_hear_open New version text room a b = both_ignore a b
-  both_hear_open (Ready unit) version text room a b = both_open (has_room uri old.documents) (opened unit version (chars text)) a (subst (λ (r : Bool). Opens r two uri (opened unit version (chars text)) other_answers other_stop other) room b)
+  both_hear_open (Ready unit) version text room a b = both_open (has_room uri old.documents) (new_document unit version (chars text)) a (subst (λ (r : Bool). Opens r two uri (new_document unit version (chars text)) other_answers other_stop other) room b)
   both_hear_open Down version text room a b = both_ignore a b
 
-  both_hear_change : (phase : Phase) (version : ℤ) (changes : List ChangeSaid) → loses_memory uri two other ≡ loses_memory uri old new → Tells phase old (change_text uri version changes) answers stop new → Tells phase two (change_text uri version changes) other_answers other_stop other → Same
+  both_hear_change : (phase : Phase) (version : ℤ) (changes : List TextChange) → loses_memory uri two other ≡ loses_memory uri old new → OnNotification phase old (change_text uri version changes) answers stop new → OnNotification phase two (change_text uri version changes) other_answers other_stop other → Same
   both_hear_change New version changes alike a b = both_ignore a b
   both_hear_change (Ready unit) version changes alike a b = both_change (get old.documents uri) version changes refl alike a (subst (λ (o : Option DocumentState). Changes o two uri version changes other_answers other_stop other) held b)
   both_hear_change Down version changes alike a b = both_ignore a b
 
-  both_hear_close : (phase : Phase) → Tells phase old (close uri) answers stop new → Tells phase two (close uri) other_answers other_stop other → Same
+  both_hear_close : (phase : Phase) → OnNotification phase old (close uri) answers stop new → OnNotification phase two (close uri) other_answers other_stop other → Same
   both_hear_close New a b = both_ignore a b
   both_hear_close (Ready unit) a b = both_close (get old.documents uri) a (subst (λ (o : Option DocumentState). Closes o two uri other_answers other_stop other) held b)
   both_hear_close Down a b = both_ignore a b
 
-  both_hear_misfit : (phase : Phase) → Tells phase old (malformed (unfit_change (Some uri))) answers stop new → Tells phase two (malformed (unfit_change (Some uri))) other_answers other_stop other → Same
+  both_hear_misfit : (phase : Phase) → OnNotification phase old (malformed (unfit_change (Some uri))) answers stop new → OnNotification phase two (malformed (unfit_change (Some uri))) other_answers other_stop other → Same
   both_hear_misfit New a b = both_ignore a b
   both_hear_misfit (Ready unit) a b = both_spoil (get old.documents uri) a (subst (λ (o : Option DocumentState). Spoils o two uri other_answers other_stop other) held b)
   both_hear_misfit Down a b = both_ignore a b
@@ -221,47 +221,47 @@ same_name : (one other : List ℕ) → Some one ≡ Some other → one ≡ other
 same_name one other e = let same : one ≡ other = cc in same
 
 module _ (file : FileGrammar) (once : AnswersOnce file) (counts : CountsOnce file) (old two new other : State) (answers other_answers : List Answer) (stop other_stop : Option ℕ) (by_file : old.file ≡ file) where
-  abbrev Alike : Heard → List ℕ → Type 0
-  Alike heard uri = LookAlike uri heard old two → loses_memory uri two other ≡ loses_memory uri old new → SameFor uri answers other_answers stop other_stop new other
+  abbrev Alike : Received → List ℕ → Type 0
+  Alike received uri = AreAlikeFor uri received old two → loses_memory uri two other ≡ loses_memory uri old new → SameFor uri answers other_answers stop other_stop new other
 
-  tells_alike : (told : Told) (uri : List ℕ) → named (said (notice told)) ≡ Some uri → Tells old.phase old told answers stop new → Tells two.phase two told other_answers other_stop other → Alike (said (notice told)) uri
-  tells_alike initialized uri name a b = absurd (let f : ⊥ = cc in f)
-  tells_alike exit uri name a b = absurd (let f : ⊥ = cc in f)
-  tells_alike (open_text u version text) uri name a b =
-      let there = λ (p : Phase). Tells p two (open_text u version text) other_answers other_stop other in
-      subst (Alike (said (notice (open_text u version text)))) (same_name u uri name) (λ look alike. both_hear_open file once counts u old two new other answers other_answers stop other_stop by_file look.held (look.file ∙ by_file) old.phase version text look.room a (subst there look.phase b))
-  tells_alike (change_text u version changes) uri name a b =
-      let there = λ (p : Phase). Tells p two (change_text u version changes) other_answers other_stop other in
-      subst (Alike (said (notice (change_text u version changes)))) (same_name u uri name) (λ look alike. both_hear_change file once counts u old two new other answers other_answers stop other_stop by_file look.held (look.file ∙ by_file) old.phase version changes alike a (subst there look.phase b))
-  tells_alike (close u) uri name a b =
-      let there = λ (p : Phase). Tells p two (close u) other_answers other_stop other in
-      subst (Alike (said (notice (close u)))) (same_name u uri name) (λ look alike. both_hear_close file once counts u old two new other answers other_answers stop other_stop by_file look.held (look.file ∙ by_file) old.phase a (subst there look.phase b))
-  tells_alike (malformed unfit_open) uri name a b = absurd (let f : ⊥ = cc in f)
-  tells_alike (malformed (unfit_change None)) uri name a b = absurd (let f : ⊥ = cc in f)
-  tells_alike (malformed (unfit_change (Some u))) uri name a b =
-      let there = λ (p : Phase). Tells p two (malformed (unfit_change (Some u))) other_answers other_stop other in
-      subst (Alike (said (notice (malformed (unfit_change (Some u)))))) (same_name u uri name) (λ look alike. both_hear_misfit file once counts u old two new other answers other_answers stop other_stop by_file look.held (look.file ∙ by_file) old.phase a (subst there look.phase b))
-  tells_alike (malformed unfit_close) uri name a b = absurd (let f : ⊥ = cc in f)
+  shows_alike : (notification : Notification) (uri : List ℕ) → named (message (notification notification)) ≡ Some uri → OnNotification old.phase old notification answers stop new → OnNotification two.phase two notification other_answers other_stop other → Alike (message (notification notification)) uri
+  shows_alike initialized uri name a b = absurd (let f : ⊥ = cc in f)
+  shows_alike exit uri name a b = absurd (let f : ⊥ = cc in f)
+  shows_alike (open_text u version text) uri name a b =
+      let there = λ (p : Phase). OnNotification p two (open_text u version text) other_answers other_stop other in
+      subst (Alike (message (notification (open_text u version text)))) (same_name u uri name) (λ look alike. both_hear_open file once counts u old two new other answers other_answers stop other_stop by_file look.held (look.file ∙ by_file) old.phase version text look.room a (subst there look.phase b))
+  shows_alike (change_text u version changes) uri name a b =
+      let there = λ (p : Phase). OnNotification p two (change_text u version changes) other_answers other_stop other in
+      subst (Alike (message (notification (change_text u version changes)))) (same_name u uri name) (λ look alike. both_hear_change file once counts u old two new other answers other_answers stop other_stop by_file look.held (look.file ∙ by_file) old.phase version changes alike a (subst there look.phase b))
+  shows_alike (close u) uri name a b =
+      let there = λ (p : Phase). OnNotification p two (close u) other_answers other_stop other in
+      subst (Alike (message (notification (close u)))) (same_name u uri name) (λ look alike. both_hear_close file once counts u old two new other answers other_answers stop other_stop by_file look.held (look.file ∙ by_file) old.phase a (subst there look.phase b))
+  shows_alike (malformed unfit_open) uri name a b = absurd (let f : ⊥ = cc in f)
+  shows_alike (malformed (unfit_change None)) uri name a b = absurd (let f : ⊥ = cc in f)
+  shows_alike (malformed (unfit_change (Some u))) uri name a b =
+      let there = λ (p : Phase). OnNotification p two (malformed (unfit_change (Some u))) other_answers other_stop other in
+      subst (Alike (message (notification (malformed (unfit_change (Some u)))))) (same_name u uri name) (λ look alike. both_hear_misfit file once counts u old two new other answers other_answers stop other_stop by_file look.held (look.file ∙ by_file) old.phase a (subst there look.phase b))
+  shows_alike (malformed unfit_close) uri name a b = absurd (let f : ⊥ = cc in f)
 
-  asks_alike : (id : Ident) (asked : Asked) (uri : List ℕ) → named (said (request id asked)) ≡ Some uri → Asks old.phase old id asked answers stop new → Asks two.phase two id asked other_answers other_stop other → Alike (said (request id asked)) uri
+  asks_alike : (id : Ident) (request : Request) (uri : List ℕ) → named (message (call id request)) ≡ Some uri → OnRequest old.phase old id request answers stop new → OnRequest two.phase two id request other_answers other_stop other → Alike (message (call id request)) uri
   asks_alike id (initialize unit) uri name a b = absurd (let f : ⊥ = cc in f)
   asks_alike id shutdown uri name a b = absurd (let f : ⊥ = cc in f)
   asks_alike id (about u question) uri name a b =
-      let there = λ (p : Phase). Asks p two id (about u question) other_answers other_stop other in
-      subst (Alike (said (request id (about u question)))) (same_name u uri name) (λ look alike. both_ask file once counts u old two new other answers other_answers stop other_stop by_file look.held (look.file ∙ by_file) old.phase id question a (subst there look.phase b))
+      let there = λ (p : Phase). OnRequest p two id (about u question) other_answers other_stop other in
+      subst (Alike (message (call id (about u question)))) (same_name u uri name) (λ look alike. both_ask file once counts u old two new other answers other_answers stop other_stop by_file look.held (look.file ∙ by_file) old.phase id question a (subst there look.phase b))
   asks_alike id (stats u) uri name a b =
-      let there = λ (p : Phase). Asks p two id (stats u) other_answers other_stop other in
-      subst (Alike (said (request id (stats u)))) (same_name u uri name) (λ look alike. both_ask_counts file once counts u old two new other answers other_answers stop other_stop by_file look.held (look.file ∙ by_file) old.phase id a (subst there look.phase b))
+      let there = λ (p : Phase). OnRequest p two id (stats u) other_answers other_stop other in
+      subst (Alike (message (call id (stats u)))) (same_name u uri name) (λ look alike. both_ask_counts file once counts u old two new other answers other_answers stop other_stop by_file look.held (look.file ∙ by_file) old.phase id a (subst there look.phase b))
 
-  step_alike : (heard : Heard) (uri : List ℕ) → named heard ≡ Some uri → Step old heard answers stop new → Step two heard other_answers other_stop other → Alike heard uri
+  step_alike : (received : Received) (uri : List ℕ) → named received ≡ Some uri → Step old received answers stop new → Step two received other_answers other_stop other → Alike received uri
   step_alike unread uri name a b = absurd (let f : ⊥ = cc in f)
   step_alike (refused why) uri name a b = absurd (let f : ⊥ = cc in f)
-  step_alike (said (request id asked)) uri name a b = asks_alike id asked uri name a b
-  step_alike (said (notice told)) uri name a b = tells_alike told uri name a b
-  step_alike (said ignored) uri name a b = absurd (let f : ⊥ = cc in f)
+  step_alike (message (call id request)) uri name a b = asks_alike id request uri name a b
+  step_alike (message (notification notification)) uri name a b = shows_alike notification uri name a b
+  step_alike (message ignored) uri name a b = absurd (let f : ⊥ = cc in f)
 
 pub each_document_is_alone : (file : FileGrammar) → AnswersOnce file → CountsOnce file → EachDocumentIsAlone file
-each_document_is_alone file once counts uri heard old answers stop new by_file step = (
-  effect_left (named heard) old answers stop new (step_effect old answers stop new heard step) uri,
-  λ name two other_answers other_stop other look theirs alike. step_alike file once counts old two new other answers other_answers stop other_stop by_file heard uri name step theirs look alike,
+each_document_is_alone file once counts uri received old answers stop new by_file step = (
+  effect_left (named received) old answers stop new (step_effect old answers stop new received step) uri,
+  λ name two other_answers other_stop other look theirs alike. step_alike file once counts old two new other answers other_answers stop other_stop by_file received uri name step theirs look alike,
 )

@@ -7,7 +7,7 @@ use Rattle.std.proofs.lemmas.List.Elements.{All-from_recursion}
 use Rattle.rpc.specs.Unit.{Unit as Encoding}
 use Rattle.docs.specs.Texts.{OpenDocument, fits}
 use Rattle.docs.specs.Grammars.{FileGrammar}
-use Rattle.rpc.specs.Messages.{Ident, Asked, initialize, shutdown, about, stats, Question, its_text, its_tokens, its_tree, its_folds, its_selections, Told, initialized, exit, open_text, change_text, close, malformed, Unfit, unfit_open, unfit_change, unfit_close, request, notice, ignored, invalid, unknown, params, Heard, unread, refused, said, ChangeSaid}
+use Rattle.rpc.specs.Messages.{Ident, Request, initialize, shutdown, about, stats, Question, its_text, its_tokens, its_tree, its_folds, its_selections, Notification, initialized, exit, open_text, change_text, close, malformed, Unfit, unfit_open, unfit_change, unfit_close, call, notification, ignored, invalid, unknown, params, Received, unread, refused, message, TextChange}
 use Rattle.rpc.specs.Replies.{Answer}
 use Rattle.rpc.specs.declared.reply.Loss.TheVariants.{TooLarge, MalformedChange}
 use Rattle.server.specs.declared.state.Phase.{Phase}
@@ -17,7 +17,7 @@ use Rattle.server.specs.Answers.{IsAnswer, IsCount, tree_answer}
 use Rattle.server.specs.Documents.{DocumentState, is_open, is_lost, Becomes, Held, has_room}
 use Rattle.server.specs.Fresh.{Publishes}
 use Rattle.server.specs.Loop.{AllFit}
-use Rattle.server.specs.Steps.{State, Asks, Changes, Closes, Forgets, Holds, Misses, Opens, Replies, Spoils, Step, Tells, opened}
+use Rattle.server.specs.Steps.{State, OnRequest, Changes, Closes, Forgets, Holds, OnMalformed, Opens, Replies, Spoils, Step, OnNotification, new_document}
 use Rattle.server.proofs.Edits.{IsFit, becomes_fit}
 
 -- no answer publishes anything of any document
@@ -31,8 +31,8 @@ one_quiet : (answer : Answer) → ((uri : List ℕ) → ¬ Publishes uri answer)
 one_quiet answer quiet uri = All-from_recursion (λ a. ¬ Publishes uri a) (answer ∷ []) (quiet uri, tt)
 
 -- an answer that is not about diagnostics
-said_quiet : (answer told : Answer) → answer ≡ told → ((uri : List ℕ) → ¬ Publishes uri told) → (uri : List ℕ) → ¬ Publishes uri answer
-said_quiet answer told e quiet uri p = quiet uri (subst (Publishes uri) e p)
+said_quiet : (answer notification : Answer) → answer ≡ notification → ((uri : List ℕ) → ¬ Publishes uri notification) → (uri : List ℕ) → ¬ Publishes uri answer
+said_quiet answer notification e quiet uri p = quiet uri (subst (Publishes uri) e p)
 
 tree_quiet : (id : Ident) (o : Option (List ℕ)) (uri : List ℕ) → ¬ Publishes uri (tree_answer id o)
 tree_quiet id None uri p = p
@@ -68,7 +68,7 @@ StandsIn phase (is_open d) = IsOfPhase phase d
 StandsIn phase (is_lost loss) = Unit {0}
 
 -- what is opened has the unit
-opened_stands : (unit : Encoding) (version : ℤ) (text : List ℕ) → StandsIn (Ready unit) (opened unit version text)
+opened_stands : (unit : Encoding) (version : ℤ) (text : List ℕ) → StandsIn (Ready unit) (new_document unit version text)
 opened_stands unit version text = by (fits text)
   where
     by : (b : Bool) → StandsIn (Ready unit) (cond b (is_open (record { unit = unit; version = version; text = text; last = None })) (is_lost TooLarge))
@@ -76,7 +76,7 @@ opened_stands unit version text = by (fits text)
     by false = tt
 
 -- and what is changed keeps it
-becomes_stands : (phase : Phase) (file : FileGrammar) (version : ℤ) (d : OpenDocument) (changes : List ChangeSaid) (state : DocumentState) → IsOfPhase phase d → Becomes file version d changes state → StandsIn phase state
+becomes_stands : (phase : Phase) (file : FileGrammar) (version : ℤ) (d : OpenDocument) (changes : List TextChange) (state : DocumentState) → IsOfPhase phase d → Becomes file version d changes state → StandsIn phase state
 becomes_stands New file version d changes state is b = absurd is
 becomes_stands (Ready unit) file version d changes (is_open e) is b = b.1 ∙ is
 becomes_stands Down file version d changes (is_open e) is b = tt
@@ -92,7 +92,7 @@ pub data Effect (name : Option (List ℕ)) (old : State) (answers : List Answer)
   goes : (uri : List ℕ) → name ≡ Some uri → Forgets old uri answers stop new → Effect name old answers stop new
 
 -- what is opened fits, where it is open
-pub opened_fit : (unit : Encoding) (version : ℤ) (text : List ℕ) → IsFit (opened unit version text)
+pub opened_fit : (unit : Encoding) (version : ℤ) (text : List ℕ) → IsFit (new_document unit version text)
 opened_fit unit version text = by (fits text) refl
   where
     by : (b : Bool) → fits text ≡ b → IsFit (cond b (is_open (record { unit = unit; version = version; text = text; last = None })) (is_lost TooLarge))
@@ -114,7 +114,7 @@ module _ (name : Option (List ℕ)) (old : State) (answers : List Answer) (stop 
       stays (subst AreQuiet (sym one) (one_quiet answer quiet)) (ap (λ (x : State). x.file) same) (ap (λ (x : State). x.documents) same)
       (λ all. subst (λ (x : State). AreOfPhase x.phase old.documents) (sym same) (units all))
 
-  asks_effect : (phase : Phase) → old.phase ≡ phase → (id : Ident) (asked : Asked) → Asks phase old id asked answers stop new → Effect name old answers stop new
+  asks_effect : (phase : Phase) → old.phase ≡ phase → (id : Ident) (request : Request) → OnRequest phase old id request answers stop new → Effect name old answers stop new
   asks_effect New at id (initialize unit) s =
       entered (Ready unit) _ (λ uri p. p)
       (λ all uri d found. let none : ⊥ = subst (λ (p : Phase). AreOfPhase p old.documents) at all uri d found in absurd none) s.0 s.2
@@ -125,13 +125,13 @@ module _ (name : Option (List ℕ)) (old : State) (answers : List Answer) (stop 
   asks_effect (Ready unit) at id shutdown s = entered Down _ (λ uri p. p) (λ all uri d found. tt) s.0 s.2
   asks_effect (Ready unit) at id (about uri question) s = replied s.0 (answer_quiet old.file id (get old.documents uri) question s.0 s.1) s.2
   asks_effect (Ready unit) at id (stats uri) s = replied s.0 (count_quiet old.file id (get old.documents uri) s.0 s.1) s.2
-  asks_effect Down at id asked s = replied _ (λ uri p. p) s
+  asks_effect Down at id request s = replied _ (λ uri p. p) s
 
   opens_effect : (room : Bool) (uri : List ℕ) (state : DocumentState) → name ≡ Some uri → IsFit state → (AreOfPhase old.phase old.documents → StandsIn old.phase state) → Opens room old uri state answers stop new → Effect name old answers stop new
   opens_effect true uri state is fit unit s = stands uri state is (λ all. fit) unit s
   opens_effect false uri state is fit unit s = replied _ (λ uri p. p) s
 
-  changes_effect : (o : Option DocumentState) (uri : List ℕ) (version : ℤ) (changes : List ChangeSaid) → name ≡ Some uri → get old.documents uri ≡ o → Changes o old uri version changes answers stop new → Effect name old answers stop new
+  changes_effect : (o : Option DocumentState) (uri : List ℕ) (version : ℤ) (changes : List TextChange) → name ≡ Some uri → get old.documents uri ≡ o → Changes o old uri version changes answers stop new → Effect name old answers stop new
   changes_effect None uri version changes is e s = replied _ (λ uri p. p) s
   changes_effect (Some (is_lost loss)) uri version changes is e s = silent s.0 s.2
   changes_effect (Some (is_open d)) uri version changes is e s = stands uri s.0 is (λ all. becomes_fit old.file version d changes s.0 (all uri d e) s.1) (λ all. becomes_stands old.phase old.file version d changes s.0 (all uri d e) s.1) s.2
@@ -145,40 +145,40 @@ module _ (name : Option (List ℕ)) (old : State) (answers : List Answer) (stop 
   closes_effect None uri is s = replied _ (λ uri p. p) s
   closes_effect (Some state) uri is s = goes uri is s
 
-  misses_effect : (unfit : Unfit) → name ≡ named (said (notice (malformed unfit))) → Misses old unfit answers stop new → Effect name old answers stop new
+  misses_effect : (unfit : Unfit) → name ≡ named (message (notification (malformed unfit))) → OnMalformed old unfit answers stop new → Effect name old answers stop new
   misses_effect unfit_open is s = replied _ (λ uri p. p) s
   misses_effect (unfit_change None) is s = replied _ (λ uri p. p) s
   misses_effect (unfit_change (Some uri)) is s = spoils_effect (get old.documents uri) uri is s
   misses_effect unfit_close is s = replied _ (λ uri p. p) s
 
-  tells_effect : (phase : Phase) → old.phase ≡ phase → (told : Told) → name ≡ named (said (notice told)) → Tells phase old told answers stop new → Effect name old answers stop new
-  tells_effect New at initialized is s = silent s.0 s.2
-  tells_effect New at exit is s = silent s.0 s.2
-  tells_effect New at (open_text uri version text) is s = silent s.0 s.2
-  tells_effect New at (change_text uri version changes) is s = silent s.0 s.2
-  tells_effect New at (close uri) is s = silent s.0 s.2
-  tells_effect New at (malformed unfit) is s = silent s.0 s.2
-  tells_effect (Ready unit) at initialized is s = silent s.0 s.2
-  tells_effect (Ready unit) at exit is s = silent s.0 s.2
-  tells_effect (Ready unit) at (open_text uri version text) is s = opens_effect (has_room uri old.documents) uri (opened unit version (chars text)) is (opened_fit unit version (chars text)) (λ all. subst (λ (p : Phase). StandsIn p (opened unit version (chars text))) (sym at) (opened_stands unit version (chars text))) s
-  tells_effect (Ready unit) at (change_text uri version changes) is s = changes_effect (get old.documents uri) uri version changes is refl s
-  tells_effect (Ready unit) at (close uri) is s = closes_effect (get old.documents uri) uri is s
-  tells_effect (Ready unit) at (malformed unfit) is s = misses_effect unfit is s
-  tells_effect Down at initialized is s = silent s.0 s.2
-  tells_effect Down at exit is s = silent s.0 s.2
-  tells_effect Down at (open_text uri version text) is s = silent s.0 s.2
-  tells_effect Down at (change_text uri version changes) is s = silent s.0 s.2
-  tells_effect Down at (close uri) is s = silent s.0 s.2
-  tells_effect Down at (malformed unfit) is s = silent s.0 s.2
+  shows_effect : (phase : Phase) → old.phase ≡ phase → (notification : Notification) → name ≡ named (message (notification notification)) → OnNotification phase old notification answers stop new → Effect name old answers stop new
+  shows_effect New at initialized is s = silent s.0 s.2
+  shows_effect New at exit is s = silent s.0 s.2
+  shows_effect New at (open_text uri version text) is s = silent s.0 s.2
+  shows_effect New at (change_text uri version changes) is s = silent s.0 s.2
+  shows_effect New at (close uri) is s = silent s.0 s.2
+  shows_effect New at (malformed unfit) is s = silent s.0 s.2
+  shows_effect (Ready unit) at initialized is s = silent s.0 s.2
+  shows_effect (Ready unit) at exit is s = silent s.0 s.2
+  shows_effect (Ready unit) at (open_text uri version text) is s = opens_effect (has_room uri old.documents) uri (new_document unit version (chars text)) is (opened_fit unit version (chars text)) (λ all. subst (λ (p : Phase). StandsIn p (new_document unit version (chars text))) (sym at) (opened_stands unit version (chars text))) s
+  shows_effect (Ready unit) at (change_text uri version changes) is s = changes_effect (get old.documents uri) uri version changes is refl s
+  shows_effect (Ready unit) at (close uri) is s = closes_effect (get old.documents uri) uri is s
+  shows_effect (Ready unit) at (malformed unfit) is s = misses_effect unfit is s
+  shows_effect Down at initialized is s = silent s.0 s.2
+  shows_effect Down at exit is s = silent s.0 s.2
+  shows_effect Down at (open_text uri version text) is s = silent s.0 s.2
+  shows_effect Down at (change_text uri version changes) is s = silent s.0 s.2
+  shows_effect Down at (close uri) is s = silent s.0 s.2
+  shows_effect Down at (malformed unfit) is s = silent s.0 s.2
 
-  effect_of : (heard : Heard) → name ≡ named heard → Step old heard answers stop new → Effect name old answers stop new
+  effect_of : (received : Received) → name ≡ named received → Step old received answers stop new → Effect name old answers stop new
   effect_of unread is s = replied _ (λ uri p. p) s
   effect_of (refused (invalid id)) is s = replied _ (λ uri p. p) s
   effect_of (refused (unknown id)) is s = replied _ (λ uri p. p) s
   effect_of (refused (params id first)) is s = replied _ (λ uri p. p) s
-  effect_of (said (request id asked)) is s = asks_effect old.phase refl id asked s
-  effect_of (said (notice told)) is s = tells_effect old.phase refl told is s
-  effect_of (said ignored) is s = silent s.0 s.2
+  effect_of (message (call id request)) is s = asks_effect old.phase refl id request s
+  effect_of (message (notification notification)) is s = shows_effect old.phase refl notification is s
+  effect_of (message ignored) is s = silent s.0 s.2
 
-pub step_effect : (old : State) (answers : List Answer) (stop : Option ℕ) (new : State) (heard : Heard) → Step old heard answers stop new → Effect (named heard) old answers stop new
-step_effect old answers stop new heard s = effect_of (named heard) old answers stop new heard refl s
+pub step_effect : (old : State) (answers : List Answer) (stop : Option ℕ) (new : State) (received : Received) → Step old received answers stop new → Effect (named received) old answers stop new
+step_effect old answers stop new received s = effect_of (named received) old answers stop new received refl s

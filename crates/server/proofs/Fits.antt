@@ -8,8 +8,8 @@ use Rattle.std.proofs.lemmas.Cmp.{nat_list_cmp_total}
 use Rattle.docs.specs.Answers.{AlwaysAnswers}
 use Rattle.docs.specs.Texts.{OpenDocument, fits}
 use Rattle.docs.specs.Grammars.{FileGrammar}
-use Rattle.rpc.specs.Messages.{Heard}
-use Rattle.rpc.specs.Reading.{hearing}
+use Rattle.rpc.specs.Messages.{Received}
+use Rattle.rpc.specs.Reading.{received_in}
 use Rattle.rpc.specs.Replies.{Answer}
 use Rattle.server.specs.Documents.{DocumentState, is_open, is_lost, Held}
 use Rattle.server.specs.Runs.{Run}
@@ -82,15 +82,15 @@ effect_keeps name old answers stop new (stands uri (is_open d) is fit unit s) = 
 effect_keeps name old answers stop new (stands uri (is_lost loss) is fit unit s) = next_state old new (insert old.documents uri (is_lost loss)) (λ all. inserted_all HasFit old.documents uri (is_lost loss) all tt) (λ all. inserted_all (IsOfPhase old.phase) old.documents uri (is_lost loss) all tt) s.1.1
 effect_keeps name old answers stop new (goes uri is s) = next_state old new (remove old.documents uri) (removed_all HasFit old.documents uri) (removed_all (IsOfPhase old.phase) old.documents uri) s.1.1
 
-pub step_keeps : (old : State) (heard : Heard) (answers : List Answer) (stop : Option ℕ) (new : State) → Step old heard answers stop new → Keeps old new
-step_keeps old heard answers stop new s = effect_keeps _ old answers stop new (step_effect old answers stop new heard s)
+pub step_keeps : (old : State) (received : Received) (answers : List Answer) (stop : Option ℕ) (new : State) → Step old received answers stop new → Keeps old new
+step_keeps old received answers stop new s = effect_keeps _ old answers stop new (step_effect old answers stop new received s)
 
 keeps_both : (old mid new : State) → Keeps old mid → Keeps mid new → Keeps old new
 keeps_both old mid new a b = record { file = b.file ∙ a.file; fit = λ all. b.fit (a.fit all); units = λ all. b.units (a.units all) }
 
 pub run_keeps : (contents : List (List ℕ)) (old : State) (answers : List Answer) (stop : Option ℕ) (new : State) → Run old contents answers stop new → Keeps old new
 run_keeps [] old answers stop new r = same_state old new r.2
-run_keeps (content ∷ contents) old answers stop new r = keeps_both old r.2 new (step_keeps old (hearing content) r.0 r.1 r.2 r.3) (by r.1 r.0 r.2 r.4 (λ rest more. run_keeps contents r.2 rest stop new more))
+run_keeps (content ∷ contents) old answers stop new r = keeps_both old r.2 new (step_keeps old (received_in content) r.0 r.1 r.2 r.3) (by r.1 r.0 r.2 r.4 (λ rest more. run_keeps contents r.2 rest stop new more))
   where
     by : (halt : Option ℕ) (first : List Answer) (mid : State) → MatchOption halt ((rest : List Answer) × (answers ≡ first ++ rest) × Run mid contents rest stop new) (λ status. (answers ≡ first) × (stop ≡ Some status) × (new ≡ mid)) → ((rest : List Answer) → Run mid contents rest stop new → Keeps mid new) → Keeps mid new
     by None first mid h more = more h.0 h.2
@@ -101,8 +101,8 @@ run_keeps (content ∷ contents) old answers stop new r = keeps_both old r.2 new
 still_serves : (old new : State) → Keeps old new → CanServe old → CanServe new
 still_serves old new keeps can = record { always = subst (λ (f : FileGrammar). AlwaysAnswers f) (sym keeps.file) can.always; fit = keeps.fit can.fit }
 
-pub step_serves : (old : State) (heard : Heard) (answers : List Answer) (stop : Option ℕ) (new : State) → Step old heard answers stop new → CanServe old → CanServe new
-step_serves old heard answers stop new s = still_serves old new (step_keeps old heard answers stop new s)
+pub step_serves : (old : State) (received : Received) (answers : List Answer) (stop : Option ℕ) (new : State) → Step old received answers stop new → CanServe old → CanServe new
+step_serves old received answers stop new s = still_serves old new (step_keeps old received answers stop new s)
 
 pub run_serves : (contents : List (List ℕ)) (old : State) (answers : List Answer) (stop : Option ℕ) (new : State) → Run old contents answers stop new → CanServe old → CanServe new
 run_serves contents old answers stop new r = still_serves old new (run_keeps contents old answers stop new r)

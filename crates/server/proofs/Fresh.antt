@@ -7,21 +7,21 @@ use Rattle.std.specs.Cmp.Lexicographic.{slice_cmp}
 use Rattle.std.specs.FinMap.{empty, get, insert, remove, len, get-empty, len-empty}
 use Rattle.std.proofs.lemmas.List.Elements.{All-append, All-from_recursion}
 use Rattle.rpc.specs.Unit.{Unit as Encoding}
-use Rattle.docs.specs.Answers.{Reading, AlwaysAnswers, AnswersOnce, AreSelections, rows, tree_told}
+use Rattle.docs.specs.Answers.{Reading, AlwaysAnswers, AnswersOnce, AreSelections, rows, written_tree}
 use Rattle.docs.specs.Texts.{LastEdit, OpenDocument, fits}
 use Rattle.docs.proofs.Texts.{spelled_again}
 use Rattle.docs.specs.Grammars.{FileGrammar}
-use Rattle.rpc.specs.Messages.{Ident, numbered, Question, its_text, its_tokens, its_tree, its_folds, its_selections, about, open_text, change_text, request, notice, Heard, said, ChangeSaid}
-use Rattle.rpc.specs.Reading.{hearing}
-use Rattle.rpc.specs.Replies.{Answer, told_tokens, told_folds, told_selections, told_diagnostics, told_log}
+use Rattle.rpc.specs.Messages.{Ident, numbered, Question, its_text, its_tokens, its_tree, its_folds, its_selections, about, open_text, change_text, request, notification, Received, message, TextChange}
+use Rattle.rpc.specs.Reading.{received_in}
+use Rattle.rpc.specs.Replies.{Answer, tokens_reply, folds_reply, selections_reply, published_diagnostics, log_message}
 use Rattle.rpc.specs.declared.reply.Log.TheVariants.{Lost}
 use Rattle.rpc.specs.declared.reply.Loss.TheVariants.{TooLarge, MalformedChange, NoMemory}
-use Rattle.docs.specs.Told.{AreFoldsOf, IsDiagnosis}
+use Rattle.docs.specs.Notification.{AreFoldsOf, IsDiagnosis}
 use Rattle.server.specs.declared.state.Phase.{Phase}
 use Rattle.server.specs.declared.state.Phase.TheVariants.{Ready}
 use Rattle.server.specs.Documents.{DocumentState, is_open, is_lost, Held, Becomes, edited, has_room}
-use Rattle.server.specs.Answers.{IsAnswer, IsAnswerOf, IsPublished, told_of, tree_answer}
-use Rattle.server.specs.Steps.{State, first_state, Asks, Changes, Holds, Opens, Step, Tells, opened}
+use Rattle.server.specs.Answers.{IsAnswer, IsAnswerOf, IsPublished, shown, tree_answer}
+use Rattle.server.specs.Steps.{State, first_state, OnRequest, Changes, Holds, Opens, Step, OnNotification, new_document}
 use Rattle.server.specs.Runs.{Run}
 use Rattle.server.specs.Fresh.{IsFresh, RepliesOnly, AnswerAlike, Publishes, IsLastPublished, EveryAnswerIsFresh, EachTextIsItsEdits}
 use Rattle.server.proofs.Effects.{AreQuiet, none_quiet, IsOfPhase, Effect, stays, stands, goes, step_effect}
@@ -34,19 +34,19 @@ use Rattle.server.proofs.Totals.{some_answer_of}
 module _ (file : FileGrammar) (once : AnswersOnce file) where
   pub one_answer : (d : OpenDocument) (id : Ident) (question : Question) (one other : Answer) → IsAnswerOf file id d question one → IsAnswerOf file id d question other → other ≡ one
   one_answer d id its_text one other a b = b ∙ sym a
-  one_answer d id its_tokens one other a b = b.2 ∙ (ap (λ (r : Reading). told_tokens id (rows d.unit file d.text r.tokens)) (once.readings d.text a.0 b.0 a.1 b.1) ∙ sym a.2)
-  one_answer d id its_tree one other a b = b.2 ∙ (ap (λ (r : Reading). tree_answer id (tree_told file r.verdict)) (once.readings d.text a.0 b.0 a.1 b.1) ∙ sym a.2)
+  one_answer d id its_tokens one other a b = b.2 ∙ (ap (λ (r : Reading). tokens_reply id (rows d.unit file d.text r.tokens)) (once.readings d.text a.0 b.0 a.1 b.1) ∙ sym a.2)
+  one_answer d id its_tree one other a b = b.2 ∙ (ap (λ (r : Reading). tree_answer id (written_tree file r.verdict)) (once.readings d.text a.0 b.0 a.1 b.1) ∙ sym a.2)
   one_answer d id its_folds one other a b =
-      let told : AreFoldsOf file d.text a.0.tokens a.0.trees b.2.0 = subst (λ (r : Reading). AreFoldsOf file d.text r.tokens r.trees b.2.0) (once.readings d.text a.0 b.0 a.1 b.1) b.2.1 in
-      b.2.2 ∙ (ap (told_folds id) (once.folds d.text a.0 a.2.0 b.2.0 a.2.1 told) ∙ sym a.2.2)
+      let notification : AreFoldsOf file d.text a.0.tokens a.0.trees b.2.0 = subst (λ (r : Reading). AreFoldsOf file d.text r.tokens r.trees b.2.0) (once.readings d.text a.0 b.0 a.1 b.1) b.2.1 in
+      b.2.2 ∙ (ap (folds_reply id) (once.folds d.text a.0 a.2.0 b.2.0 a.2.1 notification) ∙ sym a.2.2)
   one_answer d id (its_selections positions) one other a b =
-      let told : AreSelections d.unit file d.text a.0 positions b.2.0 = subst (λ (r : Reading). AreSelections d.unit file d.text r positions b.2.0) (once.readings d.text a.0 b.0 a.1 b.1) b.2.1 in
-      b.2.2 ∙ (ap (told_selections id) (once.selections d.unit d.text a.0 positions a.2.0 b.2.0 a.2.1 told) ∙ sym a.2.2)
+      let notification : AreSelections d.unit file d.text a.0 positions b.2.0 = subst (λ (r : Reading). AreSelections d.unit file d.text r positions b.2.0) (once.readings d.text a.0 b.0 a.1 b.1) b.2.1 in
+      b.2.2 ∙ (ap (selections_reply id) (once.selections d.unit d.text a.0 positions a.2.0 b.2.0 a.2.1 notification) ∙ sym a.2.2)
 
   pub one_published : (uri : List ℕ) (d : OpenDocument) (one other : Answer) → IsPublished file uri d one → IsPublished file uri d other → other ≡ one
   one_published uri d one other a b =
       let fault : IsDiagnosis d.unit file d.text a.0.tokens a.0.verdict b.2.0 = subst (λ (r : Reading). IsDiagnosis d.unit file d.text r.tokens r.verdict b.2.0) (once.readings d.text a.0 b.0 a.1 b.1) b.2.1 in
-      b.2.2 ∙ (ap (λ f. told_diagnostics uri (Some d.version) (option_map told_of f)) (once.faults d.unit d.text a.0 a.2.0 b.2.0 a.2.1 fault) ∙ sym a.2.2)
+      b.2.2 ∙ (ap (λ f. published_diagnostics uri (Some d.version) (option_map shown f)) (once.faults d.unit d.text a.0 a.2.0 b.2.0 a.2.1 fault) ∙ sym a.2.2)
 
 -- ---- the last diagnostics
 
@@ -102,52 +102,52 @@ holds_published file prior old uri (is_open d) answers stop new by_file s all =
     let document : d ≡ e = cc in
     (s.0, subst (λ (x : OpenDocument). IsPublished file uri x s.0) document is, published_last file uri d prior s.0 is))
     all in
-    subst (λ (told : List Answer). AllPublished file (prior ++ told) new.documents) (sym s.2) (subst (λ (h : Held). AllPublished file (prior ++ (s.0 ∷ [])) h) (sym (ap (λ (x : State). x.documents) s.3.1)) next)
+    subst (λ (notification : List Answer). AllPublished file (prior ++ notification) new.documents) (sym s.2) (subst (λ (h : Held). AllPublished file (prior ++ (s.0 ∷ [])) h) (sym (ap (λ (x : State). x.documents) s.3.1)) next)
 holds_published file prior old uri (is_lost loss) answers stop new by_file s all =
-    let told : List Answer = told_diagnostics uri None None ∷ told_log (Lost loss) ∷ [] in
-    let next : AllPublished file (prior ++ told) (insert old.documents uri (is_lost loss)) =
-    one_step file prior told uri old.documents (insert old.documents uri (is_lost loss))
-    (λ other apart. All-from_recursion (λ x. ¬ Publishes other x) told (λ p. apart (sym p), ((λ p. p), tt)))
+    let notification : List Answer = published_diagnostics uri None None ∷ log_message (Lost loss) ∷ [] in
+    let next : AllPublished file (prior ++ notification) (insert old.documents uri (is_lost loss)) =
+    one_step file prior notification uri old.documents (insert old.documents uri (is_lost loss))
+    (λ other apart. All-from_recursion (λ x. ¬ Publishes other x) notification (λ p. apart (sym p), ((λ p. p), tt)))
     (λ other apart. get_other old.documents uri other (is_lost loss) apart)
     (λ e found. absurd (
     let here : Some (is_lost loss) ≡ Some (is_open e) = sym (get_inserted old.documents uri (is_lost loss)) ∙ found in
     let f : ⊥ = cc in
     f))
     all in
-    subst (λ (told : List Answer). AllPublished file (prior ++ told) new.documents) (sym s.0) (subst (λ (h : Held). AllPublished file (prior ++ told) h) (sym (ap (λ (x : State). x.documents) s.1.1)) next)
+    subst (λ (notification : List Answer). AllPublished file (prior ++ notification) new.documents) (sym s.0) (subst (λ (h : Held). AllPublished file (prior ++ notification) h) (sym (ap (λ (x : State). x.documents) s.1.1)) next)
 
 effect_published : (file : FileGrammar) (prior : List Answer) (name : Option (List ℕ)) (old : State) (answers : List Answer) (stop : Option ℕ) (new : State) → old.file ≡ file → Effect name old answers stop new → AllPublished file prior old.documents → AllPublished file (prior ++ answers) new.documents
 effect_published file prior name old answers stop new by_file (stays quiet same_file documents units) all = quiet_step file prior answers old.documents new.documents quiet documents all
 effect_published file prior name old answers stop new by_file (stands uri state is fit unit s) all = holds_published file prior old uri state answers stop new by_file s all
 effect_published file prior name old answers stop new by_file (goes uri is s) all =
-    let told : List Answer = told_diagnostics uri None None ∷ [] in
-    let next : AllPublished file (prior ++ told) (remove old.documents uri) =
-    one_step file prior told uri old.documents (remove old.documents uri)
-    (λ other apart. All-from_recursion (λ x. ¬ Publishes other x) told (λ p. apart (sym p), tt))
+    let notification : List Answer = published_diagnostics uri None None ∷ [] in
+    let next : AllPublished file (prior ++ notification) (remove old.documents uri) =
+    one_step file prior notification uri old.documents (remove old.documents uri)
+    (λ other apart. All-from_recursion (λ x. ¬ Publishes other x) notification (λ p. apart (sym p), tt))
     (λ other apart. get_other_removed old.documents uri other apart)
     (λ e found. absurd (
     let here : None ≡ Some (is_open e) = sym (get_removed old.documents uri) ∙ found in
     let f : ⊥ = cc in
     f))
     all in
-    subst (λ (told : List Answer). AllPublished file (prior ++ told) new.documents) (sym s.0) (subst (λ (h : Held). AllPublished file (prior ++ told) h) (sym (ap (λ (x : State). x.documents) s.1.1)) next)
+    subst (λ (notification : List Answer). AllPublished file (prior ++ notification) new.documents) (sym s.0) (subst (λ (h : Held). AllPublished file (prior ++ notification) h) (sym (ap (λ (x : State). x.documents) s.1.1)) next)
 
-step_published : (file : FileGrammar) (prior : List Answer) (old : State) (heard : Heard) (answers : List Answer) (stop : Option ℕ) (new : State) → old.file ≡ file → Step old heard answers stop new → AllPublished file prior old.documents → AllPublished file (prior ++ answers) new.documents
-step_published file prior old heard answers stop new by_file s = effect_published file prior _ old answers stop new by_file (step_effect old answers stop new heard s)
+step_published : (file : FileGrammar) (prior : List Answer) (old : State) (received : Received) (answers : List Answer) (stop : Option ℕ) (new : State) → old.file ≡ file → Step old received answers stop new → AllPublished file prior old.documents → AllPublished file (prior ++ answers) new.documents
+step_published file prior old received answers stop new by_file s = effect_published file prior _ old answers stop new by_file (step_effect old answers stop new received s)
 
 run_published : (file : FileGrammar) (contents : List (List ℕ)) (prior : List Answer) (old : State) (answers : List Answer) (stop : Option ℕ) (new : State) → old.file ≡ file → Run old contents answers stop new → AllPublished file prior old.documents → AllPublished file (prior ++ answers) new.documents
 run_published file [] prior old answers stop new by_file r all = quiet_step file prior answers old.documents new.documents (subst AreQuiet (sym r.0) none_quiet) (ap (λ (x : State). x.documents) r.2) all
 run_published file (content ∷ contents) prior old answers stop new by_file r all =
-    let mid_file : r.2.file ≡ file = (step_keeps old (hearing content) r.0 r.1 r.2 r.3).file ∙ by_file in
-    let next : AllPublished file (prior ++ r.0) r.2.documents = step_published file prior old (hearing content) r.0 r.1 r.2 by_file r.3 all in
+    let mid_file : r.2.file ≡ file = (step_keeps old (received_in content) r.0 r.1 r.2 r.3).file ∙ by_file in
+    let next : AllPublished file (prior ++ r.0) r.2.documents = step_published file prior old (received_in content) r.0 r.1 r.2 by_file r.3 all in
     by r.1 r.0 r.2 r.4 next (λ rest more. run_published file contents (prior ++ r.0) r.2 rest stop new mid_file more next)
   where
     by : (halt : Option ℕ) (first : List Answer) (mid : State) → MatchOption halt ((rest : List Answer) × (answers ≡ first ++ rest) × Run mid contents rest stop new) (λ status. (answers ≡ first) × (stop ≡ Some status) × (new ≡ mid)) → AllPublished file (prior ++ first) mid.documents → ((rest : List Answer) → Run mid contents rest stop new → AllPublished file ((prior ++ first) ++ rest) new.documents) → AllPublished file (prior ++ answers) new.documents
     by None first mid h now more =
-        let same : (prior ++ first) ++ h.0 ≡ prior ++ answers = append_assoc prior first h.0 ∙ ap (λ told. prior ++ told) (sym h.1) in
-        subst (λ (told : List Answer). AllPublished file told new.documents) same (more h.0 h.2)
+        let same : (prior ++ first) ++ h.0 ≡ prior ++ answers = append_assoc prior first h.0 ∙ ap (λ notification. prior ++ notification) (sym h.1) in
+        subst (λ (notification : List Answer). AllPublished file notification new.documents) same (more h.0 h.2)
     by (Some status) first mid h now more =
-        subst (λ (told : List Answer). AllPublished file (prior ++ told) new.documents) (sym h.0) (subst (λ (s : State). AllPublished file (prior ++ first) s.documents) (sym h.2) now)
+        subst (λ (notification : List Answer). AllPublished file (prior ++ notification) new.documents) (sym h.0) (subst (λ (s : State). AllPublished file (prior ++ first) s.documents) (sym h.2) now)
 
 none_published : (file : FileGrammar) → AllPublished file [] empty
 none_published file uri d found = absurd (let e : Some (is_open d) ≡ None = sym found ∙ get-empty (slice_cmp nat_cmp) uri in let f : ⊥ = cc in f)
@@ -164,7 +164,7 @@ room_first uri =
     ap (λ o. is_some o || nat_lt (len none) 64) (get-empty (slice_cmp nat_cmp) uri) ∙ ap (λ n. nat_lt n 64) (len-empty (slice_cmp nat_cmp) DocumentState)
 
 -- and a text that fits is open then
-opened_so : (unit : Encoding) (version : ℤ) (text : List ℕ) → fits text ≡ true → opened unit version text ≡ is_open (document_of unit version text)
+opened_so : (unit : Encoding) (version : ℤ) (text : List ℕ) → fits text ≡ true → new_document unit version text ≡ is_open (document_of unit version text)
 opened_so unit version text fit = ap (λ b. cond b (is_open (document_of unit version text)) (is_lost TooLarge)) fit
 
 abbrev ready_state : FileGrammar → Encoding → State
@@ -181,49 +181,49 @@ record HasOpen (file : FileGrammar) (uri : List ℕ) (document : OpenDocument) (
 
 -- opening a text in the ready state is to hold it
 opens_is : (file : FileGrammar) (unit : Encoding) (uri : List ℕ) (version : ℤ) (bytes text : List ℕ) (answers : List Answer) (stop : Option ℕ) (state : State) → chars bytes ≡ text → fits text ≡ true
-    → Step (ready_state file unit) (said (notice (open_text uri version bytes))) answers stop state ≡ Holds (ready_state file unit) uri (is_open (document_of unit version text)) answers stop state
+    → Step (ready_state file unit) (message (notification (open_text uri version bytes))) answers stop state ≡ Holds (ready_state file unit) uri (is_open (document_of unit version text)) answers stop state
 opens_is file unit uri version bytes text answers stop state spelled fit =
     let old = ready_state file unit in
-    ap (λ b. Opens b old uri (opened unit version (chars bytes)) answers stop state) (room_first uri)
-    ∙ ap (λ s. Holds old uri s answers stop state) (ap (opened unit version) spelled ∙ opened_so unit version text fit)
+    ap (λ b. Opens b old uri (new_document unit version (chars bytes)) answers stop state) (room_first uri)
+    ∙ ap (λ s. Holds old uri s answers stop state) (ap (new_document unit version) spelled ∙ opened_so unit version text fit)
 
-fresh_holds : (file : FileGrammar) (unit : Encoding) (uri : List ℕ) (version : ℤ) (text : List ℕ) (published : Answer) (state : State) → fits text ≡ true → IsFresh file unit uri version text published state → Holds (ready_state file unit) uri (is_open (document_of unit version text)) (published ∷ []) None state
-fresh_holds file unit uri version text published state fit f =
-    let opens : Step (ready_state file unit) (said (notice (open_text uri version f.bytes))) (published ∷ []) None state = subst (λ (s : State). Step s (said (notice (open_text uri version f.bytes))) (published ∷ []) None state) f.initializes.2 f.opens in
-    subst (λ (T : Type 0). T) (opens_is file unit uri version f.bytes text (published ∷ []) None state f.spelled fit) opens
+fresh_holds : (file : FileGrammar) (unit : Encoding) (uri : List ℕ) (version : ℤ) (text : List ℕ) (publish : Answer) (state : State) → fits text ≡ true → IsFresh file unit uri version text publish state → Holds (ready_state file unit) uri (is_open (document_of unit version text)) (publish ∷ []) None state
+fresh_holds file unit uri version text publish state fit f =
+    let opens : Step (ready_state file unit) (message (notification (open_text uri version f.bytes))) (publish ∷ []) None state = subst (λ (s : State). Step s (message (notification (open_text uri version f.bytes))) (publish ∷ []) None state) f.initializes.2 f.opens in
+    subst (λ (T : Type 0). T) (opens_is file unit uri version f.bytes text (publish ∷ []) None state f.spelled fit) opens
 
-fresh_has : (file : FileGrammar) (unit : Encoding) (uri : List ℕ) (version : ℤ) (text : List ℕ) (published : Answer) (state : State) → Holds (ready_state file unit) uri (is_open (document_of unit version text)) (published ∷ []) None state → HasOpen file uri (document_of unit version text) state
-fresh_has file unit uri version text published state h = record {
+fresh_has : (file : FileGrammar) (unit : Encoding) (uri : List ℕ) (version : ℤ) (text : List ℕ) (publish : Answer) (state : State) → Holds (ready_state file unit) uri (is_open (document_of unit version text)) (publish ∷ []) None state → HasOpen file uri (document_of unit version text) state
+fresh_has file unit uri version text publish state h = record {
   by_file = ap (λ (s : State). s.file) h.3.1;
   ready = ap (λ (s : State). s.phase) h.3.1;
   held = ap (λ (s : State). get s.documents uri) h.3.1 ∙ get_inserted empty uri (is_open (document_of unit version text));
 }
 
-fresh_published : (file : FileGrammar) (unit : Encoding) (uri : List ℕ) (version : ℤ) (text : List ℕ) (published : Answer) (state : State) → Holds (ready_state file unit) uri (is_open (document_of unit version text)) (published ∷ []) None state → IsPublished file uri (document_of unit version text) published
-fresh_published file unit uri version text published state h =
-    let lists : published ∷ [] ≡ h.0 ∷ [] = h.2 in
-    let same : h.0 ≡ published = cc in
+fresh_published : (file : FileGrammar) (unit : Encoding) (uri : List ℕ) (version : ℤ) (text : List ℕ) (publish : Answer) (state : State) → Holds (ready_state file unit) uri (is_open (document_of unit version text)) (publish ∷ []) None state → IsPublished file uri (document_of unit version text) publish
+fresh_published file unit uri version text publish state h =
+    let lists : publish ∷ [] ≡ h.0 ∷ [] = h.2 in
+    let same : h.0 ≡ publish = cc in
     subst (λ (a : Answer). IsPublished file uri (document_of unit version text) a) same h.1
 
-some_fresh : (file : FileGrammar) (unit : Encoding) (uri : List ℕ) (version : ℤ) (text : List ℕ) (published : Answer) → fits text ≡ true → IsPublished file uri (document_of unit version text) published → (state : State) × (told : Answer) × IsFresh file unit uri version text told state
-some_fresh file unit uri version text published fit is =
+some_fresh : (file : FileGrammar) (unit : Encoding) (uri : List ℕ) (version : ℤ) (text : List ℕ) (publish : Answer) → fits text ≡ true → IsPublished file uri (document_of unit version text) publish → (state : State) × (notification : Answer) × IsFresh file unit uri version text notification state
+some_fresh file unit uri version text publish fit is =
     let spelled : chars (encode_utf8_all text) ≡ text = spelled_again text fit in
     let state = open_state file uri (document_of unit version text) in
-    let holds : Holds (ready_state file unit) uri (is_open (document_of unit version text)) (published ∷ []) None state = (published, is, refl, (refl, refl)) in
-    let opens = subst (λ (T : Type 0). T) (sym (opens_is file unit uri version (encode_utf8_all text) text (published ∷ []) None state spelled fit)) holds in
-    (state, published, record { id = numbered (pos 0); bytes = encode_utf8_all text; mid = ready_state file unit; spelled = spelled; initializes = (refl, refl, refl); opens = opens })
+    let holds : Holds (ready_state file unit) uri (is_open (document_of unit version text)) (publish ∷ []) None state = (publish, is, refl, (refl, refl)) in
+    let opens = subst (λ (T : Type 0). T) (sym (opens_is file unit uri version (encode_utf8_all text) text (publish ∷ []) None state spelled fit)) holds in
+    (state, publish, record { id = numbered (pos 0); bytes = encode_utf8_all text; mid = ready_state file unit; spelled = spelled; initializes = (refl, refl, refl); opens = opens })
 
 -- ---- the answers of both
 
 -- the only answer about a document is the only reply of a server that has it open
-replies_only : (file : FileGrammar) (uri : List ℕ) (d : OpenDocument) (state : State) → HasOpen file uri d state → (id : Ident) (question : Question) (answer : Answer) → IsAnswerOf file id d question answer → ((other : Answer) → IsAnswerOf file id d question other → other ≡ answer) → RepliesOnly state (said (request id (about uri question))) answer
+replies_only : (file : FileGrammar) (uri : List ℕ) (d : OpenDocument) (state : State) → HasOpen file uri d state → (id : Ident) (question : Question) (answer : Answer) → IsAnswerOf file id d question answer → ((other : Answer) → IsAnswerOf file id d question other → other ≡ answer) → RepliesOnly state (message (request id (about uri question))) answer
 replies_only file uri d state has id question answer is only =
     let here : (a : Answer) → IsAnswer state.file id (get state.documents uri) question a ≡ IsAnswerOf file id d question a =
     λ a. ap (λ (f : FileGrammar). IsAnswer f id (get state.documents uri) question a) has.by_file ∙ ap (λ (o : Option DocumentState). IsAnswer file id o question a) has.held in
     record {
-      replies = subst (λ (p : Phase). Asks p state id (about uri question) (answer ∷ []) None state) (sym has.ready) (answer, subst (λ (T : Type 0). T) (sym (here answer)) is, (refl, refl, refl));
+      replies = subst (λ (p : Phase). OnRequest p state id (about uri question) (answer ∷ []) None state) (sym has.ready) (answer, subst (λ (T : Type 0). T) (sym (here answer)) is, (refl, refl, refl));
       only = λ answers stop new step.
-          let s : Asks (Ready d.unit) state id (about uri question) answers stop new = subst (λ (p : Phase). Asks p state id (about uri question) answers stop new) has.ready step in
+          let s : OnRequest (Ready d.unit) state id (about uri question) answers stop new = subst (λ (p : Phase). OnRequest p state id (about uri question) answers stop new) has.ready step in
           let same : s.0 ≡ answer = only s.0 (subst (λ (T : Type 0). T) (here s.0) s.1) in
           (s.2.0 ∙ ap (λ a. a ∷ []) same, s.2.1, s.2.2);
     }
@@ -248,9 +248,9 @@ alike file always once uri d fit state fresh has fresh_has id question =
 -- there is a fresh server with this unit, and each such one answers alike
 abbrev IsAsFresh : FileGrammar → List Answer → State → List ℕ → OpenDocument → Encoding → Type 0
 IsAsFresh file answers state uri document unit =
-    ((fresh : State) × (published : Answer) × IsFresh file unit uri document.version document.text published fresh)
-    × ((fresh : State) (published : Answer) → IsFresh file unit uri document.version document.text published fresh
-    → AnswerAlike uri state fresh × IsLastPublished uri answers published)
+    ((fresh : State) × (publish : Answer) × IsFresh file unit uri document.version document.text publish fresh)
+    × ((fresh : State) (publish : Answer) → IsFresh file unit uri document.version document.text publish fresh
+    → AnswerAlike uri state fresh × IsLastPublished uri answers publish)
 
 pub every_answer_is_fresh : (file : FileGrammar) → AlwaysAnswers file → AnswersOnce file → EveryAnswerIsFresh file
 every_answer_is_fresh file always once contents answers state unit uri document run ready held = subst (IsAsFresh file answers state uri document) of_phase own
@@ -274,16 +274,16 @@ every_answer_is_fresh file always once contents answers state unit uri document 
     own : IsAsFresh file answers state uri document document.unit
     own = (
       some_fresh file document.unit uri document.version document.text last.0 fit last.1,
-      λ fresh published is.
-          let holds = fresh_holds file document.unit uri document.version document.text published fresh fit is in
-          let same : last.0 ≡ published = one_published file once uri document published last.0 (fresh_published file document.unit uri document.version document.text published fresh holds) last.1 in
-          (alike file always once uri document fit state fresh has (fresh_has file document.unit uri document.version document.text published fresh holds), subst (λ (a : Answer). IsLastPublished uri answers a) same last.2),
+      λ fresh publish is.
+          let holds = fresh_holds file document.unit uri document.version document.text publish fresh fit is in
+          let same : last.0 ≡ publish = one_published file once uri document publish last.0 (fresh_published file document.unit uri document.version document.text publish fresh holds) last.1 in
+          (alike file always once uri document fit state fresh has (fresh_has file document.unit uri document.version document.text publish fresh holds), subst (λ (a : Answer). IsLastPublished uri answers a) same last.2),
     )
 
 -- ---- edits
 
--- the document has the text, or is lost for want of memory
-edits_or_lost : (file : FileGrammar) (version : ℤ) (old : OpenDocument) (text : List ℕ) (changes : List ChangeSaid) (state : DocumentState) → edited old.unit old.text changes ≡ Some text → Becomes file version old changes state
+-- the document has the text, or is lost because memory was refused
+edits_or_lost : (file : FileGrammar) (version : ℤ) (old : OpenDocument) (text : List ℕ) (changes : List TextChange) (state : DocumentState) → edited old.unit old.text changes ≡ Some text → Becomes file version old changes state
     → ((last : Option LastEdit) × (state ≡ is_open (record { unit = old.unit; version = version; text = text; last = last }))) ⊎ (state ≡ is_lost NoMemory)
 edits_or_lost file version old text changes (is_open d) edits b =
     let here : Some d.text ≡ Some text = sym b.0 ∙ edits in
@@ -305,7 +305,7 @@ holds_documents old uri (is_lost loss) answers stop new s = ap (λ (x : State). 
 
 pub each_text_is_its_edits : EachTextIsItsEdits
 each_text_is_its_edits old new unit uri version changes document text answers stop ready held edits step =
-    let change : Changes (get old.documents uri) old uri version changes answers stop new = subst (λ (p : Phase). Tells p old (change_text uri version changes) answers stop new) ready step in
+    let change : Changes (get old.documents uri) old uri version changes answers stop new = subst (λ (p : Phase). OnNotification p old (change_text uri version changes) answers stop new) ready step in
     let s : Changes (Some (is_open document)) old uri version changes answers stop new = subst (λ (o : Option DocumentState). Changes o old uri version changes answers stop new) held change in
     let documents : new.documents ≡ insert old.documents uri s.0 = holds_documents old uri s.0 answers stop new s.2 in
     let here : get new.documents uri ≡ Some s.0 = ap (λ d. get d uri) documents ∙ get_inserted old.documents uri s.0 in (

@@ -5,13 +5,13 @@ use Rattle.std.specs.FinMap.{get, insert}
 use Rattle.docs.specs.Docs.{open_document}
 use Rattle.docs.specs.declared.doc.Doc.{Doc}
 use Rattle.docs.specs.Grammars.{FileGrammar}
-use Rattle.rpc.specs.Replies.{Answer, told_log}
+use Rattle.rpc.specs.Replies.{Answer, log_message}
 use Rattle.rpc.specs.declared.reply.Log.TheVariants.{CloseNotOpen}
 use Rattle.server.specs.declared.documents.Entry.{Entry}
 use Rattle.server.specs.declared.documents.Entry.TheVariants as entry
 use Rattle.server.specs.declared.state.Phase.{Phase}
 use Rattle.server.specs.Answers.{IsPublished}
-use Rattle.rpc.specs.Messages.{ChangeSaid}
+use Rattle.rpc.specs.Messages.{TextChange}
 use Rattle.server.specs.Documents.{DocumentState, Held, is_open, is_lost, Becomes}
 use Rattle.server.specs.Holding.{entry_view}
 use Rattle.server.specs.Steps.{State, Changes, Closes, Holds, Opens}
@@ -24,10 +24,10 @@ pub state_same : (file file' : FileGrammar) (phase : Phase) (documents documents
 state_same file file' phase documents documents' e f = ap (λ (x : FileGrammar). state_of x phase documents') e ∙ ap (λ (h : Held). state_of file phase h) f
 
 -- an open document, whose diagnostics are published
-pub holds_open : (old : State) (uri : List ℕ) (made : Entry) (d : Doc) → made ≡ entry.Open d → (published : Answer) (answers : List Answer) (stop : Option ℕ) (new : State) → IsPublished old.file uri (open_document d) published → answers ≡ published ∷ [] → stop ≡ None → new ≡ state_of old.file old.phase (insert old.documents uri (entry_view made)) → Holds old uri (entry_view made) answers stop new
-holds_open old uri made d e published answers stop new is told stays same =
+pub holds_open : (old : State) (uri : List ℕ) (made : Entry) (d : Doc) → made ≡ entry.Open d → (publish : Answer) (answers : List Answer) (stop : Option ℕ) (new : State) → IsPublished old.file uri (open_document d) publish → answers ≡ publish ∷ [] → stop ≡ None → new ≡ state_of old.file old.phase (insert old.documents uri (entry_view made)) → Holds old uri (entry_view made) answers stop new
+holds_open old uri made d e publish answers stop new is notification stays same =
     let here : new ≡ state_of old.file old.phase (insert old.documents uri (entry_view (entry.Open d))) = same ∙ ap (λ (x : Entry). state_of old.file old.phase (insert old.documents uri (entry_view x))) e in
-    subst (λ (x : Entry). Holds old uri (entry_view x) answers stop new) (sym e) (published, is, told, (stays, here))
+    subst (λ (x : Entry). Holds old uri (entry_view x) answers stop new) (sym e) (publish, is, notification, (stays, here))
 
 -- one that stood otherwise in between
 pub holds_again : (old mid : State) (uri : List ℕ) (before state : DocumentState) (answers : List Answer) (stop : Option ℕ) (new : State) → mid ≡ state_of old.file old.phase (insert old.documents uri before) → Holds mid uri state answers stop new → Holds old uri state answers stop new
@@ -38,14 +38,14 @@ holds_again old mid uri before state answers stop new same h = by state (subst (
     by (is_lost loss) g = (g.0, (g.1.0, g.1.1 ∙ ap (λ (x : Held). state_of old.file old.phase x) (inserted_again old.documents uri before (is_lost loss))))
 
 -- a change of an open document
-pub changes_open : (old mid : State) (uri : List ℕ) (before : DocumentState) (d : Doc) (version : ℤ) (changes : List ChangeSaid) (state : DocumentState) (answers : List Answer) (stop : Option ℕ) (new : State) → get old.documents uri ≡ Some (is_open (open_document d)) → mid ≡ state_of old.file old.phase (insert old.documents uri before) → Becomes old.file version (open_document d) changes state → Holds mid uri state answers stop new → Changes (get old.documents uri) old uri version changes answers stop new
+pub changes_open : (old mid : State) (uri : List ℕ) (before : DocumentState) (d : Doc) (version : ℤ) (changes : List TextChange) (state : DocumentState) (answers : List Answer) (stop : Option ℕ) (new : State) → get old.documents uri ≡ Some (is_open (open_document d)) → mid ≡ state_of old.file old.phase (insert old.documents uri before) → Becomes old.file version (open_document d) changes state → Holds mid uri state answers stop new → Changes (get old.documents uri) old uri version changes answers stop new
 changes_open old mid uri before d version changes state answers stop new held same becomes holds =
     subst (λ (o : Option DocumentState). Changes o old uri version changes answers stop new) (sym held) (state, becomes, holds_again old mid uri before state answers stop new same holds)
 
 -- nothing is held that could be closed
-pub closes_none : (old : State) (uri : List ℕ) (answers : List Answer) (stop : Option ℕ) (new : State) → get old.documents uri ≡ None → answers ≡ told_log CloseNotOpen ∷ [] → stop ≡ None → new ≡ old → Closes (get old.documents uri) old uri answers stop new
-closes_none old uri answers stop new none told stays same =
-    subst (λ (o : Option DocumentState). Closes o old uri answers stop new) (sym none) (told, stays, same)
+pub closes_none : (old : State) (uri : List ℕ) (answers : List Answer) (stop : Option ℕ) (new : State) → get old.documents uri ≡ None → answers ≡ log_message CloseNotOpen ∷ [] → stop ≡ None → new ≡ old → Closes (get old.documents uri) old uri answers stop new
+closes_none old uri answers stop new none notification stays same =
+    subst (λ (o : Option DocumentState). Closes o old uri answers stop new) (sym none) (notification, stays, same)
 
 -- a document that there is room for
 pub opens_room : (room : Bool) (old : State) (uri : List ℕ) (made state : DocumentState) (answers : List Answer) (stop : Option ℕ) (new : State) → Holds old uri made answers stop new → made ≡ state → room ≡ true → Opens room old uri state answers stop new

@@ -14,7 +14,7 @@ use Rattle.server.specs.Sessions.{Session, Ends}
 use Rattle.server.specs.Loop.{Served, ServedInPart, CanServe, IsCutShort, EndsAt, run_fault}
 use Rattle.server.proofs.Runs.{served_then, served_nothing}
 use Rattle.server.proofs.Fits.{run_serves, first_serves}
-use Rattle.server.proofs.Parts.{part_nothing, part_then}
+use Rattle.server.proofs.CutSessions.{part_nothing, part_then}
 
 -- the answers to the whole frames read so far are written
 pub record IsReady (file : FileGrammar) (input_old input_new : Option (List ℕ)) (input_failures : ℕ) (output_old output_new : Option (List ℕ)) (output_failures : ℕ) (tail : Tail) (state : State) : Type 0 where
@@ -73,7 +73,7 @@ whole file ri rn oo on tail state stop f status ends = record { bytes = f.bytes;
 faulty : (file : FileGrammar) (ri rn oo on : Option (List ℕ)) (tail : Tail) (state : State) (stop : Option ℕ) (f : Fed file ri rn oo on tail state stop) → (fault : FrameFault) → Ends (Err (Frame fault)) rn tail stop → Session file ri rn oo on (Err (Frame fault))
 faulty file ri rn oo on tail state stop f fault ends = record { bytes = f.bytes; contents = f.contents; tail = tail; answers = f.served.answers; stop = stop; after = state; was_read = f.was_read; split = f.split; run = f.served.run; written = f.served.written; ends = ends }
 
--- a session of which a front of the answers is written
+-- a session of which a prefix of the answers is written
 cut_short : (file : FileGrammar) (e : RunFault) (failures : ℕ) (ri rn oo on : Option (List ℕ)) (tail : Tail) (bytes : List ℕ) (contents : List (List ℕ)) → IsCutShort e failures → Consumes ri rn bytes → Splits bytes contents tail → ServedInPart oo on (first_state file) contents → Session file ri rn oo on (Err e)
 cut_short file (Frame fault) failures ri rn oo on tail bytes contents cut read split p = absurd cut
 cut_short file Read failures ri rn oo on tail bytes contents cut read split p = absurd cut
@@ -110,7 +110,7 @@ finish_faulty : (t : Tail) (f : FrameFault) → Some f ≡ fault_of t → (finis
 finish_faulty (Open rest) f h = absurd (let e : ⊥ = cc in e)
 finish_faulty (Faulty g) f h = let same : f ≡ g = cc in (ap (λ x. Err x) (sym same), λ o. o)
 
--- the stream is faulty behind the frames that were answered
+-- the stream is faulty after the frames that were answered
 pub stream_fails : (file : FileGrammar) (ri rn oo on : Option (List ℕ)) (tail : Tail) (b : State) (fault : FrameFault) → Some fault ≡ fault_of tail → Fed file ri rn oo on tail b None → Session file ri rn oo on (Err (Frame fault))
 stream_fails file ri rn oo on tail b fault is f = let ends = finish_faulty tail fault is in faulty file ri rn oo on tail b None f fault (refl, ends.0, λ o. absurd (ends.1 o))
 
@@ -128,18 +128,18 @@ Refuses fault tail piece new = fault ≢ frame.Memory → GoesOn tail piece [] n
 pub feeding_fails : (file : FileGrammar) → AlwaysAnswers file → (fault : FrameFault) (ri rm rn oo om : Option (List ℕ)) (fi fo : ℕ) (tail new : Tail) (a : State) (piece : List ℕ) → IsReady file ri rm fi oo om fo tail a → Consumes rm rn piece → Refuses fault tail piece new → (contents : List (List ℕ)) (other : Tail) → GoesOn tail piece contents other → Session file ri rn oo om (Err (run_fault fault))
 feeding_fails file total fault ri rm rn oo om fi fo tail new a piece ready read refuses contents other goes = by fault refuses
   where
-    told : (f : FrameFault) → GoesOn tail piece [] new × (new ≡ Faulty f) → Session file ri rn oo om (Err (Frame f))
-    told f h = stream_fails file ri rn oo om new a f (sym (ap fault_of h.1)) (fed file ri rm rn oo om om fi fo tail new a a None piece [] ready read h.0 (served_nothing om a))
+    notification : (f : FrameFault) → GoesOn tail piece [] new × (new ≡ Faulty f) → Session file ri rn oo om (Err (Frame f))
+    notification f h = stream_fails file ri rn oo om new a f (sym (ap fault_of h.1)) (fed file ri rm rn oo om om fi fo tail new a a None piece [] ready read h.0 (served_nothing om a))
 
     by : (f : FrameFault) → Refuses f tail piece new → Session file ri rn oo om (Err (run_fault f))
-    by frame.BadField r = told frame.BadField (r (λ e. cc))
-    by frame.NoLength r = told frame.NoLength (r (λ e. cc))
-    by frame.SecondLength r = told frame.SecondLength (r (λ e. cc))
-    by frame.BadLength r = told frame.BadLength (r (λ e. cc))
-    by frame.BadCharset r = told frame.BadCharset (r (λ e. cc))
-    by frame.Truncated r = told frame.Truncated (r (λ e. cc))
+    by frame.BadField r = notification frame.BadField (r (λ e. cc))
+    by frame.NoLength r = notification frame.NoLength (r (λ e. cc))
+    by frame.SecondLength r = notification frame.SecondLength (r (λ e. cc))
+    by frame.BadLength r = notification frame.BadLength (r (λ e. cc))
+    by frame.BadCharset r = notification frame.BadCharset (r (λ e. cc))
+    by frame.Truncated r = notification frame.Truncated (r (λ e. cc))
     by frame.Memory r = answering_fails file Memory 0 ri rm rn oo om om fi fo tail other a piece contents refl ready read goes (part_nothing om a (can_serve file total ri rm oo om fi fo tail a ready) contents)
-    by frame.LongHeader r = told frame.LongHeader (r (λ e. cc))
+    by frame.LongHeader r = notification frame.LongHeader (r (λ e. cc))
 
 pub is_open : (t : Tail) → None ≡ fault_of t → IsOpen t
 is_open (Open rest) h = tt

@@ -1,4 +1,4 @@
--- Runs one behind another.
+-- Runs one after another.
 use Rattle.std.proofs.Common.{◌≡◌, ℕ, List, [], ◌∷◌, ◌++◌, refl, ap, sym, subst, ◌∙◌, append_assoc, append-nil, ◌+◌, ◌<◌, length, take, drop, get_or}
 use Rattle.std.specs.Prelude.{Option, Some, None, MatchOption, IfSome}
 use Rattle.std.specs.Io.KnownBytes.{Appends}
@@ -8,8 +8,8 @@ use Rattle.rpc.specs.Written.{compact_text}
 use Rattle.frames.specs.Write.{frame}
 use Rattle.frames.specs.Contents.{contents}
 use Rattle.frames.specs.declared.decoder.Frame.{Frame}
-use Rattle.rpc.specs.Messages.{Heard}
-use Rattle.rpc.specs.Reading.{hearing}
+use Rattle.rpc.specs.Messages.{Received}
+use Rattle.rpc.specs.Reading.{received_in}
 use Rattle.rpc.specs.Replies.{Answer, reply_data}
 use Rattle.server.specs.Steps.{State, Step, StepOn}
 use Rattle.server.specs.Runs.{Run, bytes_of}
@@ -33,7 +33,7 @@ run_then a b c (content ∷ cs) ds xs ys stop r s = (
   match_map r.1 (λ h. (h.0 ++ ys, ap (λ zs. zs ++ ys) h.1 ∙ append_assoc r.0 h.0 ys, run_then r.2 b c cs ds h.0 ys stop h.2 s)) (λ status h. absurd (let e : None ≡ Some status = h.1 in let f : ⊥ = cc in f)) r.4,
 )
 
--- what comes behind a stop isn't looked at
+-- what comes after a stop isn't looked at
 pub run_stops : (a c : State) (cs ds : List (List ℕ)) (xs : List Answer) (status : ℕ) → Run a cs xs (Some status) c → Run a (cs ++ ds) xs (Some status) c
 run_stops a c [] ds xs status r = let e : Some status ≡ None = r.1 in let f : ⊥ = cc in absurd f
 run_stops a c (content ∷ cs) ds xs status r = (
@@ -51,12 +51,12 @@ run_on a c can cs ds xs None r =
     (more.0, more.1, more.2, run_then a c more.2 cs ds xs more.0 more.1 r more.3)
 run_on a c can cs ds xs (Some status) r = ([], Some status, c, subst (λ zs. Run a (cs ++ ds) zs (Some status) c) (sym (append-nil xs)) (run_stops a c cs ds xs status r))
 
--- a step on what a content is heard as
-pub step_heard : (o : Option Heard) (heard : Heard) (old : State) (answers : List Answer) (stop : Option ℕ) (new : State) → IfSome o (λ h. h ≡ heard) → StepOn o old answers stop new → Step old heard answers stop new
-step_heard None heard old answers stop new is step = absurd step
-step_heard (Some h) heard old answers stop new is step = subst (λ (x : Heard). Step old x answers stop new) is step
+-- a step on what a content is read as
+pub step_heard : (o : Option Received) (received : Received) (old : State) (answers : List Answer) (stop : Option ℕ) (new : State) → IfSome o (λ h. h ≡ received) → StepOn o old answers stop new → Step old received answers stop new
+step_heard None received old answers stop new is step = absurd step
+step_heard (Some h) received old answers stop new is step = subst (λ (x : Received). Step old x answers stop new) is step
 
-pub one_run : (content : List ℕ) (old : State) (answers : List Answer) (stop : Option ℕ) (new : State) → Step old (hearing content) answers stop new → Run old (content ∷ []) answers stop new
+pub one_run : (content : List ℕ) (old : State) (answers : List Answer) (stop : Option ℕ) (new : State) → Step old (received_in content) answers stop new → Run old (content ∷ []) answers stop new
 one_run content old answers None new step = (answers, None, new, step, ([], sym (append-nil answers), (refl, refl, refl)))
 one_run content old answers (Some s) new step = (answers, Some s, new, step, (refl, refl, refl))
 
@@ -69,7 +69,7 @@ appends_then (Some xs) (Some ys) (Some zs) a b g h = h ∙ ap (λ l. l ++ b) g �
 pub bytes_then : (xs ys : List Answer) → bytes_of (xs ++ ys) ≡ bytes_of xs ++ bytes_of ys
 bytes_then xs ys = flat_map-append (λ a. frame (compact_text (reply_data a))) xs ys
 
--- one part of a session behind another
+-- one part of a session after another
 pub served_then : (old mid new : Option (List ℕ)) (a b c : State) (cs ds : List (List ℕ)) (stop : Option ℕ) → Served old mid a cs None b → Served mid new b ds stop c → Served old new a (cs ++ ds) stop c
 served_then old mid new a b c cs ds stop r s = record {
   answers = r.answers ++ s.answers;

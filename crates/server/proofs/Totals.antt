@@ -6,18 +6,18 @@ use Rattle.std.specs.FinMap.{get}
 use Rattle.rpc.specs.Stats.{Stats}
 use Rattle.docs.specs.Nodes.{all_branches}
 use Rattle.docs.specs.Answers.{AlwaysAnswers, Reading, IsReading}
-use Rattle.docs.specs.Edits.{AreStats, TellsLast}
+use Rattle.docs.specs.Edits.{AreStats, ReportsLast}
 use Rattle.docs.specs.Texts.{LastEdit, OpenDocument, fits}
 use Rattle.docs.specs.Grammars.{FileGrammar}
-use Rattle.rpc.specs.Messages.{Ident, Asked, Question, its_text, its_tokens, its_tree, its_folds, its_selections, initialize, shutdown, about, stats, Told, initialized, exit, open_text, change_text, close, malformed, Unfit, unfit_open, unfit_change, unfit_close, request, notice, ignored, invalid, unknown, params, Heard, unread, refused, said, ChangeSaid}
-use Rattle.rpc.specs.Reading.{hearing}
-use Rattle.rpc.specs.Replies.{Answer, told_folds, told_selections, told_diagnostics}
+use Rattle.rpc.specs.Messages.{Ident, Request, Question, its_text, its_tokens, its_tree, its_folds, its_selections, initialize, shutdown, about, stats, Notification, initialized, exit, open_text, change_text, close, malformed, Unfit, unfit_open, unfit_change, unfit_close, call, notification, ignored, invalid, unknown, params, Received, unread, refused, message, TextChange}
+use Rattle.rpc.specs.Reading.{received_in}
+use Rattle.rpc.specs.Replies.{Answer, folds_reply, selections_reply, published_diagnostics}
 use Rattle.rpc.specs.declared.reply.Loss.TheVariants.{MalformedChange}
-use Rattle.server.specs.Answers.{IsAnswer, IsAnswerOf, IsCount, IsPublished, told_of}
+use Rattle.server.specs.Answers.{IsAnswer, IsAnswerOf, IsCount, IsPublished, shown}
 use Rattle.server.specs.declared.state.Phase.{Phase}
 use Rattle.server.specs.declared.state.Phase.TheVariants.{New, Ready, Down}
 use Rattle.server.specs.Documents.{DocumentState, is_open, is_lost, has_room}
-use Rattle.server.specs.Steps.{State, Asks, Changes, Closes, Holds, Misses, Opens, Spoils, Tells, Step, opened}
+use Rattle.server.specs.Steps.{State, OnRequest, Changes, Closes, Holds, OnMalformed, Opens, Spoils, OnNotification, Step, new_document}
 use Rattle.server.specs.Runs.{Run}
 use Rattle.server.specs.Loop.{CanServe}
 use Rattle.server.proofs.Edits.{IsFit, becomes_fit, some_becomes}
@@ -33,11 +33,11 @@ some_answer_of file always id d fit its_tree = let r = always.readings d.text fi
 some_answer_of file always id d fit its_folds =
     let r = always.readings d.text fit in
     let pairs = always.folds d.text r.0 r.1 in
-    (told_folds id pairs.0, (r.0, r.1, (pairs.0, pairs.1, refl)))
+    (folds_reply id pairs.0, (r.0, r.1, (pairs.0, pairs.1, refl)))
 some_answer_of file always id d fit (its_selections positions) =
     let r = always.readings d.text fit in
     let selections = always.selections d.unit d.text r.0 r.1 positions in
-    (told_selections id selections.0, (r.0, r.1, (selections.0, selections.1, refl)))
+    (selections_reply id selections.0, (r.0, r.1, (selections.0, selections.1, refl)))
 
 some_answer : (file : FileGrammar) → AlwaysAnswers file → (id : Ident) (o : Option DocumentState) → ((d : OpenDocument) → o ≡ Some (is_open d) → fits d.text ≡ true) → (question : Question) → (answer : Answer) × IsAnswer file id o question answer
 some_answer file always id None fit question = (_, refl)
@@ -57,7 +57,7 @@ are_counted file d None no_edit r is = (
     is = is;
     tokens = refl;
     branches = refl;
-    last = subst (λ (l : Option LastEdit). TellsLast l (counted None r)) (sym no_edit) (refl, refl, refl);
+    last = subst (λ (l : Option LastEdit). ReportsLast l (counted None r)) (sym no_edit) (refl, refl, refl);
     nodes = omega arith;
   },
 )
@@ -68,7 +68,7 @@ are_counted file d (Some last) edited r is = (
     is = is;
     tokens = refl;
     branches = refl;
-    last = subst (λ (l : Option LastEdit). TellsLast l (counted (Some last) r)) (sym edited) (refl, refl, refl);
+    last = subst (λ (l : Option LastEdit). ReportsLast l (counted (Some last) r)) (sym edited) (refl, refl, refl);
     nodes = omega arith;
   },
 )
@@ -85,7 +85,7 @@ some_published : (file : FileGrammar) → AlwaysAnswers file → (uri : List ℕ
 some_published file always uri d fit =
     let r = always.readings d.text fit in
     let fault = always.faults d.unit d.text r.0 r.1 in
-    (told_diagnostics uri (Some d.version) (option_map told_of fault.0), (r.0, r.1, (fault.0, fault.1, refl)))
+    (published_diagnostics uri (Some d.version) (option_map shown fault.0), (r.0, r.1, (fault.0, fault.1, refl)))
 
 -- ---- steps
 
@@ -95,15 +95,15 @@ SomeStep P = (answers : List Answer) × (stop : Option ℕ) × (new : State) × 
 module _ (old : State) (can : CanServe old) where
   some_holds : (uri : List ℕ) (state : DocumentState) → IsFit state → SomeStep (Holds old uri state)
   some_holds uri (is_open d) fit =
-      let published = some_published old.file can.always uri d fit in
-      (published.0 ∷ [], None, _, (published.0, published.1, refl, (refl, refl)))
+      let publish = some_published old.file can.always uri d fit in
+      (publish.0 ∷ [], None, _, (publish.0, publish.1, refl, (refl, refl)))
   some_holds uri (is_lost loss) fit = (_, _, _, (refl, (refl, refl)))
 
   some_opens : (room : Bool) (uri : List ℕ) (state : DocumentState) → IsFit state → SomeStep (Opens room old uri state)
   some_opens true uri state fit = some_holds uri state fit
   some_opens false uri state fit = (_, _, _, (refl, refl, refl))
 
-  some_changes : (o : Option DocumentState) (uri : List ℕ) (version : ℤ) (changes : List ChangeSaid) → get old.documents uri ≡ o → SomeStep (Changes o old uri version changes)
+  some_changes : (o : Option DocumentState) (uri : List ℕ) (version : ℤ) (changes : List TextChange) → get old.documents uri ≡ o → SomeStep (Changes o old uri version changes)
   some_changes None uri version changes e = (_, _, _, (refl, refl, refl))
   some_changes (Some (is_lost loss)) uri version changes e = (_, _, _, (refl, refl, refl))
   some_changes (Some (is_open d)) uri version changes e =
@@ -120,13 +120,13 @@ module _ (old : State) (can : CanServe old) where
   some_closes None uri = (_, _, _, (refl, refl, refl))
   some_closes (Some state) uri = (_, _, _, (refl, (refl, refl)))
 
-  some_misses : (unfit : Unfit) → SomeStep (Misses old unfit)
+  some_misses : (unfit : Unfit) → SomeStep (OnMalformed old unfit)
   some_misses unfit_open = (_, _, _, (refl, refl, refl))
   some_misses (unfit_change None) = (_, _, _, (refl, refl, refl))
   some_misses (unfit_change (Some uri)) = some_spoils (get old.documents uri) uri
   some_misses unfit_close = (_, _, _, (refl, refl, refl))
 
-  some_asks : (phase : Phase) (id : Ident) (asked : Asked) → SomeStep (Asks phase old id asked)
+  some_asks : (phase : Phase) (id : Ident) (request : Request) → SomeStep (OnRequest phase old id request)
   some_asks New id (initialize unit) = (_, _, _, (refl, refl, refl))
   some_asks New id shutdown = (_, _, _, (refl, refl, refl))
   some_asks New id (about uri question) = (_, _, _, (refl, refl, refl))
@@ -139,43 +139,43 @@ module _ (old : State) (can : CanServe old) where
   some_asks (Ready unit) id (stats uri) =
       let some = some_count old.file can.always id (get old.documents uri) (λ d e. can.fit uri d e) in
       (some.0 ∷ [], None, old, (some.0, some.1, (refl, refl, refl)))
-  some_asks Down id asked = (_, _, _, (refl, refl, refl))
+  some_asks Down id request = (_, _, _, (refl, refl, refl))
 
-  some_tells : (phase : Phase) (told : Told) → SomeStep (Tells phase old told)
-  some_tells New initialized = (_, _, _, (refl, refl, refl))
-  some_tells New exit = (_, _, _, (refl, refl, refl))
-  some_tells New (open_text uri version text) = (_, _, _, (refl, refl, refl))
-  some_tells New (change_text uri version changes) = (_, _, _, (refl, refl, refl))
-  some_tells New (close uri) = (_, _, _, (refl, refl, refl))
-  some_tells New (malformed unfit) = (_, _, _, (refl, refl, refl))
-  some_tells (Ready unit) initialized = (_, _, _, (refl, refl, refl))
-  some_tells (Ready unit) exit = (_, _, _, (refl, refl, refl))
-  some_tells (Ready unit) (open_text uri version text) = some_opens (has_room uri old.documents) uri (opened unit version (chars text)) (opened_fit unit version (chars text))
-  some_tells (Ready unit) (change_text uri version changes) = some_changes (get old.documents uri) uri version changes refl
-  some_tells (Ready unit) (close uri) = some_closes (get old.documents uri) uri
-  some_tells (Ready unit) (malformed unfit) = some_misses unfit
-  some_tells Down initialized = (_, _, _, (refl, refl, refl))
-  some_tells Down exit = (_, _, _, (refl, refl, refl))
-  some_tells Down (open_text uri version text) = (_, _, _, (refl, refl, refl))
-  some_tells Down (change_text uri version changes) = (_, _, _, (refl, refl, refl))
-  some_tells Down (close uri) = (_, _, _, (refl, refl, refl))
-  some_tells Down (malformed unfit) = (_, _, _, (refl, refl, refl))
+  some_shows : (phase : Phase) (notification : Notification) → SomeStep (OnNotification phase old notification)
+  some_shows New initialized = (_, _, _, (refl, refl, refl))
+  some_shows New exit = (_, _, _, (refl, refl, refl))
+  some_shows New (open_text uri version text) = (_, _, _, (refl, refl, refl))
+  some_shows New (change_text uri version changes) = (_, _, _, (refl, refl, refl))
+  some_shows New (close uri) = (_, _, _, (refl, refl, refl))
+  some_shows New (malformed unfit) = (_, _, _, (refl, refl, refl))
+  some_shows (Ready unit) initialized = (_, _, _, (refl, refl, refl))
+  some_shows (Ready unit) exit = (_, _, _, (refl, refl, refl))
+  some_shows (Ready unit) (open_text uri version text) = some_opens (has_room uri old.documents) uri (new_document unit version (chars text)) (opened_fit unit version (chars text))
+  some_shows (Ready unit) (change_text uri version changes) = some_changes (get old.documents uri) uri version changes refl
+  some_shows (Ready unit) (close uri) = some_closes (get old.documents uri) uri
+  some_shows (Ready unit) (malformed unfit) = some_misses unfit
+  some_shows Down initialized = (_, _, _, (refl, refl, refl))
+  some_shows Down exit = (_, _, _, (refl, refl, refl))
+  some_shows Down (open_text uri version text) = (_, _, _, (refl, refl, refl))
+  some_shows Down (change_text uri version changes) = (_, _, _, (refl, refl, refl))
+  some_shows Down (close uri) = (_, _, _, (refl, refl, refl))
+  some_shows Down (malformed unfit) = (_, _, _, (refl, refl, refl))
 
-  some_step : (heard : Heard) → SomeStep (Step old heard)
+  some_step : (received : Received) → SomeStep (Step old received)
   some_step unread = (_, _, _, (refl, refl, refl))
   some_step (refused (invalid id)) = (_, _, _, (refl, refl, refl))
   some_step (refused (unknown id)) = (_, _, _, (refl, refl, refl))
   some_step (refused (params id first)) = (_, _, _, (refl, refl, refl))
-  some_step (said (request id asked)) = some_asks old.phase id asked
-  some_step (said (notice told)) = some_tells old.phase told
-  some_step (said ignored) = (_, _, _, (refl, refl, refl))
+  some_step (message (call id request)) = some_asks old.phase id request
+  some_step (message (notification notification)) = some_shows old.phase notification
+  some_step (message ignored) = (_, _, _, (refl, refl, refl))
 
 pub some_run : (old : State) → CanServe old → (contents : List (List ℕ)) → (answers : List Answer) × (stop : Option ℕ) × (new : State) × Run old contents answers stop new
 some_run old can [] = ([], None, old, (refl, refl, refl))
-some_run old can (content ∷ contents) = let s = some_step old can (hearing content) in after s.0 s.1 s.2 s.3 (λ mid serves. some_run mid serves contents)
+some_run old can (content ∷ contents) = let s = some_step old can (received_in content) in after s.0 s.1 s.2 s.3 (λ mid serves. some_run mid serves contents)
   where
-    after : (first : List Answer) (halt : Option ℕ) (mid : State) → Step old (hearing content) first halt mid → ((state : State) → CanServe state → (answers : List Answer) × (stop : Option ℕ) × (new : State) × Run state contents answers stop new) → (answers : List Answer) × (stop : Option ℕ) × (new : State) × Run old (content ∷ contents) answers stop new
+    after : (first : List Answer) (halt : Option ℕ) (mid : State) → Step old (received_in content) first halt mid → ((state : State) → CanServe state → (answers : List Answer) × (stop : Option ℕ) × (new : State) × Run state contents answers stop new) → (answers : List Answer) × (stop : Option ℕ) × (new : State) × Run old (content ∷ contents) answers stop new
     after first None mid step go_on =
-        let rest = go_on mid (step_serves old (hearing content) first None mid step can) in
+        let rest = go_on mid (step_serves old (received_in content) first None mid step can) in
         (first ++ rest.0, rest.1, rest.2, (first, None, mid, step, (rest.0, refl, rest.3)))
     after first (Some status) mid step go_on = (first, Some status, mid, (first, Some status, mid, step, (refl, refl, refl)))

@@ -3,15 +3,16 @@ use Rattle.std.specs.Prelude.{◌≡◌, ℕ, List, Option, Some, None, option_m
 use Rattle.rpc.specs.Range.{Range}
 use Rattle.rpc.specs.Stats.{Stats}
 use Rattle.docs.specs.Answers.{Diagnostic}
-use Rattle.docs.specs.Answers.{Reads, rows, tree_told, AreSelections}
+use Rattle.docs.specs.Answers.{Reads, rows, written_tree, AreSelections}
 use Rattle.docs.specs.Edits.{AreStats, without_nodes}
 use Rattle.docs.specs.Texts.{OpenDocument}
 use Rattle.docs.specs.Grammars.{FileGrammar}
 use Rattle.rpc.specs.declared.reply.Refusal.TheVariants.{DocumentNotOpen, DocumentLost}
 use Rattle.rpc.specs.Messages.{Ident, Question, its_text, its_tokens, its_tree, its_folds, its_selections}
-use Rattle.rpc.specs.Replies.{Answer, told_null, told_text, told_tokens, told_tree, told_stats, told_folds, told_selections, told_error}
-use Rattle.rpc.specs.Replies.{told_diagnostics}
-use Rattle.docs.specs.Told.{AreFoldsOf, IsDiagnosis}
+use Rattle.rpc.specs.Replies.{Answer, null_reply, text_reply, tokens_reply, tree_reply, stats_reply, folds_reply, selections_reply}
+use Rattle.rpc.specs.Replies.{error_reply}
+use Rattle.rpc.specs.Replies.{published_diagnostics}
+use Rattle.docs.specs.Notification.{AreFoldsOf, IsDiagnosis}
 use Rattle.server.specs.declared.answers.Question.{Question as Put}
 use Rattle.server.specs.declared.answers.Question.TheVariants as put
 use Rattle.server.specs.Documents.{DocumentState, is_open, is_lost}
@@ -24,48 +25,48 @@ question_view put.Tree = its_tree
 question_view put.Folds = its_folds
 question_view (put.Selections positions) = its_selections positions.items
 
--- `tree_answer id text`: the reply that tells the text of a tree, or that there is none
+-- `tree_answer id text`: the reply with the text of a tree, or that there is none
 abbrev pub tree_answer : Ident → Option (List ℕ) → Answer
-tree_answer id None = told_null id
-tree_answer id (Some text) = told_tree id text
+tree_answer id None = null_reply id
+tree_answer id (Some text) = tree_reply id text
 
 -- `IsAnswerOf file id d question answer`: what is answered of an open document, by its unit, version and text alone, by the reading of its
 -- text: its version and text, the rows of its tokens, its tree, its folds, or what can be selected in it
 abbrev pub IsAnswerOf : FileGrammar → Ident → OpenDocument → Question → Answer → Type 0
-IsAnswerOf file id d its_text answer = answer ≡ told_text id d.version (encode_utf8_all d.text)
-IsAnswerOf file id d its_tokens answer = Reads file d.text (λ reading. answer ≡ told_tokens id (rows d.unit file d.text reading.tokens))
-IsAnswerOf file id d its_tree answer = Reads file d.text (λ reading. answer ≡ tree_answer id (tree_told file reading.verdict))
+IsAnswerOf file id d its_text answer = answer ≡ text_reply id d.version (encode_utf8_all d.text)
+IsAnswerOf file id d its_tokens answer = Reads file d.text (λ reading. answer ≡ tokens_reply id (rows d.unit file d.text reading.tokens))
+IsAnswerOf file id d its_tree answer = Reads file d.text (λ reading. answer ≡ tree_answer id (written_tree file reading.verdict))
 IsAnswerOf file id d its_folds answer = Reads file d.text (λ reading.
-    (pairs : List (ℕ × ℕ)) × AreFoldsOf file d.text reading.tokens reading.trees pairs × (answer ≡ told_folds id pairs))
+    (pairs : List (ℕ × ℕ)) × AreFoldsOf file d.text reading.tokens reading.trees pairs × (answer ≡ folds_reply id pairs))
 IsAnswerOf file id d (its_selections positions) answer = Reads file d.text (λ reading.
     (selections : List (List Range)) × AreSelections d.unit file d.text reading positions selections
-    × (answer ≡ told_selections id selections))
+    × (answer ≡ selections_reply id selections))
 
 -- `IsAnswer file id document question answer`: what is answered to a question about a document: that it isn't open; or why it is lost; or,
 -- where it is open, what `IsAnswerOf` has
 abbrev pub IsAnswer : FileGrammar → Ident → Option DocumentState → Question → Answer → Type 0
-IsAnswer file id None question answer = answer ≡ told_error (Some id) DocumentNotOpen
-IsAnswer file id (Some (is_lost loss)) question answer = answer ≡ told_error (Some id) (DocumentLost loss)
+IsAnswer file id None question answer = answer ≡ error_reply (Some id) DocumentNotOpen
+IsAnswer file id (Some (is_lost loss)) question answer = answer ≡ error_reply (Some id) (DocumentLost loss)
 IsAnswer file id (Some (is_open d)) question answer = IsAnswerOf file id d question answer
 
 -- `IsCount file id document answer`: what is answered to `lr/stats`: that the document isn't open; or why it is lost; or its counts
 -- (`AreStats`)
 abbrev pub IsCount : FileGrammar → Ident → Option DocumentState → Answer → Type 0
-IsCount file id None answer = answer ≡ told_error (Some id) DocumentNotOpen
-IsCount file id (Some (is_lost loss)) answer = answer ≡ told_error (Some id) (DocumentLost loss)
-IsCount file id (Some (is_open d)) answer = (stats : Stats) × AreStats file d stats × (answer ≡ told_stats id stats)
+IsCount file id None answer = answer ≡ error_reply (Some id) DocumentNotOpen
+IsCount file id (Some (is_lost loss)) answer = answer ≡ error_reply (Some id) (DocumentLost loss)
+IsCount file id (Some (is_open d)) answer = (stats : Stats) × AreStats file d stats × (answer ≡ stats_reply id stats)
 
 -- `but_nodes answer`: an answer without the number of nodes in memory, which is left free
 abbrev pub but_nodes : Answer → Answer
-but_nodes (told_stats id stats) = told_stats id (without_nodes stats)
+but_nodes (stats_reply id stats) = stats_reply id (without_nodes stats)
 but_nodes answer = answer
 
 -- a diagnostic's range, and its message in UTF-8
-abbrev pub told_of : Diagnostic → Range × List ℕ
-told_of d = (d.range, encode_utf8_all d.message)
+abbrev pub shown : Diagnostic → Range × List ℕ
+shown d = (d.range, encode_utf8_all d.message)
 
 -- `IsPublished file uri document answer`: the diagnostics of a document under its URI, with its version, by the reading of its text
 abbrev pub IsPublished : FileGrammar → List ℕ → OpenDocument → Answer → Type 0
 IsPublished file uri d answer =
     Reads file d.text (λ reading. (fault : Option Diagnostic) × IsDiagnosis d.unit file d.text reading.tokens reading.verdict fault
-    × (answer ≡ told_diagnostics uri (Some d.version) (option_map told_of fault)))
+    × (answer ≡ published_diagnostics uri (Some d.version) (option_map shown fault)))

@@ -4,8 +4,9 @@ use Rattle.std.specs.Str.{chars}
 use Rattle.std.specs.FinMap.{get}
 use Rattle.rpc.specs.Unit.{Unit as Encoding}
 use Rattle.docs.specs.Grammars.{FileGrammar}
-use Rattle.rpc.specs.Messages.{Ident, initialize, Question, about, open_text, change_text, request, notice, said, ChangeSaid, Heard}
-use Rattle.rpc.specs.Replies.{Answer, told_capabilities, told_diagnostics}
+use Rattle.rpc.specs.Messages.{Ident, initialize, Question, about, open_text, change_text, request, notification, message, TextChange}
+use Rattle.rpc.specs.Messages.{Received}
+use Rattle.rpc.specs.Replies.{Answer, capabilities_reply, published_diagnostics}
 use Rattle.docs.specs.Texts.{LastEdit, OpenDocument}
 use Rattle.rpc.specs.declared.reply.Loss.TheVariants.{NoMemory}
 use Rattle.server.specs.Documents.{is_open, is_lost, edited}
@@ -14,36 +15,36 @@ use Rattle.server.specs.Steps.{State, first_state, Replies, Step}
 use Rattle.server.specs.Runs.{Run}
 
 -- the state of a server that was just initialized with this unit and then opened this text, and the diagnostics that it published
-pub record IsFresh (file : FileGrammar) (unit : Encoding) (uri : List ℕ) (version : ℤ) (text : List ℕ) (published : Answer)
+pub record IsFresh (file : FileGrammar) (unit : Encoding) (uri : List ℕ) (version : ℤ) (text : List ℕ) (publish : Answer)
     (state : State) : Type 0 where
   pub id : Ident
   pub bytes : List ℕ
   pub mid : State
   pub spelled : chars bytes ≡ text
-  pub initializes : Step (first_state file) (said (request id (initialize unit))) (told_capabilities id unit ∷ []) None mid
-  pub opens : Step mid (said (notice (open_text uri version bytes))) (published ∷ []) None state
+  pub initializes : Step (first_state file) (message (request id (initialize unit))) (capabilities_reply id unit ∷ []) None mid
+  pub opens : Step mid (message (notification (open_text uri version bytes))) (publish ∷ []) None state
 
--- on what was heard there is one reply, this one, and nothing changes
-pub record RepliesOnly (state : State) (heard : Heard) (answer : Answer) : Type 0 where
-  pub replies : Step state heard (answer ∷ []) None state
-  pub only : (answers : List Answer) (stop : Option ℕ) (new : State) → Step state heard answers stop new
+-- on what was received there is one reply, this one, and nothing changes
+pub record RepliesOnly (state : State) (received : Received) (answer : Answer) : Type 0 where
+  pub replies : Step state received (answer ∷ []) None state
+  pub only : (answers : List Answer) (stop : Option ℕ) (new : State) → Step state received answers stop new
       → Replies state answer answers stop new
 
 -- to each question about the document both have one answer, the same
 abbrev pub AnswerAlike : List ℕ → State → State → Type 0
 AnswerAlike uri one other = (id : Ident) (question : Question) →
-    let heard = said (request id (about uri question)) in
-    (answer : Answer) × RepliesOnly one heard answer × RepliesOnly other heard answer
+    let received = message (request id (about uri question)) in
+    (answer : Answer) × RepliesOnly one received answer × RepliesOnly other received answer
 
 -- `Publishes uri answer`: the answer publishes diagnostics of the URI
 abbrev pub Publishes : List ℕ → Answer → Type 0
-Publishes uri (told_diagnostics other version fault) = other ≡ uri
+Publishes uri (published_diagnostics other version fault) = other ≡ uri
 Publishes uri _ = ⊥
 
 -- of these answers this one is the last that `Publishes` diagnostics of the URI
 abbrev pub IsLastPublished : List ℕ → List Answer → Answer → Type 0
-IsLastPublished uri answers published =
-    (before after : List Answer) × (answers ≡ before ++ published ∷ after) × Publishes uri published
+IsLastPublished uri answers publish =
+    (before after : List Answer) × (answers ≡ before ++ publish ∷ after) × Publishes uri publish
     × All (λ a. ¬ Publishes uri a) after
 
 -- whatever was read before: there is a fresh server with the unit of the session and the version and the text of an open document, and to
@@ -53,18 +54,18 @@ abbrev pub EveryAnswerIsFresh : FileGrammar → Type 0
 EveryAnswerIsFresh file =
     (contents : List (List ℕ)) (answers : List Answer) (state : State) (unit : Encoding) (uri : List ℕ) (document : OpenDocument)
     → Run (first_state file) contents answers None state → state.phase ≡ Ready unit → get state.documents uri ≡ Some (is_open document)
-    → ((fresh : State) × (published : Answer) × IsFresh file unit uri document.version document.text published fresh)
-    × ((fresh : State) (published : Answer) → IsFresh file unit uri document.version document.text published fresh
-    → AnswerAlike uri state fresh × IsLastPublished uri answers published)
+    → ((fresh : State) × (publish : Answer) × IsFresh file unit uri document.version document.text publish fresh)
+    × ((fresh : State) (publish : Answer) → IsFresh file unit uri document.version document.text publish fresh
+    → AnswerAlike uri state fresh × IsLastPublished uri answers publish)
 
 -- where all texts on the way fit, a document's text after a change is its text before, edited by the changes in turn (`edited`), unless the
--- document is lost for want of memory; no other document changes
+-- document is lost because memory was refused; no other document changes
 abbrev pub EachTextIsItsEdits : Type 0
 EachTextIsItsEdits =
-    (old new : State) (unit : Encoding) (uri : List ℕ) (version : ℤ) (changes : List ChangeSaid) (document : OpenDocument) (text : List ℕ)
+    (old new : State) (unit : Encoding) (uri : List ℕ) (version : ℤ) (changes : List TextChange) (document : OpenDocument) (text : List ℕ)
     (answers : List Answer) (stop : Option ℕ)
     → old.phase ≡ Ready unit → get old.documents uri ≡ Some (is_open document) → edited document.unit document.text changes ≡ Some text
-    → Step old (said (notice (change_text uri version changes))) answers stop new
+    → Step old (message (notification (change_text uri version changes))) answers stop new
     → (((last : Option LastEdit)
     × (get new.documents uri ≡ Some (is_open (record { unit = document.unit; version = version; text = text; last = last }))))
     ⊎ (get new.documents uri ≡ Some (is_lost NoMemory)))

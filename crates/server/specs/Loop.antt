@@ -13,7 +13,7 @@ use Rattle.docs.specs.Texts.{OpenDocument, fits}
 use Rattle.server.specs.Documents.{is_open, Held}
 use Rattle.server.specs.Steps.{State}
 use Rattle.server.specs.Runs.{Run, bytes_of}
-use Rattle.server.specs.Sessions.{AppendsFront}
+use Rattle.server.specs.Sessions.{AppendsPrefix}
 
 -- all answers of a run over the contents are written
 pub record Served (old new : Option (List ℕ)) (before : State) (contents : List (List ℕ)) (stop : Option ℕ) (after : State) : Type 0 where
@@ -27,7 +27,7 @@ pub record ServedInPart (old new : Option (List ℕ)) (before : State) (contents
   pub stop : Option ℕ
   pub after : State
   pub run : Run before contents answers stop after
-  pub written : AppendsFront old new (bytes_of answers)
+  pub written : AppendsPrefix old new (bytes_of answers)
 
 -- what the end of the input means after this tail
 abbrev pub EndsAt : Result ℕ RunFault → Tail → Type 0
@@ -62,7 +62,7 @@ pub record HasServed (old new : Option (List ℕ)) (failures : ℕ) (before : St
   pub part : OnErr result (ServedInPart old new before contents)
   pub device : MatchResult result (λ _. failures ≡ 0) (λ e. IsCutShort e failures)
 
--- `run_fault fault`: a fault of the stream as the fault of a session; want of memory in the frames is want of memory
+-- `run_fault fault`: a fault of the stream as the fault of a session; memory refused in the frames is memory refused
 abbrev pub run_fault : FrameFault → RunFault
 run_fault frame.BadField = Frame frame.BadField
 run_fault frame.NoLength = Frame frame.NoLength

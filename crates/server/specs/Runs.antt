@@ -2,7 +2,7 @@
 use Rattle.std.specs.Prelude.{◌≡◌, ℕ, List, [], ◌∷◌, ◌++◌, flat_map, Option, Some, MatchOption}
 use Rattle.rpc.specs.Written.{compact_text}
 use Rattle.frames.specs.Write.{frame}
-use Rattle.rpc.specs.Reading.{hearing}
+use Rattle.rpc.specs.Reading.{received_in}
 use Rattle.rpc.specs.Replies.{Answer, reply_data}
 use Rattle.server.specs.Steps.{State, Step, Ignores}
 
@@ -10,7 +10,7 @@ use Rattle.server.specs.Steps.{State, Step, Ignores}
 abbrev pub Run : State → List (List ℕ) → List Answer → Option ℕ → State → Type 0
 Run old [] answers stop new = Ignores old answers stop new
 Run old (content ∷ contents) answers stop new =
-    (first : List Answer) × (halt : Option ℕ) × (mid : State) × Step old (hearing content) first halt mid
+    (first : List Answer) × (halt : Option ℕ) × (mid : State) × Step old (received_in content) first halt mid
     × MatchOption halt
     ((rest : List Answer) × (answers ≡ first ++ rest) × Run mid contents rest stop new)
     (λ status. (answers ≡ first) × (stop ≡ Some status) × (new ≡ mid))

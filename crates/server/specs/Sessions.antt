@@ -10,16 +10,16 @@ use Rattle.server.specs.Steps.{State, first_state}
 use Rattle.server.specs.Runs.{Run, bytes_of}
 
 -- a prefix of the bytes was written
-abbrev pub AppendsFront : Option (List ℕ) → Option (List ℕ) → List ℕ → Type 0
-AppendsFront old new bytes = (front rest : List ℕ) × (bytes ≡ front ++ rest) × Appends old new front
+abbrev pub AppendsPrefix : Option (List ℕ) → Option (List ℕ) → List ℕ → Type 0
+AppendsPrefix old new bytes = (prefix rest : List ℕ) × (bytes ≡ prefix ++ rest) × Appends old new prefix
 
 -- `IsWritten result old new bytes`: all of the bytes are written, or a prefix of them where a write failed or memory was refused
 abbrev pub IsWritten : Result ℕ RunFault → Option (List ℕ) → Option (List ℕ) → List ℕ → Type 0
 IsWritten (Ok status) old new bytes = Appends old new bytes
 IsWritten (Err (Frame fault)) old new bytes = Appends old new bytes
 IsWritten (Err Read) old new bytes = Appends old new bytes
-IsWritten (Err Write) old new bytes = AppendsFront old new bytes
-IsWritten (Err Memory) old new bytes = AppendsFront old new bytes
+IsWritten (Err Write) old new bytes = AppendsPrefix old new bytes
+IsWritten (Err Memory) old new bytes = AppendsPrefix old new bytes
 
 -- `Ends result left tail stop`: why the session ended: by `exit` with its status; at the end of the input, between frames, with status 1;
 -- by a fault of the stream; by a read that failed, with no fault in what was read; by a write that failed, or refused memory

@@ -11,10 +11,11 @@ use Rattle.rpc.specs.declared.reply.Log.{Log}
 use Rattle.rpc.specs.declared.reply.Log.TheVariants.{OpenMalformed, ChangeMalformed, CloseMalformed, ChangeNotOpen, CloseNotOpen}
 use Rattle.rpc.specs.declared.reply.Log.TheVariants.{TooManyDocuments, Lost}
 use Rattle.rpc.specs.declared.reply.Loss.TheVariants.{TooLarge, MalformedChange}
-use Rattle.rpc.specs.Messages.{Ident, Asked, initialize, shutdown, about, stats, Told, exit, open_text, change_text, close, malformed}
-use Rattle.rpc.specs.Messages.{Unfit, unfit_open, unfit_change, unfit_close, request, notice, ignored, invalid, unknown, params}
-use Rattle.rpc.specs.Messages.{ChangeSaid, Heard, unread, refused, said}
-use Rattle.rpc.specs.Replies.{Answer, told_capabilities, told_null, told_error, told_diagnostics, told_log}
+use Rattle.rpc.specs.Messages.{Ident, Request, initialize, shutdown, about, stats, Notification, exit, open_text, change_text, close}
+use Rattle.rpc.specs.Messages.{malformed}
+use Rattle.rpc.specs.Messages.{Unfit, unfit_open, unfit_change, unfit_close, call, notification, ignored, invalid, unknown, params}
+use Rattle.rpc.specs.Messages.{TextChange, Received, unread, refused, message}
+use Rattle.rpc.specs.Replies.{Answer, capabilities_reply, null_reply, error_reply, published_diagnostics, log_message}
 use Rattle.server.specs.Documents.{DocumentState, is_open, is_lost, Held, Becomes, has_room}
 use Rattle.server.specs.Answers.{IsAnswer, IsCount, IsPublished}
 use Rattle.server.specs.declared.state.Phase.{Phase}
@@ -57,7 +58,7 @@ Ignores old answers stop new = (answers ≡ []) × (stop ≡ None) × (new ≡ o
 
 -- the step leaves one log message, and nothing changes
 abbrev pub Logs : State → Log → List Answer → Option ℕ → State → Type 0
-Logs old log answers stop new = Replies old (told_log log) answers stop new
+Logs old log answers stop new = Replies old (log_message log) answers stop new
 
 -- the server goes on with these documents, in the same phase
 abbrev pub Leaves : State → Held → Option ℕ → State → Type 0
@@ -67,16 +68,16 @@ Leaves old documents stop new = (stop ≡ None) × (new ≡ record { file = old.
 -- list without version, and after it the log message of the loss
 abbrev pub Holds : State → List ℕ → DocumentState → List Answer → Option ℕ → State → Type 0
 Holds old uri (is_open d) answers stop new =
-    (published : Answer) × IsPublished old.file uri d published × (answers ≡ published ∷ [])
+    (publish : Answer) × IsPublished old.file uri d publish × (answers ≡ publish ∷ [])
     × Leaves old (insert old.documents uri (is_open d)) stop new
 Holds old uri (is_lost loss) answers stop new =
-    (answers ≡ told_diagnostics uri None None ∷ told_log (Lost loss) ∷ [])
+    (answers ≡ published_diagnostics uri None None ∷ log_message (Lost loss) ∷ [])
     × Leaves old (insert old.documents uri (is_lost loss)) stop new
 
 -- the document is forgotten, and an empty list of diagnostics is published
 abbrev pub Forgets : State → List ℕ → List Answer → Option ℕ → State → Type 0
 Forgets old uri answers stop new =
-    (answers ≡ told_diagnostics uri None None ∷ []) × Leaves old (remove old.documents uri) stop new
+    (answers ≡ published_diagnostics uri None None ∷ []) × Leaves old (remove old.documents uri) stop new
 
 -- the step leaves no reply, and the server stops with this status
 abbrev pub Stops : State → ℕ → List Answer → Option ℕ → State → Type 0
@@ -84,23 +85,23 @@ Stops old status answers stop new = (answers ≡ []) × (stop ≡ Some status) �
 
 -- ---- requests
 
--- `Asks phase old id asked answers stop new`: the step on a request, in each phase
-abbrev pub Asks : Phase → State → Ident → Asked → List Answer → Option ℕ → State → Type 0
-Asks New old id (initialize unit) answers stop new = Enters old (Ready unit) (told_capabilities id unit) answers stop new
-Asks New old id _ answers stop new = Replies old (told_error (Some id) NotInitialized) answers stop new
-Asks (Ready unit) old id (initialize other) answers stop new = Replies old (told_error (Some id) InvalidRequest) answers stop new
-Asks (Ready unit) old id shutdown answers stop new = Enters old Down (told_null id) answers stop new
-Asks (Ready unit) old id (about uri question) answers stop new =
+-- `OnRequest phase old id request answers stop new`: the step on a request, in each phase
+abbrev pub OnRequest : Phase → State → Ident → Request → List Answer → Option ℕ → State → Type 0
+OnRequest New old id (initialize unit) answers stop new = Enters old (Ready unit) (capabilities_reply id unit) answers stop new
+OnRequest New old id _ answers stop new = Replies old (error_reply (Some id) NotInitialized) answers stop new
+OnRequest (Ready unit) old id (initialize other) answers stop new = Replies old (error_reply (Some id) InvalidRequest) answers stop new
+OnRequest (Ready unit) old id shutdown answers stop new = Enters old Down (null_reply id) answers stop new
+OnRequest (Ready unit) old id (about uri question) answers stop new =
     RepliesSome old (IsAnswer old.file id (get old.documents uri) question) answers stop new
-Asks (Ready unit) old id (stats uri) answers stop new =
+OnRequest (Ready unit) old id (stats uri) answers stop new =
     RepliesSome old (IsCount old.file id (get old.documents uri)) answers stop new
-Asks Down old id _ answers stop new = Replies old (told_error (Some id) InvalidRequest) answers stop new
+OnRequest Down old id _ answers stop new = Replies old (error_reply (Some id) InvalidRequest) answers stop new
 
 -- ---- notifications
 
 -- what comes of opening a text: an open document with this unit where it fits, and otherwise a lost one
-abbrev pub opened : Encoding → ℤ → List ℕ → DocumentState
-opened unit version text =
+abbrev pub new_document : Encoding → ℤ → List ℕ → DocumentState
+new_document unit version text =
     if fits text then is_open (record { unit = unit; version = version; text = text; last = None }) else is_lost TooLarge
 
 -- `Opens room old uri state answers stop new`: the step on `didOpen` in the ready phase: the document is held where there is room, and
@@ -111,7 +112,7 @@ Opens false old uri state answers stop new = Logs old TooManyDocuments answers s
 
 -- `Changes held old uri version changes answers stop new`: the step on `didChange` in the ready phase, by what is held under the URI: an
 -- open document is changed or lost, a lost one is left alone, and of one that isn't held it is logged that it isn't open
-abbrev pub Changes : Option DocumentState → State → List ℕ → ℤ → List ChangeSaid → List Answer → Option ℕ → State → Type 0
+abbrev pub Changes : Option DocumentState → State → List ℕ → ℤ → List TextChange → List Answer → Option ℕ → State → Type 0
 Changes None old uri version changes answers stop new = Logs old ChangeNotOpen answers stop new
 Changes (Some (is_lost loss)) old uri version changes answers stop new = Ignores old answers stop new
 Changes (Some (is_open d)) old uri version changes answers stop new =
@@ -130,13 +131,13 @@ abbrev pub Closes : Option DocumentState → State → List ℕ → List Answer 
 Closes None old uri answers stop new = Logs old CloseNotOpen answers stop new
 Closes (Some state) old uri answers stop new = Forgets old uri answers stop new
 
--- `Misses old unfit answers stop new`: the step on a notification whose parameters don't fit, in the ready phase: it is logged; of a change
--- whose URI can be read, what `Spoils` has
-abbrev pub Misses : State → Unfit → List Answer → Option ℕ → State → Type 0
-Misses old unfit_open answers stop new = Logs old OpenMalformed answers stop new
-Misses old (unfit_change None) answers stop new = Logs old ChangeMalformed answers stop new
-Misses old (unfit_change (Some uri)) answers stop new = Spoils (get old.documents uri) old uri answers stop new
-Misses old unfit_close answers stop new = Logs old CloseMalformed answers stop new
+-- `OnMalformed old unfit answers stop new`: the step on a notification whose parameters don't fit, in the ready phase: it is logged; of a
+-- change whose URI can be read, what `Spoils` has
+abbrev pub OnMalformed : State → Unfit → List Answer → Option ℕ → State → Type 0
+OnMalformed old unfit_open answers stop new = Logs old OpenMalformed answers stop new
+OnMalformed old (unfit_change None) answers stop new = Logs old ChangeMalformed answers stop new
+OnMalformed old (unfit_change (Some uri)) answers stop new = Spoils (get old.documents uri) old uri answers stop new
+OnMalformed old unfit_close answers stop new = Logs old CloseMalformed answers stop new
 
 -- `exit_status phase`: the status at `exit`: 0 after `shutdown`, and 1 in any other phase
 abbrev pub exit_status : Phase → ℕ
@@ -144,16 +145,16 @@ exit_status New = 1
 exit_status (Ready unit) = 1
 exit_status Down = 0
 
--- `Tells phase old told answers stop new`: the step on a notification, in each phase
-abbrev pub Tells : Phase → State → Told → List Answer → Option ℕ → State → Type 0
-Tells phase old exit answers stop new = Stops old (exit_status phase) answers stop new
-Tells (Ready unit) old (open_text uri version text) answers stop new =
-    Opens (has_room uri old.documents) old uri (opened unit version (chars text)) answers stop new
-Tells (Ready unit) old (change_text uri version changes) answers stop new =
+-- `OnNotification phase old notification answers stop new`: the step on a notification, in each phase
+abbrev pub OnNotification : Phase → State → Notification → List Answer → Option ℕ → State → Type 0
+OnNotification phase old exit answers stop new = Stops old (exit_status phase) answers stop new
+OnNotification (Ready unit) old (open_text uri version text) answers stop new =
+    Opens (has_room uri old.documents) old uri (new_document unit version (chars text)) answers stop new
+OnNotification (Ready unit) old (change_text uri version changes) answers stop new =
     Changes (get old.documents uri) old uri version changes answers stop new
-Tells (Ready unit) old (close uri) answers stop new = Closes (get old.documents uri) old uri answers stop new
-Tells (Ready unit) old (malformed unfit) answers stop new = Misses old unfit answers stop new
-Tells _ old _ answers stop new = Ignores old answers stop new
+OnNotification (Ready unit) old (close uri) answers stop new = Closes (get old.documents uri) old uri answers stop new
+OnNotification (Ready unit) old (malformed unfit) answers stop new = OnMalformed old unfit answers stop new
+OnNotification _ old _ answers stop new = Ignores old answers stop new
 
 -- ---- steps
 
@@ -171,18 +172,18 @@ params_in (Ready unit) true = InvalidRequest
 params_in (Ready unit) false = InvalidParams
 params_in Down first = InvalidRequest
 
--- `Step old heard answers stop new`: from a state, on what was heard, the server may give these answers, stop or not, and be in this state:
--- every phase with every message
-abbrev pub Step : State → Heard → List Answer → Option ℕ → State → Type 0
-Step old unread answers stop new = Replies old (told_error None ParseError) answers stop new
-Step old (refused (invalid id)) answers stop new = Replies old (told_error id InvalidRequest) answers stop new
-Step old (refused (unknown id)) answers stop new = Replies old (told_error (Some id) (unknown_in old.phase)) answers stop new
-Step old (refused (params id first)) answers stop new = Replies old (told_error (Some id) (params_in old.phase first)) answers stop new
-Step old (said (request id asked)) answers stop new = Asks old.phase old id asked answers stop new
-Step old (said (notice told)) answers stop new = Tells old.phase old told answers stop new
-Step old (said ignored) answers stop new = Ignores old answers stop new
+-- `Step old received answers stop new`: from a state, on what was received, the server may give these answers, stop or not, and be in this
+-- state: every phase with every message
+abbrev pub Step : State → Received → List Answer → Option ℕ → State → Type 0
+Step old unread answers stop new = Replies old (error_reply None ParseError) answers stop new
+Step old (refused (invalid id)) answers stop new = Replies old (error_reply id InvalidRequest) answers stop new
+Step old (refused (unknown id)) answers stop new = Replies old (error_reply (Some id) (unknown_in old.phase)) answers stop new
+Step old (refused (params id first)) answers stop new = Replies old (error_reply (Some id) (params_in old.phase first)) answers stop new
+Step old (message (call id request)) answers stop new = OnRequest old.phase old id request answers stop new
+Step old (message (notification notification)) answers stop new = OnNotification old.phase old notification answers stop new
+Step old (message ignored) answers stop new = Ignores old answers stop new
 
--- `StepOn heard old answers stop new`: something was heard, and the server makes this `Step` on it
-abbrev pub StepOn : Option Heard → State → List Answer → Option ℕ → State → Type 0
+-- `StepOn received old answers stop new`: something was received, and the server makes this `Step` on it
+abbrev pub StepOn : Option Received → State → List Answer → Option ℕ → State → Type 0
 StepOn None old answers stop new = ⊥
-StepOn (Some heard) old answers stop new = Step old heard answers stop new
+StepOn (Some received) old answers stop new = Step old received answers stop new

@@ -4,7 +4,7 @@ ghost use Rattle.std.specs.Prelude.{◌≡◌, Some, None, map, IfOk};
 ghost use Rattle.docs.specs.Answers.{Reads, rows};
 ghost use Rattle.docs.specs.Docs.{open_document, IsCurrent};
 ghost use Rattle.rpc.specs.Messages.{id_view};
-ghost use Rattle.rpc.specs.Replies.{reply_view, row_view, told_diagnostics};
+ghost use Rattle.rpc.specs.Replies.{reply_view, row_view, published_diagnostics};
 ghost use Rattle.server.specs.Answers.{question_view, IsAnswerOf, IsPublished};
 
 use docs::{Doc, Language};
@@ -69,22 +69,22 @@ pub fn answer(
 fn rows(alloc: Global, language: &Language, doc: &Doc) -> Result<Vec<Row>, AllocError>
     requires { IsCurrent language.now doc.now }
     ensures { let file = language.now.file in
-        IfOk result (λ told. Reads file doc.now.text (λ reading.
-        map row_view told.items ≡ rows doc.now.unit file doc.now.text reading.tokens)) }
+        IfOk result (λ notification. Reads file doc.now.text (λ reading.
+        map row_view notification.items ≡ rows doc.now.unit file doc.now.text reading.tokens)) }
 {
     let found = doc.rows(alloc, language)?;
-    let mut told = Vec::with_capacity(alloc, found.len())?;
+    let mut notification = Vec::with_capacity(alloc, found.len())?;
     for row in &found {
-        told.push(Row {
+        notification.push(Row {
             name: String::from_str(alloc, row.name)?,
             range: row.range,
         })?;
     }
-    Ok(told)
+    Ok(notification)
 }
 
 /// The diagnostics of an open document, with its version. Refuses for memory alone.
-pub fn published(
+pub fn publish(
     alloc: Global,
     language: &Language,
     doc: &Doc,
@@ -103,8 +103,8 @@ pub fn published(
 }
 
 /// No diagnostics, of a document that is not open any more. Refuses for memory alone.
-pub fn cleared(alloc: Global, uri: &str) -> Result<Reply, AllocError>
-    ensures { IfOk result (λ reply. reply_view reply ≡ told_diagnostics uri.now None None) }
+pub fn no_diagnostics(alloc: Global, uri: &str) -> Result<Reply, AllocError>
+    ensures { IfOk result (λ reply. reply_view reply ≡ published_diagnostics uri.now None None) }
 {
     Ok(Reply::Diagnostics {
         uri: String::from_str(alloc, uri)?,

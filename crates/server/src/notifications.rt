@@ -8,9 +8,9 @@ ghost use Rattle.rpc.specs.Messages.{note_view, malformed_view, change_view};
 ghost use Rattle.server.specs.Documents.{has_room, Becomes};
 ghost use Rattle.server.specs.Holding.{entry_view, IsEntryOf};
 ghost use Rattle.server.specs.Sent.{sent};
-ghost use Rattle.server.specs.Steps.{State, state_view, opened, exit_status, Changes, Closes, Holds, Misses, Opens, Spoils, Tells};
+ghost use Rattle.server.specs.Steps.{State, state_view, new_document, exit_status, Changes, Closes, Holds, OnMalformed, Opens, Spoils, OnNotification};
 
-use crate::answers::{cleared, published};
+use crate::answers::{no_diagnostics, publish};
 use crate::documents::Entry;
 use crate::out::{Out, logged, nothing, one_reply, reply_and_log};
 use crate::state::{Phase, Server};
@@ -28,14 +28,14 @@ fn exit_status(phase: Phase) -> u8
 }
 
 /// A document of this text, or how it is lost. Refuses for memory alone.
-fn opened(
+fn new_document(
     alloc: Global,
     language: &Language,
     unit: Unit,
     version: i32,
     text: &str,
 ) -> Result<Entry, AllocError>
-    ensures is { IfOk result (λ e. entry_view e ≡ opened unit version (chars text.now)) }
+    ensures is { IfOk result (λ e. entry_view e ≡ new_document unit version (chars text.now)) }
     ensures current { IfOk result (IsEntryOf language.now) }
 {
     match Doc::open(alloc, language, unit, version, text) {
@@ -46,7 +46,7 @@ fn opened(
 }
 
 /// The document after the changes in turn, or how it is lost by the first of them that is refused.
-fn changed(
+fn apply_changes(
     alloc: Global,
     language: &Language,
     mut doc: Doc,
@@ -71,7 +71,7 @@ fn changed(
 
 impl Server {
     /// What is sent of a document that comes to stand so: the diagnostics of an open one, or that it is lost.
-    fn announced(&self, alloc: Global, uri: &str, entry: &Entry) -> Result<Out, AllocError>
+    fn announce(&self, alloc: Global, uri: &str, entry: &Entry) -> Result<Out, AllocError>
         requires { IsEntryOf self.now.documents.language entry.now }
         ensures { let old = state_view self.now in
             let state = entry_view entry.now in
@@ -83,13 +83,17 @@ impl Server {
         match entry {
             Entry::Open(doc) => {
                 let language = self.documents.language();
-                one_reply(alloc, published(alloc, language, doc, uri)?)
+                one_reply(alloc, publish(alloc, language, doc, uri)?)
             }
-            Entry::Lost(loss) => reply_and_log(alloc, cleared(alloc, uri)?, Log::Lost(*loss)),
+            Entry::Lost(loss) => reply_and_log(
+                alloc,
+                no_diagnostics(alloc, uri)?,
+                Log::Lost(*loss),
+            ),
         }
     }
 
-    /// Holds what a document became, and tells it.
+    /// Holds what a document became, and publishes it.
     fn hold(&mut self, alloc: Global, uri: String, entry: Entry) -> Result<Out, AllocError>
         requires { IsEntryOf self.old.documents.language entry }
         ensures { let state = entry_view entry in
@@ -97,7 +101,7 @@ impl Server {
             let old = state_view self.old in
             Holds old (string_bytes uri) state (sent out) out.stop (state_view self.new)) }
     {
-        let out = self.announced(alloc, uri.as_str(), &entry)?;
+        let out = self.announce(alloc, uri.as_str(), &entry)?;
         self.documents.insert(uri, entry)?;
         Ok(out)
     }
@@ -113,7 +117,7 @@ impl Server {
     ) -> Result<Out, AllocError>
         ensures { let old = state_view self.old in
             let room = has_room (string_bytes uri) old.documents in
-            let state = opened unit version (chars (string_bytes text)) in
+            let state = new_document unit version (chars (string_bytes text)) in
             IfOk result (λ out.
             Opens room old (string_bytes uri) state (sent out) out.stop (state_view self.new)) }
     {
@@ -121,7 +125,7 @@ impl Server {
             return logged(alloc, Log::TooManyDocuments);
         }
         let language = self.documents.language();
-        let entry = opened(alloc, language, unit, version, text.as_str())?;
+        let entry = new_document(alloc, language, unit, version, text.as_str())?;
         self.hold(alloc, uri, entry)
     }
 
@@ -150,12 +154,12 @@ impl Server {
         let Ok(Entry::Open(doc)) = self.documents.replace(uri.as_str(), lost) else {
             unreachable!();
         };
-        let entry = changed(alloc, self.documents.language(), doc, version, &changes);
+        let entry = apply_changes(alloc, self.documents.language(), doc, version, &changes);
         self.hold(alloc, uri, entry)
     }
 
     /// A `textDocument/didChange` of this document that doesn't fit: an open document is lost.
-    fn spoil(&mut self, alloc: Global, uri: String) -> Result<Out, AllocError>
+    fn on_malformed_change(&mut self, alloc: Global, uri: String) -> Result<Out, AllocError>
         ensures { let old = state_view self.old in
             let uri = string_bytes uri in
             IfOk result (λ out.
@@ -178,19 +182,19 @@ impl Server {
         if self.documents.remove(uri.as_str()).is_none() {
             return logged(alloc, Log::CloseNotOpen);
         }
-        one_reply(alloc, cleared(alloc, uri.as_str())?)
+        one_reply(alloc, no_diagnostics(alloc, uri.as_str())?)
     }
 
     /// A notification whose parameters don't fit.
-    fn miss(&mut self, alloc: Global, malformed: Malformed) -> Result<Out, AllocError>
+    fn on_malformed(&mut self, alloc: Global, malformed: Malformed) -> Result<Out, AllocError>
         ensures { IfOk result (λ out.
             let unfit = malformed_view malformed in
-            Misses (state_view self.old) unfit (sent out) out.stop (state_view self.new)) }
+            OnMalformed (state_view self.old) unfit (sent out) out.stop (state_view self.new)) }
     {
         match malformed {
             Malformed::DidOpen => logged(alloc, Log::OpenMalformed),
             Malformed::DidChange { uri: None } => logged(alloc, Log::ChangeMalformed),
-            Malformed::DidChange { uri: Some(uri) } => self.spoil(alloc, uri),
+            Malformed::DidChange { uri: Some(uri) } => self.on_malformed_change(alloc, uri),
             Malformed::DidClose => logged(alloc, Log::CloseMalformed),
         }
     }
@@ -198,7 +202,7 @@ impl Server {
     /// A notification that fits its method, or one that doesn't.
     pub(crate) fn on_notification(&mut self, alloc: Global, note: Note) -> Result<Out, AllocError>
         ensures { IfOk result (λ out.
-            Tells self.old.phase (state_view self.old) (note_view note) (sent out) out.stop
+            OnNotification self.old.phase (state_view self.old) (note_view note) (sent out) out.stop
             (state_view self.new)) }
     {
         match (self.phase, note) {
@@ -218,7 +222,7 @@ impl Server {
                 },
             ) => self.change(alloc, uri, version, changes),
             (Phase::Ready(_), Note::DidClose { uri }) => self.close(alloc, uri),
-            (Phase::Ready(_), Note::Malformed(malformed)) => self.miss(alloc, malformed),
+            (Phase::Ready(_), Note::Malformed(malformed)) => self.on_malformed(alloc, malformed),
             _ => Ok(nothing(alloc)),
         }
     }

@@ -2,7 +2,7 @@
 
 ghost use Rattle.std.specs.Prelude.{◌≡◌, [], ◌∷◌, None, option_map, IfOk};
 ghost use Rattle.rpc.specs.Messages.{id_view};
-ghost use Rattle.rpc.specs.Replies.{reply_view, told_error, told_log};
+ghost use Rattle.rpc.specs.Replies.{reply_view, error_reply, log_message};
 ghost use Rattle.server.specs.Sent.{sent};
 
 use rpc::{Id, Log, Refusal, Reply};
@@ -42,7 +42,7 @@ pub(crate) fn one_reply(alloc: Global, reply: Reply) -> Result<Out, AllocError>
 /// An error reply, to the request with this id.
 pub(crate) fn refused(alloc: Global, id: Option<Id>, refusal: Refusal) -> Result<Out, AllocError>
     ensures replies { IfOk result (λ out.
-        sent out ≡ told_error (option_map id_view id) refusal ∷ []) }
+        sent out ≡ error_reply (option_map id_view id) refusal ∷ []) }
     ensures stop { IfOk result (λ out. out.stop ≡ None) }
 {
     one_reply(alloc, Reply::Error { id, refusal })
@@ -50,7 +50,7 @@ pub(crate) fn refused(alloc: Global, id: Option<Id>, refusal: Refusal) -> Result
 
 /// One log message.
 pub(crate) fn logged(alloc: Global, log: Log) -> Result<Out, AllocError>
-    ensures replies { IfOk result (λ out. sent out ≡ told_log log ∷ []) }
+    ensures replies { IfOk result (λ out. sent out ≡ log_message log ∷ []) }
     ensures stop { IfOk result (λ out. out.stop ≡ None) }
 {
     one_reply(alloc, Reply::Log { log })
@@ -59,7 +59,7 @@ pub(crate) fn logged(alloc: Global, log: Log) -> Result<Out, AllocError>
 /// An answer, and a log message after it.
 pub(crate) fn reply_and_log(alloc: Global, reply: Reply, log: Log) -> Result<Out, AllocError>
     ensures replies { IfOk result
-        (λ out. sent out ≡ reply_view reply ∷ told_log log ∷ []) }
+        (λ out. sent out ≡ reply_view reply ∷ log_message log ∷ []) }
     ensures stop { IfOk result (λ out. out.stop ≡ None) }
 {
     let mut out = one_reply(alloc, reply)?;

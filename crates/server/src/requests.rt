@@ -4,11 +4,11 @@ ghost use Rattle.std.specs.Prelude.{◌≡◌, Some, IfOk, IfErr};
 ghost use Rattle.std.specs.FinMap.{get};
 ghost use Rattle.docs.specs.Docs.{open_document, IsCurrent};
 ghost use Rattle.rpc.specs.Messages.{Ident, Question as Asking, id_view, call_view};
-ghost use Rattle.rpc.specs.Replies.{reply_view, told_error};
+ghost use Rattle.rpc.specs.Replies.{reply_view, error_reply};
 ghost use Rattle.server.specs.Answers.{question_view, IsAnswer, IsCount};
 ghost use Rattle.server.specs.Documents.{is_open};
 ghost use Rattle.server.specs.Sent.{sent};
-ghost use Rattle.server.specs.Steps.{state_view, Asks};
+ghost use Rattle.server.specs.Steps.{state_view, OnRequest};
 
 use crate::answers::{Question, answer};
 use crate::documents::Entry;
@@ -26,7 +26,7 @@ impl Server {
             × (get held.documents uri.now ≡ Some (is_open (open_document doc.now)))) }
         ensures refusal { let held = self.now.documents in
             let document = get held.documents uri.now in
-            IfErr result (λ refusal. (id : Ident) → let answer = told_error (Some id) refusal in
+            IfErr result (λ refusal. (id : Ident) → let answer = error_reply (Some id) refusal in
             ((question : Asking) → IsAnswer held.language.file id document question answer)
             × IsCount held.language.file id document answer) }
     {
@@ -60,7 +60,7 @@ impl Server {
         }
     }
 
-    /// The reply that tells how much there is of the document of this URI, and how much its last edit has made.
+    /// The reply that says how much there is of the document of this URI, and how much its last edit has made.
     fn stats(&self, id: Id, uri: &str) -> Reply
         ensures { let held = self.now.documents in
             let document = get held.documents uri.now in
@@ -87,7 +87,7 @@ impl Server {
     ) -> Result<Out, AllocError>
         ensures { IfOk result (λ out.
             let old = state_view self.old in
-            Asks self.old.phase old (id_view id) (call_view call) (sent out) out.stop
+            OnRequest self.old.phase old (id_view id) (call_view call) (sent out) out.stop
             (state_view self.new)) }
     {
         let (uri, question) = match (self.phase, call) {

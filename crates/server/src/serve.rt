@@ -5,15 +5,15 @@ ghost use Rattle.std.specs.Io.KnownBytes.{Appends, Keeps};
 ghost use Rattle.frames.specs.Contents.{contents};
 ghost use Rattle.frames.specs.Frames.{Open};
 ghost use Rattle.docs.specs.Answers.{AlwaysAnswers};
-ghost use Rattle.rpc.specs.Messages.{Heard};
-ghost use Rattle.rpc.specs.Reading.{Hears};
+ghost use Rattle.rpc.specs.Messages.{Received};
+ghost use Rattle.rpc.specs.Reading.{Receives};
 ghost use Rattle.rpc.specs.Replies.{reply_view};
 ghost use Rattle.rpc.specs.Texts.{IsSpelled, texts_of};
 ghost use Rattle.server.specs.Steps.{state_view, first_state};
 ghost use Rattle.server.specs.Runs.{bytes_of};
-ghost use Rattle.server.specs.Alone.{EachDocumentIsAlone, EachRunHasATale, EachTaleIsTold};
+ghost use Rattle.server.specs.Alone.{EachDocumentIsAlone, EachRunHasAHistory, HistoriesDecide};
 ghost use Rattle.server.specs.Fresh.{EveryAnswerIsFresh, EachTextIsItsEdits};
-ghost use Rattle.server.specs.Sessions.{AppendsFront, Session};
+ghost use Rattle.server.specs.Sessions.{AppendsPrefix, Session};
 ghost use Rattle.server.specs.Loop.{CanServe, HasServed, IsCutShort, EndsAt, run_fault};
 
 use crate::laws::{each_document_is_alone, each_text_is_its_edits, every_answer_is_fresh};
@@ -34,8 +34,8 @@ fn write_replies<W: Output>(
     requires { W.failures output.old ≡ 0 }
     ensures written { let bytes = bytes_of (map reply_view replies.now) in
         OnOk result (Appends (W.contents output.old) (W.contents output.new) bytes) }
-    ensures front { let bytes = bytes_of (map reply_view replies.now) in
-        OnErr result (AppendsFront (W.contents output.old) (W.contents output.new) bytes) }
+    ensures prefix { let bytes = bytes_of (map reply_view replies.now) in
+        OnErr result (AppendsPrefix (W.contents output.old) (W.contents output.new) bytes) }
     ensures works { OnOk result (W.failures output.new ≡ 0) }
     ensures fault { IfErr result (λ e. IsCutShort e (W.failures output.new)) }
 {
@@ -125,7 +125,7 @@ fn run_fault(fault: FrameFault) -> RunFault
     }
 }
 
-/// Answers what comes in, from the first byte on.
+/// Returns what comes in, from the first byte on.
 fn serve_input<R: Input, W: Output>(
     alloc: Global,
     decoder: &mut Decoder,
@@ -188,13 +188,13 @@ pub fn run<R: Input, W: Output>(
     ensures fresh { EveryAnswerIsFresh language.file }
     // The text of an open document is its edits, applied in turn.
     ensures edits { EachTextIsItsEdits }
-    // What is heard is in UTF-8, so that a document is lost as too large exactly where its text has too many bytes.
-    ensures unicode { (content : List ℕ) (heard : Heard) → Hears content heard →
-        All IsSpelled (texts_of heard) }
-    // What a run sends about a document is a function of what it hears of it, and no other message changes the document.
+    // What is received is in UTF-8, so that a document is lost as too large exactly where its text has too many bytes.
+    ensures unicode { (content : List ℕ) (received : Received) → Receives content received →
+        All IsSpelled (texts_of received) }
+    // What a run sends about a document is a function of what it receives about it, and no other message changes the document.
     ensures alone { EachDocumentIsAlone language.file }
-    ensures tales { EachRunHasATale }
-    ensures told { EachTaleIsTold language.file }
+    ensures histories { EachRunHasAHistory }
+    ensures by_history { HistoriesDecide language.file }
     // A device fault is answered exactly where the device failed.
     ensures read { IsErrOf result RunFault.Read ↔ R.failures input.new ≡ 1 }
     ensures write { IsErrOf result RunFault.Write ↔ W.failures output.new ≡ 1 }

@@ -1,7 +1,7 @@
 //! One step: phases, and what comes of a message in each.
 
 ghost use Rattle.std.specs.Prelude.{◌≡◌, true, false, IfOk, OnOk, OnErr, IsErr};
-ghost use Rattle.rpc.specs.Messages.{heard_of};
+ghost use Rattle.rpc.specs.Messages.{received_of};
 ghost use Rattle.server.specs.Sent.{sent};
 ghost use Rattle.server.specs.Steps.{state_view, first_state, unknown_in, params_in, StepOn};
 
@@ -66,7 +66,7 @@ impl Server {
     /// The step on a message.
     fn step(&mut self, alloc: Global, message: Result<Message, RpcFault>) -> Result<Out, AllocError>
         ensures { IfOk result (λ out.
-            StepOn (heard_of message) (state_view self.old) (sent out) out.stop
+            StepOn (received_of message) (state_view self.old) (sent out) out.stop
             (state_view self.new)) }
     {
         match message {
@@ -91,7 +91,7 @@ impl Server {
         message: Result<Message, RpcFault>,
     ) -> Result<Out, AllocError>
         ensures step { IfOk result (λ out.
-            StepOn (heard_of message) (state_view self.old) (sent out) out.stop
+            StepOn (received_of message) (state_view self.old) (sent out) out.stop
             (state_view self.new)) }
         ensures failed { self.old.has_failed ≡ true → IsErr result }
         ensures err { OnErr result (self.new.has_failed ≡ true) }

@@ -7,7 +7,7 @@ use std::alloc::Global;
 use std::cell::RefCell;
 use std::io::{self, Read};
 
-/// What an output took, how much of it was flushed, and whether each reply was flushed before the read behind its request.
+/// What an output took, how much of it was flushed, and whether each reply was flushed before the read after its request.
 #[derive(Drop)]
 pub struct Record {
     pub taken: Vec<u8>,

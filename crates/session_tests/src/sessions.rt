@@ -101,7 +101,7 @@ fn the_session_passes_in_pieces(rt: HostRuntime) {
     }
 }
 
-/// The stored session in this way ends with this fault, and a front of its output is written.
+/// The stored session in this way ends with this fault, and a prefix of its output is written.
 fn fails(rt: &impl Abort, alloc: Global, stored: &Stored, way: Way, fault: RunFault) {
     let (outcome, record) = run_by(alloc, language(rt, alloc, SUMS), &stored.input, way, &[]);
     assert!(rt; outcome == Err(fault));
@@ -109,7 +109,7 @@ fn fails(rt: &impl Abort, alloc: Global, stored: &Stored, way: Way, fault: RunFa
 }
 
 #[test]
-fn a_device_that_fails_leaves_a_front_of_the_answers(rt: HostRuntime) {
+fn a_device_that_fails_leaves_a_prefix_of_the_answers(rt: HostRuntime) {
     let alloc = rt.alloc();
     let stored = stored_session(&rt, alloc);
     let pieces = Way {
@@ -164,7 +164,7 @@ fn streams_end_and_fail(rt: HostRuntime) {
     ends(&rt, alloc, stream, bad_field, &parse_error);
 }
 
-/// A stream that comes in pieces, of which the last one that may be read has this frame fault: the read behind it would fail, so
+/// A stream that comes in pieces, of which the last one that may be read has this frame fault: the read after it would fail, so
 /// it must not be made.
 fn stops(
     rt: &impl Abort,
@@ -197,23 +197,23 @@ fn stops(
 }
 
 #[test]
-fn nothing_is_read_behind_a_frame_fault(rt: HostRuntime) {
+fn nothing_is_read_after_a_frame_fault(rt: HostRuntime) {
     let alloc = rt.alloc();
-    let behind_a_frame = b"Content-Length: 1\r\n\r\n{X\r\n\r\n";
+    let after_a_frame = b"Content-Length: 1\r\n\r\n{X\r\n\r\n";
     let too_long = b"Content-Length: 16777217\r\n\r\n";
     let bad_field = FrameFault::BadField;
     let bad_length = FrameFault::BadLength;
     stops(&rt, alloc, b"X\r\n\r\n", 100, 1, bad_field);
     stops(&rt, alloc, b"X\r\n\r\n", 1, 5, bad_field);
-    stops(&rt, alloc, behind_a_frame, 100, 1, bad_field);
-    stops(&rt, alloc, behind_a_frame, 1, 27, bad_field);
+    stops(&rt, alloc, after_a_frame, 100, 1, bad_field);
+    stops(&rt, alloc, after_a_frame, 1, 27, bad_field);
     stops(&rt, alloc, too_long, 100, 1, bad_length);
     stops(&rt, alloc, too_long, 1, 28, bad_length);
     stops(&rt, alloc, b"\r\n", 100, 1, FrameFault::NoLength);
     stops(&rt, alloc, b"\r\n", 1, 2, FrameFault::NoLength);
 }
 
-/// `initialize` in a content of so many bytes, with blanks behind it.
+/// `initialize` in a content of so many bytes, with blanks after it.
 fn padded(rt: &impl Abort, alloc: Global, len: usize) -> String {
     let stream = format!(in alloc; "Content-Length: {len}\r\n\r\n{INITIALIZE}");
     let mut stream = stream.expect(rt, "memory");

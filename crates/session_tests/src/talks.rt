@@ -1,4 +1,4 @@
-//! Sessions on these devices. A session is told by a transcript: a line that begins with `> ` is a content that the server reads,
+//! Sessions on these devices. A session is written as a transcript: a line that begins with `> ` is a content that the server reads,
 //! one that begins with `< ` a content that it writes. Other lines say nothing. `tests/program` runs more of them.
 
 use crate::devices::{Pieces, Record, Taker};
@@ -33,7 +33,7 @@ pub fn language(rt: &impl Abort, alloc: Global, file: &str) -> Language {
     language
 }
 
-/// Runs a session, and answers its outcome and its record.
+/// Runs a session, and returns its outcome and its record.
 pub fn run_by(
     alloc: Global,
     language: Language,
@@ -62,7 +62,7 @@ pub fn run_by(
     (outcome, record.into_inner())
 }
 
-/// Puts a frame of this content behind the bytes.
+/// Puts a frame of this content after the bytes.
 pub fn push_frame(rt: &impl Abort, alloc: Global, bytes: &mut Vec<u8>, content: &str) {
     let len = content.len();
     let frame = format!(in alloc; "Content-Length: {len}\r\n\r\n{content}").expect(rt, "memory");
@@ -71,7 +71,7 @@ pub fn push_frame(rt: &impl Abort, alloc: Global, bytes: &mut Vec<u8>, content: 
         .expect(rt, "memory");
 }
 
-/// The frames of what stands behind this mark in a transcript.
+/// The frames of what stands after this mark in a transcript.
 pub fn framed(rt: &impl Abort, alloc: Global, talk: &str, mark: &str) -> Vec<u8> {
     let mut bytes = Vec::new(alloc);
     for line in talk.lines() {

@@ -30,17 +30,17 @@ rules_from moves k l =
     go None rest = refl
     go (Some m) rest = refl
 
--- what is told next: a rule with a move, behind those that have none, and then the end
-pub told_next : (moves : List (Option Move)) (k : ℕ) (at_end : Bool) → k < length moves → is_some (slice_index_or moves k None) ≡ true → in_file_order (rules_with_move k (drop k moves)) at_end ≡ Some k ∷ in_file_order (rules_with_move (k + 1) (drop (k + 1) moves)) at_end
-told_next moves k at_end l e = ap (λ rules. in_file_order rules at_end) (rules_from moves k l ∙ ap (λ b. if b then k ∷ rules_with_move (k + 1) (drop (k + 1) moves) else rules_with_move (k + 1) (drop (k + 1) moves)) e)
+-- what is listed next: a rule with a move, after those that have none, and then the end
+pub shown_next : (moves : List (Option Move)) (k : ℕ) (at_end : Bool) → k < length moves → is_some (slice_index_or moves k None) ≡ true → in_file_order (rules_with_move k (drop k moves)) at_end ≡ Some k ∷ in_file_order (rules_with_move (k + 1) (drop (k + 1) moves)) at_end
+shown_next moves k at_end l e = ap (λ rules. in_file_order rules at_end) (rules_from moves k l ∙ ap (λ b. if b then k ∷ rules_with_move (k + 1) (drop (k + 1) moves) else rules_with_move (k + 1) (drop (k + 1) moves)) e)
 
 pub passed_over : (moves : List (Option Move)) (k : ℕ) (at_end : Bool) → k < length moves → is_some (slice_index_or moves k None) ≡ false → in_file_order (rules_with_move k (drop k moves)) at_end ≡ in_file_order (rules_with_move (k + 1) (drop (k + 1) moves)) at_end
 passed_over moves k at_end l e = ap (λ rules. in_file_order rules at_end) (rules_from moves k l ∙ ap (λ b. if b then k ∷ rules_with_move (k + 1) (drop (k + 1) moves) else rules_with_move (k + 1) (drop (k + 1) moves)) e)
 
-pub rules_told : (moves : List (Option Move)) (k : ℕ) (at_end : Bool) → length moves ≤ k → in_file_order (rules_with_move k (drop k moves)) at_end ≡ (if at_end then None ∷ [] else [])
-rules_told moves k at_end l = ap (λ rest. in_file_order (rules_with_move k rest) at_end) (drop_all k moves l)
+pub rules_shown : (moves : List (Option Move)) (k : ℕ) (at_end : Bool) → length moves ≤ k → in_file_order (rules_with_move k (drop k moves)) at_end ≡ (if at_end then None ∷ [] else [])
+rules_shown moves k at_end l = ap (λ rest. in_file_order (rules_with_move k rest) at_end) (drop_all k moves l)
 
--- a rule that is told has a move
+-- a rule that is listed has a move
 has_move : (k : ℕ) (moves : List (Option Move)) (a : ℕ) → Contains (rules_with_move k moves) a → (j : ℕ) × (j < length moves) × (a ≡ k + j) × (is_some (slice_index_or moves j None) ≡ true)
 has_move k [] a c = absurd (Contains-none a c)
 has_move k (None ∷ moves) a c = let x = has_move (k + 1) moves a c in let l = x.1 in let e = x.2 in (suc x.0, omega (arith, l), omega (arith, e), x.3)
@@ -50,15 +50,15 @@ has_move k (Some m ∷ moves) a c =
     (λ d. let x = has_move (k + 1) moves a d in let l = x.1 in let e = x.2 in (suc x.0, omega (arith, l), omega (arith, e), x.3))
     (Contains-cases k (rules_with_move (k + 1) moves) a c)
 
--- and one with a move is told
-is_told : (k : ℕ) (moves : List (Option Move)) (j : ℕ) → j < length moves → is_some (slice_index_or moves j None) ≡ true → Contains (rules_with_move k moves) (k + j)
-is_told k [] j l e = absurd (omega (arith, l))
-is_told k (None ∷ moves) zero l e = absurd (cc e)
-is_told k (Some m ∷ moves) zero l e = let same : k ≡ k + 0 = omega arith in subst (Contains (k ∷ rules_with_move (k + 1) moves)) same (Contains-first k (rules_with_move (k + 1) moves))
-is_told k (None ∷ moves) (suc j) l e = let same : k + 1 + j ≡ k + suc j = omega arith in subst (Contains (rules_with_move (k + 1) moves)) same (is_told (k + 1) moves j (omega (arith, l)) e)
-is_told k (Some m ∷ moves) (suc j) l e = let same : k + 1 + j ≡ k + suc j = omega arith in subst (Contains (k ∷ rules_with_move (k + 1) moves)) same (Contains-later k (rules_with_move (k + 1) moves) (k + 1 + j) (is_told (k + 1) moves j (omega (arith, l)) e))
+-- and one with a move is listed
+is_shown : (k : ℕ) (moves : List (Option Move)) (j : ℕ) → j < length moves → is_some (slice_index_or moves j None) ≡ true → Contains (rules_with_move k moves) (k + j)
+is_shown k [] j l e = absurd (omega (arith, l))
+is_shown k (None ∷ moves) zero l e = absurd (cc e)
+is_shown k (Some m ∷ moves) zero l e = let same : k ≡ k + 0 = omega arith in subst (Contains (k ∷ rules_with_move (k + 1) moves)) same (Contains-first k (rules_with_move (k + 1) moves))
+is_shown k (None ∷ moves) (suc j) l e = let same : k + 1 + j ≡ k + suc j = omega arith in subst (Contains (rules_with_move (k + 1) moves)) same (is_shown (k + 1) moves j (omega (arith, l)) e)
+is_shown k (Some m ∷ moves) (suc j) l e = let same : k + 1 + j ≡ k + suc j = omega arith in subst (Contains (k ∷ rules_with_move (k + 1) moves)) same (Contains-later k (rules_with_move (k + 1) moves) (k + 1 + j) (is_shown (k + 1) moves j (omega (arith, l)) e))
 
--- the rules are told in file order
+-- the rules are listed in file order
 least : (k : ℕ) (moves : List (Option Move)) (j : ℕ) → j < length (rules_with_move k moves) → k ≤ slice_index (rules_with_move k moves) j
 least k [] j l = absurd (omega (arith, l))
 least k (None ∷ moves) j l = let n = least (k + 1) moves j l in omega (arith, n)
@@ -74,23 +74,23 @@ increasing k (Some m ∷ moves) (suc j) l =
     subst (λ n. slice_index (k ∷ rules_with_move (k + 1) moves) (suc j) < slice_index (k ∷ rules_with_move (k + 1) moves) n) next (increasing (k + 1) moves j (omega (arith, l)))
 
 module _ (g : Grammar) (accepted : IsAccepted g) (x : List Kind) (stack : List Tree) (prefix : List Symbol) (after : IsStackAfter g x stack) (roots : HaveRoots g stack prefix) where
-  move_told : (next : Option Kind) (o : Option Move) → IsAction g prefix next o → (is_some o ≡ true) ↔ StackHasMove g stack next
-  move_told next None h = (λ e. absurd (cc e), λ m. absurd (h m.move (subst (λ y. HasMove g y next m.move) (roots_unique g stack m.symbols prefix m.roots roots) m.called)))
-  move_told next (Some m) h = (λ e. record { symbols = prefix; roots = roots; move = plain m; called = h }, λ m. refl)
+  move_shown : (next : Option Kind) (o : Option Move) → IsAction g prefix next o → (is_some o ≡ true) ↔ StackHasMove g stack next
+  move_shown next None h = (λ e. absurd (cc e), λ m. absurd (h m.move (subst (λ y. HasMove g y next m.move) (roots_unique g stack m.symbols prefix m.roots roots) m.called)))
+  move_shown next (Some m) h = (λ e. record { symbols = prefix; roots = roots; move = plain m; called = h }, λ m. refl)
 
   -- a token rule is expected where some sentence goes on with it
   rule_expected : (a : ℕ) (o : Option Move) → IsAction g prefix (Some (Token a)) o → (is_some o ≡ true) ↔ IsViable g (x ++ (Token a ∷ []))
   rule_expected a o h =
-      let told = move_told (Some (Token a)) o h in
+      let shown = move_shown (Some (Token a)) o h in
       let viable = move_iff_viable g accepted.free accepted.productive x stack (Token a) after in
-      (λ e. viable.0 (told.0 e), λ v. told.1 (viable.1 v))
+      (λ e. viable.0 (shown.0 e), λ v. shown.1 (viable.1 v))
 
   -- and the end where the kinds are a sentence
   end_expected : (o : Option Move) → IsAction g prefix None o → (is_some o ≡ true) ↔ IsSentence g x
   end_expected o h =
-      let told = move_told None o h in
+      let shown = move_shown None o h in
       let sentence = move_iff_sentence g accepted.free accepted.productive x stack after in
-      (λ e. sentence.0 (told.0 e), λ v. told.1 (sentence.1 v))
+      (λ e. sentence.0 (shown.0 e), λ v. shown.1 (sentence.1 v))
 
   module _ (row : List (Option Move)) (filled : length row ≡ g.rules + 1) (each : (a : ℕ) → a < g.rules → IsAction g prefix (Some (Token a)) (slice_index_or row (a + 1) None)) (end : IsAction g prefix None (slice_index_or row 0 None)) (far : (a : ℕ) → g.rules ≤ a → IsAction g prefix (Some (Token a)) None) where
     abbrev rules_row : List (Option Move)
@@ -99,12 +99,12 @@ module _ (g : Grammar) (accepted : IsAccepted g) (x : List Kind) (stack : List T
     long : length rules_row ≡ g.rules
     long = length-drop 1 row ∙ omega (arith, filled)
 
-    -- the move on a token rule stands in the column behind its number
+    -- the move on a token rule stands in the column after its number
     at_rule : (a : ℕ) → slice_index_or rules_row a None ≡ slice_index_or row (a + 1) None
     at_rule a = let next : 1 + a ≡ a + 1 = omega arith in get_or-drop 1 row a None ∙ ap (λ n. slice_index_or row n None) next
 
-    told_viable : (a : ℕ) → Contains (rules_with_move 0 rules_row) a → IsViable g (x ++ (Token a ∷ []))
-    told_viable a c =
+    shown_viable : (a : ℕ) → Contains (rules_with_move 0 rules_row) a → IsViable g (x ++ (Token a ∷ []))
+    shown_viable a c =
         let m = has_move 0 rules_row a c in
         let l = m.1 in
         let n = long in
@@ -113,13 +113,13 @@ module _ (g : Grammar) (accepted : IsAccepted g) (x : List Kind) (stack : List T
         let moves = subst (λ o. is_some o ≡ true) (at_rule m.0) m.3 in
         (rule_expected a (slice_index_or row (a + 1) None) (each a (omega (arith, l, n, same)))).0 (subst (λ j. is_some (slice_index_or row (j + 1) None) ≡ true) same moves)
 
-    viable_told : (a : ℕ) → IsViable g (x ++ (Token a ∷ [])) → Contains (rules_with_move 0 rules_row) a
-    viable_told a v = elim (cases_lt a g.rules) [
+    viable_shown : (a : ℕ) → IsViable g (x ++ (Token a ∷ [])) → Contains (rules_with_move 0 rules_row) a
+    viable_shown a v = elim (cases_lt a g.rules) [
       | inl l ↦
           let moves = (rule_expected a (slice_index_or row (a + 1) None) (each a l)).1 v in
           let n = long in
           let same : 0 + a ≡ a = omega arith in
-          subst (Contains (rules_with_move 0 rules_row)) same (is_told 0 rules_row a (omega (arith, l, n)) (subst (λ o. is_some o ≡ true) (sym (at_rule a)) moves))
+          subst (Contains (rules_with_move 0 rules_row)) same (is_shown 0 rules_row a (omega (arith, l, n)) (subst (λ o. is_some o ≡ true) (sym (at_rule a)) moves))
       | inr l ↦ absurd (let e = (rule_expected a None (far a l)).1 v in cc e)
     ]
 
@@ -128,6 +128,6 @@ module _ (g : Grammar) (accepted : IsAccepted g) (x : List Kind) (stack : List T
     all_expected = (
       rules_with_move 0 rules_row,
       is_some (slice_index_or row 0 None),
-      record { in_order = increasing 0 rules_row; each = λ a. (told_viable a, viable_told a); ends = end_expected (slice_index_or row 0 None) end },
+      record { in_order = increasing 0 rules_row; each = λ a. (shown_viable a, viable_shown a); ends = end_expected (slice_index_or row 0 None) end },
       refl,
     )

@@ -8,11 +8,11 @@ use Rattle.tables.specs.Gotos.{HasSteps}
 use Rattle.item_sets.specs.Productions.{Shape}
 use Rattle.item_sets.specs.States.{HasKernel}
 use Rattle.tables.specs.Tables.{AreTables}
-use Rattle.item_sets.proofs.Collected.{start_kernel}
-use Rattle.item_sets.proofs.Collecting.{no_item}
+use Rattle.item_sets.proofs.FirstKernel.{start_kernel}
+use Rattle.item_sets.proofs.AddedKernels.{no_item}
 use Rattle.theory.proofs.Knuth.{lr1_no_conflict}
-use Rattle.tables.proofs.Complete.{no_conflict}
-use Rattle.tables.proofs.Counted.{no_more_sets}
+use Rattle.tables.proofs.AllSets.{no_conflict}
+use Rattle.tables.proofs.SetCount.{no_more_sets}
 use Rattle.definitions.specs.Trees.{Grammar, HasDistinctProductions}
 use Rattle.definitions.specs.Items.{HasMoreSetsThan, kind_of}
 use Rattle.item_sets.specs.Sets.{item_of}

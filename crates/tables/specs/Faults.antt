@@ -7,7 +7,7 @@ use Rattle.tables.specs.declared.tables.TableFault.{TableFault}
 use Rattle.tables.specs.declared.tables.TableFault.TheVariants.{TooManySets, Conflict, Memory}
 use Rattle.tables.specs.Reports.{IsReport}
 
--- the fault is a conflict that is there, or want of memory
+-- the fault is a conflict that is there, or that memory was refused
 abbrev pub IsConflictOf : Grammar → TableFault → Type 0
 IsConflictOf g TooManySets = ⊥
 IsConflictOf g (Conflict c) = IsReport g c

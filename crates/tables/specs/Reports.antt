@@ -1,4 +1,4 @@
--- What is told of a conflict.
+-- What is reported of a conflict.
 use Rattle.std.specs.Prelude.{◌≡◌, ◌≢◌, ◌<◌, ◌≤◌, ℕ, [], Option, Some, None, length}
 use Rattle.definitions.specs.Trees.{Grammar}
 use Rattle.definitions.specs.Items.{Item as LrItem, Move, CallsFor, kind_of, IsConflict}
@@ -13,7 +13,8 @@ IsEarlier (Some p) (Some q) = p < q
 IsEarlier None None = ⊥
 IsEarlier (Some p) None = ⊥
 
--- the order in which a conflict's items are told: the dot of the first is at its end; where both are, the first has the earlier production
+-- the order in which a conflict's items are reported: the dot of the first is at its end; where both are, the first has the earlier
+-- production
 pub record IsInOrder (one two : LrItem) : Type 0 where
   pub at_end : one.after ≡ []
   pub earlier : two.after ≡ [] → IsEarlier one.production two.production
@@ -23,8 +24,8 @@ abbrev pub Differ : Grammar → Clash → Type 0
 Differ g c = (m : Move) × (n : Move) × CallsFor (item_of g c.one) (kind_of c.look) m × CallsFor (item_of g c.two) (kind_of c.look) n
     × (m ≢ n)
 
--- `IsReport g conflict`: what is told is a conflict: its items are valid for its prefix and call for different moves at its lookahead, are
--- in order, and each dot lies within its right side
+-- `IsReport g conflict`: what is reported is a conflict: its items are valid for its prefix and call for different moves at its lookahead,
+-- are in order, and each dot lies within its right side
 pub record IsReport (g : Grammar) (c : Conflict) : Type 0 where
   pub conflict : IsConflict g c.prefix.items (kind_of c.look) (item_of g c.first) (item_of g c.second)
   pub order : IsInOrder (item_of g c.first) (item_of g c.second)

@@ -1,4 +1,4 @@
--- What tables tell.
+-- What tables say.
 use Rattle.std.specs.Prelude.{◌≡◌, ◌<◌, ℕ, List, [], Option, Some, None, length, slice_index_or, All}
 use Rattle.definitions.specs.declared.Kind.{Kind}
 use Rattle.definitions.specs.declared.Symbol.{Symbol}

@@ -1,4 +1,4 @@
-//! What is told of a conflict.
+//! What is reported of a conflict.
 ghost use Rattle.std.specs.Prelude.{◌≡◌, ◌≢◌, true, false, IfOk};
 ghost use Rattle.tables.specs.Actions.{IsClashAt};
 ghost use Rattle.item_sets.specs.Collection.{AreStates};
@@ -16,7 +16,7 @@ use std::alloc::{AllocError, Global};
 #[derive(Debug, Drop)]
 pub struct Conflict {
     /// Symbols for which both items are valid, no more than in any other prefix of their set: the sets are met breadth first, and
-    /// of several with a conflict the one that is met first is told.
+    /// of several with a conflict the one that is met first is reported.
     pub prefix: Vec<Symbol>,
     /// The token rule at which both call for a move, or none at the end.
     pub look: Option<usize>,
@@ -41,7 +41,7 @@ fn is_earlier(one: Option<usize>, two: Option<usize>) -> bool
     }
 }
 
-/// Whether the first of two items that conflict is to be told first.
+/// Whether the first of two items that conflict is to be reported first.
 fn is_in_order(grammar: &AugmentedGrammar, clash: Clash) -> bool
     requires one { IsItem grammar.now clash.one }
     requires two { IsItem grammar.now clash.two }

@@ -63,7 +63,7 @@ pub enum Decided {
 }
 
 /// The column of the lookahead at which an item calls for a move, if it calls for one.
-fn column_called(grammar: &AugmentedGrammar, item: Item) -> Option<usize>
+fn column_of_call(grammar: &AugmentedGrammar, item: Item) -> Option<usize>
     requires { IsItem grammar.now item }
     ensures within { IfSome result (λ k. k < grammar.now.grammar.rules + 1) }
     ensures column { (look : Option ℕ) (move : LrMove)
@@ -93,7 +93,7 @@ fn callers(
 {
     let mut called = Vec::new(alloc);
     for item in items {
-        if column_called(grammar, *item).is_some() {
+        if column_of_call(grammar, *item).is_some() {
             called.push(*item)?;
         }
     }
@@ -101,7 +101,7 @@ fn callers(
 }
 
 /// Marks the columns of the lookaheads at which the items call for moves.
-fn columns_called(
+fn columns_of_calls(
     alloc: Global,
     grammar: &AugmentedGrammar,
     items: &[Item],
@@ -114,7 +114,7 @@ fn columns_called(
 {
     let mut marks = Marks::blank(alloc, grammar.lookaheads())?;
     for item in items {
-        if let Some(column) = column_called(grammar, *item) {
+        if let Some(column) = column_of_call(grammar, *item) {
             marks.mark(column);
         }
     }
@@ -150,7 +150,7 @@ fn moves_of_callers(
     requires row { length row.now ≡ grammar.now.grammar.rules + grammar.now.nonterminals }
     ensures { IfOk result (IsDecided grammar.now.grammar items.now row.now) }
 {
-    let called = columns_called(alloc, grammar, items)?;
+    let called = columns_of_calls(alloc, grammar, items)?;
     let mut moves = Vec::new(alloc);
     for column in 0..grammar.lookaheads() {
         if called.has(column) {

@@ -6,14 +6,14 @@ ghost use Rattle.tables.specs.Expected.{in_file_order, rules_with_move};
 use crate::decisions::Move;
 use std::marker::Model;
 
-/// The token rules that may come next, in file order, and behind them `None` where the end may come. It takes no memory.
+/// The token rules that may come next, in file order, and after them `None` where the end may come. It takes no memory.
 #[derive(Drop)]
 pub struct Expected<'a> {
     /// The moves of a state, by the token rule that is next.
     moves: &'a [Option<Move>],
     /// The first rule that was not looked at.
     rule: usize,
-    /// Whether the end is still to be told.
+    /// Whether the end is still to be listed.
     at_end: bool,
 }
 

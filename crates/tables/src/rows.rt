@@ -39,7 +39,7 @@ impl Row {
         }
     }
 
-    /// Where the nonterminals lead: the entries behind those of so many token rules.
+    /// Where the nonterminals lead: the entries after those of so many token rules.
     pub fn gotos(&self, alloc: Global, rules: usize) -> Result<Row, AllocError>
         requires { rules ≤ length self.now }
         ensures { IfOk result (λ gotos. gotos ≡ drop rules self.now) }

@@ -234,7 +234,7 @@ impl Tables {
         }
     }
 
-    /// What may come next in a state: the token rules in file order, and then the end, with which some sentence goes on behind
+    /// What may come next in a state: the token rules in file order, and then the end, with which some sentence goes on after
     /// the kinds that were read. It takes no memory.
     pub fn expects(&self, state: usize) -> Expected<'_>
         requires { state < length self.now.kernels }

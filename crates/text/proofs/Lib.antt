@@ -1,6 +1,6 @@
-mod Few
-mod Filled
+mod FewPieces
+mod RefilledPieces
 mod Lines
 mod Sizes
-mod Onward
+mod NextPosition
 mod Spliced

@@ -14,7 +14,7 @@ use Rattle.pieces.specs.declared.places.Cut.{Cut}
 use Rattle.pieces.specs.Places.{IsCut}
 use Rattle.pieces.proofs.Joins.{units-bytes}
 use Rattle.text.specs.Stored.{IsStored}
-use Rattle.text.proofs.Few.{few}
+use Rattle.text.proofs.FewPieces.{few}
 
 -- how many bytes the characters have
 abbrev pub size : List ℕ → ℕ
@@ -30,17 +30,17 @@ pub size-chars : (bs : List ℕ) → IsUtf8 bs → size (chars bs) ≡ length bs
 size-chars bs u = ap length (encodes-chars bs u)
 
 -- what an edit keeps, from the bytes before each of its ends
-pub record IsKept (t : List ℕ) (a b before behind bytes : ℕ) : Type 0 where
-  pub within : behind ≤ bytes
-  pub few : before + (bytes - behind) ≤ bytes
-  pub edited : (s : List ℕ) → size (edit t a b s) ≡ before + (bytes - behind) + size s
+pub record IsKept (t : List ℕ) (a b before position_after bytes : ℕ) : Type 0 where
+  pub within : position_after ≤ bytes
+  pub few : before + (bytes - position_after) ≤ bytes
+  pub edited : (s : List ℕ) → size (edit t a b s) ≡ before + (bytes - position_after) + size s
 
-kept : (t : List ℕ) (a b before behind bytes : ℕ) → a ≤ b → before ≡ units Utf8 (take a t) → behind ≡ units Utf8 (take b t) → bytes ≡ size t → IsKept t a b before behind bytes
-kept t a b before behind bytes l e f g =
+kept : (t : List ℕ) (a b before position_after bytes : ℕ) → a ≤ b → before ≡ units Utf8 (take a t) → position_after ≡ units Utf8 (take b t) → bytes ≡ size t → IsKept t a b before position_after bytes
+kept t a b before position_after bytes l e f g =
     let far : b ≡ a + (b - a) = omega (arith, l) in
     let parts : size (take b t) ≡ size (take a t) + size (take (b - a) (drop a t)) = ap size (ap (λ n. take n t) far ∙ take-add a (b - a) t) ∙ size-append (take a t) (take (b - a) (drop a t)) in
     let one : before ≡ size (take a t) = e ∙ units-bytes (take a t) in
-    let two : behind ≡ size (take b t) = f ∙ units-bytes (take b t) in
+    let two : position_after ≡ size (take b t) = f ∙ units-bytes (take b t) in
     let rest = size-take t b in
     record {
       within = omega (arith, two, rest, g);

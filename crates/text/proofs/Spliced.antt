@@ -10,7 +10,7 @@ use Rattle.text.specs.declared.gaps.Splice.{Splice}
 use Rattle.text.specs.declared.document.TheConstants.{LONGEST_TEXT}
 use Rattle.text.specs.Gaps.{IsSplice}
 use Rattle.text.specs.Stored.{IsStored}
-use Rattle.text.proofs.Few.{small, few}
+use Rattle.text.proofs.FewPieces.{small, few}
 use Rattle.text.proofs.Sizes.{size}
 
 pub spliced_few : (ps : List (List ℕ)) (t : List ℕ) (s : Splice) → IsSplice ps t s → 509 * (length ps - (s.to - s.from) + length s.items) ≤ size t + 509

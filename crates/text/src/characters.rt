@@ -14,7 +14,7 @@ use std::marker::Model;
 pub struct Chars<'a> {
     /// What is left of the present piece, empty only where nothing is left at all.
     present: &'a str,
-    /// The pieces behind it.
+    /// The pieces after it.
     pieces: Iter<'a, Piece>,
 }
 
@@ -35,7 +35,7 @@ impl<'a> Chars<'a> {
     pub(crate) fn new(present: &'a str, mut pieces: Iter<'a, Piece>) -> Chars<'a>
         ensures { result ≡ chars present.now ++ concat pieces.entry }
     {
-        let present = refilled(present, &mut pieces);
+        let present = refill(present, &mut pieces);
         Chars { present, pieces }
     }
 
@@ -56,12 +56,12 @@ impl<'a> Iterator for Chars<'a> {
 
     fn next(&mut self) -> Option<char> {
         let (first, rest) = split_first(self.present)?;
-        self.present = refilled(rest, &mut self.pieces);
+        self.present = refill(rest, &mut self.pieces);
         Some(first)
     }
 }
 
-/// The first character and what comes behind it.
+/// The first character and what comes after it.
 fn split_first(text: &str) -> Option<(char, &str)>
     ensures { MatchOption result (length text.now ≡ 0)
         (λ r. chars text.now ≡ r.0 ∷ chars r.1.now) }
@@ -72,7 +72,7 @@ fn split_first(text: &str) -> Option<(char, &str)>
 }
 
 /// What is left of the present piece, or the next piece where nothing is.
-fn refilled<'a>(present: &'a str, pieces: &mut Iter<'a, Piece>) -> &'a str
+fn refill<'a>(present: &'a str, pieces: &mut Iter<'a, Piece>) -> &'a str
     ensures same { chars result.now ++ concat pieces.new ≡ chars present.now ++ concat pieces.old }
     ensures filled { length result.now ≡ 0 → length pieces.new ≡ 0 }
 {

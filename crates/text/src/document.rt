@@ -156,7 +156,7 @@ impl Text {
         pieces::position(&self.pieces, unit, offset)
     }
 
-    /// A walk over the text, from its start, that tells positions as it goes.
+    /// A walk over the text, from its start, that returns positions as it goes.
     pub fn places(&self, unit: Unit) -> Places<'_>
         ensures { result ≡ record { text = self.now; offset = 0; unit = unit } }
     {
@@ -196,7 +196,7 @@ impl Text {
         Chars::new(cut.back, self.pieces.iter_from(cut.piece + 1))
     }
 
-    /// All characters, one behind the other, for readers that go by offsets through the whole text.
+    /// All characters, one after another, for readers that go by offsets through the whole text.
     pub fn characters(&self, alloc: Global) -> Result<Vec<char>, AllocError>
         ensures { IfOk result (λ characters. characters.items ≡ self.now) }
     {

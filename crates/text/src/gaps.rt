@@ -42,14 +42,14 @@ pub fn splice_between(
         count_by is_small pieces.now ≤ 1 →
         IfOk result (IsSplice pieces.now (edit (concat pieces.now) a b (chars new.now))) }
 {
-    let gap = between(alloc, start, end, pieces.len(), new)?;
-    let Gap { from, to, text } = widened(alloc, pieces, gap)?;
+    let gap = gap_between(alloc, start, end, pieces.len(), new)?;
+    let Gap { from, to, text } = widen(alloc, pieces, gap)?;
     let items = Slots::make(alloc, pieces_of(alloc, text.as_str())?)?;
     Ok(Splice { from, to, items })
 }
 
 /// The gap between two cuts of a text of `count` pieces, with `new` in the place of what lies between them.
-fn between(
+fn gap_between(
     alloc: Global,
     start: Cut<'_>,
     end: Cut<'_>,
@@ -65,7 +65,7 @@ fn between(
     } else {
         count
     };
-    let text = joined(alloc, start.front, new, end.back)?;
+    let text = join_three(alloc, start.prefix, new, end.back)?;
     Ok(Gap {
         from: start.piece,
         to,
@@ -73,8 +73,8 @@ fn between(
     })
 }
 
-/// The gap with the piece before it, or else the one behind it, where its text is too small for one of several pieces.
-fn widened(alloc: Global, pieces: &Seq<Piece>, gap: Gap) -> Result<Gap, AllocError>
+/// The gap with the piece before it, or else the one after it, where its text is too small for one of several pieces.
+fn widen(alloc: Global, pieces: &Seq<Piece>, gap: Gap) -> Result<Gap, AllocError>
     ensures same { (text : List ℕ) →
         IsGap pieces.now text gap → IfOk result (IsGap pieces.now text) }
     ensures room { (text : List ℕ) → count_by is_small pieces.now ≤ 1 →
@@ -85,7 +85,7 @@ fn widened(alloc: Global, pieces: &Seq<Piece>, gap: Gap) -> Result<Gap, AllocErr
         return Ok(Gap { from, to, text });
     }
     if from > 0 {
-        let text = joined(alloc, text_of(pieces, from - 1), text.as_str(), "")?;
+        let text = join_three(alloc, text_of(pieces, from - 1), text.as_str(), "")?;
         return Ok(Gap {
             from: from - 1,
             to,
@@ -93,7 +93,7 @@ fn widened(alloc: Global, pieces: &Seq<Piece>, gap: Gap) -> Result<Gap, AllocErr
         });
     }
     if to < pieces.len() {
-        let text = joined(alloc, "", text.as_str(), text_of(pieces, to))?;
+        let text = join_three(alloc, "", text.as_str(), text_of(pieces, to))?;
         return Ok(Gap {
             from,
             to: to + 1,
@@ -113,14 +113,14 @@ fn text_of(pieces: &Seq<Piece>, place: usize) -> &str
     }
 }
 
-/// Three texts, one behind the other.
-fn joined(alloc: Global, front: &str, middle: &str, back: &str) -> Result<String, AllocError>
+/// Three texts, one after another.
+fn join_three(alloc: Global, prefix: &str, middle: &str, back: &str) -> Result<String, AllocError>
     ensures bytes { IfOk result (λ text.
-        string_bytes text ≡ front.now ++ middle.now ++ back.now) }
+        string_bytes text ≡ prefix.now ++ middle.now ++ back.now) }
     ensures characters { IfOk result (λ text.
-        chars (string_bytes text) ≡ chars front.now ++ chars middle.now ++ chars back.now) }
+        chars (string_bytes text) ≡ chars prefix.now ++ chars middle.now ++ chars back.now) }
 {
-    let mut text = String::from_str(alloc, front)?;
+    let mut text = String::from_str(alloc, prefix)?;
     text.push_str(middle)?;
     text.push_str(back)?;
     Ok(text)

@@ -1,4 +1,4 @@
-//! A walk over a text that tells positions as it goes.
+//! A walk over a text that returns positions as it goes.
 
 ghost use Rattle.std.specs.Prelude.{◌≡◌, ◌∷◌, ◌+◌, ◌<◌, ◌≤◌, ◌^◌, ℕ, List, length, min, drop, slice_get};
 ghost use Rattle.std.specs.List.{concat};
@@ -13,7 +13,7 @@ use std::marker::Model;
 
 /// An offset of a text, from its start on, and its position (LSP 3.17, "Position").
 ///
-/// To go on by so many characters takes as many steps, so that the positions of a whole text are told in one pass.
+/// To go on by so many characters takes as many steps, so that the positions of a whole text are found in one pass.
 #[derive(Drop)]
 pub struct Places<'a> {
     pieces: &'a Seq<Piece>,
@@ -70,14 +70,14 @@ impl<'a> Places<'a> {
             let Some(c) = self.ahead.next() else {
                 return;
             };
-            self.position = behind(self.unit, c, self.ahead.peek(), self.position);
+            self.position = position_after(self.unit, c, self.ahead.peek(), self.position);
             self.offset += 1;
         }
     }
 }
 
-/// The position behind a character, which is at `position`, before the next one.
-fn behind(unit: Unit, c: char, next: Option<char>, position: Position) -> Position
+/// The position after a character, which is at `position`, before the next one.
+fn position_after(unit: Unit, c: char, next: Option<char>, position: Position) -> Position
     requires line { position.line < 2 ^ 29 }
     requires character { position.character < 2 ^ 31 }
     ensures { (text : List ℕ) (i : ℕ) (rest : List ℕ) →
@@ -99,7 +99,7 @@ fn behind(unit: Unit, c: char, next: Option<char>, position: Position) -> Positi
     }
 }
 
-/// Whether a line break ends behind a character, before the next one.
+/// Whether a line break ends after a character, before the next one.
 fn is_break_end(c: char, next: Option<char>) -> bool
     ensures { (rest : List ℕ) → next ≡ slice_get rest 0 → result ≡ of.ends_break c rest }
 {

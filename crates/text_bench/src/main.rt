@@ -16,25 +16,25 @@ enum Call {
     Position,
 }
 
-/// What the words behind the program's name ask for.
+/// What the words after the program's name ask for.
 #[derive(Clone, Copy)]
-struct Asked {
+struct Request {
     call: Call,
     length: usize,
     offset: usize,
     count: usize,
 }
 
-/// Letters of the greatest length of a text, with a break in the place of each that is `length` behind the one before.
+/// Letters of the greatest length of a text, with a break in the place of each that is `length` after the one before.
 fn lines(alloc: Global, length: usize) -> Result<String, AllocError> {
     let mut text = String::with_capacity(alloc, LONGEST_TEXT)?;
-    let mut behind = 0usize;
+    let mut after = 0usize;
     for _ in 0..LONGEST_TEXT {
-        behind = behind.saturating_add(1);
-        let ends = length <= behind;
+        after = after.saturating_add(1);
+        let ends = length <= after;
         text.push(if ends { '\n' } else { 'x' })?;
         if ends {
-            behind = 0;
+            after = 0;
         }
     }
     Ok(text)
@@ -93,7 +93,7 @@ fn positions(text: &Text, offset: usize, count: usize) -> usize {
 }
 
 /// The sum of the answers of the calls.
-fn sum(text: &mut Text, alloc: Global, asked: Asked) -> Result<usize> {
+fn sum(text: &mut Text, alloc: Global, asked: Request) -> Result<usize> {
     match asked.call {
         Call::Replace => replaced(text, alloc, asked.offset, asked.count),
         Call::Offset => Ok(offsets(text, asked.offset, asked.count)),
@@ -102,7 +102,7 @@ fn sum(text: &mut Text, alloc: Global, asked: Asked) -> Result<usize> {
 }
 
 /// The sum of the answers of a new text.
-fn answered(alloc: Global, asked: Asked) -> Result<usize> {
+fn answered(alloc: Global, asked: Request) -> Result<usize> {
     let mut text = opened(alloc, asked.length)?;
     sum(&mut text, alloc, asked)
 }
@@ -126,14 +126,14 @@ fn call_of(word: Option<String>) -> Option<Call> {
 }
 
 /// Reads what the words ask for.
-fn read(words: &mut Args) -> Result<Asked> {
+fn read(words: &mut Args) -> Result<Request> {
     words.next();
     let call = call_of(words.next());
     let length = number(words.next())?;
     let offset = number(words.next())?;
     let count = number(words.next())?;
     match call {
-        Some(call) => Ok(Asked {
+        Some(call) => Ok(Request {
             call,
             length,
             offset,

@@ -32,7 +32,7 @@ fn expect_positions(rt: &impl Abort, text: &Text, rows: &[(usize, u32, u32)]) {
     }
 }
 
-/// A text, the edit that puts a piece between two characters of a line, and the text behind it, each with some positions.
+/// A text, the edit that puts a piece between two characters of a line, and the text after it, each with some positions.
 #[derive(Clone, Copy)]
 struct Case<'a> {
     open: &'a str,
@@ -42,7 +42,7 @@ struct Case<'a> {
     to: u32,
     piece: &'a str,
     edited: &'a str,
-    positions_behind: &'a [(usize, u32, u32)],
+    positions_after: &'a [(usize, u32, u32)],
 }
 
 /// The whole text is this.
@@ -58,7 +58,7 @@ fn check_case(rt: &impl Abort, alloc: Global, case: &Case<'_>) {
     text.change(alloc, Unit::Utf16, range, case.piece)
         .expect(rt, "a change");
     expect_text(rt, alloc, &text, case.edited);
-    expect_positions(rt, &text, case.positions_behind);
+    expect_positions(rt, &text, case.positions_after);
 }
 
 #[test]
@@ -71,7 +71,7 @@ fn breaks_apart_are_two_and_together_one(rt: HostRuntime) {
         to: 1,
         piece: "",
         edited: "1\r\n2",
-        positions_behind: &[(1, 0, 1), (2, 0, 1), (3, 1, 0), (4, 1, 1)],
+        positions_after: &[(1, 0, 1), (2, 0, 1), (3, 1, 0), (4, 1, 1)],
     };
     check_case(&rt, rt.alloc(), &case);
 }
@@ -92,14 +92,14 @@ fn characters_past_the_first_plane_count_two(rt: HostRuntime) {
             to: 1,
             piece: "5",
             edited,
-            positions_behind: &[(1, 0, 1), (2, 0, 3)],
+            positions_after: &[(1, 0, 1), (2, 0, 3)],
         };
         check_case(&rt, rt.alloc(), &case);
     }
 }
 
 #[test]
-fn a_walk_tells_each_position(rt: HostRuntime) {
+fn a_walk_returns_each_position(rt: HostRuntime) {
     let text = Text::open(rt.alloc(), "1\r\n\u{1f600}2").expect(&rt, "a text");
     let mut places = text.places(Unit::Utf16);
     for (line, character) in [(0, 0), (0, 1), (0, 1), (1, 0), (1, 2), (1, 3), (1, 3)] {
@@ -141,12 +141,12 @@ fn is_change_refused(
     is_refused(rt, text.change(alloc, Unit::Utf16, range, piece.as_str()))
 }
 
-/// Each row is a range, how many times `1` it gives way to, whether that is refused, and how many bytes there are behind it.
+/// Each row is a range, how many times `1` it gives way to, whether that is refused, and how many bytes there are after it.
 fn check_bytes(rt: &impl Abort, alloc: Global, text: &mut Text) {
-    let front = between(at(0, 0), at(0, 0));
+    let prefix = between(at(0, 0), at(0, 0));
     for (range, count, wanted, bytes) in [
-        (front, 1, false, 1_048_576),
-        (front, 1, true, 1_048_576),
+        (prefix, 1, false, 1_048_576),
+        (prefix, 1, true, 1_048_576),
         (None, 1, false, 1),
         (None, 1_048_577, true, 1),
     ] {
@@ -164,7 +164,7 @@ fn a_text_may_have_so_many_bytes(rt: HostRuntime) {
 }
 
 /// Each row is how many of the first characters give way to a piece, whether that is refused, and how many characters there are
-/// behind it. There are as many bytes as may be throughout.
+/// after it. There are as many bytes as may be throughout.
 fn check_full_text(rt: &impl Abort, alloc: Global, text: &mut Text) {
     assert!(rt; (text.len(), text.bytes()) == (262_144, LONGEST_TEXT));
     for (removed, piece, wanted, count) in [

@@ -69,7 +69,7 @@ fn slots_of(rt: &impl Abort, alloc: Global, values: &[u32]) -> Slots<Number> {
     Slots::make(alloc, numbers).expect(rt, "memory")
 }
 
-/// Puts the items in the place of `from..to`, and answers how many were removed.
+/// Puts the items in the place of `from..to`, and returns how many were removed.
 fn put(
     rt: &impl Abort,
     seq: &mut Seq<Number>,
@@ -149,7 +149,7 @@ fn put_in_turn(rt: &impl Abort, alloc: Global, count: u32) -> Seq<Number> {
     seq
 }
 
-/// A walk from this place meets each item behind it, and answers where it ends.
+/// A walk from this place meets each item after it, and returns where it ends.
 fn end_of_walk(rt: &impl Abort, seq: &Seq<Number>, from: usize) -> usize {
     let mut at = from;
     for number in seq.iter_from(from) {

@@ -45,37 +45,37 @@ fn positions_count_the_unit_that_is_asked_for(rt: HostRuntime) {
     }
 }
 
-/// Whether the break behind the first `n` characters is one, and ends line 0.
-fn breaks_behind(text: &Text, n: u32) -> bool {
+/// Whether the break after the first `n` characters is one, and ends line 0.
+fn breaks_after(text: &Text, n: u32) -> bool {
     let count = n as usize;
     text.position(Unit::Utf16, count + 1) == at(0, n)
         && text.position(Unit::Utf16, count + 2) == at(1, 0)
         && text.offset(Unit::Utf16, at(1, 0)) == count + 2
 }
 
-/// The text of a line and what stands behind it.
-fn text_behind(rt: &impl Abort, alloc: Global, line: &str, behind: &str) -> Text {
+/// The text of a line and what stands after it.
+fn text_after(rt: &impl Abort, alloc: Global, line: &str, following: &str) -> Text {
     let text = format!(in alloc; "{line}{behind}").expect(rt, "memory");
     Text::open(alloc, text.as_str()).expect(rt, "a text")
 }
 
 fn check_whole_break(rt: &impl Abort, alloc: Global, line: &str, n: u32) {
-    let whole = text_behind(rt, alloc, line, "\r\ny");
-    assert!(rt; breaks_behind(&whole, n), "a line of {n}");
+    let whole = text_after(rt, alloc, line, "\r\ny");
+    assert!(rt; breaks_after(&whole, n), "a line of {n}");
 }
 
 /// Puts a line feed before the last character of a text.
-fn join_break(rt: &impl Abort, alloc: Global, text: &mut Text, behind: usize) {
-    assert!(rt; behind < text.len());
-    assert!(rt; text.len() - behind == 1);
-    text.replace(alloc, behind, behind, "\n")
+fn join_break(rt: &impl Abort, alloc: Global, text: &mut Text, following: usize) {
+    assert!(rt; following < text.len());
+    assert!(rt; text.len() - following == 1);
+    text.replace(alloc, following, following, "\n")
         .expect(rt, "an edit");
 }
 
 fn check_joined_break(rt: &impl Abort, alloc: Global, line: &str, n: u32) {
-    let mut joined = text_behind(rt, alloc, line, "\ry");
+    let mut joined = text_after(rt, alloc, line, "\ry");
     join_break(rt, alloc, &mut joined, n as usize + 1);
-    assert!(rt; breaks_behind(&joined, n), "joined behind a line of {n}");
+    assert!(rt; breaks_after(&joined, n), "joined behind a line of {n}");
 }
 
 #[test]
@@ -113,14 +113,14 @@ impl Numbers {
     }
 }
 
-/// Puts the characters of `old` from `from` up to `to` behind the others.
+/// Puts the characters of `old` from `from` up to `to` after the others.
 fn push_part(rt: &impl Abort, characters: &mut Vec<char>, old: &[char], from: usize, to: usize) {
     for c in old.iter().take(to).skip(from) {
         characters.push(*c).expect(rt, "memory");
     }
 }
 
-/// Puts the characters of a text behind the others.
+/// Puts the characters of a text after the others.
 fn push_text(rt: &impl Abort, characters: &mut Vec<char>, text: &str) {
     for c in text.chars() {
         characters.push(c).expect(rt, "memory");

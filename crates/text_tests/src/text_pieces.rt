@@ -12,13 +12,13 @@ use pieces::{
 use seqtree::{Measured, Monoid, Seq, Slots};
 use std::alloc::{AllocError, Global};
 
-/// As many characters, bytes and breaks, and nothing behind the last break.
+/// As many characters, bytes and breaks, and nothing after the last break.
 fn ended(characters: u32, bytes: u32, breaks: u32) -> Sums {
     Sums::Filled(Counts {
         characters,
         bytes,
         breaks,
-        behind: Units {
+        after: Units {
             utf8: 0,
             utf16: 0,
             utf32: 0,
@@ -53,15 +53,15 @@ fn three_lines(alloc: Global) -> Result<Seq<Piece>, AllocError>
 }
 
 /// A text in two pieces.
-fn in_two(alloc: Global, front: &str, back: &str) -> Result<Seq<Piece>, AllocError>
-    requires front { 1 ≤ length front.now }
-    requires front_few { length front.now ≤ LONGEST_PIECE }
+fn in_two(alloc: Global, prefix: &str, back: &str) -> Result<Seq<Piece>, AllocError>
+    requires prefix { 1 ≤ length prefix.now }
+    requires prefix_few { length prefix.now ≤ LONGEST_PIECE }
     requires back { 1 ≤ length back.now }
     requires back_few { length back.now ≤ LONGEST_PIECE }
     ensures few { IfOk result (λ pieces. units Utf8 (concat pieces) ≤ 2 ^ 30) }
 {
     let mut parts = Vec::new(alloc);
-    parts.push(Piece::new(alloc, front)?)?;
+    parts.push(Piece::new(alloc, prefix)?)?;
     parts.push(Piece::new(alloc, back)?)?;
     let mut pieces = Seq::new();
     let _none = pieces.replace(0, 0, Slots::make(alloc, parts)?);

@@ -138,10 +138,10 @@ const PLACES: &[(u32, u32)] = &[
     (6, 1_096),
 ];
 
-/// So many letters, and 1,100 letters behind what stands between.
+/// So many letters, and 1,100 letters after what stands between.
 fn text_around(rt: &impl Abort, alloc: Global, count: usize, between: &str) -> Text {
     let before = filled(rt, alloc, 'x', count);
-    let behind = filled(rt, alloc, 'z', 1_100);
+    let after = filled(rt, alloc, 'z', 1_100);
     let text = format!(in alloc; "{before}{between}{behind}").expect(rt, "memory");
     Text::open(alloc, text.as_str()).expect(rt, "a text")
 }
@@ -175,7 +175,7 @@ fn sum_of_twelve(text: &Text, unit: Unit, line: u32, first: u32) -> u64 {
     sum
 }
 
-/// The offsets of the positions at and behind [`PLACES`].
+/// The offsets of the positions at and after [`PLACES`].
 fn sum_of_offsets(text: &Text, unit: Unit) -> u64 {
     let mut sum = 0u64;
     for (line, first) in PLACES {

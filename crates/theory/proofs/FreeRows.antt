@@ -19,14 +19,14 @@ use Rattle.theory.specs.Machine.{Shifts, Reduces}
 use Rattle.theory.specs.Reuse.{AtEnd, Nothing_left, At_token, Goes_on, Ends, Takes_token, Makes, IsPrepared}
 use Rattle.theory.specs.Laws.{AreStampedByRun}
 use Rattle.theory.proofs.Stack.{nowhere}
-use Rattle.theory.proofs.Made.{not_in_leaf}
+use Rattle.theory.proofs.MadeIsBuilt.{not_in_leaf}
 use Rattle.theory.proofs.LawProofs.{exact}
 
 -- S = NUM
 abbrev alone : Grammar
 alone = record { start = 0; rules = 1; productions = record { left = 0; right = Terminal 0 ∷ [] } ∷ [] }
 
--- its four items: [S' = . S, end] and [S = . NUM, end] of the empty prefix, and each with its dot behind the symbol
+-- its four items: [S' = . S, end] and [S = . NUM, end] of the empty prefix, and each with its dot after the symbol
 abbrev item : Option ℕ → List Symbol → List Symbol → Item
 item q before after = record { production = q; before = before; after = after; look = None }
 

@@ -13,10 +13,10 @@ use Rattle.theory.specs.Machine.{look_at, Run, IsStackAfter}
 use Rattle.theory.specs.Reuse.{CanReuse, Goes_on}
 use Rattle.theory.proofs.Incremental.{goes_on_passes}
 use Rattle.theory.specs.Laws.{AreAnswer, StampsExactly}
-use Rattle.theory.proofs.Kept.{Taken}
+use Rattle.theory.proofs.ReusableNodes.{Taken}
 use Rattle.theory.proofs.Theorems.{one_tree, settled_exists, settled_unique, settled_run, reuse}
 use Rattle.theory.proofs.Verdicts.{viable_take}
-use Rattle.theory.proofs.Made.{stamps_exact, can_in_tree, can_at_fault}
+use Rattle.theory.proofs.MadeIsBuilt.{stamps_exact, can_in_tree, can_at_fault}
 
 module _ (g : Grammar) where
   sentence_viable : (x : List Kind) → IsSentence g x → (n : ℕ) → IsViable g (take n x)

@@ -12,19 +12,19 @@ use Rattle.definitions.specs.TreeEdits.{IsKept}
 use Rattle.theory.specs.Machine.{look_at, Reduces, Shifts}
 
 -- what is next in the input, and the input after it: a tree to take over, a kind, or the end
-pub data Front : Type 0 where
-  Take : Tree → List Tree → Front
-  AtToken : Kind → List Tree → Front
-  AtEnd : Front
+pub data NextInput : Type 0 where
+  Take : Tree → List Tree → NextInput
+  AtToken : Kind → List Tree → NextInput
+  AtEnd : NextInput
 
--- `kinds_of f`: the kinds of a `Front` and of the input after it
-abbrev pub kinds_of : Front → List Kind
+-- `kinds_of f`: the kinds of a `NextInput` and of the input after it
+abbrev pub kinds_of : NextInput → List Kind
 kinds_of (Take t ts) = yield t ++ all_kinds ts
 kinds_of (AtToken k ts) = k ∷ all_kinds ts
 kinds_of AtEnd = []
 
 -- `IsNoTree f`: a kind or the end is next, and no tree to take over
-abbrev pub IsNoTree : Front → Type 0
+abbrev pub IsNoTree : NextInput → Type 0
 IsNoTree (Take t ts) = ⊥
 IsNoTree (AtToken k ts) = Unit {0}
 IsNoTree AtEnd = Unit {0}
@@ -40,11 +40,11 @@ pub record CanReuse (g : Grammar) (stack : List Tree) (t : Tree) (rest : List Ki
   pub called : HasMove g (symbols ++ (Nonterminal root ∷ [])) (look_at rest None) move
 
 -- `Tries g stack input f`: what the left edge of the input offers: its nodes from the top down, those of empty yield dropped
-pub data Tries (g : Grammar) (stack : List Tree) : List Tree → Front → Type 0 where
+pub data Tries (g : Grammar) (stack : List Tree) : List Tree → NextInput → Type 0 where
   Nothing_left : Tries g stack [] AtEnd
-  Dropped : {t : Tree} {ts : List Tree} {f : Front} → yield t ≡ [] → Tries g stack ts f → Tries g stack (t ∷ ts) f
+  Dropped : {t : Tree} {ts : List Tree} {f : NextInput} → yield t ≡ [] → Tries g stack ts f → Tries g stack (t ∷ ts) f
   Passed : {t : Tree} {ts : List Tree} → CanReuse g stack t (all_kinds ts) → Tries g stack (t ∷ ts) (Take t ts)
-  Opened : {p : ℕ} {us : Forest} {ts : List Tree} {f : Front} → (CanReuse g stack (Branch p us) (all_kinds ts) → ⊥)
+  Opened : {p : ℕ} {us : Forest} {ts : List Tree} {f : NextInput} → (CanReuse g stack (Branch p us) (all_kinds ts) → ⊥)
       → Tries g stack (trees us ++ ts) f → Tries g stack (Branch p us ∷ ts) f
   At_token : {k : Kind} {ts : List Tree} → Tries g stack (Leaf k ∷ ts) (AtToken k ts)
 
@@ -56,7 +56,7 @@ pub data Goes_on (g : Grammar) : List Tree → List Tree → List Tree → List 
       → CanReuse g stack t (all_kinds ts) → Goes_on g (stack ++ (t ∷ [])) ts stack' input' → Goes_on g stack input stack' input'
   Takes_token : {stack input stack' input' : List Tree} (k : Kind) (ts : List Tree) → Tries g stack input (AtToken k ts)
       → Shifts g stack k → Goes_on g (stack ++ (Leaf k ∷ [])) ts stack' input' → Goes_on g stack input stack' input'
-  Makes : {stack input stack' input' : List Tree} (stack1 : List Tree) (f : Front) → Tries g stack input f → IsNoTree f
+  Makes : {stack input stack' input' : List Tree} (stack1 : List Tree) (f : NextInput) → Tries g stack input f → IsNoTree f
       → Reduces g stack (look_at (all_kinds input) None) stack1 → Goes_on g stack1 input stack' input'
       → Goes_on g stack input stack' input'
 

@@ -57,15 +57,15 @@ fn check_nodes(rt: &impl Abort, store: &Store, [first, left, second, whole]: [No
     }
 }
 
-/// What a store tells of the children of a whole sum, and of nodes and tokens as children.
+/// What a store has of the children of a whole sum, and of nodes and tokens as children.
 fn check_children(rt: &impl Abort, store: &Store, whole: NodeId, second: NodeId) {
     let last = Some(Child::Node(second));
     assert!(rt; whole.index < store.len());
-    let behind = (
+    let after = (
         store.child(whole, 3),
         store.child(whole, 18_446_744_073_709_551_615),
     );
-    assert!(rt; (store.child(whole, 2), behind) == (last, (None, None)));
+    assert!(rt; (store.child(whole, 2), after) == (last, (None, None)));
     let counts = (store.child_count(whole), store.children(whole).count());
     assert!(rt; (counts, store.children(whole).next_back()) == ((3, 3), last));
     for (k, child) in store.children(whole).enumerate() {
@@ -185,8 +185,8 @@ fn check_kinds(rt: &impl Abort, alloc: Global, store: &mut Store) {
             .expect(rt, "memory");
         assert!(rt; label(rt, store, id) == (1, 2, 2, 1));
         assert!(rt; first_two(store, id) == (Some(NUMBER), Some(last)));
-        let behind = (store.child_count(id), store.child(id, 2));
-        assert!(rt; (behind, store.children(id).last()) == ((2, None), Some(last)));
+        let after = (store.child_count(id), store.child(id, 2));
+        assert!(rt; (after, store.children(id).last()) == ((2, None), Some(last)));
     }
 }
 
@@ -335,8 +335,8 @@ fn kinds_of_a_row(rt: HostRuntime) {
     let row = Row {
         kinds: kinds.expect(&rt, "memory"),
     };
-    let told = (row.len(), row.kind(2), row.kind(3));
-    assert!(rt; told == (3, Some(Kind::Rule(0)), None));
+    let shown = (row.len(), row.kind(2), row.kind(3));
+    assert!(rt; shown == (3, Some(Kind::Rule(0)), None));
     assert!(rt; count_invalid(&row) == 1);
     let read = (row.next(&mut row.ahead(1), 1), row.next(&mut (), 3));
     assert!(rt; read == (Some(Kind::Invalid), None));

@@ -12,7 +12,7 @@ use Rattle.trees.specs.declared.store.NodeId.{NodeId}
 use Rattle.trees.specs.declared.store.Child.TheVariants.{Token, Node}
 use Rattle.trees.specs.Cells.{Cell, most, tree_of, forest_of, branch_of, trees_from, IsBelow, AreBelow, tree, tokens_below, branches_below, IsCell, AreCells}
 
--- the trees of nodes behind others
+-- the trees of nodes after others
 pub from-append : (ts : List Stamped) (one two : List Cell) → trees_from ts (one ++ two) ≡ trees_from (trees_from ts one) two
 from-append ts [] two = refl
 from-append ts (c ∷ one) two = from-append (ts ++ (branch_of ts c ∷ [])) one two
@@ -22,14 +22,14 @@ pub from-length : (ts : List Stamped) (cs : List Cell) → length (trees_from ts
 from-length ts [] = omega arith
 from-length ts (c ∷ cs) = omega (arith, from-length (ts ++ (branch_of ts c ∷ [])) cs, length-append ts (branch_of ts c ∷ []))
 
--- the earlier trees stand in front
-pub from-front : (ts : List Stamped) (cs : List Cell) → (more : List Stamped) × (trees_from ts cs ≡ ts ++ more)
-from-front ts [] = ([], sym (append-nil ts))
-from-front ts (c ∷ cs) =
-    let r = from-front (ts ++ (branch_of ts c ∷ [])) cs in
+-- the earlier trees stand at the start
+pub from-prefix : (ts : List Stamped) (cs : List Cell) → (more : List Stamped) × (trees_from ts cs ≡ ts ++ more)
+from-prefix ts [] = ([], sym (append-nil ts))
+from-prefix ts (c ∷ cs) =
+    let r = from-prefix (ts ++ (branch_of ts c ∷ [])) cs in
     (branch_of ts c ∷ r.0, r.1 ∙ append_assoc ts (branch_of ts c ∷ []) r.0)
 
--- a child among the earlier nodes means the same, whatever comes behind them
+-- a child among the earlier nodes means the same, whatever comes after them
 pub tree-more : (ts more : List Stamped) (c : Child) → IsBelow (length ts) c → tree_of (ts ++ more) c ≡ tree_of ts c
 tree-more ts more (Token k) h = refl
 tree-more ts more (Node id) h = get_or_append_left ts more (StampedLeaf Invalid) id.index h
@@ -68,7 +68,7 @@ pub record IsAt (ts : List Stamped) (i : ℕ) (c : Cell) : Type 0 where
 -- a node, seen from the trees of a store that has grown
 seen_later : (ts : List Stamped) (c : Cell) (cs : List Cell) → IsCell ts c → IsAt (trees_from (ts ++ (branch_of ts c ∷ [])) cs) (length ts) c
 seen_later ts c cs h =
-    let r = from-front (ts ++ (branch_of ts c ∷ [])) cs in
+    let r = from-prefix (ts ++ (branch_of ts c ∷ [])) cs in
     let e = r.1 ∙ append_assoc ts (branch_of ts c ∷ []) r.0 in
     let f = forest-more ts (branch_of ts c ∷ r.0) c.children h.below in
     let all = ts ++ (branch_of ts c ∷ r.0) in
@@ -141,7 +141,7 @@ cut-tree cells n child h l =
     let one = take n cells in
     let all : one ++ drop n cells ≡ cells = take-append-drop n cells in
     let long : n ≤ length (trees_from [] one) = omega (arith, from-length [] one, length-take n cells, l) in
-    let r = from-front (trees_from [] one) (drop n cells) in
+    let r = from-prefix (trees_from [] one) (drop n cells) in
     sym (tree-more (trees_from [] one) r.0 child (below-more n (length (trees_from [] one)) long child h)) ∙ ap (λ l. tree_of l child) (sym r.1 ∙ sym (from-append [] one (drop n cells)) ∙ ap (trees_from []) all)
 
 pub take-tree : (cells : List Cell) (n : ℕ) (child : Child) → IsBelow n child → tree (take n cells) child ≡ tree cells child

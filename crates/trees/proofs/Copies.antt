@@ -144,8 +144,8 @@ leads_all old b bs ds goal e h =
     let all : take h.2 cs ≡ cs = take_all h.2 cs (omega (arith, many, get-none cs (length ds - b.first) e)) in
     let is : ds ≡ h.1 ++ all_trees old cs = h.5 ∙ ap (λ l. h.1 ++ all_trees old l) all in
     let back : drop b.first ds ≡ all_trees old cs = (λ i. drop (sym h.3 i) (is i)) ∙ drop-append_seam h.1 (all_trees old cs) in
-    let front : take b.first ds ≡ h.1 = (λ i. take (sym h.3 i) (is i)) ∙ take-append_seam h.1 (all_trees old cs) in
-    (back, subst (λ l. Leads old bs (l ++ (tree old (Node b.id) ∷ [])) goal) (sym front) h.6)
+    let prefix : take b.first ds ≡ h.1 = (λ i. take (sym h.3 i) (is i)) ∙ take-append_seam h.1 (all_trees old cs) in
+    (back, subst (λ l. Leads old bs (l ++ (tree old (Node b.id) ∷ [])) goal) (sym prefix) h.6)
 
 -- what is done has no more to it than what it leads to
 pub room : (old : List Cell) → IsStore old → (bs : List Begun) (ds goal : List Stamped) → Leads old bs ds goal → mass ds + length bs ≤ mass goal

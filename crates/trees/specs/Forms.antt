@@ -3,7 +3,7 @@ use Rattle.std.specs.Prelude.{map}
 use Rattle.trees.specs.declared.node.Form.{Form}
 use Rattle.trees.specs.declared.node.Form.TheVariants.{Narrow, Wide}
 use Rattle.trees.specs.Cells.{Cell}
-use Rattle.trees.specs.Packing.{unpacked}
+use Rattle.trees.specs.Packing.{unpack}
 
 abbrev pub cell_in : Form → Cell
 cell_in (Narrow n) = record {
@@ -11,7 +11,7 @@ cell_in (Narrow n) = record {
   born = n.born;
   tokens = n.tokens;
   size = n.size;
-  children = map unpacked n.children.items;
+  children = map unpack n.children.items;
 }
 cell_in (Wide w) = record {
   production = w.value.label.production;

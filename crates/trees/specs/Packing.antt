@@ -9,8 +9,8 @@ abbrev pub half : ℕ
 half = 2 ^ 31
 
 -- the child that a number stands for
-abbrev pub unpacked : ℕ → Child
-unpacked n = cond (nat_lt n half) (Node (record { index = n })) (cond (nat_eq n half) (Token Invalid) (Token (Rule (n - half - 1))))
+abbrev pub unpack : ℕ → Child
+unpack n = cond (nat_lt n half) (Node (record { index = n })) (cond (nat_eq n half) (Token Invalid) (Token (Rule (n - half - 1))))
 
 -- the child has a number of 32 bits
 abbrev pub HasNumber : Child → Type 0

@@ -2,7 +2,7 @@
 
 ghost use Rattle.std.specs.Prelude.{◌≡◌, map, IfSome, IsSome};
 ghost use Rattle.std.specs.Iterator.{YieldsFirst, YieldsLast, item_count};
-ghost use Rattle.trees.specs.Packing.{unpacked, HasNumber};
+ghost use Rattle.trees.specs.Packing.{unpack, HasNumber};
 
 use crate::store::{Child, NodeId};
 use definitions::Kind;
@@ -39,7 +39,7 @@ impl<'a> Model for Children<'a> {
 impl<'a> Children<'a> {
     /// The children of these numbers.
     pub(crate) fn narrow(numbers: &'a [u32]) -> Children<'a>
-        ensures { result ≡ map unpacked numbers.now }
+        ensures { result ≡ map unpack numbers.now }
     {
         Children {
             rest: Rest::Narrow(numbers),
@@ -68,7 +68,7 @@ impl<'a> Iterator for Children<'a> {
             Rest::Narrow(numbers) => {
                 let (first, rest) = numbers.split_first()?;
                 self.rest = Rest::Narrow(rest);
-                Some(unpacked(*first))
+                Some(unpack(*first))
             }
             Rest::Wide(children) => {
                 let (first, rest) = children.split_first()?;
@@ -87,7 +87,7 @@ impl<'a> DoubleEndedIterator for Children<'a> {
             Rest::Narrow(numbers) => {
                 let (last, rest) = numbers.split_last()?;
                 self.rest = Rest::Narrow(rest);
-                Some(unpacked(*last))
+                Some(unpack(*last))
             }
             Rest::Wide(children) => {
                 let (last, rest) = children.split_last()?;
@@ -99,8 +99,8 @@ impl<'a> DoubleEndedIterator for Children<'a> {
 }
 
 /// The number of a child, where it has one of 32 bits.
-pub(crate) fn packed(child: Child) -> Option<u32>
-    ensures is { IfSome result (λ number. unpacked number ≡ child) }
+pub(crate) fn pack(child: Child) -> Option<u32>
+    ensures is { IfSome result (λ number. unpack number ≡ child) }
     ensures every { HasNumber child → IsSome result }
 {
     match child {
@@ -112,8 +112,8 @@ pub(crate) fn packed(child: Child) -> Option<u32>
 }
 
 /// The child of a number.
-pub(crate) fn unpacked(number: u32) -> Child
-    ensures { result ≡ unpacked number }
+pub(crate) fn unpack(number: u32) -> Child
+    ensures { result ≡ unpack number }
 {
     let number = number as usize;
     if number < HALF {

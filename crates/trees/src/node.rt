@@ -2,9 +2,9 @@
 
 ghost use Rattle.std.specs.Prelude.{◌≡◌, ◌<◌, ◌^◌, length, map, slice_get, IfOk, IfSome, IsSome};
 ghost use Rattle.std.specs.List.{All};
-ghost use Rattle.trees.specs.Packing.{unpacked, HasNumber};
+ghost use Rattle.trees.specs.Packing.{unpack, HasNumber};
 
-use crate::children::{Children, packed, unpacked};
+use crate::children::{Children, pack, unpack};
 use crate::store::Child;
 use smallvec::SmallVec;
 use std::alloc::{AllocError, Global};
@@ -77,7 +77,7 @@ impl Node {
           children = children.now;
         }) }
     {
-        if let Some(narrow) = narrowed(alloc, label, children)? {
+        if let Some(narrow) = narrow_node(alloc, label, children)? {
             return Ok(Node {
                 form: Form::Narrow(narrow),
             });
@@ -132,17 +132,21 @@ impl Node {
         ensures { result ≡ slice_get self.now.children k }
     {
         match &self.form {
-            Form::Narrow(narrow) => narrow.children.get(k).map(|number| unpacked(*number)),
+            Form::Narrow(narrow) => narrow.children.get(k).map(|number| unpack(*number)),
             Form::Wide(wide) => wide.children.get(k).copied(),
         }
     }
 }
 
 /// The narrow node of these numbers and children, where they fit.
-fn narrowed(alloc: Global, label: Label, children: &[Child]) -> Result<Option<Narrow>, AllocError>
+fn narrow_node(
+    alloc: Global,
+    label: Label,
+    children: &[Child],
+) -> Result<Option<Narrow>, AllocError>
     ensures is { IfOk result (λ narrow. IfSome narrow (λ n. (n.production ≡ label.production) ×
         (n.born ≡ label.born) × (n.tokens ≡ label.tokens) × (n.size ≡ label.size) ×
-        (map unpacked n.children.items ≡ children.now))) }
+        (map unpack n.children.items ≡ children.now))) }
     ensures every { label.production < 2 ^ 32 → label.born < 2 ^ 32 → label.tokens < 2 ^ 32 →
         label.size < 2 ^ 32 → All HasNumber children.now → IfOk result IsSome }
 {
@@ -170,12 +174,12 @@ fn narrowed(alloc: Global, label: Label, children: &[Child]) -> Result<Option<Na
 /// The numbers of the children, where each has one.
 fn all_packed(alloc: Global, children: &[Child]) -> Result<Option<SmallVec<u32, 4>>, AllocError>
     ensures are { IfOk result (λ numbers. IfSome numbers (λ ns.
-        map unpacked ns.items ≡ children.now)) }
+        map unpack ns.items ≡ children.now)) }
     ensures every { All HasNumber children.now → IfOk result IsSome }
 {
     let mut numbers = SmallVec::new(alloc);
     for child in children {
-        match packed(*child) {
+        match pack(*child) {
             Some(number) => numbers.push(number)?,
             None => return Ok(None),
         }

@@ -28,7 +28,7 @@ pub enum Child {
     Node(NodeId),
 }
 
-/// The nodes of trees, each behind those of its children.
+/// The nodes of trees, each after those of its children.
 ///
 /// A [`NodeId`] means one tree until the store is cut at or below it, or compacted. No calls but
 /// [`branch`](Store::branch) and [`compact`](Store::compact) take memory.
@@ -175,7 +175,7 @@ impl Store {
         (tokens, size)
     }
 
-    /// Adds the node of a production over these children, made by edit number `born`, and answers its id.
+    /// Adds the node of a production over these children, made by edit number `born`, and returns its id.
     ///
     /// After a refusal the store is as before.
     pub fn branch(

@@ -3,7 +3,7 @@ use Rattle.std.proofs.Common.{◌≡◌, ◌+◌, ◌^◌, ◌<◌, ◌≤◌, m
 use Rattle.std.specs.Prelude.{Option, Some, None, MatchOption, IfSome}
 use Rattle.definitions.specs.Trees.{trees, yield, yields, all_kinds}
 use Rattle.definitions.specs.TreeEdits.{Stamped, StampedBranch, plain, plain_all, plain_trees}
-use Rattle.theory.proofs.Sound.{kinds-trees}
+use Rattle.theory.proofs.StackIsRead.{kinds-trees}
 use Rattle.trees.specs.declared.store.Child.{Child}
 use Rattle.trees.specs.declared.store.Child.TheVariants.{Token, Node}
 use Rattle.trees.specs.declared.store.NodeId.{NodeId}
@@ -11,9 +11,9 @@ use Rattle.trees.specs.Cells.{Cell, most, tree, tree_of, trees_of, trees_from, f
 use Rattle.trees.proofs.Cells.{all_below-more}
 use Rattle.views.specs.declared.selections.Branch.{Branch as Found}
 use Rattle.views.specs.declared.selections.Point.{Point}
-use Rattle.views.specs.Told.{trees_of_roots}
+use Rattle.views.specs.Contents.{trees_of_roots}
 use Rattle.views.specs.Around.{is_around, spans_of, spans_in, spans_all, branch_at, IsBranchAround}
-use Rattle.views.proofs.Around.{spans_trees, around_span, around_none, only_first}
+use Rattle.views.proofs.BranchesAround.{spans_trees, around_span, around_none, only_first}
 
 -- the trees below a node are those of its children
 forest_trees : (ts : List Stamped) (cs : List Child) → trees (plain_all (forest_of ts cs)) ≡ plain_trees (trees_of ts cs)
@@ -52,8 +52,8 @@ module _ (cells : List Cell) (children : List Child) (from : ℕ) (point : Point
     pub end_fits : start + n < 2 ^ 64
     end_fits = omega (arith, fits, left, long, exact)
 
-    behind : spans_all point.reached point.first from (trees_of_roots cells children) ≡ spans_all point.reached point.first start (trees_of_roots cells (c ∷ next))
-    behind = s.spans ∙ ap (λ cs. spans_all point.reached point.first start (trees_of_roots cells cs)) is
+    after : spans_all point.reached point.first from (trees_of_roots cells children) ≡ spans_all point.reached point.first start (trees_of_roots cells (c ∷ next))
+    after = s.spans ∙ ap (λ cs. spans_all point.reached point.first start (trees_of_roots cells cs)) is
 
     -- the child doesn't stand around the offset
     pub searching_next : is_around point.reached point.first start (start + n) ≡ false → IsSearching cells children from point next (start + n)
@@ -61,7 +61,7 @@ module _ (cells : List Cell) (children : List Child) (from : ℕ) (point : Point
         let none : spans_of point.reached point.first start (plain (tree cells c)) ≡ [] = around_none point.reached point.first start (plain (tree cells c)) (ap (λ m. is_around point.reached point.first start (start + m)) (sym exact) ∙ e) in
         record {
           kept = omega (arith, left, long, exact);
-          spans = behind
+          spans = after
               ∙ ap (λ ss. ss ++ spans_all point.reached point.first (start + length (yield (plain (tree cells c)))) (trees_of_roots cells next)) none
               ∙ ap (λ m. spans_all point.reached point.first (start + m) (trees_of_roots cells next)) (sym exact);
           below = λ m h. (below_next m h).1;
@@ -70,7 +70,7 @@ module _ (cells : List Cell) (children : List Child) (from : ℕ) (point : Point
     -- it does
     module _ (near : point.reached ≤ point.first + 1) (e : is_around point.reached point.first start (start + n) ≡ true) where
       own : spans_all point.reached point.first from (trees_of_roots cells children) ≡ spans_of point.reached point.first start (plain (tree cells c))
-      own = behind ∙ only_first point.reached point.first near start (plain (tree cells c)) (trees_of_roots cells next) (ap (λ m. is_around point.reached point.first start (start + m)) (sym exact) ∙ e)
+      own = after ∙ only_first point.reached point.first near start (plain (tree cells c)) (trees_of_roots cells next) (ap (λ m. is_around point.reached point.first start (start + m)) (sym exact) ∙ e)
 
       pub searching_found : (r : Option Found) → r ≡ branch_at c start (start + n) → MatchOption r (spans_all point.reached point.first from (trees_of_roots cells children) ≡ []) (λ b. IsBranchAround cells children from point b)
       searching_found r f = subst (λ o. MatchOption o (spans_all point.reached point.first from (trees_of_roots cells children) ≡ []) (λ b. IsBranchAround cells children from point b)) (sym f) (go c searching_below exact own)

@@ -37,8 +37,8 @@ AllPairs-one R xs ys p q (inr e) = subst (λ zs. AllPairs R (xs ++ zs)) (sym e) 
 pub same_span : (r s : ℕ × ℕ) → r.0 ≡ s.0 → r.1 ≡ s.1 → r ≡ s
 same_span r s e f = λ i. (e i, f i)
 
--- equal neighbours told once: each span encloses the later ones
-module _ (same : ℕ × ℕ → ℕ × ℕ → Bool) (tells : (r s : ℕ × ℕ) → same r s ≡ true → r ≡ s) (knows : (r s : ℕ × ℕ) → same r s ≡ false → r ≢ s) where
+-- equal neighbours listed once: each span encloses the later ones
+module _ (same : ℕ × ℕ → ℕ × ℕ → Bool) (shows : (r s : ℕ × ℕ) → same r s ≡ true → r ≡ s) (knows : (r s : ℕ × ℕ) → same r s ≡ false → r ≢ s) where
   encloses_rest : (r s : ℕ × ℕ) (ss : List (ℕ × ℕ)) → r ≢ s → AllPairs Holds (r ∷ s ∷ ss) → All (Encloses r) (dedup same (s ∷ ss))
   encloses_rest r s ss other h = All-each (Encloses r) (dedup same (s ∷ ss)) (λ z c. go z (Contains-cases s ss z (Contains-from_dedup same (s ∷ ss) z c)))
     where
@@ -60,7 +60,7 @@ module _ (same : ℕ × ℕ → ℕ × ℕ → Bool) (tells : (r s : ℕ × ℕ)
       without e = subst (λ z. AllPairs Holds (z ∷ ss)) e (AllPairs-tail Holds r (s ∷ ss) h)
 
       go : (b : Bool) → same s r ≡ b → AllPairs Encloses (dedup same (s ∷ ss)) → ((s ≡ r) → AllPairs Encloses (dedup same (r ∷ ss))) → AllPairs Encloses (cond b (dedup same (r ∷ ss)) (r ∷ dedup same (s ∷ ss)))
-      go true e later skipped = skipped (tells s r e)
+      go true e later skipped = skipped (shows s r e)
       go false e later skipped = AllPairs-cons Encloses r (dedup same (s ∷ ss)) (encloses_rest r s ss (λ f. knows s r e (sym f)) h) later
 
   pub nested_dedup : (ss : List (ℕ × ℕ)) → AllPairs Holds ss → AllPairs Encloses (dedup same ss)

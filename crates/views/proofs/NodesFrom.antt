@@ -1,4 +1,4 @@
--- The nodes of a list of trees, told by its parts.
+-- The nodes of a list of trees, by its parts.
 use Rattle.std.proofs.Common.{◌≡◌, ◌⊎◌, inl, inr, ◌↔◌, ◌+◌, ◌≤◌, ℕ, List, [], ◌∷◌, ◌++◌, length, refl, sym, ap, ◌∙◌, subst, arith, length-append}
 use Rattle.std.proofs.lemmas.List.{append-nil}
 use Rattle.definitions.specs.declared.Kind.{Kind}
@@ -7,16 +7,16 @@ use Rattle.definitions.specs.Trees.{Grammar, Tree, Forest, Leaf, Branch, HasProd
 use Rattle.definitions.specs.Nodes.{StandsIn, Top, Below, Past, place_of}
 use Rattle.definitions.specs.Answers.{Node}
 use Rattle.definitions.specs.DocumentNodes.{IsNodeOf}
-use Rattle.theory.proofs.Sound.{kinds-append}
-use Rattle.theory.proofs.Stack.{nowhere, stands_behind, stands_in_front, stands_kinds}
-use Rattle.theory.proofs.Exact.{stands_split}
+use Rattle.theory.proofs.StackIsRead.{kinds-append}
+use Rattle.theory.proofs.Stack.{nowhere, stands_after, stands_in_prefix, stands_kinds}
+use Rattle.theory.proofs.ReuseIsExact.{stands_split}
 use Rattle.views.specs.NodesFrom.{IsNodeFrom}
 
 -- the node is this branch, which begins at this place
 abbrev pub IsBranchAt : Grammar → ℕ → ℕ → Forest → Node → Type 0
 IsBranchAt g from p us n = (right : List Symbol) × HasProduction g p n.symbol right × (n.from ≡ from) × (n.to ≡ from + length (yields us))
 
--- the node is this branch, lies below it, or is one of the trees behind it
+-- the node is this branch, lies below it, or is one of the trees after it
 abbrev pub BranchParts : Grammar → ℕ → ℕ → Forest → List Tree → Node → Type 0
 BranchParts g from p us ts n = IsBranchAt g from p us n ⊎ (IsNodeFrom g from (trees us) n ⊎ IsNodeFrom g (from + length (yields us)) ts n)
 
@@ -51,7 +51,7 @@ module _ (g : Grammar) where
   pub nodes_from_none : (from : ℕ) (n : Node) → ¬ IsNodeFrom g from [] n
   nodes_from_none from n h = nowhere h.4 refl
 
-  -- behind a leaf they begin one place further
+  -- after a leaf they begin one place further
   pub nodes_from_leaf : (from : ℕ) (k : Kind) (ts : List Tree) (n : Node) → IsNodeFrom g from (Leaf k ∷ ts) n ↔ IsNodeFrom g (from + 1) ts n
   nodes_from_leaf from k ts n = (to, back)
     where
@@ -88,27 +88,27 @@ module _ (g : Grammar) where
           let moved : place_of (Branch p us ∷ h.0) ≡ length (yields us) + place_of h.0 = length-append (yields us) (all_kinds h.0) in
           (Branch p us ∷ h.0, h.1, h.2, h.3, Past h.4, h.5, omega (arith, h.6, moved), omega (arith, h.7, moved))
 
-  -- of two lists joined they are those of the first, and those of the second behind its kinds
+  -- of two lists joined they are those of the first, and those of the second after its kinds
   pub nodes_from_append : (from : ℕ) (ts us : List Tree) (n : Node) → IsNodeFrom g from (ts ++ us) n ↔ ListParts g from ts us n
   nodes_from_append from ts us n = (to, back)
     where
-      behind : (rest : List Tree) → place_of (ts ++ rest) ≡ length (all_kinds ts) + place_of rest
-      behind rest = ap length (kinds-append ts rest) ∙ length-append (all_kinds ts) (all_kinds rest)
+      after : (rest : List Tree) → place_of (ts ++ rest) ≡ length (all_kinds ts) + place_of rest
+      after rest = ap length (kinds-append ts rest) ∙ length-append (all_kinds ts) (all_kinds rest)
 
       cases : (h : IsNodeFrom g from (ts ++ us) n) → StandsIn ts h.0 (Branch h.1 h.2) ⊎ ((rest : List Tree) × StandsIn us rest (Branch h.1 h.2) × (h.0 ≡ ts ++ rest)) → ListParts g from ts us n
       cases h (inl w) = inl (h.0, h.1, h.2, h.3, w, h.5, h.6, h.7)
       cases h (inr s) =
-          let moved = ap place_of s.2 ∙ behind s.0 in
+          let moved = ap place_of s.2 ∙ after s.0 in
           inr (s.0, h.1, h.2, h.3, s.1, h.5, omega (arith, h.6, moved), omega (arith, h.7, moved))
 
       to : IsNodeFrom g from (ts ++ us) n → ListParts g from ts us n
       to h = cases h (stands_split ts us h.4)
 
       back : ListParts g from ts us n → IsNodeFrom g from (ts ++ us) n
-      back (inl h) = (h.0, h.1, h.2, h.3, stands_in_front us h.4, h.5, h.6, h.7)
+      back (inl h) = (h.0, h.1, h.2, h.3, stands_in_prefix us h.4, h.5, h.6, h.7)
       back (inr h) =
-          let moved = behind h.0 in
-          (ts ++ h.0, h.1, h.2, h.3, stands_behind ts h.4, h.5, omega (arith, h.6, moved), omega (arith, h.7, moved))
+          let moved = after h.0 in
+          (ts ++ h.0, h.1, h.2, h.3, stands_after ts h.4, h.5, omega (arith, h.6, moved), omega (arith, h.7, moved))
 
   -- those of the first tree, and those of the others
   pub nodes_from_first : (from : ℕ) (t : Tree) (ts : List Tree) (n : Node) → IsNodeFrom g from (t ∷ ts) n ↔ (IsNodeFrom g from (t ∷ []) n ⊎ IsNodeFrom g (from + length (yield t)) ts n)

@@ -28,7 +28,7 @@ parts-skipped skips o x xs e = rw e refl
 parts-kept : (skips : List Bool) (o : ℕ) (x : Token) (xs : List Token) → is_skipped skips x.kind ≡ false → parts_from skips o (x ∷ xs) ≡ part_at o x ∷ parts_from skips (o + x.length) xs
 parts-kept skips o x xs e = rw e refl
 
--- how many significant ones there are with one more in front
+-- how many significant ones there are with one more at the start
 count-skipped : (x : Token) (xs : List Token) → x.skipped ≡ true → count_by is_significant (x ∷ xs) ≡ count_by is_significant xs
 count-skipped x xs e = count-cons x xs ∙ ap (λ b. (if b then 0 else 1) + count_by is_significant xs) e ∙ omega arith
 
@@ -81,10 +81,10 @@ part_is skips xs p k x marked is before at =
     part_from skips 0 xs p k x marked is before (ap (λ n. count_by is_significant (take n xs)) (sym next) ∙ at ∙ omega arith) ∙ ap (λ n. Some (part_at n x)) start
 
 -- its offsets and its kind
-pub part_told : (skips : List Bool) (xs : List Token) (p k start : ℕ) (x : Token) → All (IsMarked skips) xs → slice_get xs p ≡ Some x
+pub part_shown : (skips : List Bool) (xs : List Token) (p k start : ℕ) (x : Token) → All (IsMarked skips) xs → slice_get xs p ≡ Some x
     → count_by is_significant (take p xs) ≡ k → count_by is_significant (take (p + 1) xs) ≡ k + 1 → start ≡ characters (take p xs)
     → IsSomeAnd (slice_get (parts_from skips 0 xs) k) (λ y. (start ≡ y.start) × (start + x.length ≡ end_of y) × (x.kind ≡ y.token.kind))
-part_told skips xs p k start x marked is before at begins =
+part_shown skips xs p k start x marked is before at begins =
     subst (λ o. IsSomeAnd o (λ y. (start ≡ y.start) × (start + x.length ≡ end_of y) × (x.kind ≡ y.token.kind))) (sym (part_is skips xs p k x marked is before at)) (begins, ap (λ n. n + x.length) begins, refl)
 
 -- the kinds of the significant ones

@@ -1,4 +1,4 @@
--- The text of a tree, written front to back.
+-- The text of a tree, written from start to end.
 use Rattle.std.specs.Prelude.{◌≡◌, ℕ, ◌<◌, List, [], ◌∷◌, ◌++◌, length, map, flat_map, codes, All, slice_index, slice_index_or}
 use Rattle.std.specs.Str.{chars, IsUtf8}
 use Rattle.std.proofs.Common.{arith, refl, sym, ap, subst, ◌∙◌, append_assoc, length-append}
@@ -29,7 +29,7 @@ texts-forest : (f : FileGrammar) (ts : List Stamped) (cs : List Child) → tree_
 texts-forest f ts [] = refl
 texts-forest f ts (c ∷ cs) = ap (λ r. text_of f (plain (tree_of ts c)) ∷ r) (texts-forest f ts cs)
 
--- the text of a node is its front and what is left before its children
+-- the text of a node is its beginning and what is left before its children
 pub text-node : (f : FileGrammar) (cells : List Cell) (s : Stamped) (p born : ℕ) (cs : List Child) → s ≡ StampedBranch p born (forest_of (trees_from [] cells) cs) → text_of f (plain s) ≡ codes "(" ++ name f p ++ rest_text f cells cs
 text-node f cells s p born cs e =
     let ts = trees_from [] cells in
@@ -54,11 +54,11 @@ pending-push f cells [] s = sym (append-nil (rest_text f cells s))
 pending-push f cells (r ∷ stack) s =
     ap (λ x. x ++ rest_text f cells r) (pending-push f cells stack s) ∙ append_assoc (rest_text f cells s) (pending f cells stack) (rest_text f cells r)
 
--- the production of a node, told twice
+-- the production of a node, written twice
 same_production : (s : Stamped) (p q b d : ℕ) (us vs : StampedForest) → s ≡ StampedBranch p b us → s ≡ StampedBranch q d vs → q ≡ p
 same_production s p q b d us vs e h = cc
 
--- a parenthesis and the name are the front of a node's text
+-- a parenthesis and the name are the beginning of a node's text
 pub begun : (f : FileGrammar) (cells : List Cell) (id : NodeId) (old middle new n : List ℕ) (p : ℕ) (cs : List Child)
     → (born : ℕ) × (below : StampedForest) × (tree cells (Node id) ≡ StampedBranch p born below)
     → (q born : ℕ) × (tree cells (Node id) ≡ StampedBranch q born (forest_of (trees_from [] cells) cs))
@@ -68,7 +68,7 @@ unfolding chars
 begun f cells id old middle new n p cs made over u v e g named below =
     let same : over.0 ≡ p = same_production (tree cells (Node id)) p over.0 made.0 over.1 made.1 (forest_of (trees_from [] cells) cs) made.2 over.2 in
     record {
-      front = codes "(" ++ name f p;
+      prefix = codes "(" ++ name f p;
       written = ap chars g ∙ chars-append middle n v ∙ ap (λ x. x ++ chars n) (ap chars e ∙ chars-append old (codes "(") u) ∙ append_assoc (chars old) (codes "(") (chars n) ∙ ap (λ x. chars old ++ (codes "(" ++ x)) named;
       rest = ap (λ k. codes "(" ++ name f k ++ rest_text f cells cs) (sym same) ∙ sym (text-node f cells (tree cells (Node id)) over.0 over.1 cs over.2);
       below = below;
@@ -88,7 +88,7 @@ below-push cells stack s h k = All-append (Below cells) stack (s ∷ []) h (All-
 pub writing_begun : (f : FileGrammar) (cells : List Cell) (id : NodeId) (old new : List ℕ) (s : List Child) → old ≡ [] → IsBegun f cells id old new s → IsWriting f cells (text_of f (plain (tree cells (Node id)))) new (s ∷ [])
 writing_begun f cells id old new s e b = record {
   below = below-push cells [] s (All-nil (Below cells)) b.below;
-  whole = ap (λ x. x ++ rest_text f cells s) (b.written ∙ ap (λ x. x ++ b.front) (ap chars e ∙ chars-nil)) ∙ b.rest;
+  whole = ap (λ x. x ++ rest_text f cells s) (b.written ∙ ap (λ x. x ++ b.prefix) (ap chars e ∙ chars-nil)) ∙ b.rest;
 }
 
 -- where no node is open, they are the text
@@ -169,8 +169,8 @@ module _ (f : FileGrammar) (cells : List Cell) (all bytes : List ℕ) (stack : L
         below = below-push cells (stack ++ r ∷ []) d rest_below b.below;
         whole = ap (λ x. chars new ++ x) (pending-push f cells (stack ++ r ∷ []) d)
             ∙ ap (λ x. x ++ (rest_text f cells d ++ pending f cells (stack ++ r ∷ []))) b.written
-            ∙ append_assoc (chars spaced) b.front (rest_text f cells d ++ pending f cells (stack ++ r ∷ []))
-            ∙ ap (λ x. chars spaced ++ x) (sym (append_assoc b.front (rest_text f cells d) (pending f cells (stack ++ r ∷ []))) ∙ ap (λ x. x ++ pending f cells (stack ++ r ∷ [])) (b.rest ∙ ap (child_text f cells) (sym is)))
+            ∙ append_assoc (chars spaced) b.prefix (rest_text f cells d ++ pending f cells (stack ++ r ∷ []))
+            ∙ ap (λ x. chars spaced ++ x) (sym (append_assoc b.prefix (rest_text f cells d) (pending f cells (stack ++ r ∷ []))) ∙ ap (λ x. x ++ pending f cells (stack ++ r ∷ [])) (b.rest ∙ ap (child_text f cells) (sym is)))
             ∙ spaced_left;
       }
 
@@ -179,4 +179,4 @@ module _ (f : FileGrammar) (cells : List Cell) (all bytes : List ℕ) (stack : L
           let long = ap length (pending-push f cells stack s ∙ next) in
           let one = ap length (pending-push f cells (stack ++ r ∷ []) d) in
           let node = ap length (b.rest ∙ ap (child_text f cells) (sym is)) in
-          omega (arith, long, one, node, length-append b.front (rest_text f cells d), length-append (rest_text f cells d) (pending f cells (stack ++ r ∷ [])), length-append (child_text f cells c) (pending f cells (stack ++ r ∷ [])))
+          omega (arith, long, one, node, length-append b.prefix (rest_text f cells d), length-append (rest_text f cells d) (pending f cells (stack ++ r ∷ [])), length-append (child_text f cells c) (pending f cells (stack ++ r ∷ [])))

@@ -1,4 +1,4 @@
--- The branches of trees around an offset, as the places of their tokens. The token places `reached` and `first` tell the
+-- The branches of trees around an offset, as the places of their tokens. The token places `reached` and `first` give the
 -- offset: a token starts at or before it where its place is below `reached`, and ends after it where its place is at least
 -- `first`.
 use Rattle.std.specs.Prelude.{ℕ, ◌+◌, ◌-◌, ◌^◌, ◌≡◌, true, ◌<◌, ◌≤◌, ◌↔◌, Bool, ◌&&◌, ◌==◌, nat_lt, if◌then◌else◌, List, [], ◌∷◌, ◌++◌}
@@ -12,7 +12,7 @@ use Rattle.trees.specs.declared.store.Child.TheVariants.{Token as Leaf_child, No
 use Rattle.trees.specs.Cells.{Cell, AreBelow, tree}
 use Rattle.views.specs.declared.selections.Branch.{Branch as Found}
 use Rattle.views.specs.declared.selections.Point.{Point}
-use Rattle.views.specs.Told.{trees_of_roots}
+use Rattle.views.specs.Contents.{trees_of_roots}
 
 abbrev pub starts_at : List Placed → ℕ → ℕ
 starts_at parts k = slice_index (map (λ x. x.start) parts) k
@@ -20,7 +20,7 @@ starts_at parts k = slice_index (map (λ x. x.start) parts) k
 abbrev pub ends_at : List Placed → ℕ → ℕ
 ends_at parts k = slice_index (map end_of parts) k
 
--- among these tokens the two places tell offset o
+-- among these tokens the two places give offset o
 pub record IsAround (parts : List Placed) (o reached first : ℕ) : Type 0 where
   pub near : reached ≤ first + 1
   pub starts : (k : ℕ) → k < length parts → (starts_at parts k ≤ o) ↔ (k < reached)

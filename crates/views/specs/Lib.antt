@@ -2,5 +2,5 @@ pub mod Around
 pub mod Diagnostics
 pub mod Folds
 pub mod NodesFrom
-pub mod Told
+pub mod Contents
 pub mod Views

@@ -17,11 +17,11 @@ use Rattle.trees.specs.declared.store.Child.TheVariants.{Node}
 use Rattle.trees.specs.Cells.{Cell, tree, AreBelow}
 use Rattle.views.specs.declared.rows.Row.{Row}
 
--- `row_of row`: what a row tells: its name as characters, and its range
+-- `row_of row`: what a row says: its name as characters, and its range
 abbrev pub row_of : Row → List ℕ × Range
 row_of r = (chars r.name.now, r.range)
 
--- `row_bytes row`: what a row tells: its name as bytes, and its range
+-- `row_bytes row`: what a row says: its name as bytes, and its range
 abbrev pub row_bytes : Row → List ℕ × Range
 row_bytes r = (r.name.now, r.range)
 
@@ -47,7 +47,7 @@ rest_text f cells children = flat_map (λ c. codes " " ++ text_of f (plain (tree
 
 -- to `old` was appended a node's text up to these children, its last ones
 pub record IsBegun (f : FileGrammar) (cells : List Cell) (id : NodeId) (old new : List ℕ) (children : List Child) : Type 0 where
-  pub front : List ℕ
-  pub written : chars new ≡ chars old ++ front
-  pub rest : front ++ rest_text f cells children ≡ text_of f (plain (tree cells (Node id)))
+  pub prefix : List ℕ
+  pub written : chars new ≡ chars old ++ prefix
+  pub rest : prefix ++ rest_text f cells children ≡ text_of f (plain (tree cells (Node id)))
   pub below : AreBelow (length cells) children

@@ -1,4 +1,4 @@
-//! What is told of the fault of a text.
+//! What is reported of the fault of a text.
 
 ghost use Rattle.std.specs.Prelude.{◌≡◌, ◌++◌, List, Option, IfOk, map, option_map, string_bytes};
 ghost use Rattle.std.specs.Str.{chars};
@@ -8,8 +8,8 @@ ghost use Rattle.lexer.specs.Rescans.{significant_kinds};
 ghost use Rattle.lexer.specs.Tokens.{AreTokensOf, plain};
 ghost use Rattle.parser.specs.Parses.{IsParseOf, verdict_in};
 ghost use Rattle.trees.specs.Cells.{Cell};
-ghost use Rattle.views.specs.Diagnostics.{in_utf8, told_bytes, told_of};
-ghost use Rattle.views.specs.Told.{IsDiagnosis};
+ghost use Rattle.views.specs.Diagnostics.{in_utf8, stored_diagnostic, shown};
+ghost use Rattle.views.specs.Contents.{IsDiagnosis};
 
 use crate::parts::span_of;
 use definitions::{Diagnostic, Range, Unit};
@@ -20,7 +20,7 @@ use std::alloc::{AllocError, Global};
 use tables::{Expected, Tables};
 use text::Text;
 
-/// What is told of the fault of a text: where it stands, and what could have stood there. `None` where the text has a
+/// What is reported of the fault of a text: where it stands, and what could have stood there. `None` where the text has a
 /// tree. Positions count this unit. The tables are those of the grammar, and the parse is that of the tokens of the text.
 ///
 /// Refuses for memory alone.
@@ -38,12 +38,12 @@ pub fn diagnostic(
         tokens.now.items }
     requires parse { (cells : List Cell)
         × IsParseOf tables.now (significant_kinds tokens.now.items) cells parse.now }
-    ensures told { IfOk result (λ told. (cells : List Cell)
+    ensures reported { IfOk result (λ reported. (cells : List Cell)
         → IsParseOf tables.now (significant_kinds tokens.now.items) cells parse.now
         → IsDiagnosis unit grammar.now text.now (map plain tokens.now.items)
-        (verdict_in cells parse.now.verdict) (option_map told_of told)) }
-    ensures bytes { IfOk result (λ told.
-        option_map told_bytes told ≡ option_map in_utf8 (option_map told_of told)) }
+        (verdict_in cells parse.now.verdict) (option_map shown reported)) }
+    ensures bytes { IfOk result (λ reported.
+        option_map stored_diagnostic reported ≡ option_map in_utf8 (option_map shown reported)) }
 {
     let expected = parse.expected(tables);
     match parse.verdict() {
@@ -73,26 +73,31 @@ fn message_of(
     found: Option<Kind>,
     looks: Expected<'_>,
 ) -> Result<String, AllocError>
-    ensures { IfOk result (λ told. chars (string_bytes told)
+    ensures { IfOk result (λ reported. chars (string_bytes reported)
         ≡ message grammar.now.names found (map (option_map Rule) looks.entry)) }
 {
-    let mut told = String::new(alloc);
-    told.push_str("unexpected ")?;
-    told.push_str(name_or_end(grammar, found))?;
-    told.push_str("; expected ")?;
-    write_looks(grammar, looks, &mut told)?;
-    Ok(told)
+    let mut reported = String::new(alloc);
+    reported.push_str("unexpected ")?;
+    reported.push_str(name_or_end(grammar, found))?;
+    reported.push_str("; expected ")?;
+    write_looks(grammar, looks, &mut reported)?;
+    Ok(reported)
 }
 
 /// Writes the names of token rules and of the end, with a comma and a space between each two.
-fn write_looks(grammar: &Grammar, looks: Expected<'_>, told: &mut String) -> Result<(), AllocError>
-    ensures { IfOk result (λ _. chars (string_bytes told.new) ≡ chars (string_bytes told.old)
+fn write_looks(
+    grammar: &Grammar,
+    looks: Expected<'_>,
+    reported: &mut String,
+) -> Result<(), AllocError>
+    ensures { IfOk result (λ _. chars (string_bytes reported.new)
+        ≡ chars (string_bytes reported.old)
         ++ listed (map (name_or_end grammar.now.names) (map (option_map Rule) looks.entry))) }
 {
     let mut separator = "";
     for look in looks {
-        told.push_str(separator)?;
-        told.push_str(name_or_end(grammar, look.map(Kind::Rule)))?;
+        reported.push_str(separator)?;
+        reported.push_str(name_or_end(grammar, look.map(Kind::Rule)))?;
         separator = ", ";
     }
     Ok(())

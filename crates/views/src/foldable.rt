@@ -8,7 +8,7 @@ ghost use Rattle.grammar.specs.Grammars.{left_of};
 ghost use Rattle.lexer.specs.Tokens.{plain, AreTokensOf};
 ghost use Rattle.trees.specs.Cells.{AreBelow};
 ghost use Rattle.views.specs.Folds.{lines_of, SpanLines, AreAscending, AreSpanned, with_own};
-ghost use Rattle.views.specs.Told.{AreFoldsOf, AreRootsOf, trees_of_roots};
+ghost use Rattle.views.specs.Contents.{AreFoldsOf, AreRootsOf, trees_of_roots};
 
 use definitions::Unit;
 use grammar::Grammar;
@@ -25,7 +25,7 @@ struct Siblings<'a> {
 }
 
 /// The lines that can be folded: for each node of a `fold` symbol that has tokens the line where the first of them
-/// starts and the line where the last one ends, where this is a later one. Each pair is told once, in ascending order.
+/// starts and the line where the last one ends, where this is a later one. Each pair is listed once, in ascending order.
 /// Lines are counted from 0. Refuses for memory alone.
 pub fn folds(
     alloc: Global,
@@ -42,7 +42,7 @@ pub fn folds(
         (trees_of_roots store.now roots.now) pairs.items) }
 {
     let lines = lines_of(alloc, text, tokens)?;
-    let mut pairs = spanned(alloc, grammar, &lines, store, roots)?;
+    let mut pairs = foldable_lines(alloc, grammar, &lines, store, roots)?;
     pairs.sort_unstable();
     pairs.dedup();
     Ok(pairs)
@@ -69,7 +69,7 @@ fn lines_of(alloc: Global, text: &Text, tokens: &Tokens) -> Result<Vec<(u32, u32
 }
 
 /// The lines of the nodes that fold, in some order. Trees on one line are not gone into.
-fn spanned(
+fn foldable_lines(
     alloc: Global,
     grammar: &Grammar,
     lines: &[(u32, u32)],

@@ -9,12 +9,12 @@ ghost use Rattle.definitions.specs.DocumentNodes.{IsNodeOf};
 ghost use Rattle.definitions.specs.Tokens.{AreTokens, Placed, Token, kinds};
 ghost use Rattle.definitions.specs.Trees.{Grammar, HaveRoots, Tree, all_kinds};
 ghost use Rattle.grammar.specs.Grammars.{FileGrammar};
-ghost use Rattle.views.specs.Told.{IsSelectionOf};
+ghost use Rattle.views.specs.Contents.{IsSelectionOf};
 ghost use Rattle.views.specs.declared.rows.Row.{Row};
 ghost use Rattle.views.specs.Views.{row_bytes};
 
-/// Two rows are equal by `==` exactly where they tell the same name and the same range.
-pub fn equal_rows_tell_the_same()
+/// Two rows are equal by `==` exactly where they have the same name and the same range.
+pub fn equal_rows_are_the_same()
     ensures { (a b : Row) →
         IsTrue (⟦<crate::Row<'static> as PartialEq>⟧.eq a b) ↔ (row_bytes a ≡ row_bytes b) }
 {}

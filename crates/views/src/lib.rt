@@ -36,7 +36,7 @@ mod tree;
 pub use definitions::{Diagnostic, Position, Range};
 pub use diagnoses::diagnostic;
 pub use foldable::folds;
-pub use laws::{each_offset_has_a_selection, equal_rows_tell_the_same, trees_have_folds};
+pub use laws::{each_offset_has_a_selection, equal_rows_are_the_same, trees_have_folds};
 pub use rows::{Row, token_rows};
 pub use selections::selection;
 pub use tree::tree_text;

@@ -11,7 +11,7 @@ ghost use Rattle.lexer.specs.Tokens.{plain, is_significant, AreTokensOf};
 ghost use Rattle.trees.specs.Cells.{AreBelow};
 ghost use Rattle.views.specs.Around.{IsAround, IsBranchAround, IsSpanOf, inside, is_same, spans_all};
 ghost use Rattle.views.specs.Around as of;
-ghost use Rattle.views.specs.Told.{AreRootsOf, IsSelectionOf, trees_of_roots};
+ghost use Rattle.views.specs.Contents.{AreRootsOf, IsSelectionOf, trees_of_roots};
 
 use crate::parts::span_of;
 use definitions::{Range, Unit};
@@ -20,7 +20,7 @@ use std::alloc::{AllocError, Global};
 use text::Text;
 use trees::{Child, Children, NodeId, Store};
 
-/// How many ranges are told at most.
+/// How many ranges are returned at most.
 const MOST_RANGES: usize = 32;
 
 /// An offset, as two places among the significant tokens.
@@ -32,7 +32,7 @@ struct Point {
     first: usize,
 }
 
-/// A branch, and the places of its first significant token and of the one behind its last.
+/// A branch, and the places of its first significant token and of the one after its last.
 #[derive(Clone, Copy)]
 struct Branch {
     id: NodeId,
@@ -63,7 +63,7 @@ pub fn selection(
 {
     let whole = (0, text.len());
     let spans = spans_around(alloc, store, roots, point_of(tokens, offset))?;
-    let offsets = offsets_told(alloc, tokens, whole, &spans)?;
+    let offsets = selection_offsets(alloc, tokens, whole, &spans)?;
     ranges_of(alloc, unit, text, &offsets)
 }
 
@@ -139,7 +139,7 @@ fn branch_at(child: Child, from: usize, to: usize) -> Option<Branch>
 }
 
 /// The offsets of the whole text, and of these spans if they are others: at most 32, the first and the last 31.
-fn offsets_told(
+fn selection_offsets(
     alloc: Global,
     tokens: &Tokens,
     whole: (usize, usize),

@@ -45,7 +45,7 @@ pub fn tree_text(
     Ok(text)
 }
 
-/// Writes a node's text up to its children, and answers these.
+/// Writes a node's text up to its children, and returns these.
 fn begin<'a>(
     grammar: &Grammar,
     store: &'a Store,

@@ -28,7 +28,7 @@ Item = STR
 Item = W
 "#;
 
-/// Choices with and without an `else`. An `else` behind two choices may belong to either.
+/// Choices with and without an `else`. An `else` after two choices may belong to either.
 pub const CHOICES: &str = r#"lrgrammar 1
 token IF = "if"
 token ELSE = "else"

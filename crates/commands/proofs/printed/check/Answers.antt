@@ -22,8 +22,8 @@ one_more before after name names e =
 pub loop-name-preserved : goal.loop-name-preserved
 loop-name-preserved c =
     let h = c.loop-name.invariant in
-    let told = one_more (string_bytes c.loop-name.out) (string_bytes c.write_note.new.out) (chars c.in-Some.name.now) c.next.new.self c.in_ok-write_note.ensures in
-    (h.0, h.1, told ∙ (ap (λ names. string_bytes c.loop-name.out ++ report names) (sym c.in-Some.ensures.steps) ∙ h.2))
+    let shown = one_more (string_bytes c.loop-name.out) (string_bytes c.write_note.new.out) (chars c.in-Some.name.now) c.next.new.self c.in_ok-write_note.ensures in
+    (h.0, h.1, shown ∙ (ap (λ names. string_bytes c.loop-name.out ++ report names) (sym c.in-Some.ensures.steps) ∙ h.2))
 
 pub returns : goal.returns
 returns c =

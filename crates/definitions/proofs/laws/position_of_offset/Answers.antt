@@ -1,4 +1,4 @@
-use Rattle.definitions.proofs.PlaceBack.{position-of_offset}
+use Rattle.definitions.proofs.PositionOfOffset.{position-of_offset}
 use Rattle.definitions.proofs.laws.position_of_offset.Goals as goal
 
 pub returns : goal.returns

@@ -2,7 +2,7 @@ use Rattle.std.proofs.Common.{rules, ◌≡◌, ◌+◌, ◌++◌, drop, slice_i
 use Rattle.std.proofs.lemmas.List.{at_drop_more}
 use Rattle.definitions.specs.declared.expression.Interval.{Interval}
 use Rattle.dfa.specs.Alphabet.{cut, class_cuts}
-use Rattle.dfa.proofs.Joined.{one_more}
+use Rattle.dfa.proofs.JoinedLists.{one_more}
 use Rattle.dfa.proofs.alphabet.class_cuts.Goals as goal
 
 pub loop-i-preserved : goal.loop-i-preserved

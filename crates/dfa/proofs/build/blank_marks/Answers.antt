@@ -3,7 +3,7 @@ use Rattle.std.proofs.lemmas.List.{at_drop_more}
 use Rattle.definitions.specs.Spelling.{IsWellMade}
 use Rattle.dfa.specs.Marks.{all_positions, unmarked}
 use Rattle.dfa.specs.Positions.{positions}
-use Rattle.dfa.proofs.Joined.{one_more, unmarked-add, all_made}
+use Rattle.dfa.proofs.JoinedLists.{one_more, unmarked-add, all_made}
 use Rattle.dfa.proofs.build.blank_marks.Goals as goal
 
 pub loop-pattern-preserved : goal.loop-pattern-preserved

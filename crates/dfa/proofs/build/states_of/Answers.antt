@@ -1,7 +1,7 @@
 use Rattle.std.proofs.Common.{length, ap, ◌∙◌, refl, arith}
 use Rattle.dfa.specs.Marks.{all_positions}
 use Rattle.dfa.specs.Built.{members}
-use Rattle.dfa.proofs.Filled.{length-unmarked, parts_are, rows_none}
+use Rattle.dfa.proofs.AddedRow.{length-unmarked, parts_are, rows_none}
 use Rattle.dfa.proofs.build.states_of.Goals as goal
 
 pub part_holders-requires : goal.part_holders-requires

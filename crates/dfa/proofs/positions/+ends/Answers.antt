@@ -1,6 +1,6 @@
 use Rattle.std.proofs.Common.{◌≡◌, ◌+◌, ◌-◌, ◌<◌, ℕ, length, sym, ap, ◌∙◌, arith, false, slice_index_or}
 use Rattle.std.proofs.lemmas.Bool.Decides.{nat_tests}
-use Rattle.dfa.proofs.Joined.{literal_end-is}
+use Rattle.dfa.proofs.JoinedLists.{literal_end-is}
 use Rattle.dfa.proofs.positions.+ends.Goals as goal
 
 pub returns-else-is_empty-clause-value : goal.returns-else-is_empty-clause-value

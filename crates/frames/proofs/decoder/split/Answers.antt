@@ -6,8 +6,8 @@ use Rattle.frames.specs.Contents.{contents}
 use Rattle.frames.proofs.Splits.{one_more, IsSplitTo, ends, begun, faulty, begins}
 use Rattle.std.specs.Prelude.{Some, None}
 use Rattle.frames.specs.Kept.{Awaits}
-use Rattle.frames.proofs.Keeps.{kept_anew, awaits_none}
-use Rattle.frames.proofs.Stable.{awaits_frame}
+use Rattle.frames.proofs.KeptBytes.{kept_anew, awaits_none}
+use Rattle.frames.proofs.PrefixDecides.{awaits_frame}
 use Rattle.frames.proofs.decoder.split.Goals as goal
 
 pub loop-size-preserved : goal.loop-size-preserved
@@ -59,7 +59,7 @@ returns-in-NeedsMore-clause-kept c =
 
 pub loop-size-init : goal.loop-size-init
 loop-size-init c =
-    let none : IsSplitTo c.args.bytes.now [] 0 = record { within = omega arith; front = λ contents tail h. h } in
+    let none : IsSplitTo c.args.bytes.now [] 0 = record { within = omega arith; prefix = λ contents tail h. h } in
     subst (λ (frames : List Frame). IsSplitTo c.args.bytes.now (contents frames) 0) (sym c.new-frames.ensures.items) none
 
 pub bytes_from-rest-requires : goal.bytes_from-rest-requires

@@ -3,7 +3,7 @@ use Rattle.std.proofs.lemmas.List.{take-append-le, take_all}
 use Rattle.frames.specs.Contents.{contents}
 use Rattle.frames.specs.Frames.{Splits, tail_of}
 use Rattle.frames.specs.Kept.{Awaits, HoldsNone, IsDecoder}
-use Rattle.frames.proofs.Keeps.{awaits_more, holds_more}
+use Rattle.frames.proofs.KeptBytes.{awaits_more, holds_more}
 use Rattle.frames.proofs.decoder.take_frames.Goals as goal
 
 pub found_in-requires-clause-waits : goal.found_in-requires-clause-waits
@@ -20,14 +20,14 @@ pub returns-in-Ok-clause-split : goal.returns-in-Ok-clause-split
 returns-in-Ok-clause-split c =
     let found = c.in-Ok.found in
     let whole : c.deref.result.now ≡ c.args.rest.now.items ++ c.args.piece.now = c.deref.ensures.value ∙ c.in_ok-extend_from_slice.ensures.items in
-    let rest : drop found.used c.deref.result.now ≡ c.let_go.new.bytes.items = ap (drop found.used) c.deref.ensures.value ∙ sym c.let_go.ensures in
+    let rest : drop found.used c.deref.result.now ≡ c.discard.new.bytes.items = ap (drop found.used) c.deref.ensures.value ∙ sym c.discard.ensures in
     let bytes = subst (λ (l : List ℕ). Splits l (contents found.frames.items) (tail_of (drop found.used c.deref.result.now) found.fault)) whole c.in-Ok.ensures.split in
     subst (λ (l : List ℕ). Splits (c.args.rest.now.items ++ c.args.piece.now) (contents found.frames.items) (tail_of l found.fault)) rest bytes
 
 pub returns-in-Ok-clause-kept : goal.returns-in-Ok-clause-kept
 returns-in-Ok-clause-kept c =
     let found = c.in-Ok.found in
-    let rest : drop found.used c.deref.result.now ≡ c.let_go.new.bytes.items = ap (drop found.used) c.deref.ensures.value ∙ sym c.let_go.ensures in
+    let rest : drop found.used c.deref.result.now ≡ c.discard.new.bytes.items = ap (drop found.used) c.deref.ensures.value ∙ sym c.discard.ensures in
     subst (λ (l : List ℕ). IsDecoder l found.awaited found.searched found.fault) rest c.in-Ok.ensures.kept
 
 pub returns-in-Err-clause-refused : goal.returns-in-Err-clause-refused

@@ -6,5 +6,5 @@ use Rattle.frames.proofs.header.start_of.Goals as goal
 pub returns-in-Ok-clause-within : goal.returns-in-Ok-clause-within
 returns-in-Ok-clause-within c =
     let bytes = c.args.bytes.now in
-    let len : length c.front_of-front.result.now ≡ min 4096 (length bytes) = ap length c.front_of-front.ensures ∙ length-take 4096 bytes in
+    let len : length c.longest_header_of-prefix.result.now ≡ min 4096 (length bytes) = ap length c.longest_header_of-prefix.ensures ∙ length-take 4096 bytes in
     (c.in-Some.ensures.low, omega (arith, len, c.in-Some.ensures.high), omega (arith, len, c.in-Some.ensures.high), c.in-Ok.ensures.bound)

@@ -1,4 +1,4 @@
-use Rattle.frames.proofs.Pieces.{one_split, some_split}
+use Rattle.frames.proofs.LongerStreams.{one_split, some_split}
 use Rattle.frames.proofs.laws.one_split.Goals as goal
 
 pub returns-clause-some : goal.returns-clause-some

@@ -1,6 +1,6 @@
 use Rattle.std.proofs.Common.{◌∙◌, sym, subst, [], ◌∷◌, ◌++◌}
 use Rattle.grammar.specs.Notes.{AreNotes}
-use Rattle.grammar.proofs.Noting.{told_last, skipped_last, used_last}
+use Rattle.grammar.proofs.NotesOfUses.{shown_last, skipped_last, used_last}
 use Rattle.grammar.proofs.Numbered.{true_not_false}
 use Rattle.grammar.proofs.notes.add.Goals as goal
 use Rattle.grammar.proofs.notes.add.Goals.{then-is_skip-via-then-is_skip, then-is_skip-via-else-is_skip+then-is_used}
@@ -15,4 +15,4 @@ returns-then-is_skip c = λ f ss skips same all notes.
 pub returns : goal.returns
 returns c = λ f ss skips same all notes.
     subst (λ ns. AreNotes f (ss ++ c.args.symbol ∷ []) ns) (sym c.in_ok-push.ensures.items)
-    (told_last f ss c.args.notes.now.items c.args.symbol notes (sym (c.is_skip.ensures f skips) ∙ c.if-is_skip.false) (λ u. true_not_false (sym ((c.is_used.ensures f.grammar same all).1 u) ∙ c.if-is_used.false)))
+    (shown_last f ss c.args.notes.now.items c.args.symbol notes (sym (c.is_skip.ensures f skips) ∙ c.if-is_skip.false) (λ u. true_not_false (sym ((c.is_used.ensures f.grammar same all).1 u) ∙ c.if-is_used.false)))

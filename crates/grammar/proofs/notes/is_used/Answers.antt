@@ -1,6 +1,6 @@
 use Rattle.std.proofs.Common.{◌∙◌, sym, subst}
 use Rattle.definitions.specs.Sentences.{IsUsed}
-use Rattle.grammar.proofs.Noting.{rule_used}
+use Rattle.grammar.proofs.NotesOfUses.{rule_used}
 use Rattle.grammar.proofs.notes.is_used.Goals as goal
 
 pub returns-in-Rule : goal.returns-in-Rule

@@ -1,11 +1,11 @@
 use Rattle.std.proofs.Common.{◌∙◌, ap, arith, take_all}
 use Rattle.std.specs.Prelude.{map}
 use Rattle.grammar.specs.Contents.{is_fold}
-use Rattle.grammar_file.specs.Said.{texts, all_said}
+use Rattle.grammar_file.specs.Kept.{texts, lines_view}
 use Rattle.grammar.proofs.numbers.folds.Goals as goal
 
 pub returns : goal.returns
 returns c =
     c.loop-name.invariant
-    ∙ ap (λ ws. map (λ w. is_fold w (all_said c.args.statements.now)) (texts ws)) (take_all c.loop-name.name-index c.as_slice-all.result.now (omega (arith, c.loop-name-test.false)))
-    ∙ ap (map (λ w. is_fold w (all_said c.args.statements.now))) c.as_slice-all.ensures
+    ∙ ap (λ ws. map (λ w. is_fold w (lines_view c.args.statements.now)) (texts ws)) (take_all c.loop-name.name-index c.as_slice-all.result.now (omega (arith, c.loop-name-test.false)))
+    ∙ ap (map (λ w. is_fold w (lines_view c.args.statements.now))) c.as_slice-all.ensures

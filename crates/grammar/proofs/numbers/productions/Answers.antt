@@ -3,7 +3,7 @@ use Rattle.std.specs.Prelude.{map}
 use Rattle.std.specs.List.{cons_option}
 use Rattle.grammar_file.specs.Contents.{productions}
 use Rattle.grammar.specs.Contents.{production_of}
-use Rattle.grammar_file.specs.Said.{all_said}
+use Rattle.grammar_file.specs.Kept.{lines_view}
 use Rattle.grammar_file.proofs.Splits.{productions_more}
 use Rattle.grammar.proofs.numbers.productions.Goals as goal
 
@@ -11,5 +11,5 @@ pub loop-statement-preserved : goal.loop-statement-preserved
 loop-statement-preserved c =
     c.in_ok-push.ensures
     ∙ ap (λ xs. xs ++ cons_option c.in_ok-production.production []) c.loop-statement.invariant
-    ∙ ap (λ o. map (production_of c.args.names.now.nonterminals (map (λ r. r.name) c.args.names.now.rules)) (productions (all_said (take c.loop-statement.statement-index c.args.statements.now))) ++ cons_option o []) c.in_ok-production.ensures
+    ∙ ap (λ o. map (production_of c.args.names.now.nonterminals (map (λ r. r.name) c.args.names.now.rules)) (productions (lines_view (take c.loop-statement.statement-index c.args.statements.now))) ++ cons_option o []) c.in_ok-production.ensures
     ∙ sym (productions_more (production_of c.args.names.now.nonterminals (map (λ r. r.name) c.args.names.now.rules)) c.args.statements.now c.loop-statement.statement-index c.statement-item.result c.loop-statement-test.true c.statement-item.is)

@@ -2,8 +2,8 @@ use Rattle.std.proofs.Common.{◌≡◌, take}
 use Rattle.std.specs.Prelude.{map}
 use Rattle.grammar_file.specs.Contents.{productions}
 use Rattle.grammar.specs.Contents.{production_of}
-use Rattle.grammar_file.specs.Said.{all_said}
+use Rattle.grammar_file.specs.Kept.{lines_view}
 use Rattle.grammar.proofs.numbers.productions.Given as goal
 
 abbrev pub invariant-loop-statement : goal.invariant-loop-statement
-invariant-loop-statement l = l.found.items ≡ map (production_of l.names.nonterminals (map (λ r. r.name) l.names.rules)) (productions (all_said (take l.statement-index l.statements)))
+invariant-loop-statement l = l.found.items ≡ map (production_of l.names.nonterminals (map (λ r. r.name) l.names.rules)) (productions (lines_view (take l.statement-index l.statements)))

@@ -1,5 +1,5 @@
 use Rattle.std.proofs.Common.{sym}
-use Rattle.grammar.proofs.Marking.{closed_more}
+use Rattle.grammar.proofs.NonterminalMarks.{closed_more}
 use Rattle.grammar.proofs.productive.next.Goals as goal
 
 pub loop-production-preserved : goal.loop-production-preserved

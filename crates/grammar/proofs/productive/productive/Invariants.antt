@@ -1,6 +1,6 @@
 use Rattle.std.proofs.Common.{◌≡◌, length}
 use Rattle.grammar.specs.Marks.{AreSound}
-use Rattle.grammar.proofs.Marking.{unmarked}
+use Rattle.grammar.proofs.NonterminalMarks.{unmarked}
 use Rattle.grammar.proofs.productive.productive.Given as goal
 
 abbrev pub invariant-loop-nonterminal : goal.invariant-loop-nonterminal

@@ -1,18 +1,18 @@
 use Rattle.std.proofs.lemmas.Result.{err_from_is_err_and}
 use Rattle.std.proofs.Common.{◌∙◌}
-use Rattle.grammar_file.specs.Said.{all_said}
-use Rattle.grammar.proofs.Meant.{productions_are, below, productive, unproductive_is}
+use Rattle.grammar_file.specs.Kept.{lines_view}
+use Rattle.grammar.proofs.FaultlessFile.{productions_are, below, productive, unproductive_is}
 use Rattle.grammar.proofs.read.productions_of.Goals as goal
 
 pub test_productive-requires-clause-below : goal.test_productive-requires-clause-below
 test_productive-requires-clause-below c =
-    let ss = all_said c.args.statements.now in
+    let ss = lines_view c.args.statements.now in
     let are = c.deref.ensures.value ∙ productions_are c.args.names.now ss c.in_ok-productions.productions.items c.requires c.in_ok-productions.ensures in
     below ss c.as_slice.result.now c.deref.result.now (c.as_slice.ensures ∙ c.requires.nonterminals) are
 
 pub returns-in_err-test_productive-clause-fault : goal.returns-in_err-test_productive-clause-fault
 returns-in_err-test_productive-clause-fault c =
-    let ss = all_said c.args.statements.now in
+    let ss = lines_view c.args.statements.now in
     let are = c.deref.ensures.value ∙ productions_are c.args.names.now ss c.in_ok-productions.productions.items c.requires c.in_ok-productions.ensures in
     let h = unproductive_is ss c.as_slice.result.now c.deref.result.now (c.as_slice.ensures ∙ c.requires.nonterminals) are c.in_err-test_productive.field-0.0 c.in_err-test_productive.ensures.fault in
     let p = err_from_is_err_and c.from_residual-in_err-test_productive.result c.from_residual-in_err-test_productive.ensures.1 in
@@ -20,6 +20,6 @@ returns-in_err-test_productive-clause-fault c =
 
 pub returns-clause-productive : goal.returns-clause-productive
 returns-clause-productive c =
-    let ss = all_said c.args.statements.now in
+    let ss = lines_view c.args.statements.now in
     let are = c.deref.ensures.value ∙ productions_are c.args.names.now ss c.in_ok-productions.productions.items c.requires c.in_ok-productions.ensures in
     productive ss c.as_slice.result.now c.deref.result.now (c.as_slice.ensures ∙ c.requires.nonterminals) are c.in_ok-test_productive.ensures.fine

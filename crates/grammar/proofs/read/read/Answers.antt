@@ -1,9 +1,9 @@
 use Rattle.std.proofs.Common.{rules}
-use Rattle.grammar.proofs.Meant.{told_of_file, is_sound, is_meant, is_fault}
+use Rattle.grammar.proofs.FaultlessFile.{shown_of_file, is_sound, is_meant, is_fault}
 use Rattle.grammar.proofs.read.read.Goals as goal
 
 pub returns-in_err-statements-clause-fault : goal.returns-in_err-statements-clause-fault
-returns-in_err-statements-clause-fault c = let h = told_of_file c.args.text.now c.in_err-statements.field-0.0 c.in_err-statements.ensures.fault in search rules
+returns-in_err-statements-clause-fault c = let h = shown_of_file c.args.text.now c.in_err-statements.field-0.0 c.in_err-statements.ensures.fault in search rules
 
 pub grammar_of-requires-clause-grammar : goal.grammar_of-requires-clause-grammar
 grammar_of-requires-clause-grammar c =

@@ -1,7 +1,7 @@
 use Rattle.std.proofs.Common.{◌≡◌, take}
 use Rattle.std.specs.Prelude.{map}
 use Rattle.std.specs.Str.{chars}
-use Rattle.grammar_file.specs.Said.{rule_line}
+use Rattle.grammar_file.specs.Kept.{rule_line}
 use Rattle.grammar.proofs.read.rule_names.Given as goal
 
 abbrev pub invariant-loop-rule : goal.invariant-loop-rule

@@ -1,6 +1,6 @@
 use Rattle.std.proofs.Common.{◌≡◌, take}
 use Rattle.std.specs.Prelude.{map}
-use Rattle.grammar_file.specs.Said.{rule_line}
+use Rattle.grammar_file.specs.Kept.{rule_line}
 use Rattle.grammar.proofs.read.skips.Given as goal
 
 abbrev pub invariant-loop-rule : goal.invariant-loop-rule

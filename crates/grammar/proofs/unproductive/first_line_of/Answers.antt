@@ -1,5 +1,5 @@
 use Rattle.std.proofs.Common.{refl, sym, take, drop, ◌+◌}
-use Rattle.grammar_file.specs.Said.{all_said, statement_of}
+use Rattle.grammar_file.specs.Kept.{lines_view, statement_of}
 use Rattle.grammar_file.proofs.Splits.{said_split}
 use Rattle.grammar.proofs.unproductive.first_line_of.Goals as goal
 
@@ -7,8 +7,8 @@ pub returns-then-is_production_of : goal.returns-then-is_production_of
 returns-then-is_production_of c =
     let i = c.loop-statement.statement-index in
     let ns = c.args.statements.now in (
-      all_said (take i ns),
-      all_said (drop (i + 1) ns),
+      lines_view (take i ns),
+      lines_view (drop (i + 1) ns),
       (
         statement_of c.statement-item.result,
         said_split ns i c.statement-item.result c.loop-statement-test.true c.statement-item.is,

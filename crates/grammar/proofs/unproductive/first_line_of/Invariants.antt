@@ -1,8 +1,8 @@
 use Rattle.std.proofs.Common.{◌≡◌, false, take}
 use Rattle.std.specs.List.{list_any}
 use Rattle.grammar.specs.Faults.{is_production_of}
-use Rattle.grammar_file.specs.Said.{all_said}
+use Rattle.grammar_file.specs.Kept.{lines_view}
 use Rattle.grammar.proofs.unproductive.first_line_of.Given as goal
 
 abbrev pub invariant-loop-statement : goal.invariant-loop-statement
-invariant-loop-statement l = list_any (λ s. is_production_of l.name s.says) (all_said (take l.statement-index l.statements)) ≡ false
+invariant-loop-statement l = list_any (λ s. is_production_of l.name s.says) (lines_view (take l.statement-index l.statements)) ≡ false

@@ -1,15 +1,15 @@
 use Rattle.std.proofs.Common.{◌<◌, Bool, List, length, refl, subst, arith}
 use Rattle.grammar.specs.Marks.{IsFirstUnmarked}
-use Rattle.grammar_file.specs.Said.{all_said}
+use Rattle.grammar_file.specs.Kept.{lines_view}
 use Rattle.grammar.proofs.Lefts.{named_has_production, text_at}
-use Rattle.grammar.proofs.Marking.{first_unproductive}
+use Rattle.grammar.proofs.NonterminalMarks.{first_unproductive}
 use Rattle.grammar.proofs.unproductive.test_productive.Goals as goal
 
 pub first_line_of-requires : goal.first_line_of-requires
 first_line_of-requires c =
     let first = subst (λ (m : List Bool). IsFirstUnmarked m c.in-Some.nonterminal) c.deref.ensures.value c.in-Some.ensures in
     let within : c.in-Some.nonterminal < length c.args.names.now = omega (arith, first.within, c.in_ok-marks.ensures.len) in
-    named_has_production c.args.names.now (all_said c.args.statements.now) c.in-Some.nonterminal _ c.requires.names within
+    named_has_production c.args.names.now (lines_view c.args.statements.now) c.in-Some.nonterminal _ c.requires.names within
 
 pub returns-clause-fault : goal.returns-clause-fault
 returns-clause-fault c =

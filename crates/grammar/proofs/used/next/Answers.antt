@@ -1,6 +1,6 @@
 use Rattle.std.proofs.Common.{refl}
 use Rattle.std.proofs.lemmas.Option.{slice_get_read}
-use Rattle.grammar.proofs.Using.{spread_more}
+use Rattle.grammar.proofs.UsedMarks.{spread_more}
 use Rattle.grammar.proofs.used.next.Goals as goal
 
 pub returns-in-Some : goal.returns-in-Some

@@ -1,5 +1,5 @@
 use Rattle.std.proofs.Common.{refl, sym, take, drop, ◌+◌}
-use Rattle.grammar_file.specs.Said.{all_said, statement_of}
+use Rattle.grammar_file.specs.Kept.{lines_view, statement_of}
 use Rattle.grammar_file.proofs.Splits.{said_split, referents_more}
 use Rattle.grammar_file.proofs.references.test_references.Goals as goal
 
@@ -7,18 +7,18 @@ pub returns-in-Some-clause-fault : goal.returns-in-Some-clause-fault
 returns-in-Some-clause-fault c =
     let i = c.loop-statement.statement-index in
     let ns = c.args.statements.now in (
-      all_said (take i ns),
-      all_said (drop (i + 1) ns),
+      lines_view (take i ns),
+      lines_view (drop (i + 1) ns),
       (
         statement_of c.statement-item.result,
         said_split ns i c.statement-item.result c.loop-statement-test.true c.statement-item.is,
         refl,
         c.loop-statement.invariant,
-        sym (c.in-Some.ensures (all_said ns) c.requires),
+        sym (c.in-Some.ensures (lines_view ns) c.requires),
       ),
     )
 
 pub loop-statement-preserved : goal.loop-statement-preserved
 loop-statement-preserved c =
     let ns = c.args.statements.now in
-    referents_more (all_said ns) ns c.loop-statement.statement-index c.statement-item.result c.loop-statement-test.true c.statement-item.is c.loop-statement.invariant (sym (c.in_default.ensures (all_said ns) c.requires))
+    referents_more (lines_view ns) ns c.loop-statement.statement-index c.statement-item.result c.loop-statement-test.true c.statement-item.is c.loop-statement.invariant (sym (c.in_default.ensures (lines_view ns) c.requires))

@@ -1,7 +1,7 @@
 use Rattle.std.proofs.Common.{◌≡◌, ◌++◌, take}
 use Rattle.std.specs.Prelude.{filter}
 use Rattle.grammar_file.specs.Words.{is_filled}
-use Rattle.grammar_file.specs.Said.{texts}
+use Rattle.grammar_file.specs.Kept.{texts}
 use Rattle.grammar_file.proofs.words.add_words.Given as goal
 
 abbrev pub invariant-loop-word : goal.invariant-loop-word

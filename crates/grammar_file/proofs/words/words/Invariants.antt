@@ -3,7 +3,7 @@ use Rattle.std.specs.Prelude.{filter}
 use Rattle.std.specs.List.{flat_map, slice_split}
 use Rattle.std.specs.Prelude.{◌==◌}
 use Rattle.grammar_file.specs.Words.{is_filled}
-use Rattle.grammar_file.specs.Said.{texts}
+use Rattle.grammar_file.specs.Kept.{texts}
 use Rattle.grammar_file.proofs.words.words.Given as goal
 
 abbrev pub invariant-loop-part : goal.invariant-loop-part

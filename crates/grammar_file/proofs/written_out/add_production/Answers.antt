@@ -1,7 +1,7 @@
 use Rattle.std.proofs.Common.{sym, subst}
 use Rattle.std.proofs.lemmas.Result.{on_ok_weaker}
 use Rattle.grammar_file.specs.Statements.{Production}
-use Rattle.grammar_file.specs.Said.{all_said, texts, AreNames}
+use Rattle.grammar_file.specs.Kept.{lines_view, texts, AreNames}
 use Rattle.grammar_file.proofs.Lines.{names-step}
 use Rattle.grammar_file.proofs.written_out.add_production.Goals as goal
 
@@ -10,5 +10,5 @@ returns-clause-names c =
     on_ok_weaker c.add_line.result
     (λ same.
     subst (AreNames c.note.new.self) (sym same)
-    (names-step c.args.names.now c.note.new.self (all_said c.args.statements.now.items) 0 (Production c.args.left.now (texts c.in_ok-to_vec.field-0.items)) c.requires.names c.in_ok-note.ensures.rules c.in_ok-note.ensures.skips c.in_ok-note.ensures.nonterminals c.in_ok-note.ensures.marked c.in_ok-note.ensures.sides c.in_ok-note.ensures.productions c.in_ok-note.ensures.started))
+    (names-step c.args.names.now c.note.new.self (lines_view c.args.statements.now.items) 0 (Production c.args.left.now (texts c.in_ok-to_vec.field-0.items)) c.requires.names c.in_ok-note.ensures.rules c.in_ok-note.ensures.skips c.in_ok-note.ensures.nonterminals c.in_ok-note.ensures.marked c.in_ok-note.ensures.sides c.in_ok-note.ensures.productions c.in_ok-note.ensures.started))
     c.add_line.ensures

@@ -1,12 +1,12 @@
 use Rattle.std.proofs.Common.{◌≡◌, ◌+◌, ◌*◌, ◌≤◌, ◌++◌, take}
 use Rattle.std.specs.List.{flat_map}
 use Rattle.grammar_file.specs.WrittenOut.{added}
-use Rattle.grammar_file.specs.Said.{texts, all_said, AreNames}
+use Rattle.grammar_file.specs.Kept.{texts, lines_view, AreNames}
 use Rattle.grammar_file.proofs.written_out.write_out.Given as goal
 
 abbrev pub invariant-loop-word : goal.invariant-loop-word
 invariant-loop-word l = record {
-  statements : all_said l.statements.items ≡ all_said l.fn.statements.items ++ flat_map added (texts (take l.word-index l.word-items));
-  names : AreNames l.names (all_said l.statements.items);
+  statements : lines_view l.statements.items ≡ lines_view l.fn.statements.items ++ flat_map added (texts (take l.word-index l.word-items));
+  names : AreNames l.names (lines_view l.statements.items);
   few : l.names.productions ≤ 1024 + 2 * l.word-index;
 }

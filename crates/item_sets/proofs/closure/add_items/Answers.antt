@@ -2,7 +2,7 @@ use Rattle.std.proofs.Common.{◌≡◌, ◌∷◌, ◌++◌, [], true, false, S
 use Rattle.std.proofs.lemmas.Bool.{cases_eq}
 use Rattle.std.proofs.lemmas.List.Elements.{Contains-push, Contains-push_cases, Contains-append_left}
 use Rattle.grammar.specs.Grammars.{left_of}
-use Rattle.item_sets.specs.Wants.{marked, beginning_of}
+use Rattle.item_sets.specs.Worklist.{marked, beginning_of}
 use Rattle.item_sets.proofs.Ordered.{rising_more, all_before_more, all_before_same, all_before_next}
 use Rattle.item_sets.proofs.closure.add_items.Goals as goal
 use Rattle.item_sets.proofs.closure.add_items.Goals.{then-has+in_ok-push, else-has}
@@ -13,7 +13,7 @@ loop-column-preserved c =
     let i = c.loop-column.invariant in
     let at = c.loop-column.column in
     let p = c.args.p in
-    let rows = c.args.wanted.now.rows in
+    let rows = c.args.worklist.now.rows in
     let old = c.loop-column.items.items in
     let has : c.has.result ≡ marked rows (left_of g p) at = c.has.ensures ∙ ap (λ n. marked rows n at) c.left-left.ensures.left in
     elim c.if-has.branch [

@@ -4,30 +4,30 @@ use Rattle.std.proofs.lemmas.Result.{IfOk-weaker}
 use Rattle.item_sets.specs.declared.item.Item.{Item}
 use Rattle.item_sets.specs.Sets.{IsIn}
 use Rattle.item_sets.specs.States.{IsSetOf}
-use Rattle.item_sets.specs.Wants.{HaveBeginnings}
-use Rattle.item_sets.proofs.Known.{has_all, only_in, in_known}
+use Rattle.item_sets.specs.Worklist.{HaveBeginnings}
+use Rattle.item_sets.proofs.InRange.{has_all, only_in, in_known}
 use Rattle.item_sets.proofs.Valid.{set_of}
-use Rattle.item_sets.proofs.Wants.{no_wants}
+use Rattle.item_sets.proofs.WorklistGrows.{no_wants}
 use Rattle.item_sets.proofs.closure.close.Goals as goal
 
-pub want_all-requires-clause-wants : goal.want_all-requires-clause-wants
-want_all-requires-clause-wants c =
-    let e = c.in_ok-wanted.ensures in
-    no_wants c.args.grammar.now c.in_ok-wanted.wanted (e.rows ∙ c.nonterminals.ensures) (λ n l. e.wide n l ∙ c.lookaheads.ensures.count) e.empty e.blank
+pub insert_all-requires-clause-entries : goal.insert_all-requires-clause-entries
+insert_all-requires-clause-entries c =
+    let e = c.in_ok-worklist.ensures in
+    no_wants c.args.grammar.now c.in_ok-worklist.worklist (e.rows ∙ c.nonterminals.ensures) (λ n l. e.wide n l ∙ c.lookaheads.ensures.count) e.empty e.blank
 
 pub returns : goal.returns
 returns c =
     let g = c.args.grammar.now in
     let sound = c.lookaheads.ensures.sound in
-    let w = c.in_ok-want_all.ensures in
+    let w = c.in_ok-insert_all.ensures in
     let kernel = c.args.kernel.now in
     let items = c.requires.known in
-    let rows = c.want_all.new.self.rows in
+    let rows = c.insert_all.new.self.rows in
     IfOk-weaker c.items_of.result (λ v. HaveBeginnings g kernel rows v.items) (λ v. IsSetOf g kernel v.items)
     (λ v e.
-    let each : (i : Item) → Contains v.items i → IsIn g.grammar kernel i = λ i h. only_in g sound kernel items rows w.wanted i (e.only i h) in
+    let each : (i : Item) → Contains v.items i → IsIn g.grammar kernel i = λ i h. only_in g sound kernel items rows w.worklist i (e.only i h) in
     record {
       known = λ k d l. in_known g sound kernel items (each (slice_index_or v.items k d) (Contains-get_or v.items k d l));
       rising = e.rising;
-      set = λ prefix h. set_of g sound sound.productive kernel items prefix h v.items each (λ i x. has_all g sound kernel items rows (Contains v.items) w.asked w.closed e.kept e.added e.only x);
+      set = λ prefix h. set_of g sound sound.productive kernel items prefix h v.items each (λ i x. has_all g sound kernel items rows (Contains v.items) w.entered w.closed e.kept e.added e.only x);
     }) c.items_of.ensures

@@ -2,7 +2,7 @@ use Rattle.std.proofs.Common.{rules, ◌≡◌, ◌<◌, ◌+◌, true, All, len
 use Rattle.std.proofs.lemmas.Bool.{cases_eq}
 use Rattle.grammar.specs.Grammars.{left_of}
 use Rattle.item_sets.specs.Order.{IsBefore}
-use Rattle.item_sets.specs.Wants.{marked, beginning_of}
+use Rattle.item_sets.specs.Worklist.{marked, beginning_of}
 use Rattle.item_sets.proofs.closure.items_of.Goals as goal
 
 pub loop-index-preserved : goal.loop-index-preserved
@@ -11,7 +11,7 @@ loop-index-preserved c =
     let i = c.loop-index.invariant in
     let e = c.in_ok-add_items.ensures in
     let at = c.loop-index.index in
-    let rows = c.args.wanted.now.rows in
+    let rows = c.args.worklist.now.rows in
     let new = c.add_items.new.items.items in
     let p = c.new.result in
     let same : p ≡ at = c.new.ensures in

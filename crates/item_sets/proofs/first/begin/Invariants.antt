@@ -3,4 +3,4 @@ use Rattle.item_sets.specs.First.{begin_by}
 use Rattle.item_sets.proofs.first.begin.Given as goal
 
 abbrev pub invariant-loop-s : goal.invariant-loop-s
-invariant-loop-s l = begin_by l.a l.vanishing l.marks (drop l.s-index l.symbols) ≡ begin_by l.a l.vanishing l.marks l.symbols
+invariant-loop-s l = begin_by l.a l.nullable l.marks (drop l.s-index l.symbols) ≡ begin_by l.a l.nullable l.marks l.symbols

@@ -6,7 +6,7 @@ abbrev pub invariant-loop-more : goal.invariant-loop-more
 invariant-loop-more l = record {
   wide : length l.marks ≡ l.productions.nonterminals;
   held : AreTrue l.productions.grammar l.look l.marks;
-  closed : l.more ≡ false → AreClosed l.productions.grammar l.look l.vanishing l.marks;
+  closed : l.more ≡ false → AreClosed l.productions.grammar l.look l.nullable l.marks;
 }
 
 abbrev pub decreases-loop-more : goal.decreases-loop-more

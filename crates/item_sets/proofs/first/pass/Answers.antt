@@ -19,22 +19,22 @@ loop-index-preserved c =
           let e : w.mark.new.self ≡ slice_set c.loop-index.marks (left_of g p) true = w.mark.ensures ∙ ap (λ n. slice_set c.loop-index.marks n true) left in
           let n : left_of g p < length c.loop-index.marks = subst (λ k. left_of g p < k) (sym i.wide) (c.requires.sound.left p (left_of g p) (right_of g p) h) in
           let off : slice_index_or c.loop-index.marks (left_of g p) false ≡ false = cc (c.has.ensures, w.if-not-has.true, left) in
-          let on : holds_by c.args.look c.args.vanishing.now c.loop-index.marks (right_of g p) ≡ true = cc (w.holds.ensures, w.if-holds.true, w.right.ensures, c.new-p.ensures) in
+          let on : holds_by c.args.look c.args.nullable.now c.loop-index.marks (right_of g p) ≡ true = cc (w.holds.ensures, w.if-holds.true, w.right.ensures, c.new-p.ensures) in
           let less = unmarked_less c.loop-index.marks (left_of g p) n off in
           let most = i.at_most in
           rw (w.marks-is, w.changed-is, e) (record {
             wide = length-set c.loop-index.marks (left_of g p) true ∙ i.wide;
-            held = true_more g c.args.look c.args.vanishing.now c.loop-index.marks p (left_of g p) (right_of g p) c.requires.vanish i.held h on;
+            held = true_more g c.args.look c.args.nullable.now c.loop-index.marks p (left_of g p) (right_of g p) c.requires.are_nullable i.held h on;
             closed = λ f. absurd (cc f);
             at_most = omega (arith, less, most);
             fewer = λ _. omega (arith, less, most);
           })
       | then-not-has+else-holds w ↦
-          let off : holds_by c.args.look c.args.vanishing.now c.loop-index.marks (right_of g p) ≡ false = cc (w.holds.ensures, w.if-holds.false, w.right.ensures, c.new-p.ensures) in
+          let off : holds_by c.args.look c.args.nullable.now c.loop-index.marks (right_of g p) ≡ false = cc (w.holds.ensures, w.if-holds.false, w.right.ensures, c.new-p.ensures) in
           rw (w.marks-is, w.changed-is) (record {
             wide = i.wide;
             held = i.held;
-            closed = λ f. closed_more g c.args.look c.args.vanishing.now c.loop-index.marks p (i.closed f) (λ e. absurd (cc (e, off)));
+            closed = λ f. closed_more g c.args.look c.args.nullable.now c.loop-index.marks p (i.closed f) (λ e. absurd (cc (e, off)));
             at_most = i.at_most;
             fewer = i.fewer;
           })
@@ -43,7 +43,7 @@ loop-index-preserved c =
           rw (w.marks-is, w.changed-is) (record {
             wide = i.wide;
             held = i.held;
-            closed = λ f. closed_more g c.args.look c.args.vanishing.now c.loop-index.marks p (i.closed f) (λ e. on);
+            closed = λ f. closed_more g c.args.look c.args.nullable.now c.loop-index.marks p (i.closed f) (λ e. on);
             at_most = i.at_most;
             fewer = i.fewer;
           })

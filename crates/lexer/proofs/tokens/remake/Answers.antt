@@ -2,15 +2,15 @@ use Rattle.std.proofs.Common.{arith, refl, ap, subst, ◌≡◌, ◌∙◌, ◌+
 use Rattle.dfa.specs.Windows.{IsWithinReach}
 use Rattle.definitions.specs.TokenEdits.{is_rejoined}
 use Rattle.lexer.specs.Tokens.{characters}
-use Rattle.lexer.specs.Rescans.{plain_all, front_end}
+use Rattle.lexer.specs.Rescans.{plain_all, prefix_end}
 use Rattle.lexer.specs.Walks.{horizon}
 use Rattle.lexer.proofs.Scans.{made_none, made_more, characters-more, lead_one}
-use Rattle.lexer.proofs.Remakes.{removed_fits, front_inside, front_passed, end_rejoins, end_moved, needed, earlier_one}
+use Rattle.lexer.proofs.Remakes.{removed_fits, prefix_inside, prefix_passed, end_rejoins, end_moved, needed, earlier_one}
 use Rattle.lexer.proofs.Walks.{passed_later}
 use Rattle.lexer.proofs.tokens.remake.Goals as goal
 
-pub rejoined-requires-clause-removed : goal.rejoined-requires-clause-removed
-rejoined-requires-clause-removed g c = removed_fits c.args.grammar.now.patterns c.args.grammar.now.skips c.args.edit c.args.old.items (g.S.Source.text c.args.source.now) c.requires.edited c.start-at.ensures.fits
+pub rejoin_place-requires-clause-removed : goal.rejoin_place-requires-clause-removed
+rejoin_place-requires-clause-removed g c = removed_fits c.args.grammar.now.patterns c.args.grammar.now.skips c.args.edit c.args.old.items (g.S.Source.text c.args.source.now) c.requires.edited c.start-at.ensures.fits
 
 pub loop-at-init : goal.loop-at-init
 loop-at-init g c =
@@ -18,14 +18,14 @@ loop-at-init g c =
     let rules = c.args.grammar.now.patterns in
     let skips = c.args.grammar.now.skips in
     let u = g.S.Source.text c.args.source.now in
-    let start : c.start-at.result ≡ front_end c.args.edit xs = c.start-at.ensures.is ∙ ap (λ n. characters (take n xs)) c.requires.front in
+    let start : c.start-at.result ≡ prefix_end c.args.edit xs = c.start-at.ensures.is ∙ ap (λ n. characters (take n xs)) c.requires.kept_before in
     rw c.new-made.ensures.items (record {
-      inside = omega (arith, start, front_inside rules skips c.args.edit xs u c.requires.edited);
+      inside = omega (arith, start, prefix_inside rules skips c.args.edit xs u c.requires.edited);
       sum = omega (arith, start);
       leads = tt;
       made = made_none _ _;
       items = refl;
-      passed = front_passed rules skips c.args.edit xs u c.requires.edited c.args.old.place c.start-at.result c.requires.front;
+      passed = prefix_passed rules skips c.args.edit xs u c.requires.edited c.args.old.place c.start-at.result c.requires.kept_before;
       earlier = λ k l. absurd (omega arith);
     })
 
@@ -51,11 +51,11 @@ loop-at-preserved g c =
     rw c.in_ok-push.ensures.items (record {
       inside = c.token_at-token.ensures.inside;
       sum = omega (arith, old.sum, characters-more c.loop-at.made.items x);
-      leads = lead_one c.args.grammar.now.patterns u (front_end e xs) c.loop-at.at c.loop-at.made.items x old.sum old.leads c.token_at-token.ensures.token;
+      leads = lead_one c.args.grammar.now.patterns u (prefix_end e xs) c.loop-at.at c.loop-at.made.items x old.sum old.leads c.token_at-token.ensures.token;
       made = made_more _ _ _ _ old.made c.token_at-token.ensures.marked c.token_at-token.ensures.born c.token_at-token.ensures.nonempty c.token_at-token.ensures.near;
-      items = c.rejoined.ensures.items ∙ old.items;
-      passed = passed_later c.rejoined.new.old (horizon e c.loop-at.at) (horizon e (c.loop-at.at + x.length)) (omega arith) (c.rejoined.ensures.passed old.passed);
-      earlier = earlier_one e xs (front_end e xs) c.loop-at.made.items x old.earlier (subst (λ n. is_rejoined e (plain_all xs) n ≡ false) old.sum here);
+      items = c.rejoin_place.ensures.items ∙ old.items;
+      passed = passed_later c.rejoin_place.new.old (horizon e c.loop-at.at) (horizon e (c.loop-at.at + x.length)) (omega arith) (c.rejoin_place.ensures.passed old.passed);
+      earlier = earlier_one e xs (prefix_end e xs) c.loop-at.made.items x old.earlier (subst (λ n. is_rejoined e (plain_all xs) n ≡ false) old.sum here);
     })
 
 pub returns : goal.returns
@@ -63,7 +63,7 @@ returns g c =
     let u = g.S.Source.text c.args.source.now in
     let xs = c.args.old.items in
     let old = c.loop-at.invariant in
-    let all : length u ≡ front_end c.args.edit xs + characters c.loop-at.made.items = omega (arith, c.loop-at-test.false, c.len.ensures, old.inside, old.sum) in
+    let all : length u ≡ prefix_end c.args.edit xs + characters c.loop-at.made.items = omega (arith, c.loop-at-test.false, c.len.ensures, old.inside, old.sum) in
     let end : c.end.result ≡ length xs = c.end.ensures ∙ ap length old.items in
     record {
       leads = old.leads;

@@ -2,7 +2,7 @@ use Rattle.definitions.specs.Tokens.{Leads}
 use Rattle.std.proofs.Common.{ℕ, ◌≡◌, ◌≤◌, ◌<◌, ◌+◌, ◌-◌, length, drop, take, false}
 use Rattle.definitions.specs.TokenEdits.{is_rejoined}
 use Rattle.lexer.specs.Tokens.{characters}
-use Rattle.lexer.specs.Rescans.{plain_all, front_end}
+use Rattle.lexer.specs.Rescans.{plain_all, prefix_end}
 use Rattle.lexer.specs.Scans.{AreMade}
 use Rattle.lexer.specs.Walks.{IsPassed, horizon}
 use Rattle.lexer.proofs.tokens.remake.Given as goal
@@ -10,7 +10,7 @@ use Rattle.lexer.proofs.tokens.remake.Given as goal
 abbrev pub invariant-loop-at : goal.invariant-loop-at
 invariant-loop-at g l =
     let xs = l.fn.old.items in
-    let from = front_end l.edit xs in
+    let from = prefix_end l.edit xs in
     record {
       inside : l.at ≤ length (g.S.Source.text l.source);
       sum : l.at ≡ from + characters l.made.items;

@@ -1,4 +1,4 @@
-use Rattle.parser.proofs.Stops.{stacks_once}
+use Rattle.parser.proofs.StopDecides.{stacks_once}
 use Rattle.parser.proofs.laws.stack_unique.Goals as goal
 
 pub returns : goal.returns

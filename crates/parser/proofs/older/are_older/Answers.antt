@@ -6,9 +6,9 @@ use Rattle.parser.specs.Cuts.{AreChildren}
 use Rattle.parser.specs.Machine.{plain_of}
 use Rattle.parser.specs.Run.{ComeFrom}
 use Rattle.parser.specs.Stamps.{AreOlder}
-use Rattle.parser.proofs.Coming.{come_behind, come_on, older_node, older_token, opened_came}
+use Rattle.parser.proofs.WhereBranchesComeFrom.{come_after, come_on, older_node, older_token, opened_came}
 use Rattle.parser.proofs.Cuts.{opened_below, opened_lighter}
-use Rattle.parser.proofs.Front.{weight}
+use Rattle.parser.proofs.LeftEdge.{weight}
 use Rattle.parser.proofs.Stamping.{stamped-children, trees_of-append}
 use Rattle.parser.proofs.older.are_older.Goals as goal
 
@@ -76,6 +76,6 @@ trees-preserved c =
     let came : ComeFrom all place (all_trees cells (Token k ∷ rest)) = subst (λ l. ComeFrom all place (all_trees cells l)) old c.trees.invariant.came.1 in
     record {
       below = (subst (AreBelow (length cells)) old c.trees.invariant.below).1;
-      came = (place + 1, come_on place 1 all (all_trees cells (Token k ∷ rest)) (all_trees cells rest) came (come_behind (StampedLeaf k) (all_trees cells rest)));
+      came = (place + 1, come_on place 1 all (all_trees cells (Token k ∷ rest)) (all_trees cells rest) came (come_after (StampedLeaf k) (all_trees cells rest)));
       so_far = λ older. c.trees.invariant.so_far (subst (λ l. AreOlder c.args.number (all_trees cells l)) (sym old) (older_token c.args.number k (all_trees cells rest) older));
     }

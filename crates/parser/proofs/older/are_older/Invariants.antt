@@ -3,7 +3,7 @@ use Rattle.trees.specs.Cells.{AreBelow, all_trees}
 use Rattle.parser.specs.Machine.{plain_of}
 use Rattle.parser.specs.Run.{ComeFrom}
 use Rattle.parser.specs.Stamps.{AreOlder}
-use Rattle.parser.proofs.Front.{weight}
+use Rattle.parser.proofs.LeftEdge.{weight}
 use Rattle.parser.proofs.older.are_older.Given as goal
 
 -- what is left stands in the trees, and where it is older, so are all of them

@@ -23,8 +23,8 @@ returns-in_default-class_char-clause-fault c =
     rw (c.fault-in_default-class_char.ensures, c.place_of-in_default-class_char.ensures) (λ d b negated before.
     let n = c.args.end in
     ap (fault_from n (InClass d b negated before Items)) (h.0.1 ∙ ap (λ x. h.0.0 ∷ x) g.0)
-    ∙ first_step n d b negated before c.in-Some.first h.0.0 (Plain c.in-Some-strip.field-0-0 45 ∷ writing c.in-Some-strip.behind.now) h.0.3
-    ∙ no_last n (writing c.in-Some-strip.behind.now) c.in_default-class_char.ensures d b negated before (place h.0.0) c.in-Some.first)
+    ∙ first_step n d b negated before c.in-Some.first h.0.0 (Plain c.in-Some-strip.field-0-0 45 ∷ writing c.in-Some-strip.after.now) h.0.3
+    ∙ no_last n (writing c.in-Some-strip.after.now) c.in_default-class_char.ensures d b negated before (place h.0.0) c.in-Some.first)
 
 pub returns-clause-spelled : goal.returns-clause-spelled
 returns-clause-spelled c =

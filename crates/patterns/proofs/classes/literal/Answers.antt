@@ -2,7 +2,7 @@ use Rattle.std.proofs.Common.{List, ℕ, sym, ◌∙◌, ap, subst, arith}
 use Rattle.definitions.specs.PatternFaults.{InLiteral, fault_from}
 use Rattle.patterns.specs.Empty.{is_empty}
 use Rattle.patterns.specs.Reading.{writing}
-use Rattle.patterns.proofs.Literals.{IsLiteralSoFar, literal_closed, one_more_literal, literal_step, not_empty_behind, no_literal_char}
+use Rattle.patterns.proofs.Literals.{IsLiteralSoFar, literal_closed, one_more_literal, literal_step, not_empty_after, no_literal_char}
 use Rattle.patterns.proofs.classes.literal.Goals as goal
 
 pub returns-in-Some-clause-spelled : goal.returns-in-Some-clause-spelled
@@ -18,7 +18,7 @@ loop-rest-preserved c =
     let x = c.in-Some-literal_char.character in
     let P : List ℕ → Type 0 = λ u. IsLiteralSoFar u (writing c.args.words.now) rest in (
       subst P (sym e) (one_more_literal v x (writing c.args.words.now) (writing c.loop-rest.left.now) rest h.0.0 c.loop-rest.invariant.0 h.0.1 h.0.2),
-      (λ d. c.loop-rest.invariant.1 d ∙ ap (fault_from c.args.end (InLiteral d c.args.quote (is_empty v))) h.0.1 ∙ literal_step c.args.end d c.args.quote (is_empty v) x h.0.0 rest h.0.2 ∙ ap (λ b. fault_from c.args.end (InLiteral d c.args.quote b) rest) (sym (ap is_empty e ∙ not_empty_behind v x))),
+      (λ d. c.loop-rest.invariant.1 d ∙ ap (fault_from c.args.end (InLiteral d c.args.quote (is_empty v))) h.0.1 ∙ literal_step c.args.end d c.args.quote (is_empty v) x h.0.0 rest h.0.2 ∙ ap (λ b. fault_from c.args.end (InLiteral d c.args.quote b) rest) (sym (ap is_empty e ∙ not_empty_after v x))),
       omega arith,
     )
 

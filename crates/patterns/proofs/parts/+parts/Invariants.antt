@@ -20,14 +20,14 @@ decreases-atom l = 6 * (64 - l.depth) + 2
 abbrev pub decreases-bare_atom : goal.decreases-bare_atom
 decreases-bare_atom l = 6 * (64 - l.depth) + 1
 
-abbrev pub invariant-alternatives-loop-behind : goal.invariant-alternatives-loop-behind
-invariant-alternatives-loop-behind l =
+abbrev pub invariant-alternatives-loop-after : goal.invariant-alternatives-loop-after
+invariant-alternatives-loop-after l =
     IsPart Alt l.depth l.choice (writing l.words) (writing l.rest) × (is_sound l.choice ≡ true)
     × (fault_from l.end (Outside l.depth Nothing) (writing l.words) ≡ fault_from l.end (Outside l.depth ARepetition) (writing l.rest))
     × (stops (writing l.rest) ≡ true) × (length l.rest < length l.words)
 
-abbrev pub decreases-alternatives-loop-behind : goal.decreases-alternatives-loop-behind
-decreases-alternatives-loop-behind l = length l.rest
+abbrev pub decreases-alternatives-loop-after : goal.decreases-alternatives-loop-after
+decreases-alternatives-loop-after l = length l.rest
 
 abbrev pub invariant-sequence-loop-alloc : goal.invariant-sequence-loop-alloc
 invariant-sequence-loop-alloc l =

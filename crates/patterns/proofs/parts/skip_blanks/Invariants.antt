@@ -2,8 +2,8 @@ use Rattle.std.proofs.Common.{◌≤◌, length}
 use Rattle.patterns.specs.Reading.{writing, IsBlanks}
 use Rattle.patterns.proofs.parts.skip_blanks.Given as goal
 
-abbrev pub invariant-loop-behind : goal.invariant-loop-behind
-invariant-loop-behind l = IsBlanks (writing l.words) (writing l.rest) × (length l.rest ≤ length l.words)
+abbrev pub invariant-loop-after : goal.invariant-loop-after
+invariant-loop-after l = IsBlanks (writing l.words) (writing l.rest) × (length l.rest ≤ length l.words)
 
-abbrev pub decreases-loop-behind : goal.decreases-loop-behind
-decreases-loop-behind l = length l.rest
+abbrev pub decreases-loop-after : goal.decreases-loop-after
+decreases-loop-after l = length l.rest

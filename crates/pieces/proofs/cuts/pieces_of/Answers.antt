@@ -11,22 +11,22 @@ use Rattle.pieces.proofs.cuts.pieces_of.Goals as goal
 
 pub loop-rest-preserved : goal.loop-rest-preserved
 loop-rest-preserved c =
-    let at : ℕ = c.front_len.result in
+    let at : ℕ = c.prefix_len.result in
     let rest : List ℕ = c.loop-rest.rest.now in
-    let front : List ℕ = c.split_at.result.0.now in
+    let prefix : List ℕ = c.split_at.result.0.now in
     let back : List ℕ = c.split_at.result.1.now in
     let pieces : List (List ℕ) = c.loop-rest.pieces.items in
     let piece : List ℕ = c.in_ok-new.field-0 in
     let items = c.in_ok-push.ensures.items in
-    let u : IsUtf8 front = subst IsUtf8 (sym c.split_at.ensures.front) (IsUtf8-take rest at c.loop-rest.invariant.text c.front_len.ensures.boundary) in
-    let v : IsUtf8 back = subst IsUtf8 (sym c.split_at.ensures.back) (IsUtf8-drop rest at c.loop-rest.invariant.text c.front_len.ensures.boundary) in
-    let cut : rest ≡ front ++ back = sym (take-append-drop at rest) ∙ (λ i. sym c.split_at.ensures.front i ++ sym c.split_at.ensures.back i) in
-    let long : SHORTEST_OF_SEVERAL ≤ length front = omega (arith, c.front_len.ensures.large, c.split_at.ensures.front_len) in
+    let u : IsUtf8 prefix = subst IsUtf8 (sym c.split_at.ensures.front) (IsUtf8-take rest at c.loop-rest.invariant.text c.prefix_len.ensures.boundary) in
+    let v : IsUtf8 back = subst IsUtf8 (sym c.split_at.ensures.back) (IsUtf8-drop rest at c.loop-rest.invariant.text c.prefix_len.ensures.boundary) in
+    let cut : rest ≡ prefix ++ back = sym (take-append-drop at rest) ∙ (λ i. sym c.split_at.ensures.front i ++ sym c.split_at.ensures.back i) in
+    let long : SHORTEST_OF_SEVERAL ≤ length prefix = omega (arith, c.prefix_len.ensures.large, c.split_at.ensures.front_len) in
     record {
       text = v;
-      joined = ap (λ l. concat l ++ chars back) items ∙ concat-more pieces piece rest front back (chars c.args.text.now) u cut c.in_ok-new.ensures c.loop-rest.invariant.joined;
-      large = subst (All IsLarge) (sym items) (large-more pieces piece front u c.in_ok-new.ensures long c.loop-rest.invariant.large);
-      left = λ _. omega (arith, c.front_len.ensures.rest, c.split_at.ensures.back_len);
+      joined = ap (λ l. concat l ++ chars back) items ∙ concat-more pieces piece rest prefix back (chars c.args.text.now) u cut c.in_ok-new.ensures c.loop-rest.invariant.joined;
+      large = subst (All IsLarge) (sym items) (large-more pieces piece prefix u c.in_ok-new.ensures long c.loop-rest.invariant.large);
+      left = λ _. omega (arith, c.prefix_len.ensures.rest, c.split_at.ensures.back_len);
       shorter = omega (arith, c.loop-rest.invariant.shorter, c.split_at.ensures.back_len);
       none = λ l. absurd (omega (arith, l, c.loop-rest.invariant.shorter));
     }

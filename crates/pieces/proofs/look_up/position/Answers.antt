@@ -5,11 +5,11 @@ use Rattle.std.proofs.Common.{arith, refl, sym, ap, subst, ◌∙◌}
 use Rattle.std.proofs.lemmas.List.{append-nil}
 use Rattle.definitions.specs.Text.{position, units, begins_with}
 use Rattle.definitions.specs.declared.Unit.TheVariants.{Utf8}
-use Rattle.pieces.specs.Fronts.{front_of}
-use Rattle.pieces.proofs.Located.{sum-before, offset-reached, offset-not_before, cut-text, cut-length, cut-next}
-use Rattle.pieces.proofs.Past.{position-past}
+use Rattle.pieces.specs.Prefixes.{prefix_of}
+use Rattle.pieces.proofs.LocatedPiece.{sum-before, offset-reached, offset-not_before, cut-text, cut-length, cut-next}
+use Rattle.pieces.proofs.PastTheEnd.{position-past}
 use Rattle.pieces.proofs.Pieces.{text_before, few_before, none_at, within_pieces, before-more, text-at}
-use Rattle.pieces.proofs.Turns.{few-take}
+use Rattle.pieces.proofs.CharacterLoops.{few-take}
 use Rattle.pieces.proofs.look_up.position.Goals as goal
 
 pub returns-in_default : goal.returns-in_default
@@ -18,7 +18,7 @@ returns-in_default c =
     let place : ℕ = c.locate-place.result.0 in
     let before : List ℕ = text_before pieces place in
     let few = few_before pieces place (2 ^ 30) c.requires.few in
-    let known = c.new-front.ensures before (c.locate-place.ensures.before ∙ sum-before pieces c.requires.few place) in
+    let known = c.new-prefix.ensures before (c.locate-place.ensures.before ∙ sum-before pieces c.requires.few place) in
     let whole : before ≡ concat pieces = none_at pieces place c.locate-place.ensures.within c.in_default.ensures in
     let past : length (concat pieces) ≤ c.args.offset = omega (arith, offset-not_before pieces c.requires.few (record { offset = c.args.offset }) place c.locate-place.ensures.not_before, ap length whole) in
     c.position.ensures c.args.unit before [] few known refl
@@ -30,7 +30,7 @@ pub overflow_sub-offset : goal.overflow_sub-offset
 overflow_sub-offset c =
     let pieces : List (List ℕ) = c.args.pieces.now in
     let place : ℕ = c.locate-place.result.0 in
-    let known = c.new-front.ensures (text_before pieces place) (c.locate-place.ensures.before ∙ sum-before pieces c.requires.few place) in
+    let known = c.new-prefix.ensures (text_before pieces place) (c.locate-place.ensures.before ∙ sum-before pieces c.requires.few place) in
     omega (arith, offset-not_before pieces c.requires.few (record { offset = c.args.offset }) place c.locate-place.ensures.not_before, ap (λ f. f.characters) known)
 
 pub returns : goal.returns
@@ -39,9 +39,9 @@ returns c =
     let place : ℕ = c.locate-place.result.0 in
     let piece : List ℕ = c.in-Some.piece.now in
     let before : List ℕ = text_before pieces place in
-    let behind : List ℕ = concat (drop (place + 1) pieces) in
-    let n : ℕ = c.args.offset - c.new-front.result.characters in
-    let known = c.new-front.ensures before (c.locate-place.ensures.before ∙ sum-before pieces c.requires.few place) in
+    let units_after : List ℕ = concat (drop (place + 1) pieces) in
+    let n : ℕ = c.args.offset - c.new-prefix.result.characters in
+    let known = c.new-prefix.ensures before (c.locate-place.ensures.before ∙ sum-before pieces c.requires.few place) in
     let same : n ≡ c.args.offset - length before = ap (λ f. c.args.offset - f.characters) known in
     let low : length before ≤ c.args.offset = offset-not_before pieces c.requires.few (record { offset = c.args.offset }) place c.locate-place.ensures.not_before in
     let reached : c.args.offset < length (text_before pieces (place + 1)) =
@@ -50,8 +50,8 @@ returns c =
     let high : c.args.offset < length (before ++ piece) = omega (arith, reached, ap length more) in
     let fits : units Utf8 (before ++ piece) ≤ 2 ^ 30 = subst (λ l. units Utf8 l ≤ 2 ^ 30) more (few_before pieces (place + 1) (2 ^ 30) c.requires.few) in
     let text : chars c.text.result.now ≡ piece = c.text.ensures.characters in
-    let front = c.with_first-before_feed.ensures.front before (subst (λ l. units Utf8 (before ++ l) ≤ 2 ^ 30) (sym text) fits) known ∙ ap (λ l. front_of c.args.unit (before ++ take n l)) text in
-    let next = c.with_first-before_feed.ensures.feed ∙ ap (λ l. begins_with 10 (drop n l)) text ∙ cut-next before piece behind n c.args.offset same low high in
-    c.position-2.ensures c.args.unit (before ++ take n piece) (drop n piece ++ behind) (few-take before piece n (2 ^ 30) fits) front next
-    ∙ ap (λ l. position c.args.unit l (length (before ++ take n piece))) (cut-text before piece behind n ∙ text-at pieces place piece c.in-Some.ensures)
+    let prefix = c.with_first-before_feed.ensures.prefix before (subst (λ l. units Utf8 (before ++ l) ≤ 2 ^ 30) (sym text) fits) known ∙ ap (λ l. prefix_of c.args.unit (before ++ take n l)) text in
+    let next = c.with_first-before_feed.ensures.feed ∙ ap (λ l. begins_with 10 (drop n l)) text ∙ cut-next before piece units_after n c.args.offset same low high in
+    c.position-2.ensures c.args.unit (before ++ take n piece) (drop n piece ++ units_after) (few-take before piece n (2 ^ 30) fits) prefix next
+    ∙ ap (λ l. position c.args.unit l (length (before ++ take n piece))) (cut-text before piece units_after n ∙ text-at pieces place piece c.in-Some.ensures)
     ∙ ap (λ o. position c.args.unit (concat pieces) o) (cut-length before piece n c.args.offset same low high)

@@ -1,7 +1,7 @@
 use Rattle.std.proofs.Common.{arith, ap, sym, ◌≡◌, ◌∙◌, ◌≤◌, ℕ, List, [], ◌∷◌, length}
 use Rattle.std.specs.Str.{chars}
 use Rattle.std.proofs.lemmas.Str.{chars-nil}
-use Rattle.pieces.proofs.CutAt.{some_behind}
+use Rattle.pieces.proofs.CutAt.{some_after}
 use Rattle.pieces.proofs.places.character.Goals as goal
 
 none_left : (bs : List ℕ) → length bs ≡ 0 → 1 ≤ length (chars bs) → ⊥
@@ -10,5 +10,5 @@ none_left (b ∷ bs) e l = omega (arith, e)
 
 pub unreachable-requires : goal.unreachable-requires
 unreachable-requires c =
-    let some = some_behind c.args.pieces.now c.args.offset c.cut_at.result c.cut_at.ensures c.requires.in_range in
+    let some = some_after c.args.pieces.now c.args.offset c.cut_at.result c.cut_at.ensures c.requires.in_range in
     absurd (none_left c.cut_at.result.back.now (ap length (sym c.chars.ensures.rest) ∙ c.in_default.ensures.steps.0.0) some)

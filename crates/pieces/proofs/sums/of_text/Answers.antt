@@ -10,8 +10,8 @@ use Rattle.pieces.specs.Sums.{sums_of, joined, line_sums, most}
 use Rattle.pieces.specs.Laws.{sums_laws}
 use Rattle.pieces.proofs.Joins.{sums_of-more, units-chars}
 use Rattle.pieces.proofs.Lines.{joined-line-more, line-room}
-use Rattle.pieces.proofs.Known.{few_front}
-use Rattle.pieces.proofs.Turns.{IsTurn, turn-from, few-turn}
+use Rattle.pieces.proofs.KnownPrefix.{few_prefix}
+use Rattle.pieces.proofs.CharacterLoops.{IsTurn, turn-from, few-turn}
 use Rattle.pieces.proofs.sums.of_text.Goals as goal
 
 pub with_character-line-requires : goal.with_character-line-requires
@@ -23,7 +23,7 @@ with_character-line-requires c =
     let turn : IsTurn t yielded c.in-Some.c =
     turn-from t yielded c.in-Some.c (YieldsList-so_far road yielded _ c.loop-c.yielded_by) (YieldsList-turn road yielded _ c.loop-c.yielded_by _ _ c.in-Some.c c.in-Some.is c.next.ensures.steps) in
     let fits : units Utf8 (yielded ++ c.in-Some.c ∷ []) ≤ most = few-turn [] t yielded c.in-Some.c most turn whole in
-    line-room c.loop-c.sums c.loop-c.line yielded c.in-Some.c (c.loop-c.invariant (few_front yielded c.in-Some.c most fits)) fits
+    line-room c.loop-c.sums c.loop-c.line yielded c.in-Some.c (c.loop-c.invariant (few_prefix yielded c.in-Some.c most fits)) fits
 
 pub loop-c-preserved : goal.loop-c-preserved
 loop-c-preserved c = λ fits.

@@ -3,7 +3,7 @@ use Rattle.std.proofs.lemmas.List.{map-append}
 use Rattle.std.specs.Prelude.{option_map}
 use Rattle.rpc.specs.Messages.{change_view}
 use Rattle.rpc.specs.Reading.{change_of, changes_of}
-use Rattle.rpc.proofs.Each.{read_more, unread, all_read}
+use Rattle.rpc.proofs.ListItems.{read_more, unread, all_read}
 use Rattle.rpc.proofs.reading.changes_of.Goals as goal
 
 pub loop-item-preserved : goal.loop-item-preserved

@@ -1,11 +1,11 @@
 use Rattle.std.proofs.Common.{◌≡◌, ◌++◌, List, map, drop}
 use Rattle.std.specs.Prelude.{option_map}
 use Rattle.serde_json.specs.View.{items_view}
-use Rattle.rpc.specs.Messages.{ChangeSaid, change_view}
+use Rattle.rpc.specs.Messages.{TextChange, change_view}
 use Rattle.rpc.specs.Reading.{changes_of}
 use Rattle.rpc.proofs.reading.changes_of.Given as goal
 
 -- the changes so far, and those of what is left
 abbrev pub invariant-loop-item : goal.invariant-loop-item
 invariant-loop-item l = changes_of (items_view l.items)
-    ≡ option_map (λ (rest : List ChangeSaid). map change_view l.changes.items ++ rest) (changes_of (items_view (drop l.item-index l.items)))
+    ≡ option_map (λ (rest : List TextChange). map change_view l.changes.items ++ rest) (changes_of (items_view (drop l.item-index l.items)))

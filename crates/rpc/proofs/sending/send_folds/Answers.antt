@@ -2,7 +2,7 @@ use Rattle.std.proofs.Common.{map, refl, arith}
 use Rattle.std.proofs.lemmas.Result.{on_ok_weaker}
 use Rattle.serde_json.specs.View.{items_of}
 use Rattle.rpc.specs.Replies.{fold_data}
-use Rattle.rpc.proofs.Each.{sent_more, all_sent}
+use Rattle.rpc.proofs.ListItems.{sent_more, all_sent}
 use Rattle.rpc.proofs.sending.send_folds.Goals as goal
 
 pub loop-pair-preserved : goal.loop-pair-preserved

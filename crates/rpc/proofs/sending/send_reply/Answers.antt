@@ -4,7 +4,7 @@ use Rattle.serde.specs.Event.{Log}
 use Rattle.serde_json.specs.Events.{SendsValue}
 use Rattle.rpc.specs.declared.reply.Reply.{Reply}
 use Rattle.rpc.specs.Messages.{id_view}
-use Rattle.rpc.specs.Replies.{told_text, told_selections, reply_data, reply_view}
+use Rattle.rpc.specs.Replies.{text_reply, selections_reply, reply_data, reply_view}
 use Rattle.rpc.proofs.sending.send_reply.Goals as goal
 
 -- what was sent of the reply that it is
@@ -21,8 +21,8 @@ returns-in-Text g c =
     let old = w c.args.out.now in
     let new = w c.send_result-in-Text.new.out in
     let same : to_z w32 (of_z w32 c.in-Text.version) ≡ c.in-Text.version = to_z-of_z {w = w32} {z = c.in-Text.version} (search rules) in
-    let at_version = subst (λ v. OnOk c.send_result-in-Text.result (SendsValue (reply_data (told_text (id_view c.in-Text.id) v c.as_str.result.now)) old new)) same c.send_result-in-Text.ensures in
-    let at_text = subst (λ t. OnOk c.send_result-in-Text.result (SendsValue (reply_data (told_text (id_view c.in-Text.id) c.in-Text.version t)) old new)) c.as_str.ensures.value at_version in
+    let at_version = subst (λ v. OnOk c.send_result-in-Text.result (SendsValue (reply_data (text_reply (id_view c.in-Text.id) v c.as_str.result.now)) old new)) same c.send_result-in-Text.ensures in
+    let at_text = subst (λ t. OnOk c.send_result-in-Text.result (SendsValue (reply_data (text_reply (id_view c.in-Text.id) c.in-Text.version t)) old new)) c.as_str.ensures.value at_version in
     sent_of c.send_result-in-Text.result old new c.args.reply.now _ c.in-Text.is at_text
 
 pub returns-in-Stats : goal.returns-in-Stats
@@ -33,7 +33,7 @@ pub returns-in-Selections : goal.returns-in-Selections
 returns-in-Selections g c =
     let old = g.S.Serializer.written c.args.out.now in
     let new = g.S.Serializer.written c.send_result-in-Selections.new.out in
-    let at_items = subst (λ l. OnOk c.send_result-in-Selections.result (SendsValue (reply_data (told_selections (id_view c.in-Selections.id) (map (λ s. s.items) l))) old new))
+    let at_items = subst (λ l. OnOk c.send_result-in-Selections.result (SendsValue (reply_data (selections_reply (id_view c.in-Selections.id) (map (λ s. s.items) l))) old new))
     c.deref-in-Selections.ensures.value c.send_result-in-Selections.ensures in
     sent_of c.send_result-in-Selections.result old new c.args.reply.now _ c.in-Selections.is at_items
 

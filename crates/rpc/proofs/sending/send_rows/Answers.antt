@@ -3,7 +3,7 @@ use Rattle.std.proofs.lemmas.Result.{on_ok_weaker}
 use Rattle.serde_json.specs.Events.{SendsValue}
 use Rattle.serde_json.specs.View.{items_of}
 use Rattle.rpc.specs.Replies.{row_data, row_view}
-use Rattle.rpc.proofs.Each.{sent_more, all_sent}
+use Rattle.rpc.proofs.ListItems.{sent_more, all_sent}
 use Rattle.rpc.proofs.sending.send_rows.Goals as goal
 
 pub loop-row-preserved : goal.loop-row-preserved

@@ -3,7 +3,7 @@ use Rattle.std.proofs.lemmas.Result.{on_ok_weaker}
 use Rattle.serde_json.specs.Events.{SendsValue}
 use Rattle.serde_json.specs.View.{items_of}
 use Rattle.rpc.specs.Replies.{selection_data}
-use Rattle.rpc.proofs.Each.{sent_more, all_sent}
+use Rattle.rpc.proofs.ListItems.{sent_more, all_sent}
 use Rattle.rpc.proofs.sending.send_selections.Goals as goal
 
 pub loop-ranges-preserved : goal.loop-ranges-preserved

@@ -2,8 +2,8 @@ use Rattle.std.proofs.Common.{arith, sym, ap, ◌∙◌, ◌≡◌, ◌+◌, ◌
 use Rattle.std.specs.Prelude.{Some, None, slice_get, option_copied}
 use Rattle.runs.specs.Counted.{most}
 use Rattle.runs.specs.Runs.{flattened}
-use Rattle.runs.proofs.Flat.{front, within_runs, inside, before_cut, behind_cut, past_run, before_end, behind_end}
-use Rattle.runs.proofs.Totals.{items_before, starts_before, ends_behind}
+use Rattle.runs.proofs.Flat.{prefix, within_runs, inside, before_cut, after_cut, past_run, before_end, after_end}
+use Rattle.runs.proofs.Totals.{items_before, starts_before, ends_after}
 use Rattle.runs.proofs.cuts.cut_at.Goals as goal
 
 pub overflow_sub-offset : goal.overflow_sub-offset
@@ -14,7 +14,7 @@ overflow_sub-offset g c =
     let place = c.locate-place.result.0 in
     let few : length (flattened runs) ≤ most = omega (arith, c.requires.counted) in
     let starts = starts_before m laws runs few c.args.offset place c.locate-place.ensures.not_before in
-    let count : c.locate-place.result.1.items ≡ length (front runs place) = ap (λ s. s.items) c.locate-place.ensures.before ∙ items_before m laws runs few c.args.offset place in
+    let count : c.locate-place.result.1.items ≡ length (prefix runs place) = ap (λ s. s.items) c.locate-place.ensures.before ∙ items_before m laws runs few c.args.offset place in
     omega (arith, starts, count)
 
 pub split_at-requires : goal.split_at-requires
@@ -27,8 +27,8 @@ split_at-requires g c =
     let at : Some run ≡ slice_get runs place = ap option_copied (sym c.in-Some.is) ∙ c.get.ensures in
     let few : length (flattened runs) ≤ most = omega (arith, c.requires.counted) in
     let starts = starts_before m laws runs few c.args.offset place c.locate-place.ensures.not_before in
-    let ends = ends_behind m laws runs few c.args.offset place (c.locate-place.ensures.reached (within_runs runs place run at)) in
-    let count : c.locate-place.result.1.items ≡ length (front runs place) = ap (λ s. s.items) c.locate-place.ensures.before ∙ items_before m laws runs few c.args.offset place in
+    let ends = ends_after m laws runs few c.args.offset place (c.locate-place.ensures.reached (within_runs runs place run at)) in
+    let count : c.locate-place.result.1.items ≡ length (prefix runs place) = ap (λ s. s.items) c.locate-place.ensures.before ∙ items_before m laws runs few c.args.offset place in
     omega (arith, count, inside runs place run at c.args.offset starts ends, ap length c.items.ensures.same)
 
 pub returns : goal.returns
@@ -42,13 +42,13 @@ returns g c =
     let at : Some run ≡ slice_get runs place = ap option_copied (sym c.in-Some.is) ∙ c.get.ensures in
     let few : length (flattened runs) ≤ most = omega (arith, c.requires.counted) in
     let starts = starts_before m laws runs few o place c.locate-place.ensures.not_before in
-    let ends = ends_behind m laws runs few o place (c.locate-place.ensures.reached (within_runs runs place run at)) in
-    let count : c.locate-place.result.1.items ≡ length (front runs place) = ap (λ s. s.items) c.locate-place.ensures.before ∙ items_before m laws runs few o place in
+    let ends = ends_after m laws runs few o place (c.locate-place.ensures.reached (within_runs runs place run at)) in
+    let count : c.locate-place.result.1.items ≡ length (prefix runs place) = ap (λ s. s.items) c.locate-place.ensures.before ∙ items_before m laws runs few o place in
     let same = c.items.ensures.same in
     record {
       within = c.locate-place.ensures.within;
-      before = before_cut runs place run at o starts ends ∙ ap (λ t. front runs place ++ t) (sym (c.split_at.ensures.front ∙ (λ i. take (o - count i) (same i))));
-      behind = behind_cut runs place run at o starts ends ∙ ap (λ t. t ++ flattened (drop (place + 1) runs)) (sym (c.split_at.ensures.back ∙ (λ i. drop (o - count i) (same i))));
+      before = before_cut runs place run at o starts ends ∙ ap (λ t. prefix runs place ++ t) (sym (c.split_at.ensures.front ∙ (λ i. take (o - count i) (same i))));
+      after = after_cut runs place run at o starts ends ∙ ap (λ t. t ++ flattened (drop (place + 1) runs)) (sym (c.split_at.ensures.back ∙ (λ i. drop (o - count i) (same i))));
       starts = starts;
       ends = λ _. ends;
     }
@@ -67,7 +67,7 @@ returns-in_default g c =
     record {
       within = c.locate-place.ensures.within;
       before = before_end runs o place end starts;
-      behind = behind_end runs o place end starts;
+      after = after_end runs o place end starts;
       starts = starts;
       ends = λ l. absurd (omega (arith, l, end));
     }

@@ -7,19 +7,19 @@ use Rattle.runs.proofs.run.runs_of.Goals as goal
 
 pub loop-rest-preserved : goal.loop-rest-preserved
 loop-rest-preserved g c =
-    let at = c.front_len.result in
+    let at = c.prefix_len.result in
     let rest = c.loop-rest.rest.now in
-    let front = c.split_at.result.0.now in
+    let prefix = c.split_at.result.0.now in
     let back = c.split_at.result.1.now in
     let runs = c.loop-rest.runs.items in
     let run = c.in_ok-new.field-0 in
     let items = c.in_ok-push.ensures.items in
-    let cut : rest ≡ front ++ back = sym (take-append-drop at rest) ∙ (λ i. sym c.split_at.ensures.front i ++ sym c.split_at.ensures.back i) in
+    let cut : rest ≡ prefix ++ back = sym (take-append-drop at rest) ∙ (λ i. sym c.split_at.ensures.front i ++ sym c.split_at.ensures.back i) in
     record {
-      joined = ap (λ l. flattened l ++ back) items ∙ flattened-more runs run rest front back c.args.items.now cut c.in_ok-new.ensures c.loop-rest.invariant.joined;
-      large = subst (All IsLarge) (sym items) (large-more runs run front c.in_ok-new.ensures (omega (arith, c.front_len.ensures.large, c.split_at.ensures.front_len)) c.loop-rest.invariant.large);
-      short = subst (All IsShort) (sym items) (short-more runs run front c.in_ok-new.ensures (omega (arith, c.front_len.ensures.few, c.split_at.ensures.front_len)) c.loop-rest.invariant.short);
-      left = λ _. omega (arith, c.front_len.ensures.rest, c.split_at.ensures.back_len);
+      joined = ap (λ l. flattened l ++ back) items ∙ flattened-more runs run rest prefix back c.args.items.now cut c.in_ok-new.ensures c.loop-rest.invariant.joined;
+      large = subst (All IsLarge) (sym items) (large-more runs run prefix c.in_ok-new.ensures (omega (arith, c.prefix_len.ensures.large, c.split_at.ensures.front_len)) c.loop-rest.invariant.large);
+      short = subst (All IsShort) (sym items) (short-more runs run prefix c.in_ok-new.ensures (omega (arith, c.prefix_len.ensures.few, c.split_at.ensures.front_len)) c.loop-rest.invariant.short);
+      left = λ _. omega (arith, c.prefix_len.ensures.rest, c.split_at.ensures.back_len);
       shorter = omega (arith, c.loop-rest.invariant.shorter, c.split_at.ensures.back_len);
       none = λ l. absurd (omega (arith, l, c.loop-rest.invariant.shorter));
     }

@@ -1,5 +1,5 @@
 use Rattle.std.proofs.Common.{arith, rules}
-use Rattle.seqtree.proofs.Low.{IsLow-fork, high-fork}
+use Rattle.seqtree.proofs.HeightBound.{IsLow-fork, high-fork}
 use Rattle.seqtree.proofs.Totals.{total-around}
 use Rattle.seqtree.proofs.tree.fork.Goals as goal
 

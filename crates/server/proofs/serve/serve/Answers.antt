@@ -1,13 +1,13 @@
 use Rattle.std.proofs.Common.{[], ◌∷◌, map, subst, sym}
 use Rattle.std.proofs.lemmas.Result.{err_from_is_err_and}
-use Rattle.rpc.specs.Messages.{heard_of}
-use Rattle.rpc.specs.Reading.{hearing}
+use Rattle.rpc.specs.Messages.{received_of}
+use Rattle.rpc.specs.Reading.{received_in}
 use Rattle.rpc.specs.Replies.{reply_view}
 use Rattle.frames.specs.declared.fault.RunFault.{RunFault}
 use Rattle.server.specs.Steps.{state_view}
 use Rattle.server.specs.Loop.{ServedInPart, IsCutShort}
 use Rattle.server.proofs.Runs.{step_heard, one_run}
-use Rattle.server.proofs.Parts.{cut_off, part_nothing}
+use Rattle.server.proofs.CutSessions.{cut_off, part_nothing}
 use Rattle.server.proofs.serve.serve.Goals as goal
 
 pub returns : goal.returns
@@ -15,7 +15,7 @@ returns g c =
     let answers = map reply_view c.in_ok-out.out.replies.items in
     let before = state_view c.args.server.now in
     let after = state_view c.handle.new.self in
-    let step = step_heard (heard_of c.read-message.result) (hearing c.args.content.now) before answers c.in_ok-out.out.stop after c.read-message.ensures c.in_ok-out.ensures.step in
+    let step = step_heard (received_of c.read-message.result) (received_in c.args.content.now) before answers c.in_ok-out.out.stop after c.read-message.ensures c.in_ok-out.ensures.step in
     record {
       written = record {
         answers = answers;
@@ -28,12 +28,12 @@ returns g c =
 
 pub returns-in_err-out : goal.returns-in_err-out
 returns-in_err-out g c =
-    let told = g.W.Output.contents c.args.output.now in
+    let out_bytes = g.W.Output.contents c.args.output.now in
     let failures = g.W.Output.failures c.args.output.now in
     let before = state_view c.args.server.now in
     let p = err_from_is_err_and c.from_residual.result c.from_residual.ensures.1 in
     let cut : IsCutShort p.0 failures = subst (λ (e : RunFault). IsCutShort e failures) (sym p.2) c.requires.output in
-    cut_off told told failures before (c.args.content.now ∷ []) _ _ p.0 p.1 cut (part_nothing told before c.requires.server (c.args.content.now ∷ []))
+    cut_off out_bytes out_bytes failures before (c.args.content.now ∷ []) _ _ p.0 p.1 cut (part_nothing out_bytes before c.requires.server (c.args.content.now ∷ []))
 
 pub returns-in_err-write_replies : goal.returns-in_err-write_replies
 returns-in_err-write_replies g c =
@@ -45,12 +45,12 @@ returns-in_err-write_replies g c =
     let after = state_view c.handle.new.self in
     let p = err_from_is_err_and c.from_residual-in_err-write_replies.result c.from_residual-in_err-write_replies.ensures.1 in
     let cut : IsCutShort p.0 failures = subst (λ (e : RunFault). IsCutShort e failures) (sym p.2) c.in_err-write_replies.ensures.fault in
-    let step = step_heard (heard_of c.read-message.result) (hearing c.args.content.now) before answers c.in_ok-out.out.stop after c.read-message.ensures c.in_ok-out.ensures.step in
+    let step = step_heard (received_of c.read-message.result) (received_in c.args.content.now) before answers c.in_ok-out.out.stop after c.read-message.ensures c.in_ok-out.ensures.step in
     let part : ServedInPart old new before (c.args.content.now ∷ []) = record {
       answers = answers;
       stop = c.in_ok-out.out.stop;
       after = after;
       run = one_run c.args.content.now before answers c.in_ok-out.out.stop after step;
-      written = rw c.deref.ensures.value at c.in_err-write_replies.ensures.front;
+      written = rw c.deref.ensures.value at c.in_err-write_replies.ensures.prefix;
     } in
     cut_off old new failures before (c.args.content.now ∷ []) _ _ p.0 p.1 cut part

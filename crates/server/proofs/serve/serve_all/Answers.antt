@@ -6,21 +6,21 @@ use Rattle.frames.specs.declared.fault.RunFault.{RunFault}
 use Rattle.server.specs.Steps.{state_view}
 use Rattle.server.specs.Loop.{Served, ServedInPart, IsCutShort}
 use Rattle.server.proofs.Fits.{run_serves}
-use Rattle.server.proofs.Parts.{cut_off, part_on, part_then}
+use Rattle.server.proofs.CutSessions.{cut_off, part_on, part_then}
 use Rattle.server.proofs.Runs.{served_stops, served_upto, contents_more, contents_all}
 use Rattle.server.proofs.serve.serve_all.Goals as goal
 
 pub returns-in-Some : goal.returns-in-Some
 returns-in-Some g c =
-    let told = g.W.Output.contents in
+    let out_bytes = g.W.Output.contents in
     let frames = c.args.frames.now in
     let i = c.loop-frame.frame-index in
     let first = state_view c.args.server.now in
     let mid = state_view c.loop-frame.server in
     let after = state_view c.serve.new.server in
-    let old = told c.args.output.now in
-    let between = told c.loop-frame.output in
-    let new = told c.serve.new.output in
+    let old = out_bytes c.args.output.now in
+    let between = out_bytes c.loop-frame.output in
+    let new = out_bytes c.serve.new.output in
     let stop : c.in_ok-status.field-0 ≡ Some c.in-Some.status = c.in-Some.is in
     let one = subst (λ (o : Option ℕ). Served between new mid (c.deref.result.now ∷ []) o after) stop c.in_ok-status.ensures.written in
     let here : Served between new mid (c.frame-item.result.content.items ∷ []) (Some c.in-Some.status) after = subst (λ (l : List ℕ). Served between new mid (l ∷ []) (Some c.in-Some.status) after) c.deref.ensures.value one in
@@ -33,29 +33,29 @@ returns-in-Some g c =
 
 pub loop-frame-preserved : goal.loop-frame-preserved
 loop-frame-preserved g c =
-    let told = g.W.Output.contents in
+    let out_bytes = g.W.Output.contents in
     let mid = state_view c.loop-frame.server in
     let after = state_view c.serve.new.server in
-    let between = told c.loop-frame.output in
-    let new = told c.serve.new.output in
+    let between = out_bytes c.loop-frame.output in
+    let new = out_bytes c.serve.new.output in
     let none : c.in_ok-status.field-0 ≡ None = c.in_default.is in
     let one = subst (λ (o : Option ℕ). Served between new mid (c.deref.result.now ∷ []) o after) none c.in_ok-status.ensures.written in
     let here : Served between new mid (c.frame-item.result.content.items ∷ []) None after = subst (λ (l : List ℕ). Served between new mid (l ∷ []) None after) c.deref.ensures.value one in
     record {
-      served = served_upto (told c.args.output.now) between new (state_view c.args.server.now) mid after c.args.frames.now c.loop-frame.frame-index c.frame-item.result None c.loop-frame-test.true c.frame-item.is c.loop-frame.invariant.served here;
+      served = served_upto (out_bytes c.args.output.now) between new (state_view c.args.server.now) mid after c.args.frames.now c.loop-frame.frame-index c.frame-item.result None c.loop-frame-test.true c.frame-item.is c.loop-frame.invariant.served here;
       works = c.in_ok-status.ensures.device;
     }
 
 pub returns-in_err-status : goal.returns-in_err-status
 returns-in_err-status g c =
-    let told = g.W.Output.contents in
+    let out_bytes = g.W.Output.contents in
     let frames = c.args.frames.now in
     let i = c.loop-frame.frame-index in
     let first = state_view c.args.server.now in
     let mid = state_view c.loop-frame.server in
-    let old = told c.args.output.now in
-    let between = told c.loop-frame.output in
-    let new = told c.serve.new.output in
+    let old = out_bytes c.args.output.now in
+    let between = out_bytes c.loop-frame.output in
+    let new = out_bytes c.serve.new.output in
     let failures = g.W.Output.failures c.serve.new.output in
     let p = err_from_is_err_and c.from_residual.result c.from_residual.ensures.1 in
     let cut : IsCutShort p.0 failures = subst (λ (e : RunFault). IsCutShort e failures) (sym p.2) c.in_err-status.ensures.device in

@@ -9,7 +9,7 @@ use Rattle.server.specs.Steps.{state_view}
 use Rattle.server.specs.Sessions.{Session}
 use Rattle.server.specs.Loop.{Served, ServedInPart, IsCutShort}
 use Rattle.server.proofs.Loop.{at_start, can_serve, fed, read_fails, input_ends, exits, stream_fails, answering_fails, feeding_fails, is_open}
-use Rattle.server.proofs.Parts.{part_kept, served_kept}
+use Rattle.server.proofs.CutSessions.{part_kept, served_kept}
 use Rattle.server.proofs.serve.serve_input.Goals as goal
 
 pub loop-count-init : goal.loop-count-init

@@ -7,8 +7,8 @@ use Rattle.rpc.specs.Written.{compact_text}
 use Rattle.rpc.specs.Replies.{reply_view, reply_data}
 use Rattle.server.specs.Runs.{bytes_of}
 use Rattle.server.proofs.Runs.{appends_then, bytes_then}
-use Rattle.server.specs.Sessions.{AppendsFront}
-use Rattle.server.proofs.Parts.{on_err, front_all, front_of_more, front_behind}
+use Rattle.server.specs.Sessions.{AppendsPrefix}
+use Rattle.server.proofs.CutSessions.{on_err, prefix_all, prefix_of_more, prefix_after}
 use Rattle.server.proofs.serve.write_replies.Goals as goal
 
 -- the bytes of all answers, in two parts
@@ -23,16 +23,16 @@ one_more replies i reply h e =
     ap (λ l. bytes_of (map reply_view l)) (take_more replies i reply h ∙ ap (λ r. take i replies ++ r ∷ []) (sym e))
     ∙ (ap bytes_of (map-append reply_view (take i replies) (reply ∷ [])) ∙ (bytes_then (map reply_view (take i replies)) (reply_view reply ∷ []) ∙ ap (λ l. bytes_of (map reply_view (take i replies)) ++ l) (append-nil (frame (compact_text (reply_data (reply_view reply)))))))
 
-pub returns-in_err-content-clause-front : goal.returns-in_err-content-clause-front
-returns-in_err-content-clause-front g c =
+pub returns-in_err-content-clause-prefix : goal.returns-in_err-content-clause-prefix
+returns-in_err-content-clause-prefix g c =
     let old = g.W.Output.contents c.args.output.now in
     let new = g.W.Output.contents c.loop-reply.output in
     let replies = c.args.replies.now in
     let i = c.loop-reply.reply-index in
-    on_err _ _ (subst (AppendsFront old new) (in_parts replies i) (front_of_more old new _ (bytes_of (map reply_view (drop i replies))) (front_all old new _ c.loop-reply.invariant.written)))
+    on_err _ _ (subst (AppendsPrefix old new) (in_parts replies i) (prefix_of_more old new _ (bytes_of (map reply_view (drop i replies))) (prefix_all old new _ c.loop-reply.invariant.written)))
 
-pub returns-in-Err-clause-front : goal.returns-in-Err-clause-front
-returns-in-Err-clause-front g c =
+pub returns-in-Err-clause-prefix : goal.returns-in-Err-clause-prefix
+returns-in-Err-clause-prefix g c =
     let old = g.W.Output.contents c.args.output.now in
     let mid = g.W.Output.contents c.loop-reply.output in
     let new = g.W.Output.contents c.write_frame.new.output in
@@ -40,20 +40,20 @@ returns-in-Err-clause-front g c =
     let i = c.loop-reply.reply-index in
     let reply = c.reply-item.result in
     let bytes : c.deref.result.now ≡ compact_text (reply_data (reply_view reply)) = c.deref.ensures.value ∙ c.in_ok-content.ensures in
-    let one : AppendsFront mid new (frame (compact_text (reply_data (reply_view reply)))) = subst (λ l. AppendsFront mid new (frame l)) bytes c.in-Err.ensures.bytes in
-    let here : AppendsFront old new (bytes_of (map reply_view (take (i + 1) replies))) =
-    subst (AppendsFront old new) (sym (one_more replies i reply c.loop-reply-test.true c.reply-item.is)) (front_behind old mid new _ _ c.loop-reply.invariant.written one) in
-    subst (AppendsFront old new) (in_parts replies (i + 1)) (front_of_more old new _ (bytes_of (map reply_view (drop (i + 1) replies))) here)
+    let one : AppendsPrefix mid new (frame (compact_text (reply_data (reply_view reply)))) = subst (λ l. AppendsPrefix mid new (frame l)) bytes c.in-Err.ensures.bytes in
+    let here : AppendsPrefix old new (bytes_of (map reply_view (take (i + 1) replies))) =
+    subst (AppendsPrefix old new) (sym (one_more replies i reply c.loop-reply-test.true c.reply-item.is)) (prefix_after old mid new _ _ c.loop-reply.invariant.written one) in
+    subst (AppendsPrefix old new) (in_parts replies (i + 1)) (prefix_of_more old new _ (bytes_of (map reply_view (drop (i + 1) replies))) here)
 
 pub loop-reply-preserved : goal.loop-reply-preserved
 loop-reply-preserved g c =
-    let told = g.W.Output.contents in
+    let out_bytes = g.W.Output.contents in
     let replies = c.args.replies.now in
     let i = c.loop-reply.reply-index in
     let reply = c.reply-item.result in
-    let old = told c.args.output.now in
-    let mid = told c.loop-reply.output in
-    let new = told c.write_frame.new.output in
+    let old = out_bytes c.args.output.now in
+    let mid = out_bytes c.loop-reply.output in
+    let new = out_bytes c.write_frame.new.output in
     let bytes : c.deref.result.now ≡ compact_text (reply_data (reply_view reply)) = c.deref.ensures.value ∙ c.in_ok-content.ensures in
     let one : Appends mid new (frame (compact_text (reply_data (reply_view reply)))) = subst (λ l. Appends mid new (frame l)) bytes c.in-Ok.ensures.bytes in
     let all = one_more replies i reply c.loop-reply-test.true c.reply-item.is in

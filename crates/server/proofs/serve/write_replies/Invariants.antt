@@ -6,8 +6,8 @@ use Rattle.server.proofs.serve.write_replies.Given as goal
 
 abbrev pub invariant-loop-reply : goal.invariant-loop-reply
 invariant-loop-reply g l =
-    let told = g.W.Output.contents in
+    let out_bytes = g.W.Output.contents in
     record {
-      written : Appends (told l.fn.output) (told l.output) (bytes_of (map reply_view (take l.reply-index l.replies)));
+      written : Appends (out_bytes l.fn.output) (out_bytes l.output) (bytes_of (map reply_view (take l.reply-index l.replies)));
       works : g.W.Output.failures l.output ≡ 0;
     }

@@ -10,8 +10,8 @@ use Rattle.item_sets.specs.Sets.{IsItem, item_of}
 use Rattle.tables.proofs.decisions.callers.Goals as goal
 use Rattle.tables.proofs.decisions.callers.Goals.{then-is_some+in_ok-push, else-is_some}
 
-told : (look : Option ℕ) {o : Option ℕ} {b : Bool} → o ≡ Some (rank look) → b ≡ is_some o → b ≡ false → ⊥
-told look e t f = cc (sym f ∙ t ∙ ap is_some e)
+shown : (look : Option ℕ) {o : Option ℕ} {b : Bool} → o ≡ Some (rank look) → b ≡ is_some o → b ≡ false → ⊥
+shown look e t f = cc (sym f ∙ t ∙ ap is_some e)
 
 pub loop-item-preserved : goal.loop-item-preserved
 loop-item-preserved c =
@@ -36,7 +36,7 @@ loop-item-preserved c =
           rw w.called-is (record {
             known = i.known;
             within = i.within;
-            all = λ k d look move l x. ⊎_elim (λ s. absurd (let e = c.column_called.ensures.column look move (subst (λ y. CallsFor (item_of g.grammar y) (kind_of look) move) (ap (λ n. slice_index_or items n d) s ∙ default d) x) in told look e c.is_some.ensures w.if-is_some.false)) (λ o. i.all k d look move (omega (arith, l, o)) x) (cases_eq k at);
+            all = λ k d look move l x. ⊎_elim (λ s. absurd (let e = c.column_of_call.ensures.column look move (subst (λ y. CallsFor (item_of g.grammar y) (kind_of look) move) (ap (λ n. slice_index_or items n d) s ∙ default d) x) in shown look e c.is_some.ensures w.if-is_some.false)) (λ o. i.all k d look move (omega (arith, l, o)) x) (cases_eq k at);
           })
     ]
 

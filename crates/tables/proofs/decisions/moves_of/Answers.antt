@@ -2,7 +2,7 @@ use Rattle.std.proofs.Common.{subst}
 use Rattle.std.specs.Prelude.{IfOk}
 use Rattle.std.proofs.lemmas.Result.{IfOk-weaker}
 use Rattle.tables.specs.Rows.{IsDecided}
-use Rattle.tables.proofs.Calling.{decided_all}
+use Rattle.tables.proofs.DecisionOfPrefix.{decided_all}
 use Rattle.tables.proofs.decisions.moves_of.Goals as goal
 
 pub returns : goal.returns

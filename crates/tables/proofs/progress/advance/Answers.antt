@@ -3,7 +3,7 @@ use Rattle.definitions.specs.declared.Symbol.{Symbol}
 use Rattle.item_sets.specs.Collection.{kernel_at, IsRow}
 use Rattle.item_sets.specs.States.{HasKernel, HasSet}
 use Rattle.tables.specs.Rows.{IsDecided}
-use Rattle.tables.proofs.Making.{made_more}
+use Rattle.tables.proofs.MovesOfState.{made_more}
 use Rattle.tables.proofs.progress.advance.Goals as goal
 
 pub close-requires : goal.close-requires

@@ -1,5 +1,5 @@
 use Rattle.std.proofs.Common.{arith}
-use Rattle.tables.proofs.Counted.{more_sets}
+use Rattle.tables.proofs.SetCount.{more_sets}
 use Rattle.tables.proofs.Finishing.{conflict_right, few_sets}
 use Rattle.tables.proofs.tables.complete.Goals as goal
 

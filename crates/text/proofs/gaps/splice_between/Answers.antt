@@ -5,7 +5,7 @@ use Rattle.std.specs.Str.{chars}
 use Rattle.std.proofs.lemmas.List.Folds.{concat-append}
 use Rattle.definitions.specs.Text.{edit}
 use Rattle.text.specs.Gaps.{IsGap, HasRoom}
-use Rattle.text.proofs.Few.{small, small_edited}
+use Rattle.text.proofs.FewPieces.{small, small_edited}
 use Rattle.text.proofs.gaps.splice_between.Goals as goal
 
 pub returns : goal.returns

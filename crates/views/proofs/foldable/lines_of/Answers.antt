@@ -1,5 +1,5 @@
 use Rattle.std.proofs.Common.{ℕ, ap, ◌≡◌, ◌∷◌, ◌++◌, [], sym, subst}
-use Rattle.views.proofs.Lining.{IsLined, lined_more, lined_skipped, lined_all}
+use Rattle.views.proofs.LinesOfTokens.{IsLined, lined_more, lined_skipped, lined_all}
 use Rattle.views.proofs.foldable.lines_of.Goals as goal
 
 pub loop-token-preserved : goal.loop-token-preserved

@@ -1,5 +1,5 @@
 use Rattle.std.specs.Prelude.{Bool, List}
-use Rattle.views.proofs.Lining.{AreMarked, IsLined}
+use Rattle.views.proofs.LinesOfTokens.{AreMarked, IsLined}
 use Rattle.views.proofs.foldable.lines_of.Given as goal
 
 abbrev pub invariant-loop-token : goal.invariant-loop-token

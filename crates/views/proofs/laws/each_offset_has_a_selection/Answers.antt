@@ -1,4 +1,4 @@
-use Rattle.views.proofs.Selected.{some_selection}
+use Rattle.views.proofs.SelectionOfOffset.{some_selection}
 use Rattle.views.proofs.laws.each_offset_has_a_selection.Goals as goal
 
 pub returns : goal.returns

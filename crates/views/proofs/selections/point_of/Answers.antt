@@ -1,6 +1,6 @@
 use Rattle.std.proofs.Common.{sym, ap, ◌∙◌, subst}
 use Rattle.std.specs.Prelude.{option_copied}
-use Rattle.views.proofs.Located.{IsLocated, point_inside, point_skipped, point_behind}
+use Rattle.views.proofs.LocatedOffset.{IsLocated, point_inside, point_skipped, point_after}
 use Rattle.views.proofs.selections.point_of.Goals as goal
 
 pub returns-in-Some-clause-around : goal.returns-in-Some-clause-around
@@ -19,4 +19,4 @@ pub returns-in_default-2-clause-around : goal.returns-in_default-2-clause-around
 returns-in_default-2-clause-around c = λ rules skips t h short.
     let found : IsLocated c.items.result.now c.args.offset c.locate-place.result.0 c.locate-place.result.1 = record { within = c.locate-place.ensures.within; sum = c.locate-place.ensures.before; not_before = c.locate-place.ensures.not_before; reached = c.locate-place.ensures.reached } in
     let located = subst (λ xs. IsLocated xs c.args.offset c.locate-place.result.0 c.locate-place.result.1) c.items.ensures found in
-    point_behind rules skips t c.args.tokens.now.items h short c.args.offset c.locate-place.result.0 c.locate-place.result.1 located (sym c.token.ensures ∙ ap option_copied c.in_default.is)
+    point_after rules skips t c.args.tokens.now.items h short c.args.offset c.locate-place.result.0 c.locate-place.result.1 located (sym c.token.ensures ∙ ap option_copied c.in_default.is)

@@ -6,10 +6,10 @@ use Rattle.definitions.specs.declared.Range.{Range}
 use Rattle.definitions.specs.Answers.{range_of}
 use Rattle.views.proofs.selections.ranges_of.Goals as goal
 
-one_more : (f : ℕ × ℕ → Range) (told : List Range) (old rest : List (ℕ × ℕ)) (x : ℕ × ℕ) → old ≡ push rest x → (told ++ f x ∷ []) ++ reverse (map f rest) ≡ told ++ reverse (map f old)
-one_more f told old rest x e =
-    append_assoc told (f x ∷ []) (reverse (map f rest))
-    ∙ ap (λ rs. told ++ rs) (sym (reverse-append (map f rest) (f x ∷ [])) ∙ ap reverse (sym (map-append f rest (x ∷ []))) ∙ ap (λ xs. reverse (map f xs)) (sym e))
+one_more : (f : ℕ × ℕ → Range) (reported : List Range) (old rest : List (ℕ × ℕ)) (x : ℕ × ℕ) → old ≡ push rest x → (reported ++ f x ∷ []) ++ reverse (map f rest) ≡ reported ++ reverse (map f old)
+one_more f reported old rest x e =
+    append_assoc reported (f x ∷ []) (reverse (map f rest))
+    ∙ ap (λ rs. reported ++ rs) (sym (reverse-append (map f rest) (f x ∷ [])) ∙ ap reverse (sym (map-append f rest (x ∷ []))) ∙ ap (λ xs. reverse (map f xs)) (sym e))
 
 pub loop-start-init : goal.loop-start-init
 loop-start-init c =

@@ -5,8 +5,8 @@ use Rattle.definitions.specs.Answers.{range_of}
 use Rattle.grammar.specs.Grammars.{FileGrammar}
 use Rattle.lexer.specs.Tokens.{is_significant, plain}
 use Rattle.views.specs.Around.{IsAround, IsSpanOf}
-use Rattle.views.specs.Told.{placed_parts}
-use Rattle.views.proofs.Selected.{roots_fit, spans_stand, selected_roots}
+use Rattle.views.specs.Contents.{placed_parts}
+use Rattle.views.proofs.SelectionOfOffset.{roots_fit, spans_stand, selected_roots}
 use Rattle.views.proofs.selections.selection.Goals as goal
 
 pub spans_around-requires-clause-fits : goal.spans_around-requires-clause-fits
@@ -14,8 +14,8 @@ spans_around-requires-clause-fits c =
     let short : length c.args.text.now ≤ 1073741824 = omega (arith, c.len.ensures.count, c.len.ensures.few) in
     roots_fit c.args.unit c.requires.0 c.args.text.now c.args.tokens.now.items c.args.store.now c.args.roots.now c.requires.1 c.requires.2 short
 
-pub offsets_told-requires : goal.offsets_told-requires
-offsets_told-requires c =
+pub selection_offsets-requires : goal.selection_offsets-requires
+selection_offsets-requires c =
     let short : length c.args.text.now ≤ 1073741824 = omega (arith, c.len.ensures.count, c.len.ensures.few) in
     let file : FileGrammar = c.requires.0 in
     let around : IsAround (placed_parts file (map plain c.args.tokens.now.items)) c.args.offset c.point_of.result.reached c.point_of.result.first = c.point_of.ensures.around file.patterns file.skips c.args.text.now c.requires.1 short in

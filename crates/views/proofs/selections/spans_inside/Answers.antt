@@ -2,7 +2,7 @@ use Rattle.std.proofs.Common.{◌≡◌, true, false, List, map, sym, ap, ◌∙
 use Rattle.definitions.specs.Tokens.{Placed, placed, significant}
 use Rattle.lexer.specs.Tokens.{plain}
 use Rattle.views.specs.Around.{is_same, offsets_of}
-use Rattle.views.proofs.Selecting.{inside_same, inside_other}
+use Rattle.views.proofs.SpansAround.{inside_same, inside_other}
 use Rattle.views.proofs.selections.spans_inside.Goals as goal
 
 pub returns-in-Some-clause-inside : goal.returns-in-Some-clause-inside

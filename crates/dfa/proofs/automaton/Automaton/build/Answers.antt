@@ -3,9 +3,9 @@ use Rattle.definitions.specs.Text.{IsCharacter}
 use Rattle.dfa.specs.Alphabet.{all_cuts}
 use Rattle.dfa.specs.Built.{AreRows, members}
 use Rattle.dfa.specs.Table.{IsAscending, IsAutomaton, part}
-use Rattle.dfa.proofs.Built.{automaton}
-use Rattle.dfa.proofs.Counted.{few}
-use Rattle.dfa.proofs.Filled.{table_of_rows}
+use Rattle.dfa.proofs.CompleteTable.{automaton}
+use Rattle.dfa.proofs.StateCount.{few}
+use Rattle.dfa.proofs.AddedRow.{table_of_rows}
 use Rattle.dfa.proofs.automaton.Automaton.build.Goals as goal
 
 pub states_of-requires-clause-ascending : goal.states_of-requires-clause-ascending

@@ -4,7 +4,7 @@ use Rattle.std.proofs.lemmas.List.Elements.{All-nil}
 use Rattle.definitions.specs.Text.{IsCharacter}
 use Rattle.definitions.proofs.TextLaws.{IsCharacter-from_scalar}
 use Rattle.dfa.specs.Table.{follower}
-use Rattle.dfa.proofs.Best.{best_none, state_after-none, within_reach, Ends, piece_of, reach_of, more_state, more_text, more_front, more_first, more_dead, fronts_more, best_more_none, best_more_some}
+use Rattle.dfa.proofs.LongestMatch.{best_none, state_after-none, within_reach, Ends, piece_of, reach_of, more_state, more_text, more_prefix, more_first, more_dead, prefixes_more, best_more_none, best_more_some}
 use Rattle.dfa.proofs.automaton.Automaton.longest.Goals as goal
 use Rattle.dfa.proofs.automaton.Automaton.longest.Goals.{else-loop-read-test, then-loop-read-test+in_default}
 
@@ -40,7 +40,7 @@ loop-read-preserved g c =
     let read : c.next-c.result ≡ slice_index_or t c.loop-read.read 0 = c.next-c.ensures.is ∙ sym (get_or-drop c.args.from (g.S.Source.text c.args.source.now) c.loop-read.read 0) in
     let character : IsCharacter c.next-c.result = IsCharacter-from_scalar c.next-c.result c.next-c.type_inv.1.1 in
     let next : follower c.args.self.now c.loop-read.state c.next-c.result ≡ Some c.in-Some.next = cc in
-    let accepted : slice_index_or c.args.self.now.accepts c.in-Some.next None ≡ None = cc (c.in_default-accepted.is) in
+    let accepted_rule : slice_index_or c.args.self.now.accepts c.in-Some.next None ≡ None = cc (c.in_default-accepted_rule.is) in
     record {
       in_text = omega arith;
       in_rows = search rules;
@@ -53,20 +53,20 @@ loop-read-preserved g c =
       so_far = λ ps a.
           let old = c.loop-read.invariant.so_far ps a in
           let is = c.loop-read.invariant.stands in (
-            fronts_more ps t c.loop-read.read old.0 (more_front ps _ a t c.loop-read.read c.loop-read.state c.next-c.result c.loop-read.invariant.text character lt read is c.in-Some.next next),
-            best_more_none ps t c.loop-read.read _ _ old.1 (more_first ps _ a t c.loop-read.read c.loop-read.state c.next-c.result c.loop-read.invariant.text character lt read is c.in-Some.next None next accepted),
+            prefixes_more ps t c.loop-read.read old.0 (more_prefix ps _ a t c.loop-read.read c.loop-read.state c.next-c.result c.loop-read.invariant.text character lt read is c.in-Some.next next),
+            best_more_none ps t c.loop-read.read _ _ old.1 (more_first ps _ a t c.loop-read.read c.loop-read.state c.next-c.result c.loop-read.invariant.text character lt read is c.in-Some.next None next accepted_rule),
           );
     }
 
-pub loop-read-preserved-in-Some-accepted : goal.loop-read-preserved-in-Some-accepted
-loop-read-preserved-in-Some-accepted g c =
+pub loop-read-preserved-in-Some-accepted_rule : goal.loop-read-preserved-in-Some-accepted_rule
+loop-read-preserved-in-Some-accepted_rule g c =
     let t = drop c.args.from (g.S.Source.text c.args.source.now) in
     let many : length t ≡ c.len.result - c.args.from = length-drop c.args.from (g.S.Source.text c.args.source.now) ∙ omega arith in
     let lt : c.loop-read.read < length t = omega arith in
     let read : c.next-c.result ≡ slice_index_or t c.loop-read.read 0 = c.next-c.ensures.is ∙ sym (get_or-drop c.args.from (g.S.Source.text c.args.source.now) c.loop-read.read 0) in
     let character : IsCharacter c.next-c.result = IsCharacter-from_scalar c.next-c.result c.next-c.type_inv.1.1 in
     let next : follower c.args.self.now c.loop-read.state c.next-c.result ≡ Some c.in-Some.next = cc in
-    let accepted : slice_index_or c.args.self.now.accepts c.in-Some.next None ≡ Some c.in-Some-accepted.k = cc in
+    let accepted_rule : slice_index_or c.args.self.now.accepts c.in-Some.next None ≡ Some c.in-Some-accepted_rule.k = cc in
     record {
       in_text = omega arith;
       in_rows = search rules;
@@ -79,8 +79,8 @@ loop-read-preserved-in-Some-accepted g c =
       so_far = λ ps a.
           let old = c.loop-read.invariant.so_far ps a in
           let is = c.loop-read.invariant.stands in (
-            fronts_more ps t c.loop-read.read old.0 (more_front ps _ a t c.loop-read.read c.loop-read.state c.next-c.result c.loop-read.invariant.text character lt read is c.in-Some.next next),
-            best_more_some ps t c.loop-read.read c.in-Some-accepted.k (more_first ps _ a t c.loop-read.read c.loop-read.state c.next-c.result c.loop-read.invariant.text character lt read is c.in-Some.next (Some c.in-Some-accepted.k) next accepted),
+            prefixes_more ps t c.loop-read.read old.0 (more_prefix ps _ a t c.loop-read.read c.loop-read.state c.next-c.result c.loop-read.invariant.text character lt read is c.in-Some.next next),
+            best_more_some ps t c.loop-read.read c.in-Some-accepted_rule.k (more_first ps _ a t c.loop-read.read c.loop-read.state c.next-c.result c.loop-read.invariant.text character lt read is c.in-Some.next (Some c.in-Some-accepted_rule.k) next accepted_rule),
           );
     }
 

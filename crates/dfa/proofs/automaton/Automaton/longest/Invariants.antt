@@ -1,9 +1,9 @@
 use Rattle.std.proofs.Common.{length, ℕ, ◌+◌, ◌-◌, ◌≡◌, ◌≤◌, ◌<◌, List, take, drop, Some, None}
 use Rattle.definitions.specs.declared.expression.Expression.{Expression}
 use Rattle.definitions.specs.Text.{IsText}
-use Rattle.definitions.specs.Tokens.{IsRuleFront}
+use Rattle.definitions.specs.Tokens.{IsRulePrefix}
 use Rattle.dfa.specs.Table.{IsAutomaton, state_after}
-use Rattle.dfa.proofs.Best.{IsBest}
+use Rattle.dfa.proofs.LongestMatch.{IsBest}
 use Rattle.dfa.proofs.automaton.Automaton.longest.Given as goal
 
 abbrev pub invariant-loop-read : goal.invariant-loop-read
@@ -17,7 +17,7 @@ invariant-loop-read g l =
       none_at_end : l.rest ≡ 0 → (l.best.rule ≡ None) × (l.best.length ≡ 0);
       stands : state_after l.self (take l.read (drop l.from (g.S.Source.text l.source))) ≡ Some l.state;
       text : IsText (take l.read (drop l.from (g.S.Source.text l.source)));
-      so_far : (rules : List Expression) → IsAutomaton rules l.self → ((m : ℕ) → 1 ≤ m → m ≤ l.read → IsRuleFront rules (take m (drop l.from (g.S.Source.text l.source)))) × IsBest rules (drop l.from (g.S.Source.text l.source)) l.read l.best.rule l.best.length;
+      so_far : (rules : List Expression) → IsAutomaton rules l.self → ((m : ℕ) → 1 ≤ m → m ≤ l.read → IsRulePrefix rules (take m (drop l.from (g.S.Source.text l.source)))) × IsBest rules (drop l.from (g.S.Source.text l.source)) l.read l.best.rule l.best.length;
     }
 
 abbrev pub decreases-loop-read : goal.decreases-loop-read

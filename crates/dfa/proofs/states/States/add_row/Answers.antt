@@ -3,7 +3,7 @@ use Rattle.std.proofs.lemmas.Bool.{eq-eqb, eqb-true}
 use Rattle.dfa.specs.Marks.{all_positions, first_end}
 use Rattle.dfa.specs.Sets.{AreMarksOf}
 use Rattle.dfa.specs.Built.{members, AreRows, AreStates}
-use Rattle.dfa.proofs.Filled.{no_mark, length-unmarked, length-all_next, within_rules, within_parts, reached_parts, rows_made}
+use Rattle.dfa.proofs.AddedRow.{no_mark, length-unmarked, length-all_next, within_rules, within_parts, reached_parts, rows_made}
 use Rattle.dfa.proofs.Numbered.{stored_at}
 use Rattle.dfa.proofs.states.States.add_row.Goals as goal
 

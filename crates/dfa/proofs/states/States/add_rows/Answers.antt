@@ -1,7 +1,7 @@
 use Rattle.std.proofs.Common.{ℕ, ◌-◌, ◌<◌, Vec, Global, length, arith}
 use Rattle.std.proofs.lemmas.List.{length-map}
 use Rattle.dfa.specs.Built.{members}
-use Rattle.dfa.proofs.Counted.{many_states}
+use Rattle.dfa.proofs.StateCount.{many_states}
 use Rattle.dfa.proofs.states.States.add_rows.Goals as goal
 
 pub returns-in-Err-clause-many : goal.returns-in-Err-clause-many

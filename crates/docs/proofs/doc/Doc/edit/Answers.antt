@@ -11,9 +11,9 @@ use Rattle.docs.specs.Docs.{last_edit}
 use Rattle.docs.specs.Texts.{OpenDocument}
 use Rattle.docs.specs.declared.doc.Doc.{Doc}
 use Rattle.docs.specs.Edits.{edit_of}
-use Rattle.docs.proofs.Edits.{next_is, next_later, next_positive, number_after, same_edit}
+use Rattle.docs.proofs.Edits.{next_is, next_later, next_positive, number_after_edit, same_edit}
 use Rattle.docs.proofs.Stamps.{born_on, stamped_so}
-use Rattle.docs.proofs.Refusals.{IsText-changed, large_edit, large_or_not, passed_on, behind_text, all_made}
+use Rattle.docs.proofs.Refusals.{IsText-changed, large_edit, large_or_not, passed_on, after_text, all_made}
 use Rattle.docs.proofs.doc.Doc.edit.Goals as goal
 
 pub rescan-requires : goal.rescan-requires
@@ -37,8 +37,8 @@ pub returns-clause-is : goal.returns-clause-is
 returns-clause-is c =
     let old = c.args.self.now in
     let next : Doc = record { unit = old.unit; version = old.version; text = c.replace.new.self; tokens = c.rescan.new.tokens; store = c.reparse.new.store; parse = c.reparse.new.parse } in
-    let told : List ℕ → OpenDocument = λ t. record { unit = old.unit; version = old.version; text = t; last = last_edit next } in
-    ap told (c.in_ok-replace.ensures.edited ∙ sym (c.span-from.ensures.edits (chars c.args.new.now)))
+    let reported : List ℕ → OpenDocument = λ t. record { unit = old.unit; version = old.version; text = t; last = last_edit next } in
+    ap reported (c.in_ok-replace.ensures.edited ∙ sym (c.span-from.ensures.edits (chars c.args.new.now)))
 
 pub returns-clause-current : goal.returns-clause-current
 returns-clause-current c =
@@ -78,7 +78,7 @@ returns-clause-stamps c =
     let number = c.in_ok-reparse.ensures.number ∙ (c.saturating_add.ensures ∙ ap (λ n. min (n + 1) 18_446_744_073_709_551_615) c.number.ensures) in
     let long = length-edit old.text s c.span-from.result.0 c.span-from.result.1 c.span-from.ensures.ordered c.span-from.ensures.in_range in
     let inserted : c.len.result - (c.len-before.result - (c.span-from.result.1 - c.span-from.result.0)) ≡ length s = omega (arith, long, c.len.ensures.count, ap length c.in_ok-replace.ensures.edited, c.len-before.ensures.count, c.span-from.ensures.ordered, c.span-from.ensures.in_range) in
-    let edit = same_edit old.unit old.text c.args.range s c.span-from.result _ c.saturating_add.result c.reparse.new.parse.number c.span-from.ensures.is inserted (sym c.in_ok-reparse.ensures.number) ∙ ap (edit_of old.unit old.text c.args.range s) (number_after old next number) in
+    let edit = same_edit old.unit old.text c.args.range s c.span-from.result _ c.saturating_add.result c.reparse.new.parse.number c.span-from.ensures.is inserted (sym c.in_ok-reparse.ensures.number) ∙ ap (edit_of old.unit old.text c.args.range s) (number_after_edit old next number) in
     stamped_so c.args.language.now.file _ _ old next c.in_ok-splice.ensures.splice c.in_ok-splice.ensures.kept c.in_ok-reparse.ensures.stamps c.in_ok-reparse.ensures.older c.in_ok-reparse.ensures.anew _ edit
 
 pub returns-in_err-replace-clause-too_large : goal.returns-in_err-replace-clause-too_large
@@ -93,14 +93,14 @@ returns-in_err-splice-clause-too_large c =
     let p = err_from_is_err_and c.from_residual-in_err-splice.result c.from_residual-in_err-splice.ensures.1 in
     let over = large_or_not _ (IsText-changed c.args.self.now.unit c.args.self.now.text c.args.range c.args.new.now c.len-before.ensures.characters c.utf8.new) in
     let by = large_edit c.replace.result (c.span-from.ensures.edits (chars c.args.new.now)) c.replace.ensures.too_large in
-    behind_text c.replace.result _ _ by over _ c.in_ok-replace.field-0 p.0 c.in_ok-replace.was p.1 p.2
+    after_text c.replace.result _ _ by over _ c.in_ok-replace.field-0 p.0 c.in_ok-replace.was p.1 p.2
 
 pub returns-in_err-reparse-clause-too_large : goal.returns-in_err-reparse-clause-too_large
 returns-in_err-reparse-clause-too_large c =
     let p = err_from_is_err_and c.from_residual-in_err-reparse.result c.from_residual-in_err-reparse.ensures.1 in
     let over = large_or_not _ (IsText-changed c.args.self.now.unit c.args.self.now.text c.args.range c.args.new.now c.len-before.ensures.characters c.utf8.new) in
     let by = large_edit c.replace.result (c.span-from.ensures.edits (chars c.args.new.now)) c.replace.ensures.too_large in
-    behind_text c.replace.result _ _ by over _ c.in_ok-replace.field-0 p.0 c.in_ok-replace.was p.1 p.2
+    after_text c.replace.result _ _ by over _ c.in_ok-replace.field-0 p.0 c.in_ok-replace.was p.1 p.2
 
 pub returns-clause-too_large : goal.returns-clause-too_large
 returns-clause-too_large c =

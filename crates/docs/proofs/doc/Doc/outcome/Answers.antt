@@ -1,5 +1,5 @@
 use Rattle.std.proofs.Common.{sym, ◌∙◌, string_bytes}
-use Rattle.docs.proofs.Current.{tree_outcome}
+use Rattle.docs.proofs.StoredReading.{tree_outcome}
 use Rattle.docs.proofs.doc.Doc.outcome.Goals as goal
 
 pub returns : goal.returns

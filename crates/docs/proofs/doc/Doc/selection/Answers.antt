@@ -1,5 +1,5 @@
 use Rattle.std.proofs.Common.{refl}
-use Rattle.docs.proofs.Current.{has_the_nodes, roots_found, selection_answered}
+use Rattle.docs.proofs.StoredReading.{has_the_nodes, roots_found, selection_answered}
 use Rattle.docs.proofs.doc.Doc.selection.Goals as goal
 
 pub selection-requires : goal.selection-requires

@@ -1,9 +1,9 @@
 use Rattle.std.proofs.Common.{map, take}
-use Rattle.views.specs.Told.{trees_of_roots}
+use Rattle.views.specs.Contents.{trees_of_roots}
 use Rattle.docs.specs.Answers.{AreSelections}
 use Rattle.docs.specs.Docs.{IsCurrent}
 use Rattle.docs.specs.Languages.{LanguageData}
-use Rattle.docs.proofs.Current.{reading_of}
+use Rattle.docs.proofs.StoredReading.{reading_of}
 use Rattle.docs.proofs.doc.Doc.selections.Given as goal
 
 -- what was found around the positions so far, in the trees of the stack

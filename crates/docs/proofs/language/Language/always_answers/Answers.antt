@@ -3,13 +3,13 @@ use Rattle.definitions.specs.Sentences.{IsViable}
 use Rattle.definitions.specs.Trees.{Grammar, yield}
 use Rattle.tables.specs.Decidable.{AreMovesDecided}
 use Rattle.tables.specs.Tables.{IsAccepted}
-use Rattle.views.specs.Told.{placed_parts}
+use Rattle.views.specs.Contents.{placed_parts}
 use Rattle.docs.specs.Languages.{LanguageData}
 use Rattle.docs.specs.Answers.{AlwaysAnswers, AnswersOnce}
-use Rattle.docs.proofs.Always.{LayersAnswer, always_answers}
+use Rattle.docs.proofs.EachReadingExists.{LayersAnswer, always_answers}
 use Rattle.docs.proofs.Countable.{always_counts}
 use Rattle.docs.proofs.Edits.{counts_once}
-use Rattle.docs.proofs.Once.{answers_once}
+use Rattle.docs.proofs.EachReadingIsUnique.{answers_once}
 use Rattle.docs.proofs.language.Language.always_answers.Goals as goal
 
 pub returns-clause-always : goal.returns-clause-always

@@ -4,7 +4,7 @@ use Rattle.tables.specs.Faults.{IsRight}
 use Rattle.tables.specs.declared.tables.TableFault.{TableFault}
 use Rattle.tables.specs.declared.tables.TableFault.TheVariants.{Conflict}
 use Rattle.tables.specs.Reports.{IsReport}
-use Rattle.tables.specs.declared.conflict.Conflict.{Conflict as Told}
+use Rattle.tables.specs.declared.conflict.Conflict.{Conflict as Shown}
 use Rattle.docs.proofs.language.Language.load.Goals as goal
 
 pub returns-in-Err-TooManyStates-clause-fault : goal.returns-in-Err-TooManyStates-clause-fault
@@ -37,5 +37,5 @@ returns-in-Err-Conflict-clause-fault c =
         few_states = λ more. c.in-Ok-build.ensures.few (subst (λ rules. HasMoreStatesThan rules 4096) (sym c.patterns.ensures) more);
       },
       right.1,
-      subst (λ (x : Told). IsReport c.in-Ok.grammar.grammar x) (sym c.in-Err-Conflict.conflict-is) right.0,
+      subst (λ (x : Shown). IsReport c.in-Ok.grammar.grammar x) (sym c.in-Err-Conflict.conflict-is) right.0,
     )

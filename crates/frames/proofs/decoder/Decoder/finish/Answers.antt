@@ -1,6 +1,6 @@
 use Rattle.std.proofs.Common.{subst, sym, ap, ◌∙◌, ◌≡◌}
 use Rattle.frames.specs.Frames.{Faulty, IsCut, tail_of}
-use Rattle.frames.proofs.Stable.{fault_is}
+use Rattle.frames.proofs.PrefixDecides.{fault_is}
 use Rattle.frames.proofs.decoder.Decoder.finish.Goals as goal
 
 pub returns-in-Some-clause-truncated : goal.returns-in-Some-clause-truncated

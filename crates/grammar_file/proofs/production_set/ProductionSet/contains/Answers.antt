@@ -2,7 +2,7 @@ use Rattle.std.proofs.Common.{◌∙◌, ap}
 use Rattle.std.specs.List.{list_any}
 use Rattle.std.specs.Str.{bytes_eq}
 use Rattle.std.specs.Cmp.Lexicographic.{pointwise}
-use Rattle.grammar_file.specs.Said.{are_among}
+use Rattle.grammar_file.specs.Kept.{are_among}
 use Rattle.grammar_file.proofs.Sets.{among-keys}
 use Rattle.grammar_file.proofs.production_set.ProductionSet.contains.Goals as goal
 

@@ -1,6 +1,6 @@
 use Rattle.std.proofs.Common.{take}
 use Rattle.grammar_file.specs.Statements.{statements_in}
-use Rattle.grammar_file.specs.Said.{texts, IsRead}
+use Rattle.grammar_file.specs.Kept.{texts, IsRead}
 use Rattle.grammar_file.proofs.statements.File.add_lines.Given as goal
 
 abbrev pub invariant-loop-index : goal.invariant-loop-index

@@ -3,28 +3,28 @@ use Rattle.grammar_file.specs.Statements.{at}
 use Rattle.std.proofs.lemmas.Result.{on_ok_weaker, IfErr-weaker}
 use Rattle.grammar_file.specs.Contents.{defines}
 use Rattle.grammar_file.specs.Faults.{limit_fault}
-use Rattle.grammar_file.specs.Said.{said, all_said, AreNames}
+use Rattle.grammar_file.specs.Kept.{line_view, lines_view, AreNames}
 use Rattle.grammar_file.proofs.Lines.{read-step, limit_line_fault}
 use Rattle.grammar_file.proofs.statements.File.add_statement.Goals as goal
 
 pub test_limits-requires-clause-names : goal.test_limits-requires-clause-names
 test_limits-requires-clause-names c =
-    subst (AreNames c.note.new.self.names) (sym (c.in_ok-add_line.ensures ∙ ap (λ ns. all_said ns ++ at c.args.number (said c.args.line) ∷ []) c.in_ok-note.ensures.statements)) (c.in_ok-note.ensures.names c.args.number)
+    subst (AreNames c.note.new.self.names) (sym (c.in_ok-add_line.ensures ∙ ap (λ ns. lines_view ns ++ at c.args.number (line_view c.args.line) ∷ []) c.in_ok-note.ensures.statements)) (c.in_ok-note.ensures.names c.args.number)
 
 pub returns-clause-read : goal.returns-clause-read
 returns-clause-read c =
-    let ss = all_said c.args.self.now.statements.items in
-    let said_is = c.in_ok-add_line.ensures ∙ ap (λ ns. all_said ns ++ at c.args.number (said c.args.line) ∷ []) c.in_ok-note.ensures.statements in
+    let ss = lines_view c.args.self.now.statements.items in
+    let said_is = c.in_ok-add_line.ensures ∙ ap (λ ns. lines_view ns ++ at c.args.number (line_view c.args.line) ∷ []) c.in_ok-note.ensures.statements in
     on_ok_weaker c.test_limits.result
     (λ none.
-    read-step c.args.self.now (record { statements = c.add_line.new.statements; names = c.note.new.self.names; patterns = c.note.new.self.patterns; defined = c.note.new.self.defined }) ss c.args.number (said c.args.line) c.in_ok-pattern.pattern (defines ss (said c.args.line))
+    read-step c.args.self.now (record { statements = c.add_line.new.statements; names = c.note.new.self.names; patterns = c.note.new.self.patterns; defined = c.note.new.self.defined }) ss c.args.number (line_view c.args.line) c.in_ok-pattern.pattern (defines ss (line_view c.args.line))
     c.requires c.in_ok-pattern.ensures.early c.in_ok-pattern.ensures.pattern c.in_ok-pattern.ensures.limit (ap limit_fault (sym said_is) ∙ none) said_is
     (c.in_ok-note.ensures.names c.args.number) c.in_ok-note.ensures.patterns refl c.in_ok-note.ensures.defined)
     c.test_limits.ensures.fine
 
 pub returns-clause-fault : goal.returns-clause-fault
 returns-clause-fault c =
-    let said_is = c.in_ok-add_line.ensures ∙ ap (λ ns. all_said ns ++ at c.args.number (said c.args.line) ∷ []) c.in_ok-note.ensures.statements in
+    let said_is = c.in_ok-add_line.ensures ∙ ap (λ ns. lines_view ns ++ at c.args.number (line_view c.args.line) ∷ []) c.in_ok-note.ensures.statements in
     IfErr-weaker c.test_limits.result _ _
-    (λ r told. limit_line_fault (all_said c.args.self.now.statements.items) (all_said c.add_line.new.statements.items) c.args.number (said c.args.line) c.in_ok-pattern.pattern r said_is c.in_ok-pattern.ensures.early c.in_ok-pattern.ensures.pattern c.in_ok-pattern.ensures.limit told)
+    (λ r shown. limit_line_fault (lines_view c.args.self.now.statements.items) (lines_view c.add_line.new.statements.items) c.args.number (line_view c.args.line) c.in_ok-pattern.pattern r said_is c.in_ok-pattern.ensures.early c.in_ok-pattern.ensures.pattern c.in_ok-pattern.ensures.limit shown)
     c.test_limits.ensures.fault

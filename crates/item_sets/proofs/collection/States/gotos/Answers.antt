@@ -4,7 +4,7 @@ use Rattle.item_sets.specs.Collection.{IsStep}
 use Rattle.item_sets.specs.Order.{IsOrdered}
 use Rattle.item_sets.specs.States.{HasKernel}
 use Rattle.item_sets.specs.Symbols.{symbol_of}
-use Rattle.item_sets.proofs.Stepping.{goes_on_trans, steps_more}
+use Rattle.item_sets.proofs.GotosGrow.{goes_on_trans, steps_more}
 use Rattle.item_sets.proofs.collection.States.gotos.Goals as goal
 
 pub goto-requires : goal.goto-requires
@@ -20,12 +20,12 @@ goto-requires c =
     let kernel : c.items.result.now ≡ slice_index_or kernels k [] = c.items.ensures ∙ c.kernel-item.is ∙ ap (λ x. slice_index_or x k c.kernel-item.result) same ∙ get_or_default kernels k c.kernel-item.result [] below in
     let long : c.len.result ≡ k = (let n = c.len.ensures in let ok = c.loop-kernel.to.ok in let filled = i.filled in omega (arith, n, ok, filled)) in
     let at : c.symbol_at-symbol.result ≡ symbol_of g k = c.symbol_at-symbol.ensures ∙ ap (symbol_of g) long in
-    let behind = c.in_ok-kernels.ensures.each k below in
+    let after_dot = c.in_ok-kernels.ensures.each k below in
     record {
       states = i.states;
       from = let l = i.goes_on.longer in let b = c.requires.from in omega (arith, l, b);
-      ordered = subst (IsOrdered shape) (sym kernel) behind.ordered;
-      leads = λ p h. subst (λ y. HasKernel g y (p ++ c.symbol_at-symbol.result ∷ [])) (sym kernel) (subst (λ s. HasKernel g (slice_index_or kernels k []) (p ++ s ∷ [])) (sym at) (behind.leads p (c.requires.items.set p (subst (λ y. HasKernel g y p) (i.goes_on.same from c.requires.from) h))));
+      ordered = subst (IsOrdered shape) (sym kernel) after_dot.ordered;
+      leads = λ p h. subst (λ y. HasKernel g y (p ++ c.symbol_at-symbol.result ∷ [])) (sym kernel) (subst (λ s. HasKernel g (slice_index_or kernels k []) (p ++ s ∷ [])) (sym at) (after_dot.leads p (c.requires.items.set p (subst (λ y. HasKernel g y p) (i.goes_on.same from c.requires.from) h))));
     }
 
 pub loop-kernel-preserved : goal.loop-kernel-preserved

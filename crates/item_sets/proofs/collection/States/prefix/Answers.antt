@@ -4,7 +4,7 @@ use Rattle.definitions.specs.declared.Symbol.TheVariants.{Rule as Terminal}
 use Rattle.item_sets.specs.declared.collection.Origin.{Origin}
 use Rattle.item_sets.specs.Collection.{kernel_at, origin_at}
 use Rattle.item_sets.specs.States.{HasKernel}
-use Rattle.item_sets.proofs.Collected.{start_item, start_kernel}
+use Rattle.item_sets.proofs.FirstKernel.{start_item, start_kernel}
 use Rattle.item_sets.proofs.collection.States.prefix.Goals as goal
 
 pub loop-at-preserved : goal.loop-at-preserved

@@ -9,9 +9,9 @@ loop-a-preserved c =
     let g = c.args.productions.now.grammar in
     let i = c.loop-a.invariant in
     let e : c.push.new.self.items ≡ c.loop-a.rows.items ++ c.in_ok-fixpoint.field-0 ∷ [] = search rules in
-    let v = c.in_ok-vanishing.ensures in
+    let v = c.in_ok-nullable.ensures in
     let r = c.in_ok-fixpoint.ensures in
-    let x = exact_begin g c.loop-a.a c.in_ok-vanishing.vanishing c.in_ok-fixpoint.field-0 (exact_vanish g c.in_ok-blank.blank c.in_ok-vanishing.vanishing v.held v.closed) r.held r.closed in
+    let x = exact_begin g c.loop-a.a c.in_ok-nullable.nullable c.in_ok-fixpoint.field-0 (exact_vanish g c.in_ok-blank.blank c.in_ok-nullable.nullable v.held v.closed) r.held r.closed in
     rw e (record {
       count = search rules;
       wide = each_more (λ a m. length m ≡ c.args.productions.now.nonterminals) c.loop-a.rows.items c.in_ok-fixpoint.field-0 [] i.wide r.marks;
@@ -22,11 +22,11 @@ pub returns : goal.returns
 returns c =
     let g = c.args.productions.now.grammar in
     let i = c.loop-a.invariant in
-    let v = c.in_ok-vanishing.ensures in
+    let v = c.in_ok-nullable.ensures in
     record {
       wide = v.marks;
       rows = search rules;
       each_wide = i.wide;
-      vanish = exact_vanish g c.in_ok-blank.blank c.in_ok-vanishing.vanishing v.held v.closed;
+      are_nullable = exact_vanish g c.in_ok-blank.blank c.in_ok-nullable.nullable v.held v.closed;
       begin = i.exact;
     }

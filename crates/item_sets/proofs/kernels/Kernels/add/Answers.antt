@@ -1,7 +1,7 @@
 use Rattle.std.proofs.Common.{refl}
 use Rattle.std.proofs.lemmas.List.{length-map}
 use Rattle.std.proofs.Common.{arith}
-use Rattle.item_sets.proofs.Filed.{items_of, found_items, list_after}
+use Rattle.item_sets.proofs.VectorSets.{items_of, found_items, list_after}
 use Rattle.item_sets.proofs.kernels.Kernels.add.Goals as goal
 use Rattle.item_sets.proofs.kernels.Kernels.add.Goals.{in-Ok, in-Err}
 

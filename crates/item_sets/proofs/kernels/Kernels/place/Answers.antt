@@ -1,5 +1,5 @@
 use Rattle.std.proofs.Common.{sym}
-use Rattle.item_sets.proofs.Filed.{found_place}
+use Rattle.item_sets.proofs.VectorSets.{found_place}
 use Rattle.item_sets.proofs.kernels.Kernels.place.Goals as goal
 
 pub returns-in-Some-clause-place : goal.returns-in-Some-clause-place

@@ -3,7 +3,7 @@ use Rattle.std.proofs.lemmas.Bool.{cases_lt}
 use Rattle.std.proofs.lemmas.List.{drop_all}
 use Rattle.lexer.specs.Rescans.{significant_kinds}
 use Rattle.lexer.specs.Tokens.{is_significant}
-use Rattle.lexer.proofs.SignificantKinds.{kinds_behind, length-kinds}
+use Rattle.lexer.proofs.SignificantKinds.{kinds_after, length-kinds}
 use Rattle.lexer.proofs.Totals.{significant_before, none_past}
 use Rattle.lexer.proofs.tokens.Tokens.kinds_from.Goals as goal
 
@@ -13,7 +13,7 @@ returns c =
     let p = c.locate-place.result.0 in
     let found = c.locate-place.ensures in
     let is : significant_kinds (drop p xs) ≡ drop c.args.k (significant_kinds xs) = elim (cases_lt c.args.k (count_by is_significant xs)) [
-      | inl lt ↦ kinds_behind xs c.args.k p (significant_before xs c.args.k p c.self.invariant lt found.within found.not_before found.reached)
+      | inl lt ↦ kinds_after xs c.args.k p (significant_before xs c.args.k p c.self.invariant lt found.within found.not_before found.reached)
       | inr ge ↦
           let past = none_past xs c.args.k p c.self.invariant ge found.within found.reached in
           ap significant_kinds (drop_all p xs past) ∙ sym (drop_all c.args.k (significant_kinds xs) (omega (arith, ge, length-kinds xs)))

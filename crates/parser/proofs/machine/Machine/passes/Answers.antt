@@ -38,14 +38,14 @@ returns-then-is_some-clause-is g c =
     let sized = c.production-root.ensures in
     let is = tree_left gr u s c.production.result c.production.ensures.tree.0 c.production.ensures.tree.1 refl c.production.ensures.tree.2 c.requires.root.0 c.requires.root.1 left sized.0 sized.1 in
     let there = (c.in-Some.ensures h.symbols (subst (IsStateOf t h.symbols) (sym c.state.ensures) (top_stands t stack states h))).1 in
-    let look : c.kind_behind-look.result ≡ look_at (drop (read + length (yield u)) kinds) None = c.kind_behind-look.ensures.is ∙ look_drop kinds (read + length (yield u)) in
+    let look : c.kind_after-look.result ≡ look_at (drop (read + length (yield u)) kinds) None = c.kind_after-look.ensures.is ∙ look_drop kinds (read + length (yield u)) in
     let some = some_is c.action.result (sym c.is_some.ensures ∙ c.if-is_some.true) in
-    let act = subst (IsAction gr (h.symbols ++ (Nonterminal left ∷ [])) c.kind_behind-look.result) some.1 (c.action.ensures.is (h.symbols ++ (Nonterminal left ∷ [])) there) in
+    let act = subst (IsAction gr (h.symbols ++ (Nonterminal left ∷ [])) c.kind_after-look.result) some.1 (c.action.ensures.is (h.symbols ++ (Nonterminal left ∷ [])) there) in
     record {
       left = left;
       is = is;
       goes = goes t stack states h u left is c.in-Some.next there;
-      can = can_reuse t stack states h u left is (drop (read + length (yield u)) kinds) c.kind_behind-look.result some.0 look c.requires.not_empty act;
+      can = can_reuse t stack states h u left is (drop (read + length (yield u)) kinds) c.kind_after-look.result some.0 look c.requires.not_empty act;
     }
 
 pub returns-else-is_some-clause-is : goal.returns-else-is_some-clause-is
@@ -63,7 +63,7 @@ returns-else-is_some-clause-is g c =
     let sized = c.production-root.ensures in
     let is = tree_left gr u s c.production.result c.production.ensures.tree.0 c.production.ensures.tree.1 refl c.production.ensures.tree.2 c.requires.root.0 c.requires.root.1 left sized.0 sized.1 in
     let there = (c.in-Some.ensures h.symbols (subst (IsStateOf t h.symbols) (sym c.state.ensures) (top_stands t stack states h))).1 in
-    let look : c.kind_behind-look.result ≡ look_at (drop (read + length (yield u)) kinds) None = c.kind_behind-look.ensures.is ∙ look_drop kinds (read + length (yield u)) in
+    let look : c.kind_after-look.result ≡ look_at (drop (read + length (yield u)) kinds) None = c.kind_after-look.ensures.is ∙ look_drop kinds (read + length (yield u)) in
     let none = none_is c.action.result (sym c.is_some.ensures ∙ c.if-is_some.false) in
-    let act = subst (IsAction gr (h.symbols ++ (Nonterminal left ∷ [])) c.kind_behind-look.result) none (c.action.ensures.is (h.symbols ++ (Nonterminal left ∷ [])) there) in
-    no_action t stack states h u left is (drop (read + length (yield u)) kinds) c.kind_behind-look.result look act
+    let act = subst (IsAction gr (h.symbols ++ (Nonterminal left ∷ [])) c.kind_after-look.result) none (c.action.ensures.is (h.symbols ++ (Nonterminal left ∷ [])) there) in
+    no_action t stack states h u left is (drop (read + length (yield u)) kinds) c.kind_after-look.result look act

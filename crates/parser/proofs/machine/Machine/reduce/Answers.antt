@@ -20,9 +20,9 @@ use Rattle.parser.proofs.machine.Machine.reduce.Goals as goal
 deep : (g : Grammar) (stack under kids : List Tree) (d right : List Symbol) (n : ℕ) → stack ≡ under ++ kids → HaveRoots g kids right → n ≡ length stack → length right ≤ n
 deep g stack under kids d right n e h l = omega (arith, l, ap length e, length-append under kids, length-roots g kids right h)
 
--- a reduction leaves its left side behind what stands under the right one
-left_behind : (g : Grammar) (stack new : List Tree) (look : Option Kind) (r : Reduces g stack look new) (d : List Symbol) → r.symbols ≡ d ++ r.right → HaveRoots g new (d ++ (Nonterminal r.left ∷ []))
-left_behind g stack new look r d is =
+-- a reduction leaves its left side after what stands under the right one
+left_after : (g : Grammar) (stack new : List Tree) (look : Option Kind) (r : Reduces g stack look new) (d : List Symbol) → r.symbols ≡ d ++ r.right → HaveRoots g new (d ++ (Nonterminal r.left ∷ []))
+left_after g stack new look r d is =
     let rd = reduces_roots g stack new look r in
     subst (λ l. HaveRoots g new (l ++ (Nonterminal r.left ∷ []))) (append_cancel_right rd.d d r.right (sym rd.symbols_are ∙ is)) rd.roots
 
@@ -100,7 +100,7 @@ returns-clause-states c =
     let long : length made.kids ≡ length sized.0 = omega (arith, d, n, sized.2, ap length made.stack_is, length-append made.under made.kids, length-take m items) in
     let new = plain_of c.branch-store.new.self c.push.new.self.stack.items in
     let r = reduced gr cells c.branch-store.new.self items c.push.new.self.stack.items c.args.production c.args.number made c.requires.below called.0 called.1 called.2 called.3 left sized.0 sized.1 long in
-    let roots = left_behind gr stack new called.0 r k.d k.symbols_are in
+    let roots = left_after gr stack new called.0 r k.d k.symbols_are in
     let there = state_under t stack states c.requires.states called.1 called.2 left sized.0 k m at in
     let state : c.state.result ≡ get_or (take (m + 1) states) (length (take (m + 1) states) - 1) 0 = c.state.ensures ∙ ap (λ l. get_or l (length l - 1) 0) c.truncate-2.ensures.items in
     let goes = (c.in-Some.ensures k.d (subst (IsStateOf t k.d) (sym state) there)).1 in

@@ -9,24 +9,24 @@ use Rattle.trees.specs.declared.store.Child.TheVariants.{Token as TokenChild, No
 use Rattle.theory.specs.Machine.{Reduces}
 use Rattle.tables.specs.Actions.{plain}
 use Rattle.tables.specs.Tables.{IsStateOf}
-use Rattle.parser.specs.Front.{Offers, IsOffer}
-use Rattle.parser.specs.declared.machine.Front.TheVariants.{Tree as OffersTree, Next as OffersNext}
+use Rattle.parser.specs.FirstInput.{Offers, IsOffer}
+use Rattle.parser.specs.declared.machine.FirstInput.TheVariants.{Tree as OffersTree, Next as OffersNext}
 use Rattle.parser.specs.Input.{input_of, IsInput}
 use Rattle.parser.specs.Machine.{plain_of}
 use Rattle.parser.specs.Parses.{IsStoppedAt}
 use Rattle.parser.specs.Run.{CameFrom, SoFar}
-use Rattle.parser.proofs.Coming.{came_reduced, came_shifted, came_taken, come_older, come_on, front_came, front_from, skipped_came, skipped_left}
+use Rattle.parser.proofs.WhereBranchesComeFrom.{came_reduced, came_shifted, came_taken, come_older, come_on, prefix_came, prefix_from, skipped_came, skipped_left}
 use Rattle.parser.proofs.Inputs.{taken}
 use Rattle.parser.proofs.Moves.{top_stands}
 use Rattle.parser.proofs.Reusing.{counted}
-use Rattle.parser.proofs.Running.{behind_first, reached, reduced_on, shifted_on, skipped_on, taken_on}
-use Rattle.parser.proofs.Stamps.{front_stays}
-use Rattle.parser.proofs.Stops.{IsStuck, at_fault, at_end, at_tree, one_on_stack}
+use Rattle.parser.proofs.Running.{after_first, reached, reduced_on, shifted_on, skipped_on, taken_on}
+use Rattle.parser.proofs.Stamps.{prefix_stays}
+use Rattle.parser.proofs.StopDecides.{IsStuck, at_fault, at_end, at_tree, one_on_stack}
 use Rattle.parser.proofs.machine.Machine.run.Goals.{then-self-count, else-self-count}
 use Rattle.parser.proofs.machine.Machine.run.Goals as goal
 
-pub front-requires-clause-input : goal.front-requires-clause-input
-front-requires-clause-input g c = subst (λ kinds. IsInput c.args.tables.now.grammar c.moves.store c.skip_empty.new.self kinds c.moves.self.read) (sym c.moves.invariant.same) (skipped_on c.args.tables.now.grammar c.moves.store c.args.kinds.now c.moves.self.read c.moves.input c.skip_empty.new.self c.skip_empty.ensures.skips c.moves.invariant.so_far.input).0
+pub first_input-requires-clause-input : goal.first_input-requires-clause-input
+first_input-requires-clause-input g c = subst (λ kinds. IsInput c.args.tables.now.grammar c.moves.store c.skip_empty.new.self kinds c.moves.self.read) (sym c.moves.invariant.same) (skipped_on c.args.tables.now.grammar c.moves.store c.args.kinds.now c.moves.self.read c.moves.input c.skip_empty.new.self c.skip_empty.ensures.skips c.moves.invariant.so_far.input).0
 
 pub moves-preserved-in-Tree : goal.moves-preserved-in-Tree
 moves-preserved-in-Tree g c =
@@ -39,12 +39,12 @@ moves-preserved-in-Tree g c =
     let before = length c.args.store.now in
     let trees = plain_of cells m.stack.items in
     let on = skipped_on t.grammar cells kinds m.read c.moves.input c.skip_empty.new.self c.skip_empty.ensures.skips h.input in
-    let now = c.front.new.input in
+    let now = c.first_input.new.input in
     let input = subst (λ kinds. IsInput t.grammar cells now kinds m.read) c.moves.invariant.same c.in_ok-id.ensures.input in
     let offers : Offers t.grammar trees (input_of cells now kinds m.read) (input_of cells c.moves.input kinds m.read) = λ f d. on.1 trees f (subst (λ kinds. Offers t.grammar trees (input_of cells now kinds m.read) (input_of cells c.skip_empty.new.self kinds m.read)) c.moves.invariant.same c.in_ok-id.ensures.offers f d) in
     let id = c.in-Tree.id in
-    let came = front_came (all_trees c.args.store.now c.args.input) cells m.read c.moves.input c.skip_empty.new.self now c.moves.invariant.came.left c.skip_empty.ensures.skips c.in_ok-id.ensures.came in
-    let older = come_older c.args.number 0 (all_trees cells c.moves.input) (all_trees cells now) (front_from cells c.moves.input c.skip_empty.new.self now c.skip_empty.ensures.skips c.in_ok-id.ensures.came) h.older in
+    let came = prefix_came (all_trees c.args.store.now c.args.input) cells m.read c.moves.input c.skip_empty.new.self now c.moves.invariant.came.left c.skip_empty.ensures.skips c.in_ok-id.ensures.came in
+    let older = come_older c.args.number 0 (all_trees cells c.moves.input) (all_trees cells now) (prefix_from cells c.moves.input c.skip_empty.new.self now c.skip_empty.ensures.skips c.in_ok-id.ensures.came) h.older in
     let offer = subst (λ kinds. IsOffer t cells trees kinds m.read now (OffersTree c.in-Tree.id c.in-Tree.next)) c.moves.invariant.same (subst (IsOffer t cells trees c.moves.kinds m.read now) c.in-Tree.is c.in_ok-id.ensures.offer) in
     let rest = c.take.new.self in
     let now_is = taken c.take.result now rest offer.0.0 (Node id) c.take.ensures offer.0.1 in
@@ -67,7 +67,7 @@ overflow_add-self-in-Some-Shift g c =
     let kinds = c.args.kinds.now in
     let m = c.moves.self in
     let trees = plain_of c.moves.store m.stack.items in
-    let offer = subst (λ kinds. IsOffer c.args.tables.now c.moves.store trees kinds m.read c.front.new.input (OffersNext c.in-Next.look)) c.moves.invariant.same (subst (IsOffer c.args.tables.now c.moves.store trees c.moves.kinds m.read c.front.new.input) c.in-Next.is c.in_ok-id.ensures.offer) in
+    let offer = subst (λ kinds. IsOffer c.args.tables.now c.moves.store trees kinds m.read c.first_input.new.input (OffersNext c.in-Next.look)) c.moves.invariant.same (subst (IsOffer c.args.tables.now c.moves.store trees c.moves.kinds m.read c.first_input.new.input) c.in-Next.is c.in_ok-id.ensures.offer) in
     let lt : m.read < length kinds = slice_get_within kinds m.read c.in-Some.kind (sym offer.0 ∙ c.in-Some.is) in
     omega (arith, lt, c.len-count.ensures, c.len-count.type_inv, c.in_ok-push-in-Some-Shift.ensures.read)
 
@@ -76,7 +76,7 @@ moves-smaller-in-Some-Shift g c =
     let kinds = c.args.kinds.now in
     let m = c.moves.self in
     let trees = plain_of c.moves.store m.stack.items in
-    let offer = subst (λ kinds. IsOffer c.args.tables.now c.moves.store trees kinds m.read c.front.new.input (OffersNext c.in-Next.look)) c.moves.invariant.same (subst (IsOffer c.args.tables.now c.moves.store trees c.moves.kinds m.read c.front.new.input) c.in-Next.is c.in_ok-id.ensures.offer) in
+    let offer = subst (λ kinds. IsOffer c.args.tables.now c.moves.store trees kinds m.read c.first_input.new.input (OffersNext c.in-Next.look)) c.moves.invariant.same (subst (IsOffer c.args.tables.now c.moves.store trees c.moves.kinds m.read c.first_input.new.input) c.in-Next.is c.in_ok-id.ensures.offer) in
     let lt : m.read < length kinds = slice_get_within kinds m.read c.in-Some.kind (sym offer.0 ∙ c.in-Some.is) in
     omega (arith, lt, c.in_ok-push-in-Some-Shift.ensures.read)
 
@@ -91,16 +91,16 @@ moves-preserved-in-Some-Shift g c =
     let before = length c.args.store.now in
     let trees = plain_of cells m.stack.items in
     let on = skipped_on t.grammar cells kinds m.read c.moves.input c.skip_empty.new.self c.skip_empty.ensures.skips h.input in
-    let now = c.front.new.input in
+    let now = c.first_input.new.input in
     let input = subst (λ kinds. IsInput t.grammar cells now kinds m.read) c.moves.invariant.same c.in_ok-id.ensures.input in
     let offers : Offers t.grammar trees (input_of cells now kinds m.read) (input_of cells c.moves.input kinds m.read) = λ f d. on.1 trees f (subst (λ kinds. Offers t.grammar trees (input_of cells now kinds m.read) (input_of cells c.skip_empty.new.self kinds m.read)) c.moves.invariant.same c.in_ok-id.ensures.offers f d) in
     let offer = subst (λ kinds. IsOffer t cells trees kinds m.read now (OffersNext c.in-Next.look)) c.moves.invariant.same (subst (IsOffer t cells trees c.moves.kinds m.read now) c.in-Next.is c.in_ok-id.ensures.offer) in
-    let came = front_came (all_trees c.args.store.now c.args.input) cells m.read c.moves.input c.skip_empty.new.self now c.moves.invariant.came.left c.skip_empty.ensures.skips c.in_ok-id.ensures.came in
-    let older = come_older c.args.number 0 (all_trees cells c.moves.input) (all_trees cells now) (front_from cells c.moves.input c.skip_empty.new.self now c.skip_empty.ensures.skips c.in_ok-id.ensures.came) h.older in
+    let came = prefix_came (all_trees c.args.store.now c.args.input) cells m.read c.moves.input c.skip_empty.new.self now c.moves.invariant.came.left c.skip_empty.ensures.skips c.in_ok-id.ensures.came in
+    let older = come_older c.args.number 0 (all_trees cells c.moves.input) (all_trees cells now) (prefix_from cells c.moves.input c.skip_empty.new.self now c.skip_empty.ensures.skips c.in_ok-id.ensures.came) h.older in
     let k = c.in-Some.kind in
     let is : slice_get kinds m.read ≡ Some k = sym offer.0 ∙ c.in-Some.is in
     let rest = c.take-in-Some-Shift.new.self in
-    let behind = behind_first t.grammar cells kinds m.read now rest c.take-in-Some-Shift.result k offer.1 input is c.take-in-Some-Shift.ensures in
+    let after = after_first t.grammar cells kinds m.read now rest c.take-in-Some-Shift.result k offer.1 input is c.take-in-Some-Shift.ensures in
     let symbols = h.has_states.symbols in
     let there = subst (IsStateOf t symbols) (sym c.state.ensures) (top_stands t trees m.states.items h.has_states) in
     let next = c.in-Some-Shift.next in
@@ -108,11 +108,11 @@ moves-preserved-in-Some-Shift g c =
     let a = called.calls.0 in
     let rule : k ≡ Token a = let same : Some k ≡ Some (Token a) = called.calls.3 in cc same in
     let goes = c.in-Some-Shift.ensures.shifts symbols a next there (c.in-Some.is ∙ ap Some rule) (ap Some c.in-Some-Shift.field-0-is) in
-    let one = shifted_on t whole kinds before c.args.number cells m.stack.items m.states.items m.read c.moves.input h now rest k a next behind input offers older rule (slice_get_within kinds m.read k is) called goes in
+    let one = shifted_on t whole kinds before c.args.number cells m.stack.items m.states.items m.read c.moves.input h now rest k a next after input offers older rule (slice_get_within kinds m.read k is) called goes in
     let push = c.in_ok-push-in-Some-Shift.ensures in
     let m' = c.push-in-Some-Shift.new.self in
     let input_now = all_trees c.args.store.now c.args.input in
-    let shifted_so = came_shifted input_now before c.args.number cells m.stack.items m.read c.moves.input c.moves.invariant.came rest k (come_on m.read 1 input_now (all_trees cells now) (all_trees cells rest) came behind.came) in
+    let shifted_so = came_shifted input_now before c.args.number cells m.stack.items m.read c.moves.input c.moves.invariant.came rest k (come_on m.read 1 input_now (all_trees cells now) (all_trees cells rest) came after.came) in
     record {
       so_far = subst (λ s. SoFar t whole kinds before c.args.number cells s m'.states.items (m'.read + 1) rest) (sym push.stack) (subst (λ s. SoFar t whole kinds before c.args.number cells (m.stack.items ++ (TokenChild k ∷ [])) s (m'.read + 1) rest) (sym push.states) (subst (λ r. SoFar t whole kinds before c.args.number cells (m.stack.items ++ (TokenChild k ∷ [])) (m.states.items ++ (next ∷ [])) (r + 1) rest) (sym push.read) one));
       came = subst (λ s. CameFrom input_now before c.args.number cells s (m'.read + 1) rest) (sym push.stack) (subst (λ r. CameFrom input_now before c.args.number cells (m.stack.items ++ (TokenChild k ∷ [])) (r + 1) rest) (sym push.read) shifted_so);
@@ -132,7 +132,7 @@ moves-preserved g c =
     let trees = plain_of cells m.stack.items in
     let full = c.skip_empty.new.self in
     let on = skipped_on t.grammar cells kinds m.read c.moves.input full c.skip_empty.ensures.skips h.input in
-    let now = c.front.new.input in
+    let now = c.first_input.new.input in
     let input = subst (λ kinds. IsInput t.grammar cells now kinds m.read) c.moves.invariant.same c.in_ok-id.ensures.input in
     let offers : Offers t.grammar trees (input_of cells now kinds m.read) (input_of cells c.moves.input kinds m.read) = λ f d. on.1 trees f (subst (λ kinds. Offers t.grammar trees (input_of cells now kinds m.read) (input_of cells c.skip_empty.new.self kinds m.read)) c.moves.invariant.same c.in_ok-id.ensures.offers f d) in
     let offer = subst (λ kinds. IsOffer t cells trees kinds m.read now (OffersNext c.in-Next.look)) c.moves.invariant.same (subst (IsOffer t cells trees c.moves.kinds m.read now) c.in-Next.is c.in_ok-id.ensures.offer) in
@@ -151,7 +151,7 @@ moves-preserved g c =
     record {
       so_far = subst (λ r. SoFar t whole kinds before c.args.number new m'.stack.items m'.states.items r c.close.new.self) (sym done.read) (subst (SoFar t whole kinds before c.args.number new m'.stack.items m'.states.items m.read) (sym closed) one);
       came = subst (λ r. CameFrom input_now before c.args.number new m'.stack.items r c.close.new.self) (sym done.read) (subst (CameFrom input_now before c.args.number new m'.stack.items m.read) (sym closed) reduced_so);
-      grown = front_stays c.args.store.now cells new c.moves.invariant.grown done.grown;
+      grown = prefix_stays c.args.store.now cells new c.moves.invariant.grown done.grown;
       same = c.in_ok-id.ensures.same ∙ c.moves.invariant.same;
     }
 
@@ -163,7 +163,7 @@ index-requires g c =
     let m = c.moves.self in
     let whole = input_of c.args.store.now c.args.input kinds 0 in
     let trees = plain_of cells m.stack.items in
-    let offer = subst (λ kinds. IsOffer t cells trees kinds m.read c.front.new.input (OffersNext c.in-Next.look)) c.moves.invariant.same (subst (IsOffer t cells trees c.moves.kinds m.read c.front.new.input) c.in-Next.is c.in_ok-id.ensures.offer) in
+    let offer = subst (λ kinds. IsOffer t cells trees kinds m.read c.first_input.new.input (OffersNext c.in-Next.look)) c.moves.invariant.same (subst (IsOffer t cells trees c.moves.kinds m.read c.first_input.new.input) c.in-Next.is c.in_ok-id.ensures.offer) in
     let here = reached t whole kinds (length c.args.store.now) c.args.number cells m.stack.items m.states.items m.read c.moves.input c.moves.invariant.so_far c.requires.accepted.productive in
     let symbols = here.has_states.symbols in
     let there = subst (IsStateOf t symbols) (sym c.state.ensures) (top_stands t trees m.states.items here.has_states) in
@@ -180,7 +180,7 @@ returns-in-Node-clause-stops g c =
     let h = c.moves.invariant.so_far in
     let whole = input_of c.args.store.now c.args.input kinds 0 in
     let trees = plain_of cells m.stack.items in
-    let offer = subst (λ kinds. IsOffer t cells trees kinds m.read c.front.new.input (OffersNext c.in-Next.look)) c.moves.invariant.same (subst (IsOffer t cells trees c.moves.kinds m.read c.front.new.input) c.in-Next.is c.in_ok-id.ensures.offer) in
+    let offer = subst (λ kinds. IsOffer t cells trees kinds m.read c.first_input.new.input (OffersNext c.in-Next.look)) c.moves.invariant.same (subst (IsOffer t cells trees c.moves.kinds m.read c.first_input.new.input) c.in-Next.is c.in_ok-id.ensures.offer) in
     let here = reached t whole kinds (length c.args.store.now) c.args.number cells m.stack.items m.states.items m.read c.moves.input h c.requires.accepted.productive in
     let symbols = here.has_states.symbols in
     let there = subst (IsStateOf t symbols) (sym c.state.ensures) (top_stands t trees m.states.items here.has_states) in
@@ -198,7 +198,7 @@ returns-in-None-clause-stops g c =
     let h = c.moves.invariant.so_far in
     let whole = input_of c.args.store.now c.args.input kinds 0 in
     let trees = plain_of cells m.stack.items in
-    let offer = subst (λ kinds. IsOffer t cells trees kinds m.read c.front.new.input (OffersNext c.in-Next.look)) c.moves.invariant.same (subst (IsOffer t cells trees c.moves.kinds m.read c.front.new.input) c.in-Next.is c.in_ok-id.ensures.offer) in
+    let offer = subst (λ kinds. IsOffer t cells trees kinds m.read c.first_input.new.input (OffersNext c.in-Next.look)) c.moves.invariant.same (subst (IsOffer t cells trees c.moves.kinds m.read c.first_input.new.input) c.in-Next.is c.in_ok-id.ensures.offer) in
     let here = reached t whole kinds (length c.args.store.now) c.args.number cells m.stack.items m.states.items m.read c.moves.input h c.requires.accepted.productive in
     let symbols = here.has_states.symbols in
     let there = subst (IsStateOf t symbols) (sym c.state.ensures) (top_stands t trees m.states.items here.has_states) in

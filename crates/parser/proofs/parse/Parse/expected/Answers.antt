@@ -1,5 +1,5 @@
 use Rattle.std.proofs.Common.{◌≡◌, refl, sym, ap, subst}
-use Rattle.parser.proofs.Expecting.{IsFault, TellsExpected, expected}
+use Rattle.parser.proofs.Expecting.{IsFault, ShowsExpected, expected}
 use Rattle.parser.proofs.parse.Parse.expected.Goals as goal
 
 pub returns-in-FaultAt : goal.returns-in-FaultAt
@@ -9,4 +9,4 @@ returns-in-FaultAt c kinds cells h =
     let is : parse.verdict ≡ c.self.inside.verdict = sym (ap (λ p. p.verdict) c.self.view_is) in
     let f : IsFault parse.verdict = subst IsFault (sym is) c.in-FaultAt.is in
     let state : c.self.inside.state ≡ parse.state = ap (λ p. p.state) c.self.view_is in
-    expected t kinds cells parse c.expects.result h parse.verdict refl f (subst (λ s. TellsExpected t s c.expects.result) state c.expects.ensures)
+    expected t kinds cells parse c.expects.result h parse.verdict refl f (subst (λ s. ShowsExpected t s c.expects.result) state c.expects.ensures)

@@ -5,29 +5,29 @@ use Rattle.trees.specs.Cells.{all_trees}
 use Rattle.parser.specs.Input.{input_of, IsInput}
 use Rattle.parser.specs.Run.{IsMadeByRun}
 use Rattle.parser.specs.Stamps.{AreOlder}
-use Rattle.parser.proofs.Plain.{plain_count, plain_stamps}
+use Rattle.parser.proofs.WholeRun.{plain_count, plain_stamps}
 use Rattle.parser.proofs.Running.{no_input}
 use Rattle.parser.proofs.Stamping.{none_in_nothing}
 use Rattle.parser.proofs.Stamps.{trees_stay}
 use Rattle.parser.proofs.parse.Parse.whole.Goals as goal
 
-pub parsed-requires-clause-input : goal.parsed-requires-clause-input
-parsed-requires-clause-input g c =
+pub parse_from-requires-clause-input : goal.parse_from-requires-clause-input
+parse_from-requires-clause-input g c =
     let kinds = g.K.Kinds.kinds c.args.kinds.now in
     subst (λ l. IsInput c.args.tables.now.grammar c.args.store.now l kinds 0) (sym c.new.ensures) (no_input c.args.tables.now.grammar c.args.store.now kinds)
 
-pub parsed-requires-clause-older : goal.parsed-requires-clause-older
-parsed-requires-clause-older g c = subst (λ l. AreOlder 0 (all_trees c.args.store.now l)) (sym c.new.ensures) (none_in_nothing 0)
+pub parse_from-requires-clause-older : goal.parse_from-requires-clause-older
+parse_from-requires-clause-older g c = subst (λ l. AreOlder 0 (all_trees c.args.store.now l)) (sym c.new.ensures) (none_in_nothing 0)
 
-pub parsed-requires-clause-fits : goal.parsed-requires-clause-fits
-parsed-requires-clause-fits g c = omega (arith, ap (λ l. all_branches (plain_of c.args.store.now l)) c.new.ensures)
+pub parse_from-requires-clause-fits : goal.parse_from-requires-clause-fits
+parse_from-requires-clause-fits g c = omega (arith, ap (λ l. all_branches (plain_of c.args.store.now l)) c.new.ensures)
 
 pub returns-in-Ok-clause-stamps : goal.returns-in-Ok-clause-stamps
 returns-in-Ok-clause-stamps g c =
     let t = c.args.tables.now in
     let kinds = g.K.Kinds.kinds c.args.kinds.now in
     let cells = c.args.store.now in
-    let new = c.parsed.new.store in
+    let new = c.parse_from.new.store in
     let stack = c.in-Ok.parse.stack in
     let run = subst (λ l. IsMadeByRun t (input_of cells l kinds 0) kinds (length cells) 0 new stack) c.new.ensures c.in-Ok.ensures.run in
     plain_stamps t (drop (0 + 0) kinds) kinds (length cells) 0 new stack run
@@ -37,7 +37,7 @@ returns-in-Ok-clause-count g c =
     let t = c.args.tables.now in
     let kinds = g.K.Kinds.kinds c.args.kinds.now in
     let cells = c.args.store.now in
-    let new = c.parsed.new.store in
+    let new = c.parse_from.new.store in
     let stack = c.in-Ok.parse.stack in
     let run = subst (λ l. IsMadeByRun t (input_of cells l kinds 0) kinds (length cells) 0 new stack) c.new.ensures c.in-Ok.ensures.run in
     plain_count t (drop (0 + 0) kinds) kinds (length cells) 0 new stack run
@@ -48,7 +48,7 @@ returns-in-Ok-clause-built g c =
     omega (arith, c.in-Ok.ensures.count, count)
 
 pub returns-in-Ok-clause-kept : goal.returns-in-Ok-clause-kept
-returns-in-Ok-clause-kept g c = trees_stay c.args.store.now c.parsed.new.store c.parsed.ensures.grown
+returns-in-Ok-clause-kept g c = trees_stay c.args.store.now c.parse_from.new.store c.parse_from.ensures.grown
 
 pub returns-in-Ok-clause-added : goal.returns-in-Ok-clause-added
 returns-in-Ok-clause-added g c = c.in-Ok.ensures.came.2.added

@@ -1,5 +1,5 @@
 use Rattle.std.proofs.Common.{arith}
-use Rattle.runs.proofs.Filled.{runs_le}
+use Rattle.runs.proofs.RefilledRuns.{runs_le}
 use Rattle.runs.proofs.list.Runs.iter_from.Goals as goal
 
 pub overflow_add-cut : goal.overflow_add-cut

@@ -1,7 +1,7 @@
 use Rattle.std.proofs.Common.{arith, sym, ap, ◌∙◌, ◌≡◌, ◌+◌, length}
 use Rattle.std.specs.Prelude.{Some, None, slice_get, option_copied}
 use Rattle.runs.proofs.Flat.{past_run, within_runs}
-use Rattle.runs.proofs.Found.{IsFound, located_none, located_in}
+use Rattle.runs.proofs.FirstReached.{IsFound, located_none, located_in}
 use Rattle.runs.proofs.list.Runs.locate.Goals as goal
 
 nowhere : (g : _) (c : goal.In_default g) → IsFound g.T.Sum.Monoid.empty g.T.Sum.Monoid.op g.T.Measured.measure (g.G.Goal.reaches c.args.goal.now) c.args.self.now c.locate-place.result.1.items c.locate-place.result.1.sum

@@ -1,6 +1,6 @@
 use Rattle.std.proofs.Common.{arith, ap, ◌∙◌, ◌++◌, length, take, drop}
 use Rattle.runs.specs.Runs.{flattened}
-use Rattle.runs.proofs.Filled.{length_replaced, spliced_few, spliced_stored}
+use Rattle.runs.proofs.RefilledRuns.{length_replaced, spliced_few, spliced_stored}
 use Rattle.runs.proofs.list.Runs.replace.Goals as goal
 
 pub replace-requires-clause-fits : goal.replace-requires-clause-fits

@@ -1,5 +1,5 @@
 use Rattle.std.proofs.Common.{arith, ap, length}
-use Rattle.runs.proofs.Few.{few, enough}
+use Rattle.runs.proofs.FewRuns.{few, enough}
 use Rattle.runs.proofs.list.Runs.runs.Goals as goal
 
 pub returns-clause-few : goal.returns-clause-few

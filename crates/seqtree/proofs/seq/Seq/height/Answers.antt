@@ -1,4 +1,4 @@
-use Rattle.seqtree.proofs.Low.{IsLow-digits}
+use Rattle.seqtree.proofs.HeightBound.{IsLow-digits}
 use Rattle.seqtree.proofs.seq.Seq.height.Goals as goal
 
 pub returns-clause-low : goal.returns-clause-low

@@ -2,7 +2,7 @@ use Rattle.std.proofs.Common.{sym, ap, subst, ◌∙◌}
 use Rattle.std.specs.Prelude.{option_map}
 use Rattle.std.specs.FinMap.{get}
 use Rattle.server.specs.Holding.{entry_view, IsEntryOf}
-use Rattle.server.proofs.Held.{get_held, map_twice, found_current}
+use Rattle.server.proofs.MapEntries.{get_held, map_twice, found_current}
 use Rattle.server.proofs.documents.Documents.get.Goals as goal
 
 pub returns-clause-is : goal.returns-clause-is

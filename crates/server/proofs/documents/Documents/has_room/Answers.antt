@@ -1,6 +1,6 @@
 use Rattle.std.proofs.Common.{◌≡◌, sym, ap, ◌∙◌, ◌||◌, nat_lt, false}
 use Rattle.std.specs.FinMap.{contains_key, len}
-use Rattle.server.proofs.Held.{len_held}
+use Rattle.server.proofs.MapEntries.{len_held}
 use Rattle.server.proofs.documents.Documents.has_room.Goals as goal
 
 pub returns-else-holds : goal.returns-else-holds

@@ -1,7 +1,7 @@
 use Rattle.std.proofs.Common.{sym, ap, ◌∙◌}
 use Rattle.std.specs.Prelude.{is_some}
 use Rattle.std.specs.FinMap.{get}
-use Rattle.server.proofs.Held.{get_held, is_some_map}
+use Rattle.server.proofs.MapEntries.{get_held, is_some_map}
 use Rattle.server.specs.Holding.{entry_view, entry_at}
 use Rattle.server.proofs.documents.Documents.holds.Goals as goal
 

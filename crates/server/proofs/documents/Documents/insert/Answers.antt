@@ -3,7 +3,7 @@ use Rattle.std.specs.Prelude.{Some, Result, Ok, Err, OnErr, option_map}
 use Rattle.std.specs.FinMap.{get, insert}
 use Rattle.std.proofs.lemmas.Map.Text.{btree_map_text_same, btree_map_updates_text}
 use Rattle.server.specs.Holding.{entry_view, IsEntryOf, AreCurrent}
-use Rattle.server.proofs.Held.{get_held, insert_held, insert_current}
+use Rattle.server.proofs.MapEntries.{get_held, insert_held, insert_current}
 use Rattle.server.proofs.documents.Documents.insert.Goals as goal
 
 pub returns-clause-ok : goal.returns-clause-ok

@@ -3,7 +3,7 @@ use Rattle.std.specs.Prelude.{Option, None, Some, option_map}
 use Rattle.std.specs.FinMap.{get, remove}
 use Rattle.std.proofs.lemmas.Map.Text.{btree_map_updates_text}
 use Rattle.server.specs.Holding.{entry_view, IsEntryOf}
-use Rattle.server.proofs.Held.{get_held, found_current, remove_held, remove_current}
+use Rattle.server.proofs.MapEntries.{get_held, found_current, remove_held, remove_current}
 use Rattle.server.proofs.documents.Documents.remove.Goals as goal
 
 pub returns-clause-is : goal.returns-clause-is

@@ -5,7 +5,7 @@ use Rattle.std.specs.FinMap as map
 use Rattle.std.proofs.lemmas.Map.Text.{btree_map_updates_text}
 use Rattle.server.specs.declared.documents.Entry.{Entry}
 use Rattle.server.specs.Holding.{documents_of, entry_view, AreCurrent, IsEntryOf}
-use Rattle.server.proofs.Held.{get_held, insert_held, insert_current}
+use Rattle.server.proofs.MapEntries.{get_held, insert_held, insert_current}
 use Rattle.server.proofs.documents.Documents.replace.Goals.{in-Some, in-None}
 use Rattle.server.proofs.documents.Documents.replace.Goals as goal
 

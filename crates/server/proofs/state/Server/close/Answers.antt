@@ -6,7 +6,7 @@ use Rattle.server.specs.Holding.{entry_view}
 use Rattle.server.specs.Steps.{state_view}
 use Rattle.server.proofs.Holding.{closes_none, state_same}
 use Rattle.server.proofs.LookUps.{none_is, removed_none}
-use Rattle.server.proofs.Telling.{if_ok_both}
+use Rattle.server.proofs.AnswersFromDocuments.{if_ok_both}
 use Rattle.server.proofs.state.Server.close.Goals as goal
 
 pub returns-then-is_none : goal.returns-then-is_none

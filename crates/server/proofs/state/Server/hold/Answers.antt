@@ -14,6 +14,6 @@ returns c =
     let state = entry_view c.args.entry in
     let replies = map reply_view c.in_ok-out.out.replies.items in
     let stop = c.in_ok-out.out.stop in
-    let announced = subst (λ (u : List ℕ). Holds old u state replies stop (state_of old.file old.phase (insert old.documents u state))) c.as_str.ensures.value c.in_ok-out.ensures in
+    let announce = subst (λ (u : List ℕ). Holds old u state replies stop (state_of old.file old.phase (insert old.documents u state))) c.as_str.ensures.value c.in_ok-out.ensures in
     let same = state_same _ _ old.phase _ _ (ap (λ (l : LanguageData). l.file) c.in_ok-insert.ensures.language) c.in_ok-insert.ensures.ok in
-    subst (λ (s : State). Holds old uri state replies stop s) (sym same) announced
+    subst (λ (s : State). Holds old uri state replies stop s) (sym same) announce

@@ -1,6 +1,6 @@
 use Rattle.std.proofs.Common.{◌∷◌, [], None, length, false, sym, ap, ◌∙◌, arith}
 use Rattle.std.specs.Prelude.{if◌then◌else◌}
-use Rattle.tables.proofs.Expecting.{told_next, passed_over, rules_told}
+use Rattle.tables.proofs.Expecting.{shown_next, passed_over, rules_shown}
 use Rattle.tables.proofs.expected.ExpectedIterator.next.Goals as goal
 
 pub loop-self-init : goal.loop-self-init
@@ -17,7 +17,7 @@ loop-self-smaller c = let l = c.loop-self-test.true in omega (arith, l)
 pub returns-then-is_some-clause-steps : goal.returns-then-is_some-clause-steps
 returns-then-is_some-clause-steps c =
     let s = c.loop-self.self-inside in
-    sym c.loop-self.invariant ∙ told_next s.moves.now s.rule s.at_end c.loop-self-test.true (sym c.is_some.ensures ∙ c.if-is_some.true)
+    sym c.loop-self.invariant ∙ shown_next s.moves.now s.rule s.at_end c.loop-self-test.true (sym c.is_some.ensures ∙ c.if-is_some.true)
 
 pub returns-then-is_some-clause-goes : goal.returns-then-is_some-clause-goes
 returns-then-is_some-clause-goes c =
@@ -27,8 +27,8 @@ returns-then-is_some-clause-goes c =
 pub returns-then-self-clause-steps : goal.returns-then-self-clause-steps
 returns-then-self-clause-steps c =
     let s = c.loop-self.self-inside in
-    let none = rules_told s.moves.now s.rule false c.loop-self-test.false in
-    sym c.loop-self.invariant ∙ rules_told s.moves.now s.rule s.at_end c.loop-self-test.false ∙ ap (λ b. if b then None ∷ [] else []) c.if-self.true ∙ ap (λ rest. None ∷ rest) (sym none)
+    let none = rules_shown s.moves.now s.rule false c.loop-self-test.false in
+    sym c.loop-self.invariant ∙ rules_shown s.moves.now s.rule s.at_end c.loop-self-test.false ∙ ap (λ b. if b then None ∷ [] else []) c.if-self.true ∙ ap (λ rest. None ∷ rest) (sym none)
 
 pub returns-then-self-clause-goes : goal.returns-then-self-clause-goes
 returns-then-self-clause-goes c =
@@ -38,5 +38,5 @@ returns-then-self-clause-goes c =
 pub returns-clause-steps : goal.returns-clause-steps
 returns-clause-steps c =
     let s = c.loop-self.self-inside in
-    let none = rules_told s.moves.now s.rule s.at_end c.loop-self-test.false ∙ ap (λ b. if b then None ∷ [] else []) c.if-self.false in
+    let none = rules_shown s.moves.now s.rule s.at_end c.loop-self-test.false ∙ ap (λ b. if b then None ∷ [] else []) c.if-self.false in
     (sym c.loop-self.invariant ∙ none, none)

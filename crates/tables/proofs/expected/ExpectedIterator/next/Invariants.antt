@@ -2,7 +2,7 @@ use Rattle.std.proofs.Common.{◌≡◌, ◌-◌, length, drop}
 use Rattle.tables.specs.Expected.{in_file_order, rules_with_move}
 use Rattle.tables.proofs.expected.ExpectedIterator.next.Given as goal
 
--- what is left to tell is what was left
+-- what is left to list is what was left
 abbrev pub invariant-loop-self : goal.invariant-loop-self
 invariant-loop-self l = in_file_order (rules_with_move l.self-inside.rule (drop l.self-inside.rule l.self-inside.moves.now)) l.self-inside.at_end ≡ l.fn.self
 

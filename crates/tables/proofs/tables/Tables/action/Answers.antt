@@ -3,7 +3,7 @@ use Rattle.std.proofs.lemmas.List.{get_or_default}
 use Rattle.definitions.specs.declared.Kind.TheVariants.{Rule as Token}
 use Rattle.tables.specs.Actions.{IsMoveAt}
 use Rattle.tables.specs.Tables.{IsAction}
-use Rattle.tables.proofs.Answering.{move_in_row, rule_move, is_action, shift_state, no_rule}
+use Rattle.tables.proofs.RowsOfPrefix.{move_in_row, rule_move, is_action, shift_state, no_rule}
 use Rattle.tables.proofs.tables.Tables.action.Goals as goal
 
 pub returns-in-None-clause-is : goal.returns-in-None-clause-is

@@ -1,6 +1,6 @@
 use Rattle.std.proofs.Common.{◌≡◌, ◌<◌, [], length, slice_index_or, sym, ◌∙◌, subst, arith}
 use Rattle.std.proofs.lemmas.List.{get_or_default}
-use Rattle.tables.proofs.Answering.{rule_action, end_action, no_rule}
+use Rattle.tables.proofs.RowsOfPrefix.{rule_action, end_action, no_rule}
 use Rattle.tables.proofs.Expecting.{all_expected}
 use Rattle.tables.proofs.tables.Tables.expects.Goals as goal
 

@@ -1,6 +1,6 @@
 use Rattle.std.proofs.Common.{◌≡◌, ◌<◌, [], None, slice_index_or, ap, ◌∙◌, arith}
 use Rattle.std.proofs.lemmas.List.{get_or_default}
-use Rattle.tables.proofs.Answering.{goto_in_row, no_nonterminal}
+use Rattle.tables.proofs.RowsOfPrefix.{goto_in_row, no_nonterminal}
 use Rattle.tables.proofs.tables.Tables.goto.Goals as goal
 
 pub returns-then-nonterminal-nonterminals : goal.returns-then-nonterminal-nonterminals

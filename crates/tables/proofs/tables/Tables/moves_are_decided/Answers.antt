@@ -1,6 +1,6 @@
 use Rattle.std.proofs.Common.{subst}
 use Rattle.tables.specs.Decidable.{AreMovesDecided}
-use Rattle.tables.proofs.Deciding.{moves_decided}
+use Rattle.tables.proofs.StateDecides.{moves_decided}
 use Rattle.tables.proofs.tables.Tables.moves_are_decided.Goals as goal
 
 pub returns : goal.returns

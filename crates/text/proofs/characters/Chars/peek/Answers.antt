@@ -7,16 +7,16 @@ use Rattle.std.proofs.lemmas.List.{append-nil}
 use Rattle.std.proofs.lemmas.Option.{none-some}
 use Rattle.text.proofs.characters.Chars.peek.Goals as goal
 
-front_get : (xs ys : List ℕ) (c : ℕ) → Some c ≡ slice_get xs 0 → Some c ≡ slice_get (xs ++ ys) 0
-front_get [] ys c h = absurd (none-some c (sym h))
-front_get (x ∷ xs) ys c h = h
+prefix_get : (xs ys : List ℕ) (c : ℕ) → Some c ≡ slice_get xs 0 → Some c ≡ slice_get (xs ++ ys) 0
+prefix_get [] ys c h = absurd (none-some c (sym h))
+prefix_get (x ∷ xs) ys c h = h
 
 no_pieces : (ps : List (List ℕ)) → length ps ≡ 0 → concat ps ≡ []
 no_pieces [] e = refl
 no_pieces (p ∷ ps) e = absurd (omega (arith, e))
 
 peeked : (bs : List ℕ) (ps : List (List ℕ)) (r : Option ℕ) → (length bs ≡ 0 → length ps ≡ 0) → (0 < length bs → is_some r ≡ true) → r ≡ slice_get (chars bs) 0 → r ≡ slice_get (chars bs ++ concat ps) 0
-peeked bs ps (Some c) full some h = front_get (chars bs) (concat ps) c h
+peeked bs ps (Some c) full some h = prefix_get (chars bs) (concat ps) c h
 peeked [] ps None full some h = h ∙ ap (λ t. slice_get t 0) (sym (append-nil (chars [])) ∙ ap (λ t. chars [] ++ t) (sym (no_pieces ps (full refl))))
 peeked (b ∷ bs) ps None full some h = absurd (false≢true (some (omega arith)))
 

@@ -5,7 +5,7 @@ use Rattle.std.proofs.lemmas.List.{append-nil}
 use Rattle.std.proofs.lemmas.List.Elements.{All-same}
 use Rattle.definitions.specs.Text.{IsCharacter}
 use Rattle.definitions.proofs.Characters.{IsText-chars}
-use Rattle.text.proofs.Few.{small, small_edited}
+use Rattle.text.proofs.FewPieces.{small, small_edited}
 use Rattle.text.proofs.Sizes.{size, size-chars}
 use Rattle.text.proofs.document.Text.open.Goals as goal
 

@@ -1,6 +1,6 @@
 use Rattle.std.proofs.Common.{arith, ap, sym, ◌∙◌, ◌≡◌, ◌∷◌, ℕ, List, length, length-drop, drop}
 use Rattle.std.specs.List.{concat}
-use Rattle.text.proofs.Onward.{position-line, position-character, at_place}
+use Rattle.text.proofs.NextPosition.{position-line, position-character, at_place}
 use Rattle.text.proofs.places.Places.advance.Goals as goal
 
 pub returns-in_default-clause-offset : goal.returns-in_default-clause-offset
@@ -9,13 +9,13 @@ returns-in_default-clause-offset c =
     let placed = c.loop.invariant.placed in
     omega (arith, c.loop.invariant.far, c.loop-test.true, placed.within, ap length (sym placed.ahead ∙ c.in_default.ensures.steps.0), length-drop c.loop.self-inside.offset text, ap length c.loop.invariant.text)
 
-pub behind-self-inside-requires-clause-line : goal.behind-self-inside-requires-clause-line
-behind-self-inside-requires-clause-line c =
+pub position_after-self-inside-requires-clause-line : goal.position_after-self-inside-requires-clause-line
+position_after-self-inside-requires-clause-line c =
     let placed = c.loop.invariant.placed in
     omega (arith, placed.within, placed.few, ap (λ p. p.line) placed.is, position-line c.loop.self-inside.unit (concat c.loop.self-inside.pieces.now) c.loop.self-inside.offset placed.within)
 
-pub behind-self-inside-requires-clause-character : goal.behind-self-inside-requires-clause-character
-behind-self-inside-requires-clause-character c =
+pub position_after-self-inside-requires-clause-character : goal.position_after-self-inside-requires-clause-character
+position_after-self-inside-requires-clause-character c =
     let placed = c.loop.invariant.placed in
     omega (arith, placed.within, placed.few, ap (λ p. p.character) placed.is, position-character c.loop.self-inside.unit (concat c.loop.self-inside.pieces.now) c.loop.self-inside.offset)
 
@@ -32,7 +32,7 @@ loop-preserved c =
         within = omega (arith, at.0);
         few = placed.few;
         ahead = at.2;
-        is = c.behind-self-inside.ensures text offset rest next c.peek.ensures placed.is;
+        is = c.position_after-self-inside.ensures text offset rest next c.peek.ensures placed.is;
       };
       text = c.loop.invariant.text;
       unit = c.loop.invariant.unit;

@@ -1,7 +1,7 @@
 use Rattle.std.proofs.Common.{arith, ◌++◌, ◌∙◌}
 use Rattle.std.specs.List.{concat}
 use Rattle.std.proofs.lemmas.Str.{chars-nil}
-use Rattle.text.proofs.Onward.{position-start}
+use Rattle.text.proofs.NextPosition.{position-start}
 use Rattle.text.proofs.places.Places.new.Goals as goal
 
 pub invariant_of-result : goal.invariant_of-result

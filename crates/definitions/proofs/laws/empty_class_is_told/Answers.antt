@@ -1,5 +1,0 @@
-use Rattle.definitions.proofs.LawProofs.{empty_class}
-use Rattle.definitions.proofs.laws.empty_class_is_told.Goals as goal
-
-pub returns : goal.returns
-returns c = empty_class

@@ -1,0 +1,137 @@
+-- Steps of a search for the longest match.
+use Rattle.std.specs.Prelude.{◌≡◌, ℕ, ◌+◌, ◌<◌, ◌≤◌, ◌⊎◌, min, List, [], ◌∷◌, ◌++◌, length, take, drop, slice_index_or, Option, Some, None, MatchOption}
+use Rattle.std.proofs.Common.{arith, refl, sym, ap, subst, inl, inr, ◌∙◌}
+use Rattle.std.proofs.lemmas.Bool.{cases_lt}
+use Rattle.std.proofs.lemmas.List.{take_more, length-take}
+use Rattle.std.proofs.lemmas.List.Elements.{All-push}
+use Rattle.definitions.specs.declared.expression.Expression.{Expression}
+use Rattle.definitions.specs.Text.{IsText, IsCharacter}
+use Rattle.definitions.specs.Tokens.{RuleMatches, IsRulePrefix, IsPiece, IsReach}
+use Rattle.definitions.proofs.TokensLocal.{IsRulePrefix-take}
+use Rattle.dfa.specs.Table.{Table, next_state, follower, state_from, state_after, IsFirst, IsAutomaton, kind_of}
+use Rattle.dfa.specs.Windows.{IsWithinReach}
+
+state_from-more : (table : Table) (o : Option ℕ) (u : List ℕ) (c : ℕ) → state_from table o (u ++ c ∷ []) ≡ next_state table (state_from table o u) c
+state_from-more table o [] c = refl
+state_from-more table o (d ∷ u) c = state_from-more table (next_state table o d) u c
+
+pub state_after-more : (table : Table) (u : List ℕ) (c s : ℕ) → state_after table u ≡ Some s → state_after table (u ++ c ∷ []) ≡ follower table s c
+unfolding state_after
+state_after-more table u c s e = state_from-more table (Some 0) u c ∙ ap (λ o. next_state table o c) e
+
+pub state_after-none : (table : Table) → state_after table [] ≡ Some 0
+unfolding state_after
+state_after-none table = refl
+
+-- of the nonempty prefixes of t with at most n characters, the longest that a rule has, with the first rule that has it
+abbrev pub IsBest : List Expression → List ℕ → ℕ → Option ℕ → ℕ → Type 0
+IsBest rules t n None len = (len ≡ min (length t) 1) × ((j m : ℕ) → 1 ≤ m → m ≤ n → ¬ RuleMatches rules j (take m t))
+IsBest rules t n (Some k) len = (1 ≤ len) × (len ≤ n) × IsFirst rules (take len t) (Some k) × ((j m : ℕ) → len < m → m ≤ n → ¬ RuleMatches rules j (take m t))
+
+-- The state after one more character c of t.
+module _ (rules : List Expression) (table : Table) (a : IsAutomaton rules table) (t : List ℕ) (n s c : ℕ) (text : IsText (take n t)) (character : IsCharacter c) (lt : n < length t) (read : c ≡ slice_index_or t n 0) (is : state_after table (take n t) ≡ Some s) where
+  longer : take (n + 1) t ≡ take n t ++ c ∷ []
+  longer = take_more t n 0 lt ∙ ap (λ x. take n t ++ x ∷ []) (sym read)
+
+  -- what was read are characters
+  pub more_text : IsText (take (n + 1) t)
+  more_text = subst IsText (sym longer) (All-push IsCharacter (take n t) c text character)
+
+  pub more_state : (o : Option ℕ) → follower table s c ≡ o → state_after table (take (n + 1) t) ≡ o
+  more_state o f = ap (state_after table) longer ∙ state_after-more table (take n t) c s is ∙ f
+
+  shown : (o : Option ℕ) → follower table s c ≡ o → MatchOption o (¬ IsRulePrefix rules (take (n + 1) t)) (λ x. IsRulePrefix rules (take (n + 1) t) × IsFirst rules (take (n + 1) t) (slice_index_or table.accepts x None))
+  shown o f =
+      let some : 1 ≤ length (take (n + 1) t) = omega (arith, length-take (n + 1) t) in
+      subst (λ o. MatchOption o (¬ IsRulePrefix rules (take (n + 1) t)) (λ x. IsRulePrefix rules (take (n + 1) t) × IsFirst rules (take (n + 1) t) (slice_index_or table.accepts x None))) (more_state o f) (a.shows (take (n + 1) t) more_text some)
+
+  pub more_prefix : (x : ℕ) → follower table s c ≡ Some x → IsRulePrefix rules (take (n + 1) t)
+  more_prefix x f = (shown (Some x) f).0
+
+  pub more_first : (x : ℕ) (o : Option ℕ) → follower table s c ≡ Some x → slice_index_or table.accepts x None ≡ o → IsFirst rules (take (n + 1) t) o
+  more_first x o f e = subst (λ o. IsFirst rules (take (n + 1) t) o) e (shown (Some x) f).1
+
+  pub more_dead : follower table s c ≡ None → ¬ IsRulePrefix rules (take (n + 1) t)
+  more_dead f = shown None f
+
+pub prefixes_more : (rules : List Expression) (t : List ℕ) (n : ℕ) → ((m : ℕ) → 1 ≤ m → m ≤ n → IsRulePrefix rules (take m t)) → IsRulePrefix rules (take (n + 1) t) → (m : ℕ) → 1 ≤ m → m ≤ n + 1 → IsRulePrefix rules (take m t)
+prefixes_more rules t n h f m p q = elim (cases_lt n m) [
+  | inl x ↦ let e : n + 1 ≡ m = omega arith in subst (λ (y : ℕ). IsRulePrefix rules (take y t)) e f
+  | inr x ↦ h m p x
+]
+
+none_more : (rules : List Expression) (t : List ℕ) (n l : ℕ) → ((j m : ℕ) → l ≤ m → m ≤ n → ¬ RuleMatches rules j (take m t)) → ((j : ℕ) → ¬ RuleMatches rules j (take (n + 1) t)) → (j m : ℕ) → l ≤ m → m ≤ n + 1 → ¬ RuleMatches rules j (take m t)
+none_more rules t n l h f j m p q = elim (cases_lt n m) [
+  | inl x ↦ let e : n + 1 ≡ m = omega arith in subst (λ (y : ℕ). ¬ RuleMatches rules j (take y t)) e (f j)
+  | inr x ↦ h j m p x
+]
+
+pub best_none : (rules : List Expression) (t : List ℕ) (len : ℕ) → len ≡ min (length t) 1 → IsBest rules t 0 None len
+best_none rules t len e = (e, λ j m p q. absurd (omega arith))
+
+pub best_more_none : (rules : List Expression) (t : List ℕ) (n : ℕ) (r : Option ℕ) (len : ℕ) → IsBest rules t n r len → IsFirst rules (take (n + 1) t) None → IsBest rules t (n + 1) r len
+best_more_none rules t n None len h f = (h.0, none_more rules t n 1 h.1 f)
+best_more_none rules t n (Some k) len h f =
+    let within : len ≤ n = h.1 in
+    (h.0, omega arith, h.2, λ j m p q. none_more rules t n (len + 1) (λ j m p q. h.3 j m (omega arith) q) f j m (omega arith) q)
+
+pub best_more_some : (rules : List Expression) (t : List ℕ) (n k : ℕ) → IsFirst rules (take (n + 1) t) (Some k) → IsBest rules t (n + 1) (Some k) (n + 1)
+best_more_some rules t n k f = (omega arith, omega arith, f, λ j m p q. absurd (omega arith))
+
+-- nothing goes on past n characters: they are all, or one more begins no text of a rule
+abbrev pub Ends : List Expression → List ℕ → ℕ → Type 0
+Ends rules t n = (n ≡ length t) ⊎ ((n < length t) × (¬ IsRulePrefix rules (take (n + 1) t)))
+
+past_end : (rules : List Expression) (t : List ℕ) (n j m : ℕ) → Ends rules t n → n < m → m ≤ length t → ¬ RuleMatches rules j (take m t)
+past_end rules t n j m (inl e) p q h = absurd (omega arith)
+past_end rules t n j m (inr e) p q h = e.1 (IsRulePrefix-take rules t j (n + 1) m (omega arith) h)
+
+pub piece_of : (rules : List Expression) (t : List ℕ) (n : ℕ) (r : Option ℕ) (len : ℕ) → IsBest rules t n r len → Ends rules t n → n ≤ length t → 0 < length t → IsPiece rules t (kind_of r) len
+piece_of rules t n None len h e l some = (
+  omega (arith, h.0),
+  omega (arith, h.0),
+  λ j m p q. elim (cases_lt n m) [
+    | inl x ↦ past_end rules t n j m e x q
+    | inr x ↦ h.1 j m p x
+  ],
+)
+piece_of rules t n (Some k) len h e l some =
+    let within : len ≤ n = h.1 in
+    record {
+      nonempty = h.0;
+      inside = omega arith;
+      matches = h.2.0;
+      longest = λ j m q g. elim (cases_lt len m) [
+        | inl past ↦ elim (cases_lt n m) [
+          | inl x ↦ absurd (past_end rules t n j m e x q g)
+          | inr x ↦ absurd (h.3 j m past x g)
+        ]
+        | inr x ↦ x
+      ];
+      earliest = λ j g. elim (cases_lt j k) [
+        | inl x ↦ absurd (h.2.1 j x g)
+        | inr x ↦ x
+      ];
+    }
+
+pub reach_of : (rules : List Expression) (t : List ℕ) (n : ℕ) → ((m : ℕ) → 1 ≤ m → m ≤ n → IsRulePrefix rules (take m t)) → Ends rules t n → IsReach rules t (n + 1)
+reach_of rules t n h (inl e) = inr (omega arith, λ m d. let inside : m ≤ length t = d.inside in d.no_prefix (h m d.nonempty (omega arith)))
+reach_of rules t n h (inr e) =
+    inl (
+      record { nonempty = omega arith; inside = omega (arith, e.0); no_prefix = e.1 },
+      λ m d. elim (cases_lt n m) [
+        | inl x ↦ omega arith
+        | inr x ↦ absurd (d.no_prefix (h m d.nonempty x))
+      ],
+    )
+
+-- what lies one past prefixes of texts of rules is within the reach
+pub within_reach : (rules : List Expression) (t : List ℕ) (o n : ℕ) → o + n < length t → ((m : ℕ) → 1 ≤ m → m ≤ n → IsRulePrefix rules (take m (drop o t))) → IsWithinReach rules t o (o + n)
+within_reach rules t o n l h = record {
+  after = omega arith;
+  inside = l;
+  alive = λ m d. elim (cases_lt n m) [
+    | inl x ↦ omega arith
+    | inr x ↦ absurd (d.no_prefix (h m d.nonempty x))
+  ];
+}

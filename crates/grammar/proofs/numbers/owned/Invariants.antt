@@ -1,8 +1,0 @@
-use Rattle.std.proofs.Common.{◌≡◌, take}
-use Rattle.std.specs.Prelude.{map}
-use Rattle.std.specs.Str.{chars}
-use Rattle.grammar_file.specs.Said.{texts}
-use Rattle.grammar.proofs.numbers.owned.Given as goal
-
-abbrev pub invariant-loop-name : goal.invariant-loop-name
-invariant-loop-name l = l.copies.items ≡ map chars (texts (take l.name-index l.names))

@@ -1,0 +1,154 @@
+-- Kernels that are added to the states.
+use Rattle.std.proofs.Common.{◌≡◌, ◌<◌, ◌≤◌, ◌⊎◌, ℕ, List, [], ◌∷◌, ◌++◌, length, slice_index_or, refl, sym, ap, ◌∙◌, subst, inl, inr, arith, length-append}
+use Rattle.std.proofs.lemmas.Bool.{cases_lt}
+use Rattle.std.proofs.lemmas.List.{get_or_append_left}
+use Rattle.std.proofs.lemmas.List.Elements.{All-cons, Contains-get_or}
+use Rattle.std.proofs.Math.Seq.{get_or-append_seam}
+use Rattle.definitions.specs.declared.Symbol.{Symbol}
+use Rattle.definitions.specs.declared.Symbol.TheVariants.{Rule as Terminal}
+use Rattle.definitions.specs.Trees.{Grammar}
+use Rattle.definitions.specs.Items.{Item as LrItem, HasItem}
+use Rattle.theory.specs.Closure.{ByRules, Start, Goto, Close, IsKernel}
+use Rattle.theory.proofs.Rules.{rules_valid, valid_rules}
+use Rattle.theory.proofs.Sets.{not_empty}
+use Rattle.item_sets.specs.declared.collection.Origin.{Origin}
+use Rattle.item_sets.specs.declared.item.Item.{Item}
+use Rattle.item_sets.specs.Order.{IsOrdered}
+use Rattle.item_sets.specs.Collection.{kernel_at, origin_at, IsAbsent, Found, IsReached, IsLed, AreStates, Placed, GoesOn}
+use Rattle.item_sets.specs.Productions.{Shape, IsSound}
+use Rattle.item_sets.specs.Order.{IsInside}
+use Rattle.item_sets.specs.Sets.{IsItem, item_of}
+use Rattle.item_sets.specs.States.{HasKernel}
+use Rattle.item_sets.proofs.FirstKernel.{start_item, start_kernel}
+
+abbrev none : Origin
+none = record { from = 0; symbol = Terminal 0 }
+
+module _ (g : Shape) where
+  start_ordered : IsOrdered g (start_item ∷ [])
+  start_ordered = record {
+    known = All-cons (IsItem g) start_item [] (record { production = tt; at = omega arith; look = tt }) (λ k d l. absurd (omega (arith, l)));
+    inside = All-cons IsInside start_item [] (inl refl) (λ k d l. absurd (omega (arith, l)));
+    rising = λ i j d l m. absurd (omega (arith, l, m));
+  }
+
+  pub start_reached : IsReached g.grammar (start_item ∷ [])
+  start_reached = ([], start_kernel g.grammar, (item_of g.grammar start_item, rules_valid g.grammar Start))
+
+  -- the state of the empty prefix alone
+  pub start_states : IsSound g → (o : Origin) → AreStates g (record { kernels = (start_item ∷ []) ∷ []; origins = o ∷ [] })
+  start_states sound o = record {
+    sound = sound;
+    begins = omega arith;
+    start = refl;
+    ordered = λ s l. let e : s ≡ 0 = omega (arith, l) in subst (λ n. IsOrdered g (kernel_at ((start_item ∷ []) ∷ []) n)) (sym e) start_ordered;
+    reached = λ s l. let e : s ≡ 0 = omega (arith, l) in subst (λ n. IsReached g.grammar (kernel_at ((start_item ∷ []) ∷ []) n)) (sym e) start_reached;
+    distinct = λ s l r m e. absurd (omega (arith, l, m));
+    long = refl;
+    led = λ s p l. absurd (omega (arith, p, l));
+  }
+
+  pub placed_goes_on : (old new : Found) (kernel : List Item) (from : ℕ) (symbol : Symbol) → Placed old new kernel from symbol → GoesOn old.kernels new.kernels
+  placed_goes_on old new kernel from symbol (inl e) = let f = ap (λ t. length t.kernels) e in record { longer = omega (arith, f); same = λ s l. ap (λ t. kernel_at t.kernels s) e }
+  placed_goes_on old new kernel from symbol (inr (k, o, a)) = let f = ap length k in let n = length-append old.kernels (kernel ∷ []) in record {
+    longer = omega (arith, f, n);
+    same = λ s l. ap (λ x. kernel_at x s) k ∙ get_or_append_left old.kernels (kernel ∷ []) [] s l;
+  }
+
+  module _ (old : Found) (h : AreStates g old) (kernel : List Item) (from : ℕ) (symbol : Symbol) (in_range : from < length old.kernels) (ordered : IsOrdered g kernel) (leads : (prefix : List Symbol) → HasKernel g.grammar (kernel_at old.kernels from) prefix → HasKernel g.grammar kernel (prefix ++ symbol ∷ [])) (nonempty : 0 < length kernel) where
+    reached_next : IsReached g.grammar kernel
+    reached_next =
+        let r = h.reached from in_range in
+        let k = leads r.0 r.1 in
+        let i = slice_index_or kernel 0 start_item in
+        (r.0 ++ symbol ∷ [], k, (item_of g.grammar i, k.sound i (Contains-get_or kernel 0 start_item nonempty)))
+
+    abbrev more : Found
+    more = record { kernels = old.kernels ++ kernel ∷ []; origins = old.origins ++ record { from = from; symbol = symbol } ∷ [] }
+
+    seam : kernel_at more.kernels (length old.kernels) ≡ kernel
+    seam = get_or-append_seam old.kernels kernel [] []
+
+    stays : (s : ℕ) → s < length old.kernels → kernel_at more.kernels s ≡ kernel_at old.kernels s
+    stays s l = get_or_append_left old.kernels (kernel ∷ []) [] s l
+
+    -- a fact of each kernel, and of one more
+    each_more : (P : List Item → Type 0) → ((s : ℕ) → s < length old.kernels → P (kernel_at old.kernels s)) → P kernel → (s : ℕ) → s < length more.kernels → P (kernel_at more.kernels s)
+    each_more P each new s l =
+        let n = length-append old.kernels (kernel ∷ []) in
+        elim (cases_lt s (length old.kernels)) [
+          | inl b ↦ subst P (sym (stays s b)) (each s b)
+          | inr b ↦ let at : s ≡ length old.kernels = omega (arith, l, n, b) in subst (λ x. P (kernel_at more.kernels x)) (sym at) (subst P (sym seam) new)
+        ]
+
+    led_more : (s : ℕ) → 0 < s → s < length more.kernels → IsLed g.grammar more s
+    led_more s p l =
+        let n = length-append old.kernels (kernel ∷ []) in
+        let long = h.long in
+        elim (cases_lt s (length old.kernels)) [
+          | inl b ↦
+              let o : origin_at more.origins s ≡ origin_at old.origins s = get_or_append_left old.origins (record { from = from; symbol = symbol } ∷ []) none s (omega (arith, b, long)) in
+              let x = h.led s p b in
+              let e = x.earlier in
+              record {
+                earlier = subst (λ y. y.from < s) (sym o) x.earlier;
+                leads = λ prefix k. subst (λ y. HasKernel g.grammar y (prefix ++ (origin_at more.origins s).symbol ∷ [])) (sym (stays s b)) (subst (λ y. HasKernel g.grammar (kernel_at old.kernels s) (prefix ++ y.symbol ∷ [])) (sym o) (x.leads prefix (subst (λ y. HasKernel g.grammar y prefix) (stays (origin_at old.origins s).from (omega (arith, e, b))) (subst (λ y. HasKernel g.grammar (kernel_at more.kernels y.from) prefix) o k))));
+              }
+          | inr b ↦
+              let at : s ≡ length old.origins = omega (arith, l, n, b, long) in
+              let o : origin_at more.origins s ≡ record { from = from; symbol = symbol } = ap (origin_at more.origins) at ∙ get_or-append_seam old.origins (record { from = from; symbol = symbol }) [] none in
+              let here : kernel_at more.kernels s ≡ kernel = ap (kernel_at more.kernels) (at ∙ long) ∙ seam in
+              record {
+                earlier = subst (λ y. y.from < s) (sym o) (omega (arith, in_range, b));
+                leads = λ prefix k. subst (λ y. HasKernel g.grammar y (prefix ++ (origin_at more.origins s).symbol ∷ [])) (sym here) (subst (λ y. HasKernel g.grammar kernel (prefix ++ y.symbol ∷ [])) (sym o) (leads prefix (subst (λ y. HasKernel g.grammar y prefix) (stays from in_range) (subst (λ y. HasKernel g.grammar (kernel_at more.kernels y.from) prefix) o k))));
+              }
+        ]
+
+    distinct_more : IsAbsent old.kernels kernel → (s : ℕ) → s < length more.kernels → (r : ℕ) → r < s → kernel_at more.kernels r ≡ kernel_at more.kernels s → ⊥
+    distinct_more absent s l r m e =
+        let n = length-append old.kernels (kernel ∷ []) in
+        elim (cases_lt s (length old.kernels)) [
+          | inl b ↦ h.distinct s b r m (sym (stays r (omega (arith, m, b))) ∙ e ∙ stays s b)
+          | inr b ↦ let at : s ≡ length old.kernels = omega (arith, l, n, b) in let rb : r < length old.kernels = omega (arith, m, at) in absent r rb (sym (stays r rb) ∙ e ∙ ap (kernel_at more.kernels) at ∙ seam)
+        ]
+
+    more_states : IsAbsent old.kernels kernel → AreStates g more
+    more_states absent =
+        let n = length-append old.kernels (kernel ∷ []) in
+        let m = length-append old.origins (record { from = from; symbol = symbol } ∷ []) in
+        let begins = h.begins in
+        let long = h.long in
+        record {
+          sound = h.sound;
+          begins = omega (arith, n, begins);
+          start = stays 0 h.begins ∙ h.start;
+          ordered = each_more (IsOrdered g) h.ordered ordered;
+          reached = each_more (IsReached g.grammar) h.reached reached_next;
+          distinct = distinct_more absent;
+          long = omega (arith, n, m, long);
+          led = led_more;
+        }
+
+    pub placed_states : (new : Found) → Placed old new kernel from symbol → AreStates g new
+    placed_states new (inl e) = subst (AreStates g) (sym e) h
+    placed_states new (inr (k, o, a)) =
+        let same : more ≡ new = λ i. record { kernels = sym k i; origins = sym o i } in
+        subst (AreStates g) same (more_states a)
+
+-- a set with an item has one that the closure did not add
+pub kernel_there : (g : Grammar) {prefix : List Symbol} {i : LrItem} → ByRules g prefix i → (k : LrItem) × IsKernel k × ByRules g prefix k
+kernel_there g Start = (_, inl refl, Start)
+kernel_there g (Goto {before = before} {s = s} r) = (_, inr (not_empty g before s), Goto r)
+kernel_there g (Close r p f) = kernel_there g r
+
+-- so a prefix with an empty kernel has no item
+pub no_item : (g : Grammar) (kernel : List Item) (prefix : List Symbol) → length kernel ≤ 0 → HasKernel g kernel prefix → HasItem g prefix → ⊥
+no_item g kernel prefix empty h (i, v) =
+    let k = kernel_there g (valid_rules g prefix i v) in
+    let c = h.complete k.0 k.1 (rules_valid g k.2) in
+    let l = c.1.1 in
+    absurd (omega (arith, l, empty))
+
+pub first_placed : (old new : List (List Item)) (kernel : List Item) (s : ℕ) → old ≡ [] → kernel ≡ start_item ∷ [] → (new ≡ old) ⊎ ((new ≡ old ++ kernel ∷ []) × IsAbsent old kernel) → s < length new → new ≡ (start_item ∷ []) ∷ []
+first_placed old new kernel s e k (inl f) l = let n = ap length (f ∙ e) in absurd (omega (arith, l, n))
+first_placed old new kernel s e k (inr (f, a)) l = f ∙ (λ i. e i ++ k i ∷ [])

@@ -1,0 +1,83 @@
+-- What the closure of a set calls for: nonterminals, each with a lookahead that may follow it.
+use Rattle.std.specs.Prelude.{◌≡◌, ◌<◌, ◌≤◌, ◌+◌, ◌⊎◌, ℕ, Bool, true, false, List, [], ◌∷◌, Option, Some, length, All, Contains}
+use Rattle.std.specs.List.{slice_index_or, sum_by}
+use Rattle.definitions.specs.declared.Symbol.{Symbol}
+use Rattle.definitions.specs.declared.Symbol.TheVariants.{Nonterminal}
+use Rattle.definitions.specs.Trees.{Grammar}
+use Rattle.item_sets.specs.declared.item.Item.{Item}
+use Rattle.item_sets.specs.declared.worklist.Entry.{Entry}
+use Rattle.grammar.specs.Grammars.{left_of, right_of}
+use Rattle.item_sets.specs.First.{unmarked}
+use Rattle.item_sets.specs.Lookaheads.{lookahead_at}
+use Rattle.item_sets.specs.Order.{IsRising}
+use Rattle.item_sets.specs.Productions.{Shape}
+use Rattle.item_sets.specs.Sets.{after_dot, IsIn}
+use Rattle.theory.specs.First.{MayFollow}
+
+-- the worklist of a closure: nonterminals with what may follow them, in the order in which they came up, and as marks
+pub record Entries : Type 0 where
+  pub list : List Entry
+  pub rows : List (List Bool)
+
+abbrev pub marked : List (List Bool) → ℕ → ℕ → Bool
+marked rows n k = slice_index_or (slice_index_or rows n []) k false
+
+-- list and marks have the same
+pub record AreEntries (g : Shape) (w : Entries) : Type 0 where
+  pub rows : length w.rows ≡ g.nonterminals
+  pub wide : (n : ℕ) → n < length w.rows → length (slice_index_or w.rows n []) ≡ g.grammar.rules + 1
+  pub known : All (λ x. (x.nonterminal < g.nonterminals) × (x.column < g.grammar.rules + 1)) w.list
+  pub marks : All (λ x. marked w.rows x.nonterminal x.column ≡ true) w.list
+  pub listed : (n k : ℕ) → marked w.rows n k ≡ true → Contains w.list (record { nonterminal = n; column = k })
+
+abbrev pub unmarked_in : List (List Bool) → ℕ
+unmarked_in rows = sum_by unmarked rows
+
+-- what was in the worklist stays, in its place
+pub record Grows (old new : Entries) : Type 0 where
+  pub keeps : (n k : ℕ) → marked old.rows n k ≡ true → marked new.rows n k ≡ true
+  pub longer : length old.list ≤ length new.list
+  pub same : (i : ℕ) (d : Entry) → i < length old.list → slice_index_or new.list i d ≡ slice_index_or old.list i d
+  pub count : length new.list + unmarked_in new.rows ≡ length old.list + unmarked_in old.rows
+
+-- some item of the set stands before n, with a after it
+abbrev pub IsCalledFor : Grammar → List Item → ℕ → Option ℕ → Type 0
+IsCalledFor g kernel n a = (i : Item) × (rest : List Symbol) × IsIn g kernel i × (after_dot g i ≡ Nonterminal n ∷ rest)
+    × MayFollow g rest i.look a
+
+abbrev pub AreCalledFor : Grammar → List Item → List (List Bool) → Type 0
+AreCalledFor g kernel rows = (n k : ℕ) → marked rows n k ≡ true → IsCalledFor g kernel n (lookahead_at k)
+
+-- what these symbols call for is marked
+abbrev pub AreListed : Shape → List (List Bool) → List Symbol → Option ℕ → Type 0
+AreListed g rows symbols look = (n k : ℕ) (rest : List Symbol) → symbols ≡ Nonterminal n ∷ rest → k < g.grammar.rules + 1
+    → MayFollow g.grammar rest look (lookahead_at k) → marked rows n k ≡ true
+
+abbrev pub beginning_of : ℕ → ℕ → Item
+beginning_of p k = record { production = Some p; at = 0; look = lookahead_at k }
+
+-- what the productions of a nonterminal in the worklist call for is marked
+abbrev pub Expands : Shape → List (List Bool) → ℕ → ℕ → Type 0
+Expands g rows n k = (p : ℕ) → p < length g.grammar.productions → left_of g.grammar p ≡ n
+    → AreListed g rows (right_of g.grammar p) (lookahead_at k)
+
+-- these symbols call for n, with the lookahead at k after it
+abbrev pub CallFor : Grammar → List Symbol → Option ℕ → ℕ → ℕ → Type 0
+CallFor g symbols look n k = (rest : List Symbol) × (symbols ≡ Nonterminal n ∷ rest) × MayFollow g rest look (lookahead_at k)
+
+-- some production of m calls for it
+abbrev pub IsExpanded : Grammar → ℕ → ℕ → ℕ → ℕ → Type 0
+IsExpanded g m j n k = (p : ℕ) × (p < length g.productions) × (left_of g p ≡ m) × CallFor g (right_of g p) (lookahead_at j) n k
+
+-- the item begins production p, with a lookahead that is marked for n
+abbrev pub IsBeginning : List (List Bool) → ℕ → ℕ → Item → Type 0
+IsBeginning rows n p i = (k : ℕ) × (marked rows n k ≡ true) × (beginning_of p k ≡ i)
+
+-- these items, in order, are the kernel's, and the beginnings with the lookaheads that are marked
+pub record HaveBeginnings (g : Shape) (kernel : List Item) (rows : List (List Bool)) (items : List Item) : Type 0 where
+  pub rising : IsRising items
+  pub kept : (i : Item) → Contains kernel i → Contains items i
+  pub added : (p k : ℕ) → p < length g.grammar.productions → k < g.grammar.rules + 1 → marked rows (left_of g.grammar p) k ≡ true
+      → Contains items (beginning_of p k)
+  pub only : (i : Item) → Contains items i
+      → Contains kernel i ⊎ ((p : ℕ) × (p < length g.grammar.productions) × IsBeginning rows (left_of g.grammar p) p i)

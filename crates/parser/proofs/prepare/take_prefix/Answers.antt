@@ -1,0 +1,74 @@
+use Rattle.std.proofs.Common.{◌≡◌, ◌<◌, ◌+◌, ◌≤◌, length-append, min, ◌++◌, ◌∷◌, [], List, length, sym, ap, ◌∙◌, subst, arith, append_assoc}
+use Rattle.std.proofs.lemmas.List.{append-nil}
+use Rattle.definitions.specs.Nodes.{place_of}
+use Rattle.definitions.specs.Trees.{all_kinds, yield}
+use Rattle.definitions.specs.TreeEdits.{plain}
+use Rattle.trees.specs.declared.store.Child.{Child}
+use Rattle.trees.specs.declared.store.Child.TheVariants.{Node}
+use Rattle.trees.specs.Cells.{AreBelow, most, tree}
+use Rattle.parser.specs.Cuts.{kinds_in, AreChildren, Cut, Here, Used_up, Whole, Opened}
+use Rattle.parser.specs.Machine.{plain_of}
+use Rattle.parser.proofs.LeftEdge.{weight}
+use Rattle.parser.proofs.Cuts.{counted, not_counted, opened_below, opened_kinds, opened_lighter, place_push, taken_lighter}
+use Rattle.parser.proofs.prepare.take_prefix.Goals as goal
+use Rattle.parser.proofs.prepare.take_prefix.Goals.{else-kinds-test, then-kinds-test+in_default}
+
+pub kinds-preserved-in-Continue-1 : goal.kinds-preserved-in-Continue-1
+kinds-preserved-in-Continue-1 c =
+    let cells = c.args.store.now in
+    let child = c.in-Some.child in
+    let rest = c.take.new.self in
+    let old : c.kinds.trees ≡ child ∷ rest = c.in-Some.ensures in
+    let shorter : kinds_in cells child + place_of (plain_of cells rest) ≤ most = omega (arith, c.kinds.invariant.countable, ap (λ l. place_of (plain_of cells l)) old, length-append (yield (plain (tree cells child))) (all_kinds (plain_of cells rest))) in
+    let count : c.tokens_of-count.result ≡ kinds_in cells child = c.tokens_of-count.ensures ∙ counted (kinds_in cells child) (omega (arith, shorter)) in
+    let new : c.push.new.self.items ≡ c.kinds.taken.items ++ (child ∷ []) = c.in_ok-push.ensures.items in
+    record {
+      below = (subst (AreBelow (length cells)) old c.kinds.invariant.below).1;
+      countable = omega (arith, shorter);
+      cut = λ first_input back d. subst (λ l. Cut cells c.args.n c.args.trees.now l back) (sym (ap (λ l. l ++ first_input) new ∙ append_assoc c.kinds.taken.items (child ∷ []) first_input)) (c.kinds.invariant.cut (child ∷ first_input) back (subst (λ l. Cut cells c.kinds.left l (child ∷ first_input) back) (sym old) (Whole (omega (arith, count, c.if-count-left.true)) d)));
+      left = omega (arith, ap (λ l. place_of (plain_of cells l)) new, place_push cells c.kinds.taken.items child, count, c.kinds.invariant.left, c.if-count-left.true);
+    }
+
+pub kinds-smaller-in-Continue-1 : goal.kinds-smaller-in-Continue-1
+kinds-smaller-in-Continue-1 c =
+    let cells = c.args.store.now in
+    subst (λ l. weight (plain_of cells c.take.new.self) < weight (plain_of cells l)) (sym c.in-Some.ensures) (taken_lighter (plain (tree cells c.in-Some.child)) (plain_of cells c.take.new.self))
+
+pub kinds-smaller-in-Continue-branch-2 : goal.kinds-smaller-in-Continue-branch-2
+kinds-smaller-in-Continue-branch-2 c =
+    let cells = c.args.store.now in
+    let old : c.kinds.trees ≡ Node c.in-Node.id ∷ c.take.new.self = c.in-Some.ensures ∙ ap (λ x. x ∷ c.take.new.self) c.in-Node.is in
+    let is = c.children.ensures in
+    let of_id : AreChildren cells c.in-Node.id c.children.result = record { below = is.below; production = is.tree.0; born = is.tree.1; is = is.tree.2 } in
+    subst (λ l. weight (plain_of cells l) < weight (plain_of cells c.kinds.trees)) (sym c.in_ok-put_all.ensures) (subst (λ l. weight (plain_of cells (c.children.result ++ c.take.new.self)) < weight (plain_of cells l)) (sym old) (opened_lighter cells of_id c.take.new.self))
+
+pub kinds-preserved-in-Continue-branch-2 : goal.kinds-preserved-in-Continue-branch-2
+kinds-preserved-in-Continue-branch-2 c =
+    let cells = c.args.store.now in
+    let rest = c.take.new.self in
+    let id = c.in-Node.id in
+    let old : c.kinds.trees ≡ Node id ∷ rest = c.in-Some.ensures ∙ ap (λ x. x ∷ rest) c.in-Node.is in
+    let is = c.children.ensures in
+    let of_id : AreChildren cells id c.children.result = record { below = is.below; production = is.tree.0; born = is.tree.1; is = is.tree.2 } in
+    let new : c.put_all.new.self ≡ c.children.result ++ rest = c.in_ok-put_all.ensures in
+    let counts : c.tokens_of-count.result ≡ min most (kinds_in cells (Node id)) = c.tokens_of-count.ensures ∙ ap (λ x. min most (kinds_in cells x)) c.in-Node.is in
+    let less : c.kinds.left < kinds_in cells (Node id) = not_counted (kinds_in cells (Node id)) c.kinds.left (omega (arith, counts, c.if-count-left.false)) in
+    record {
+      below = subst (AreBelow (length cells)) (sym new) (opened_below cells of_id (length cells) rest (subst (AreBelow (length cells)) old c.kinds.invariant.below));
+      countable = omega (arith, c.kinds.invariant.countable, ap (λ l. place_of (plain_of cells l)) old, ap length (opened_kinds cells of_id rest), ap (λ l. place_of (plain_of cells l)) new);
+      cut = λ first_input back d. c.kinds.invariant.cut first_input back (subst (λ l. Cut cells c.kinds.left l first_input back) (sym old) (Opened c.kinds-test.true less of_id (subst (λ l. Cut cells c.kinds.left l first_input back) new d)));
+      left = c.kinds.invariant.left;
+    }
+
+pub returns-clause-cut : goal.returns-clause-cut
+returns-clause-cut c =
+    let cells = c.args.store.now in
+    let all : (back : List Child) → Cut cells c.kinds.left c.kinds.trees [] back → Cut cells c.args.n c.args.trees.now c.kinds.taken.items back = λ back d. subst (λ l. Cut cells c.args.n c.args.trees.now l back) (append-nil c.kinds.taken.items) (c.kinds.invariant.cut [] back d) in
+    elim c.kinds-test.branch [
+      | else-kinds-test w ↦
+          let none : 0 ≡ c.kinds.left = omega (arith, w.kinds-test.false) in
+          subst (Cut cells c.args.n c.args.trees.now c.kinds.taken.items) (sym w.trees-is) (all c.kinds.trees (subst (λ n. Cut cells n c.kinds.trees [] c.kinds.trees) none Here))
+      | then-kinds-test+in_default w ↦
+          let gone = w.in_default.ensures in
+          all c.kinds-test.trees (subst (λ l. Cut cells c.kinds.left l [] c.kinds-test.trees) (sym gone.0) (subst (Cut cells c.kinds.left [] []) (sym (w.trees-is ∙ gone.1)) Used_up))
+    ]

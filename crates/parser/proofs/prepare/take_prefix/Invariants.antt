@@ -1,0 +1,20 @@
+use Rattle.std.proofs.Common.{◌≡◌, ◌+◌, ◌≤◌, ◌++◌, List, length}
+use Rattle.definitions.specs.Nodes.{place_of}
+use Rattle.trees.specs.declared.store.Child.{Child}
+use Rattle.trees.specs.Cells.{AreBelow, most}
+use Rattle.parser.specs.Cuts.{Cut}
+use Rattle.parser.specs.Machine.{plain_of}
+use Rattle.parser.proofs.LeftEdge.{weight}
+use Rattle.parser.proofs.prepare.take_prefix.Given as goal
+
+-- the cut of what is left, after what has taken, is the cut of the whole
+abbrev pub invariant-kinds : goal.invariant-kinds
+invariant-kinds l = record {
+  below : AreBelow (length l.store) l.trees;
+  countable : place_of (plain_of l.store l.trees) ≤ most;
+  cut : (first_input back : List Child) → Cut l.store l.left l.trees first_input back → Cut l.store l.n l.fn.trees (l.taken.items ++ first_input) back;
+  left : place_of (plain_of l.store l.taken.items) + l.left ≡ l.n;
+}
+
+abbrev pub decreases-kinds : goal.decreases-kinds
+decreases-kinds l = weight (plain_of l.store l.trees)

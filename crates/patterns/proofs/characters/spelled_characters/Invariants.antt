@@ -1,0 +1,11 @@
+use Rattle.std.proofs.Common.{◌≡◌, ◌-◌, ◌≤◌, ◌++◌, length, drop}
+use Rattle.definitions.specs.PatternText.{written}
+use Rattle.patterns.specs.Reading.{writing}
+use Rattle.patterns.proofs.characters.spelled_characters.Given as goal
+
+abbrev pub invariant-loop-place : goal.invariant-loop-place
+invariant-loop-place l =
+    (writing l.words.items ++ written l.place (drop l.place l.text) ≡ written 0 l.text) × (l.place ≤ length l.text)
+
+abbrev pub decreases-loop-place : goal.decreases-loop-place
+decreases-loop-place l = length l.text - l.place

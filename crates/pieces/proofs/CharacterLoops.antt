@@ -1,0 +1,37 @@
+-- What a loop over the characters t of a text has yielded, and what is left.
+use Rattle.std.specs.Prelude.{◌≡◌, ℕ, ◌+◌, ◌<◌, ◌≤◌, List, [], ◌∷◌, ◌++◌, length, take, drop, map, slice_index_or}
+use Rattle.std.proofs.Common.{arith, sym, ap, ◌∙◌}
+use Rattle.std.proofs.lemmas.List.{append_assoc, take_more, drop_more, take-append-drop, map-id}
+use Rattle.definitions.specs.declared.Unit.TheVariants.{Utf8}
+use Rattle.definitions.specs.Text.{units}
+use Rattle.pieces.proofs.Joins.{units-append}
+
+-- the characters yielded are a prefix of the text, and c is the next one
+pub record IsTurn (t yielded : List ℕ) (c : ℕ) : Type 0 where
+  pub so_far : yielded ≡ take (length yielded) t
+  pub within : length yielded < length t
+  pub next : c ≡ slice_index_or t (length yielded) c
+
+pub turn-from : (t yielded : List ℕ) (c : ℕ) → map (λ x. x) yielded ≡ take (length yielded) t → (length yielded < length t) × (c ≡ slice_index_or t (length yielded) c) → IsTurn t yielded c
+turn-from t yielded c so_far h = record { so_far = sym (map-id yielded) ∙ so_far; within = h.0; next = h.1 }
+
+pub turn-more : (t yielded : List ℕ) (c : ℕ) → IsTurn t yielded c → yielded ++ c ∷ [] ≡ take (length yielded + 1) t
+turn-more t yielded c h =
+    (λ i. h.so_far i ++ h.next i ∷ []) ∙ sym (take_more t (length yielded) c h.within)
+
+pub turn-rest : (t yielded : List ℕ) (c : ℕ) → IsTurn t yielded c → c ∷ drop (length yielded + 1) t ≡ drop (length yielded) t
+turn-rest t yielded c h = ap (λ d. d ∷ drop (length yielded + 1) t) h.next ∙ sym (drop_more t (length yielded) c h.within)
+
+pub turn-whole : (t yielded : List ℕ) (c : ℕ) → IsTurn t yielded c → yielded ++ c ∷ drop (length yielded + 1) t ≡ t
+turn-whole t yielded c h = (λ i. h.so_far i ++ turn-rest t yielded c h i) ∙ take-append-drop (length yielded) t
+
+-- a prefix of what is small enough is so too
+pub few-take : (s t : List ℕ) (n m : ℕ) → units Utf8 (s ++ t) ≤ m → units Utf8 (s ++ take n t) ≤ m
+few-take s t n m few =
+    let whole : units Utf8 (s ++ t) ≡ units Utf8 s + units Utf8 t = units-append Utf8 s t in
+    let part : units Utf8 t ≡ units Utf8 (take n t) + units Utf8 (drop n t) = ap (units Utf8) (sym (take-append-drop n t)) ∙ units-append Utf8 (take n t) (drop n t) in
+    omega (arith, few, whole, part, units-append Utf8 s (take n t))
+
+pub few-turn : (s t yielded : List ℕ) (c m : ℕ) → IsTurn t yielded c → units Utf8 (s ++ t) ≤ m → units Utf8 ((s ++ yielded) ++ c ∷ []) ≤ m
+few-turn s t yielded c m h few =
+    omega (arith, few-take s t (length yielded + 1) m few, ap (units Utf8) (append_assoc s yielded (c ∷ []) ∙ ap (λ l. s ++ l) (turn-more t yielded c h)))

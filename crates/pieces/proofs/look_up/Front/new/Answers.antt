@@ -1,8 +1,0 @@
-use Rattle.pieces.proofs.Known.{front-empty, front-filled}
-use Rattle.pieces.proofs.look_up.Front.new.Goals as goal
-
-pub returns-in_default : goal.returns-in_default
-returns-in_default c = λ s is. front-empty c.args.unit s c.args.sums c.in_default.is is
-
-pub returns : goal.returns
-returns c = λ s is. front-filled c.args.unit s c.args.sums c.in-Filled.counts c.of.result c.in-Filled.is c.of.ensures is

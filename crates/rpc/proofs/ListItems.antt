@@ -1,0 +1,66 @@
+-- What is read of each item of a list, and what is sent of it, item by item.
+use Rattle.std.proofs.Common.{◌≡◌, ℕ, suc, ◌+◌, ◌<◌, ◌≤◌, List, [], ◌∷◌, ◌++◌, length, drop, get_or, refl, sym, ap, ◌∙◌, subst}
+use Rattle.std.proofs.lemmas.List.{at_drop_more, at_drop_all, drop_more, drop_all, append_assoc, append-nil}
+use Rattle.std.specs.Prelude.{Option, Some, None, option_map}
+use Rattle.serde.specs.Event.{Log, Logs, seq_begins, seq_ends}
+use Rattle.serde_json.specs.declared.value.Value.{Value}
+use Rattle.serde_json.specs.Data.{Data, Items, no_items, item, array}
+use Rattle.serde_json.specs.Events.{items_len, SendsValue, SendsItems}
+use Rattle.serde_json.specs.View.{view, items_view}
+use Rattle.rpc.specs.Reading.{first_and}
+
+-- a reading of items, where each item is read as `one` does
+module _ {Y : Type 0} (one : Data → Option Y) (all : Items → Option (List Y)) (none_left : all no_items ≡ Some []) (one_left : (d : Data) (ds : Items) → all (item d ds) ≡ first_and (one d) (all ds)) where
+  -- what is read of the values, where those before place k are read as ys
+  abbrev remaining : List Y → ℕ → List Value → Option (List Y)
+  remaining ys k values = option_map (λ rest. ys ++ rest) (all (items_view (drop k values)))
+
+  at_item : (values : List Value) (k : ℕ) (v : Value) (o : Option Y) → k < length values → v ≡ get_or values k v → o ≡ one (view v)
+      → all (items_view (drop k values)) ≡ first_and o (all (items_view (drop (k + 1) values)))
+  at_item values k v o within is read =
+      at_drop_more (λ l. all (items_view l)) values k v within
+      ∙ ap (λ w. all (item (view w) (items_view (drop (k + 1) values)))) (sym is)
+      ∙ one_left (view v) (items_view (drop (k + 1) values))
+      ∙ ap (λ p. first_and p (all (items_view (drop (k + 1) values)))) (sym read)
+
+  joined : (ys : List Y) (y : Y) (r : Option (List Y)) → option_map (λ rest. ys ++ rest) (first_and (Some y) r) ≡ option_map (λ rest. (ys ++ y ∷ []) ++ rest) r
+  joined ys y None = refl
+  joined ys y (Some rest) = ap (λ l. Some l) (simp append_assoc)
+
+  pub read_more : (values : List Value) (k : ℕ) (v : Value) (y : Y) (before after : List Y) → k < length values → v ≡ get_or values k v → Some y ≡ one (view v)
+      → after ≡ before ++ y ∷ [] → all (items_view values) ≡ remaining before k values → all (items_view values) ≡ remaining after (k + 1) values
+  read_more values k v y before after within is read pushed so_far =
+      so_far
+      ∙ ap (option_map (λ rest. before ++ rest)) (at_item values k v (Some y) within is read)
+      ∙ joined before y (all (items_view (drop (k + 1) values)))
+      ∙ ap (λ ys. remaining ys (k + 1) values) (sym pushed)
+
+  pub unread : (values : List Value) (k : ℕ) (v : Value) (before : List Y) → k < length values → v ≡ get_or values k v → None ≡ one (view v)
+      → all (items_view values) ≡ remaining before k values → None ≡ all (items_view values)
+  unread values k v before within is read so_far = sym (so_far ∙ ap (option_map (λ rest. before ++ rest)) (at_item values k v None within is read))
+
+  pub all_read : (values : List Value) (k : ℕ) (ys : List Y) → length values ≤ k → all (items_view values) ≡ remaining ys k values → Some ys ≡ all (items_view values)
+  all_read values k ys past so_far =
+      sym (so_far
+      ∙ ap (option_map (λ rest. ys ++ rest)) (at_drop_all (λ l. all (items_view l)) values k past ∙ none_left)
+      ∙ ap (λ l. Some l) (append-nil ys))
+
+-- a sending of items, each by what `one` says of it
+module _ {A : Type 0} (one : A → Data) (all : List A → Items) (none_left : all [] ≡ no_items) (one_left : (x : A) (xs : List A) → all (x ∷ xs) ≡ item (one x) (all xs)) where
+  -- where the item at place k was sent, and then those after it, those from k on were sent
+  pub sent_more : (xs : List A) (k : ℕ) (d : A) (before mid end : Log) → k < length xs → SendsValue (one (get_or xs k d)) before mid → SendsItems (all (drop (k + 1) xs)) mid end → SendsItems (all (drop k xs)) before end
+  sent_more xs k d before mid end within first rest =
+      subst (λ ds. SendsItems ds before end) (sym (ap all (drop_more xs k d within) ∙ one_left (get_or xs k d) (drop (k + 1) xs))) (mid, first, rest)
+
+  len_of : (xs : List A) → items_len (all xs) ≡ length xs
+  len_of [] = ap items_len none_left
+  len_of (x ∷ xs) = ap items_len (one_left x xs) ∙ ap suc (len_of xs)
+
+  -- the array of all of them, where whatever sends those from k on sends all, and there are none
+  pub all_sent : (xs : List A) (k : ℕ) (old first before end : Log) → length xs ≤ k → Logs old first (seq_begins (Some (length xs))) → Logs before end seq_ends
+      → ((e : Log) → SendsItems (all (drop k xs)) before e → SendsItems (all xs) first e) → SendsValue (array (all xs)) old end
+  all_sent xs k old first before end past begun ended so_far = (
+    first,
+    subst (λ n. Logs old first (seq_begins (Some n))) (sym (len_of xs)) begun,
+    so_far end (subst (λ ds. SendsItems ds before end) (sym (ap all (drop_all k xs past) ∙ none_left)) ended),
+  )

@@ -1,0 +1,61 @@
+-- What is answered, from what a document holds.
+use Rattle.std.proofs.Common.{◌≡◌, ℕ, List, Bool, true, false, refl, ap, subst}
+use Rattle.std.specs.Prelude.{Option, Some, None, option_map, Result, Ok, Err, IfOk, OnOk, OnErr}
+use Rattle.std.specs.Result.{is_err}
+use Rattle.rpc.specs.Diagnostic.{Diagnostic as Stored}
+use Rattle.docs.specs.Answers.{Diagnostic}
+use Rattle.docs.specs.Answers.{Reading, IsReported, Reads}
+use Rattle.docs.specs.Texts.{OpenDocument}
+use Rattle.docs.specs.Grammars.{FileGrammar}
+use Rattle.rpc.specs.Replies.{diagnostic_view, published_diagnostics}
+use Rattle.docs.specs.Diagnostics.{in_utf8, stored_diagnostic}
+use Rattle.docs.specs.Notification.{IsDiagnosis}
+use Rattle.server.specs.Answers.{IsPublished, shown}
+
+-- what a function answers, said in other words
+pub if_ok : {T E : Type 0} {P Q : T → Type 0} (r : Result T E) → ((x : T) → P x → Q x) → IfOk r P → IfOk r Q
+if_ok (Ok x) f p = f x p
+if_ok (Err e) f p = tt
+
+-- what holds of what was answered
+pub if_ok_is : {T E : Type 0} (P : T → Type 0) (r : Result T E) (x : T) → r ≡ Ok x → IfOk r P → P x
+if_ok_is P r x is h = subst (λ s. IfOk s P) is h
+
+pub on_ok_is : {T E : Type 0} (P : Type 0) (r : Result T E) (x : T) → r ≡ Ok x → OnOk r P → P
+on_ok_is P r x is h = subst (λ s. OnOk s P) is h
+
+-- so, with what is answered first
+pub if_ok_then : {T E : Type 0} {P Q : T → Type 0} (r : Result T E) → IfOk r P → ((x : T) → P x → Q x) → IfOk r Q
+if_ok_then r p f = if_ok r f p
+
+pub if_ok_both : {T E : Type 0} {P Q R : T → Type 0} (r : Result T E) → ((x : T) → P x → Q x → R x) → IfOk r P → IfOk r Q → IfOk r R
+if_ok_both (Ok x) f p q = f x p q
+if_ok_both (Err e) f p q = tt
+
+-- what is reported of a text, in other words
+pub reads_so : (file : FileGrammar) (t : List ℕ) (P Q : Reading → Type 0) → ((reading : Reading) → P reading → Q reading) → Reads file t P → Reads file t Q
+reads_so file t P Q f r = (r.0, r.1, f r.0 r.2)
+
+shown_pair : (notification : Stored) (fault : Diagnostic) → stored_diagnostic notification ≡ in_utf8 fault → diagnostic_view notification ≡ shown fault
+shown_pair notification fault e = ap (λ (x : Diagnostic). (x.range, x.message)) e
+
+shown_same : (notification : Option Stored) (fault : Option Diagnostic) → IsReported notification fault → option_map diagnostic_view notification ≡ option_map shown fault
+shown_same None None e = refl
+shown_same None (Some fault) e = absurd (let f : ⊥ = cc in f)
+shown_same (Some notification) None e = absurd (let f : ⊥ = cc in f)
+shown_same (Some notification) (Some fault) e = let same : stored_diagnostic notification ≡ in_utf8 fault = cc in ap (λ x. Some x) (shown_pair notification fault same)
+
+-- the diagnostics that report a fault
+pub diagnosis_published : (file : FileGrammar) (uri : List ℕ) (d : OpenDocument) (notification : Option Stored) → Reads file d.text (λ reading. (fault : Option Diagnostic) × IsDiagnosis d.unit file d.text reading.tokens reading.verdict fault × IsReported notification fault)
+    → IsPublished file uri d (published_diagnostics uri (Some d.version) (option_map diagnostic_view notification))
+diagnosis_published file uri d notification r =
+    (r.0, r.1, (r.2.0, r.2.1, ap (published_diagnostics uri (Some d.version)) (shown_same notification r.2.0 r.2.2)))
+
+-- What says whether a call was refused is `true` where it was, and `false` where it wasn't.
+pub shows_refused : {A E : Type 0} {notification : Bool} (r : Result A E) → notification ≡ is_err r → OnErr r (notification ≡ true)
+shows_refused (Ok _) is = tt
+shows_refused (Err _) is = is
+
+pub shows_done : {A E : Type 0} {notification : Bool} (r : Result A E) → notification ≡ is_err r → OnOk r (notification ≡ false)
+shows_done (Ok _) is = is
+shows_done (Err _) is = tt

@@ -1,0 +1,58 @@
+use Rattle.std.proofs.Common.{◌≡◌, ◌↔◌, ◌∙◌, ◌+◌, ap, sym, subst, List, map, take, ℕ, Bool, true, false, refl}
+use Rattle.std.specs.Prelude.{Option, Some, Err, Ok, Result}
+use Rattle.std.specs.Str.{chars}
+use Rattle.docs.specs.Text.{apply_changes}
+use Rattle.rpc.specs.Unit.{Unit as Encoding}
+use Rattle.docs.specs.Docs.{last_edit, open_document}
+use Rattle.docs.specs.Edits.{IsNext}
+use Rattle.docs.specs.Texts.{LastEdit, OpenDocument, fits}
+use Rattle.docs.specs.declared.doc.DocFault.{DocFault}
+use Rattle.docs.specs.declared.doc.DocFault.TheVariants.{TooLarge, NoMemory}
+use Rattle.rpc.specs.Messages.{change_view}
+use Rattle.server.specs.Documents.{IsLastAfter}
+use Rattle.server.proofs.Edits.{after, ends_there, goes_on, last_goes_on, may_lose}
+use Rattle.server.proofs.notifications.apply_changes.Goals as goal
+
+-- a test that doesn't fail holds
+unless : (b : Bool) → (b ≡ false → ⊥) → b ≡ true
+unless true never = refl
+unless false never = absurd (never refl)
+
+-- what was not refused as too large fits
+fits_then : {T : Type 0} (result : Result T DocFault) (text spelled : List ℕ) → text ≡ spelled → ((result ≡ Err TooLarge) ↔ (fits text ≡ false)) → (result ≡ Err TooLarge → ⊥) → fits spelled ≡ true
+fits_then result text spelled same large never = subst (λ t. fits t ≡ true) same (unless (fits text) (λ over. never (large.1 over)))
+
+pub returns-in-Err-TooLarge-clause-becomes : goal.returns-in-Err-TooLarge-clause-becomes
+returns-in-Err-TooLarge-clause-becomes c =
+    let doc = c.loop-change.doc in
+    let change = c.change-item.result in
+    let same = ap (λ (e : Encoding). apply_changes e doc.text change.range (chars c.as_str.result.now)) c.loop-change.invariant.unit ∙ ap (λ b. apply_changes c.args.doc.unit doc.text change.range (chars b)) c.as_str.ensures.value in
+    let notification : c.change.result ≡ Err TooLarge = c.in-Err-TooLarge.is ∙ ap (λ (e : DocFault). Err e) c.in-Err-TooLarge.field-0-is in
+    let over : fits (after c.args.doc.unit doc.text (change_view change)) ≡ false = subst (λ t. fits t ≡ false) same (c.change.ensures.too_large.0 notification) in
+    ends_there c.args.changes.now c.loop-change.change-index change c.loop-change-test.true c.change-item.is c.args.language.now.file (open_document c.args.doc) doc.text c.loop-change.invariant.edits over
+
+pub returns-in-Err-NoMemory-clause-becomes : goal.returns-in-Err-NoMemory-clause-becomes
+returns-in-Err-NoMemory-clause-becomes c =
+    let doc = c.loop-change.doc in
+    let change = c.change-item.result in
+    let same = ap (λ (e : Encoding). apply_changes e doc.text change.range (chars c.as_str.result.now)) c.loop-change.invariant.unit ∙ ap (λ b. apply_changes c.args.doc.unit doc.text change.range (chars b)) c.as_str.ensures.value in
+    let notification : c.change.result ≡ Err NoMemory = c.in-Err-NoMemory.is ∙ ap (λ (e : DocFault). Err e) c.in-Err-NoMemory.field-0-is in
+    let fit = fits_then c.change.result _ (after c.args.doc.unit doc.text (change_view change)) same c.change.ensures.too_large (λ wrong. let both : Err TooLarge ≡ Err NoMemory = sym wrong ∙ notification in let f : ⊥ = cc in f) in
+    may_lose c.args.changes.now c.loop-change.change-index change c.loop-change-test.true c.change-item.is c.args.language.now.file (open_document c.args.doc) doc.text c.loop-change.invariant.edits c.args.version fit
+
+pub loop-change-preserved : goal.loop-change-preserved
+loop-change-preserved c =
+    let doc = c.loop-change.doc in
+    let change = c.change-item.result in
+    let same = ap (λ (e : Encoding). apply_changes e doc.text change.range (chars c.as_str.result.now)) c.loop-change.invariant.unit ∙ ap (λ b. apply_changes c.args.doc.unit doc.text change.range (chars b)) c.as_str.ensures.value in
+    let fit = fits_then c.change.result _ (after c.args.doc.unit doc.text (change_view change)) same c.change.ensures.too_large (λ wrong. let both : Err TooLarge ≡ Ok c.in-Ok.next = sym wrong ∙ c.in-Ok.is in let f : ⊥ = cc in f) in
+    let text : c.in-Ok.next.text ≡ after c.args.doc.unit doc.text (change_view change) = ap (λ (d : OpenDocument). d.text) c.in-Ok.ensures.is ∙ same in
+    let next = c.in-Ok.ensures.last in
+    let there : IsNext c.args.doc.unit c.args.language.now.file doc.text change.range (chars c.as_str.result.now) (last_edit doc) next.0 = subst (λ (e : Encoding). IsNext e c.args.language.now.file doc.text change.range (chars c.as_str.result.now) (last_edit doc) next.0) c.loop-change.invariant.unit next.2 in
+    let one : IsNext c.args.doc.unit c.args.language.now.file doc.text change.range (chars (change_view change).text) (last_edit doc) next.0 = subst (λ b. IsNext c.args.doc.unit c.args.language.now.file doc.text change.range (chars b) (last_edit doc) next.0) c.as_str.ensures.value there in
+    record {
+      current = c.in-Ok.ensures.current;
+      unit = ap (λ (d : OpenDocument). d.unit) c.in-Ok.ensures.is ∙ c.loop-change.invariant.unit;
+      last = subst (λ (l : Option LastEdit). IsLastAfter c.args.doc.unit c.args.language.now.file c.args.doc.text (map change_view (take (c.loop-change.change-index + 1) c.args.changes.now)) (last_edit c.args.doc) l) (sym next.1) (last_goes_on c.args.changes.now c.loop-change.change-index change c.loop-change-test.true c.change-item.is c.args.language.now.file (open_document c.args.doc) doc.text c.loop-change.invariant.edits (last_edit doc) next.0 c.loop-change.invariant.last one);
+      edits = goes_on c.args.changes.now c.loop-change.change-index change c.loop-change-test.true c.change-item.is c.args.language.now.file (open_document c.args.doc) doc.text c.loop-change.invariant.edits fit ∙ ap (λ t. Some t) (sym text);
+    }

@@ -1,0 +1,15 @@
+use Rattle.std.proofs.Common.{◌≡◌, map, take}
+use Rattle.std.specs.Prelude.{Some}
+use Rattle.docs.specs.Docs.{last_edit, IsCurrent}
+use Rattle.rpc.specs.Messages.{change_view}
+use Rattle.server.specs.Documents.{edited, IsLastAfter}
+use Rattle.server.proofs.notifications.apply_changes.Given as goal
+
+abbrev pub invariant-loop-change : goal.invariant-loop-change
+invariant-loop-change l =
+    record {
+      current : IsCurrent l.language l.doc;
+      unit : l.doc.unit ≡ l.fn.doc.unit;
+      edits : edited l.fn.doc.unit l.fn.doc.text (map change_view (take l.change-index l.changes)) ≡ Some l.doc.text;
+      last : IsLastAfter l.fn.doc.unit l.language.file l.fn.doc.text (map change_view (take l.change-index l.changes)) (last_edit l.fn.doc) (last_edit l.doc);
+    }

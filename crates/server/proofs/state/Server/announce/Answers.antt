@@ -1,0 +1,21 @@
+use Rattle.std.proofs.Common.{subst, refl}
+use Rattle.docs.specs.Docs.{open_document}
+use Rattle.docs.specs.Languages.{LanguageData}
+use Rattle.rpc.specs.Replies.{reply_view}
+use Rattle.server.specs.Answers.{IsPublished}
+use Rattle.server.specs.Steps.{state_view}
+use Rattle.server.proofs.Holding.{holds_open}
+use Rattle.server.proofs.AnswersFromDocuments.{if_ok_both}
+use Rattle.server.proofs.state.Server.announce.Goals as goal
+
+pub returns-in_ok-publish-in-Open : goal.returns-in_ok-publish-in-Open
+returns-in_ok-publish-in-Open c =
+    let old = state_view c.args.self.now in
+    let uri = c.args.uri.now in
+    let d = c.in-Open.doc in
+    let publish = reply_view c.in_ok-publish-in-Open.field-0 in
+    let is : IsPublished old.file uri (open_document d) publish = subst (λ (l : LanguageData). IsPublished l.file uri (open_document d) publish) c.language-language.ensures c.in_ok-publish-in-Open.ensures in
+    if_ok_both c.one_reply.result
+    (λ out replies stop. holds_open old uri c.args.entry.now d c.in-Open.is publish _ _ _ is replies stop refl)
+    c.one_reply.ensures.replies
+    c.one_reply.ensures.stop

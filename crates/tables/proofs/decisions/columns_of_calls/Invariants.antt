@@ -1,0 +1,12 @@
+use Rattle.std.proofs.Common.{◌≡◌, ◌<◌, ◌+◌, Option, true, false, length, slice_index_or, ℕ}
+use Rattle.definitions.specs.Items.{Move, CallsFor, kind_of}
+use Rattle.item_sets.specs.declared.item.Item.{Item}
+use Rattle.item_sets.specs.Sets.{item_of}
+use Rattle.item_sets.specs.Lookaheads.{rank}
+use Rattle.tables.proofs.decisions.columns_of_calls.Given as goal
+
+abbrev pub invariant-loop-item : goal.invariant-loop-item
+invariant-loop-item l = record {
+  long : length l.marks ≡ l.grammar.grammar.rules + 1;
+  marked : (k : ℕ) (d : Item) (look : Option ℕ) → k < l.item-index → (m : Move) × CallsFor (item_of l.grammar.grammar (slice_index_or l.items k d)) (kind_of look) m → slice_index_or l.marks (rank look) false ≡ true;
+}
