@@ -171,15 +171,4 @@ impl States {
         symbols.reverse();
         Ok(symbols)
     }
-
-    /// The kernels alone.
-    pub fn into_kernels(self) -> Kernels
-        ensures { result ≡ self.kernels }
-    {
-        let States {
-            kernels,
-            origins: _,
-        } = self;
-        kernels
-    }
 }

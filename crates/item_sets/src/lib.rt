@@ -40,7 +40,6 @@ pub use closure::close;
 pub use collection::States;
 pub use indices::{ProductionNumber, StateNumber};
 pub use item::{Item, Place};
-pub use kernels::Kernels;
 pub use lookahead::lookahead_at;
 pub use marks::Marks;
 pub use productions::Productions;

@@ -71,7 +71,7 @@ impl Productions {
         ensures sound { IfOk result IsSound }
     {
         let start = grammar.start();
-        let mut productions = Vec::new(alloc);
+        let mut productions = Vec::with_capacity(alloc, grammar.productions())?;
         for p in 0..grammar.productions() {
             let right = Vec::from_slice(alloc, grammar.right(p))?;
             productions.push(Production::new(grammar.left(p), right))?;

@@ -3,7 +3,7 @@ use Rattle.std.proofs.Common.{◌≡◌, ◌<◌, ◌≤◌, ◌+◌, ◌↔◌,
 use Rattle.std.specs.Prelude.{is_some, if◌then◌else◌}
 use Rattle.std.specs.List.Sorted.{IsStrictlyIncreasing}
 use Rattle.std.proofs.lemmas.Bool.{cases_lt}
-use Rattle.std.proofs.lemmas.List.{drop_all, get_or-drop, length-drop}
+use Rattle.std.proofs.lemmas.List.{drop_all, get_or-drop, get_or_past}
 use Rattle.std.proofs.Math.Seq.{drop-cons}
 use Rattle.definitions.specs.declared.Kind.{Kind}
 use Rattle.definitions.specs.declared.Kind.TheVariants.{Rule as Token}
@@ -92,12 +92,9 @@ module _ (g : Grammar) (accepted : IsAccepted g) (x : List Kind) (stack : List T
       let sentence = move_iff_sentence g accepted.free accepted.productive x stack after in
       (λ e. sentence.0 (shown.0 e), λ v. shown.1 (sentence.1 v))
 
-  module _ (row : List (Option Move)) (filled : length row ≡ g.rules + 1) (each : (a : ℕ) → a < g.rules → IsAction g prefix (Some (Token a)) (slice_index_or row (a + 1) None)) (end : IsAction g prefix None (slice_index_or row 0 None)) (far : (a : ℕ) → g.rules ≤ a → IsAction g prefix (Some (Token a)) None) where
+  module _ (row : List (Option Move)) (each : (a : ℕ) → IsAction g prefix (Some (Token a)) (slice_index_or row (a + 1) None)) (end : IsAction g prefix None (slice_index_or row 0 None)) where
     abbrev rules_row : List (Option Move)
     rules_row = drop 1 row
-
-    long : length rules_row ≡ g.rules
-    long = length-drop 1 row ∙ omega (arith, filled)
 
     -- the move on a token rule stands in the column after its number
     at_rule : (a : ℕ) → slice_index_or rules_row a None ≡ slice_index_or row (a + 1) None
@@ -106,22 +103,18 @@ module _ (g : Grammar) (accepted : IsAccepted g) (x : List Kind) (stack : List T
     shown_viable : (a : ℕ) → Contains (rules_with_move 0 rules_row) a → IsViable g (x ++ (Token a ∷ []))
     shown_viable a c =
         let m = has_move 0 rules_row a c in
-        let l = m.1 in
-        let n = long in
         let e = m.2 in
         let same : m.0 ≡ a = omega (arith, e) in
         let moves = subst (λ o. is_some o ≡ true) (at_rule m.0) m.3 in
-        (rule_expected a (slice_index_or row (a + 1) None) (each a (omega (arith, l, n, same)))).0 (subst (λ j. is_some (slice_index_or row (j + 1) None) ≡ true) same moves)
+        (rule_expected a (slice_index_or row (a + 1) None) (each a)).0 (subst (λ j. is_some (slice_index_or row (j + 1) None) ≡ true) same moves)
 
     viable_shown : (a : ℕ) → IsViable g (x ++ (Token a ∷ [])) → Contains (rules_with_move 0 rules_row) a
-    viable_shown a v = elim (cases_lt a g.rules) [
-      | inl l ↦
-          let moves = (rule_expected a (slice_index_or row (a + 1) None) (each a l)).1 v in
-          let n = long in
-          let same : 0 + a ≡ a = omega arith in
-          subst (Contains (rules_with_move 0 rules_row)) same (is_shown 0 rules_row a (omega (arith, l, n)) (subst (λ o. is_some o ≡ true) (sym (at_rule a)) moves))
-      | inr l ↦ absurd (let e = (rule_expected a None (far a l)).1 v in cc e)
-    ]
+    viable_shown a v =
+        let moves = subst (λ o. is_some o ≡ true) (sym (at_rule a)) ((rule_expected a (slice_index_or row (a + 1) None) (each a)).1 v) in
+        elim (cases_lt a (length rules_row)) [
+          | inl l ↦ let same : 0 + a ≡ a = omega arith in subst (Contains (rules_with_move 0 rules_row)) same (is_shown 0 rules_row a l moves)
+          | inr far ↦ absurd (let none = subst (λ o. is_some o ≡ true) (get_or_past rules_row a None far) moves in cc none)
+        ]
 
     -- what has a move in the state's row is what may come next
     pub all_expected : AreExpected g x (in_file_order (rules_with_move 0 rules_row) (is_some (slice_index_or row 0 None)))

@@ -1,18 +1,14 @@
 -- The tables of all states.
-use Rattle.std.proofs.Common.{◌≡◌, ◌<◌, ◌≤◌, ℕ, [], None, MatchOption, length, slice_index_or, sym, ◌∙◌, subst, inl, inr, arith}
-use Rattle.std.proofs.lemmas.Bool.{cases_lt}
+use Rattle.std.proofs.Common.{◌≡◌, ◌<◌, ◌≤◌, ℕ, [], None, MatchOption, length, slice_index_or, sym, ◌∙◌, subst, arith}
 use Rattle.definitions.specs.Sentences.{AllProductive}
 use Rattle.tables.specs.Actions.{AreMoves, AreAllMoves, IsClashAt, Made, AreMade}
-use Rattle.item_sets.specs.Collection.{kernel_at, Found, AreStates}
-use Rattle.tables.specs.Gotos.{HasSteps}
+use Rattle.item_sets.specs.Collection.{Found, AreStates}
 use Rattle.item_sets.specs.Productions.{Shape}
-use Rattle.item_sets.specs.States.{HasKernel}
-use Rattle.tables.specs.Tables.{AreTables}
-use Rattle.item_sets.proofs.FirstKernel.{start_kernel}
-use Rattle.item_sets.proofs.AddedKernels.{no_item}
+use Rattle.tables.specs.Tables.{seen, AreTables}
 use Rattle.theory.proofs.Knuth.{lr1_no_conflict}
 use Rattle.tables.proofs.AllSets.{no_conflict}
 use Rattle.tables.proofs.SetCount.{no_more_sets}
+use Rattle.tables.proofs.Right.{right}
 use Rattle.definitions.specs.Trees.{Grammar, HasDistinctProductions}
 use Rattle.definitions.specs.Items.{HasMoreSetsThan, kind_of}
 use Rattle.item_sets.specs.Sets.{item_of}
@@ -20,26 +16,21 @@ use Rattle.tables.specs.declared.tables.TableFault.{TableFault}
 use Rattle.tables.specs.declared.tables.TableFault.TheVariants.{TooManySets, Conflict, Memory}
 use Rattle.tables.specs.Faults.{IsConflictOf, IsRight, RefutesLr1}
 
-pub tables_all : (g : Shape) (t : Found) → AreStates g t → (m : Made) → AreMade g t.kernels m → length m.gotos ≡ length t.kernels → m.clash ≡ None → AreTables g t.kernels m.gotos m.moves
+pub tables_all : (g : Shape) (t : Found) → AreStates g t → (m : Made) → AreMade g t.kernels m → length m.gotos ≡ length t.kernels → m.clash ≡ None → AreTables g.nonterminals (seen g.grammar m.gotos m.moves)
 tables_all g t states m made all none =
     let moves : AreAllMoves g.grammar t.kernels m = subst (λ o. MatchOption o (AreAllMoves g.grammar t.kernels m) (λ f. IsClashAt g t.kernels f)) none made.moves in
     let filled = moves.filled in
+    let begins = states.begins in
     let productive = states.sound.productive in
-    let steps : (s : ℕ) → s < length t.kernels → HasSteps g t.kernels s = λ s l. made.steps s (omega (arith, l, all)) in
     let each_moves : (s : ℕ) → s < length t.kernels → AreMoves g.grammar t.kernels s (slice_index_or m.moves s []) = λ s l. moves.each s (omega (arith, l, all, filled)) in
     record {
-      sound = states.sound;
-      begins = states.begins;
-      start = subst (λ y. HasKernel g.grammar y []) (sym states.start) (start_kernel g.grammar);
-      known = λ s l. (states.ordered s l).known;
-      some_item = λ s l. let r = states.reached s l in elim (cases_lt 0 (length (kernel_at t.kernels s))) [ inl b ↦ b | inr b ↦ absurd (no_item g.grammar (kernel_at t.kernels s) r.0 b r.1 r.2) ];
-      steps = steps;
-      gotos_filled = all;
-      gotos = λ s l. made.gotos s (omega (arith, l, all));
-      moves_filled = filled ∙ all;
-      moves = each_moves;
+      begins = omega (arith, begins, all, filled);
+      filled = sym filled;
+      gotos = λ s l. (made.gotos s l).filled;
+      moves = λ s l. (moves.each s l).filled;
+      right = right g t states m.gotos m.moves (filled ∙ all) (λ s l. made.gotos s (omega (arith, l, all))) each_moves;
       accepted = record {
-        free = no_conflict g states.sound productive t.kernels (λ s l. (states.ordered s l).known) states.begins states.start steps (λ s. slice_index_or m.moves s []) each_moves;
+        free = no_conflict g states.sound productive t.kernels (λ s l. (states.ordered s l).known) states.begins states.start (λ s l. made.steps s (omega (arith, l, all))) (λ s. slice_index_or m.moves s []) each_moves;
         productive = productive;
       };
     }

@@ -4,6 +4,8 @@ pub mod LookaheadMarks
 pub mod LookaheadsOfMoves
 pub mod MovesOfState
 pub mod AllSets
+pub mod Leading
+pub mod Right
 pub mod Finishing
 pub mod SetCount
 pub mod RowsOfPrefix

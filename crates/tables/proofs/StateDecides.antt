@@ -1,26 +1,19 @@
--- Every prefix with an item has a state, whose moves decide what its items call for.
-use Rattle.std.proofs.Common.{◌≡◌, ◌⊎◌, ◌+◌, ◌<◌, ℕ, List, [], ◌∷◌, ◌++◌, Option, Some, None, slice_index_or, refl, subst, inl, inr, ⊎_elim, arith}
-use Rattle.std.proofs.lemmas.Bool.{cases_lt}
+-- Every prefix with an item leads to a state, whose moves decide what its items call for.
+use Rattle.std.proofs.Common.{◌≡◌, ◌⊎◌, ℕ, List, [], ◌∷◌, ◌++◌, Option, Some, None, refl, inl, inr}
 use Rattle.definitions.specs.declared.Kind.{Kind}
 use Rattle.definitions.specs.declared.Kind.TheVariants.{Rule as Token, Invalid}
 use Rattle.definitions.specs.declared.Symbol.{Symbol}
+use Rattle.definitions.specs.declared.Symbol.TheVariants.{Rule as Terminal, Nonterminal}
 use Rattle.definitions.specs.Trees.{Grammar}
-use Rattle.definitions.specs.Items.{Move as LrMove, Shift, Reduce, Accept, HasMove, HasItem, kind_of}
-use Rattle.definitions.specs.Items.{Item as LrItem}
+use Rattle.definitions.specs.Items.{Item as LrItem, Move as LrMove, Shift, Reduce, Accept, HasMove, HasItem, kind_of}
 use Rattle.theory.specs.Closure.{ByRules, Start, Goto, Close}
 use Rattle.theory.proofs.Rules.{rules_valid, valid_rules}
 use Rattle.tables.specs.declared.decisions.Move.{Move}
-use Rattle.item_sets.specs.declared.item.Item.{Item}
-use Rattle.tables.specs.Actions.{IsMoveAt, plain}
-use Rattle.item_sets.specs.Collection.{kernel_at, IsStep}
+use Rattle.tables.specs.declared.decisions.Move.TheVariants.{Shift as ToShift, Reduce as ToReduce, Accept as ToAccept}
+use Rattle.tables.specs.Actions.{plain}
 use Rattle.tables.specs.Decidable.{AreMovesDecided}
-use Rattle.item_sets.specs.Productions.{Shape}
-use Rattle.item_sets.specs.Lookaheads.{lookahead_at}
-use Rattle.item_sets.specs.States.{HasKernel}
-use Rattle.tables.specs.Tables.{IsStateOf, AreTables}
-use Rattle.tables.proofs.RowsOfPrefix.{seen, move_in_row, no_rule}
-use Rattle.item_sets.proofs.Columns.{lookahead_at-rule}
-use Rattle.tables.proofs.AllSets.{Stands, next_known}
+use Rattle.tables.specs.Tables.{Sets, IsStateOf, IsAction, AreTables, move_at, goto_at}
+use Rattle.tables.proofs.RowsOfPrefix.{start_state, right, shift_state, goes}
 
 no_lookahead : (look : Option ℕ) → Some Invalid ≡ kind_of look → ⊥
 no_lookahead None e = cc e
@@ -32,46 +25,46 @@ no_invalid g prefix Shift h = let e : Some Invalid ≡ Some (Token h.calls.0) = 
 no_invalid g prefix (Reduce p) h = no_lookahead h.item.look h.calls.2
 no_invalid g prefix Accept h = no_lookahead h.item.look h.calls.2
 
-module _ (g : Shape) (kernels : List (List Item)) (gotos : List (List (Option ℕ))) (actions : List (List (Option Move))) (t : AreTables g kernels gotos actions) where
-  step_state : (prefix : List Symbol) (s : ℕ) → HasKernel g.grammar (kernel_at kernels s) prefix → (x : Symbol) (o : Option ℕ) → IsStep g.grammar kernels s x o → HasItem g.grammar (prefix ++ (x ∷ [])) → (to : ℕ) × IsStateOf (seen g kernels gotos actions t) (prefix ++ (x ∷ [])) to
-  step_state prefix s kernel x None step has = absurd (step prefix kernel has)
-  step_state prefix s kernel x (Some to) step has = (to, record { below = step.0; kernel = step.1 prefix kernel })
+module _ (nonterminals : ℕ) (t : Sets) (tables : AreTables nonterminals t) where
+  module _ (prefix : List Symbol) (s : ℕ) (h : IsStateOf t prefix s) where
+    -- where items call for a shift they call for nothing else
+    no_other : (a : ℕ) → HasMove t.grammar prefix (Some (Token a)) Shift → (m : LrMove) → (Shift ≡ m → ⊥) → HasMove t.grammar prefix (Some (Token a)) m → ⊥
+    no_other a shift m other has = tables.accepted.free prefix (Some (Token a)) shift.item has.item (record { one_valid = shift.valid; two_valid = has.valid; one_move = Shift; two_move = m; one_calls = shift.calls; two_calls = has.calls; differ = other })
 
-  -- the state of a prefix that some item is valid for
-  has_state : {prefix : List Symbol} {i : LrItem} → ByRules g.grammar prefix i → (s : ℕ) × IsStateOf (seen g kernels gotos actions t) prefix s
-  has_state Start = (0, record { below = t.begins; kernel = t.start })
+    after_shift : (a : ℕ) → HasMove t.grammar prefix (Some (Token a)) Shift → (o : Option Move) → move_at t s (Some a) ≡ o → IsAction t.grammar prefix (Some (Token a)) o → (to : ℕ) × IsStateOf t (prefix ++ (Terminal a ∷ [])) to
+    after_shift a shift None e is = absurd (is Shift shift)
+    after_shift a shift (Some (ToShift to)) e is = (to, shift_state nonterminals t tables prefix s h a to e)
+    after_shift a shift (Some (ToReduce p)) e is = absurd (no_other a shift (Reduce p) (λ x. cc x) is)
+    after_shift a shift (Some ToAccept) e is = absurd (no_other a shift Accept (λ x. cc x) is)
+
+    after_goto : (n : ℕ) → HasItem t.grammar (prefix ++ (Nonterminal n ∷ [])) → (o : Option ℕ) → goto_at t s n ≡ o → (to : ℕ) × IsStateOf t (prefix ++ (Nonterminal n ∷ [])) to
+    after_goto n has None e = absurd (goes nonterminals t tables prefix s h n None e has)
+    after_goto n has (Some to) e = (to, (goes nonterminals t tables prefix s h n (Some to) e).1)
+
+    after_symbol : (x : Symbol) (i : LrItem) (after : List Symbol) → i.after ≡ x ∷ after → ByRules t.grammar prefix i → HasItem t.grammar (prefix ++ (x ∷ [])) → (to : ℕ) × IsStateOf t (prefix ++ (x ∷ [])) to
+    after_symbol (Terminal a) i after e r has = after_shift a (record { item = i; valid = rules_valid t.grammar r; calls = (a, after, e, refl) }) (move_at t s (Some a)) refl ((right nonterminals t tables prefix s h).moves (Some a))
+    after_symbol (Nonterminal n) i after e r has = after_goto n has (goto_at t s n) refl
+
+  -- the state that a prefix leads to for which some item is valid
+  has_state : {prefix : List Symbol} {i : LrItem} → ByRules t.grammar prefix i → (s : ℕ) × IsStateOf t prefix s
+  has_state Start = (0, start_state nonterminals t tables)
   has_state (Close r h f) = has_state r
-  has_state (Goto {prefix = prefix} {s = x} r) =
-      let before = has_state r in
-      let has : HasItem g.grammar (prefix ++ (x ∷ [])) = (_, rules_valid g.grammar (Goto r)) in
-      let stands : Stands g t.sound t.accepted.productive kernels t.known prefix = record { state = before.0; below = before.1.below; kernel = before.1.kernel } in
-      let known = next_known g t.sound t.accepted.productive kernels t.known prefix stands x has in
-      let to = t.steps before.0 before.1.below x known in
-      step_state prefix before.0 before.1.kernel x to.0 to.1 has
+  has_state (Goto {prefix = prefix} {s = x} {after = after} r) = let before = has_state r in after_symbol prefix before.0 before.1 x _ after refl r (_, rules_valid t.grammar (Goto r))
 
-  module _ (prefix : List Symbol) (s : ℕ) (h : IsStateOf (seen g kernels gotos actions t) prefix s) where
-    abbrev pub IsDecidedAt : Option Kind → Type 0
-    IsDecidedAt look = ((move : LrMove) × HasMove g.grammar prefix look move) ⊎ ((move : LrMove) → HasMove g.grammar prefix look move → ⊥)
+  module _ (prefix : List Symbol) (s : ℕ) (h : IsStateOf t prefix s) where
+    abbrev IsDecidedAt : Option Kind → Type 0
+    IsDecidedAt look = ((move : LrMove) × HasMove t.grammar prefix look move) ⊎ ((move : LrMove) → HasMove t.grammar prefix look move → ⊥)
 
-    from_move : (look : Option ℕ) (o : Option Move) → IsMoveAt g.grammar kernels prefix look o → IsDecidedAt (kind_of look)
-    from_move look None m = inr m
-    from_move look (Some move) m = inl (plain move, m.0.has)
-
-    at_column : (look : Option ℕ) (k : ℕ) → k < g.grammar.rules + 1 → lookahead_at k ≡ look → IsDecidedAt (kind_of look)
-    at_column look k l e =
-        let o = slice_index_or (slice_index_or actions s []) k None in
-        from_move look o (subst (λ n. IsMoveAt g.grammar kernels prefix n o) e (move_in_row g kernels gotos actions t prefix s h k l))
+    from_action : (look : Option Kind) (o : Option Move) → IsAction t.grammar prefix look o → IsDecidedAt look
+    from_action look None is = inr is
+    from_action look (Some move) is = inl (plain move, is)
 
     decided_at : (look : Option Kind) → IsDecidedAt look
-    decided_at None = at_column None 0 (omega arith) refl
-    decided_at (Some Invalid) = inr (no_invalid g.grammar prefix)
-    decided_at (Some (Token a)) =
-        ⊎_elim
-        (λ l. at_column (Some a) (a + 1) (omega (arith, l)) (lookahead_at-rule a))
-        (λ far. inr (no_rule g kernels gotos actions t prefix s h a far))
-        (cases_lt a g.grammar.rules)
+    decided_at None = from_action None (move_at t s None) ((right nonterminals t tables prefix s h).moves None)
+    decided_at (Some Invalid) = inr (no_invalid t.grammar prefix)
+    decided_at (Some (Token a)) = from_action (Some (Token a)) (move_at t s (Some a)) ((right nonterminals t tables prefix s h).moves (Some a))
 
-  pub moves_decided : AreMovesDecided g.grammar
+  pub moves_decided : AreMovesDecided t.grammar
   moves_decided prefix has look =
-      let s = has_state (valid_rules g.grammar prefix has.0 has.1) in
+      let s = has_state (valid_rules t.grammar prefix has.0 has.1) in
       decided_at prefix s.0 s.1 look

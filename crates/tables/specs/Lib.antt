@@ -1,5 +1,4 @@
 pub mod Moves
-pub mod Outlines
 pub mod Gotos
 pub mod Rows
 pub mod Actions

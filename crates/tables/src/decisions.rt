@@ -151,7 +151,7 @@ fn moves_of_callers(
     ensures { IfOk result (IsDecided grammar.now.grammar items.now row.now) }
 {
     let called = columns_of_calls(alloc, grammar, items)?;
-    let mut moves = Vec::new(alloc);
+    let mut moves = Vec::with_capacity(alloc, grammar.lookaheads())?;
     for column in 0..grammar.lookaheads() {
         if called.has(column) {
             let look = lookahead_at(column);

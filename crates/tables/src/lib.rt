@@ -28,7 +28,6 @@ mod decisions;
 mod expected;
 pub mod laws;
 mod moves;
-mod outline;
 mod progress;
 mod rows;
 mod tables;

@@ -20,13 +20,11 @@ ghost use Rattle.tables.specs.Decidable.{AreMovesDecided};
 use crate::conflict::{Conflict, conflict_of};
 use crate::decisions::{Move, Moves};
 use crate::expected::Expected;
-use crate::outline::Outline;
 use crate::progress::{ClashAt, Progress, advance};
 use crate::rows::Row;
 use definitions::Kind;
-use erased::Erased;
 use grammar::Grammar;
-use item_sets::{AugmentedGrammar, Kernels, ProductionNumber, Productions, States};
+use item_sets::{AugmentedGrammar, ProductionNumber, Productions, States};
 use std::alloc::Global;
 use std::marker::Model;
 
@@ -47,30 +45,23 @@ pub enum TableFault {
 /// Canonical LR(1) tables of a grammar (Knuth 1965).
 #[derive(Drop)]
 pub struct Tables {
-    /// The productions of the grammar, for proofs alone.
-    productions: Erased<Productions>,
-    /// The kernel of the set of each state, for proofs alone; the first is that of the empty prefix.
-    kernels: Erased<Kernels>,
-    /// What is asked of the productions.
-    outline: Outline,
-    /// Where the nonterminals lead from each state.
+    /// The productions of the grammar.
+    productions: Productions,
+    /// Where the nonterminals lead from each state, the first of which is that of the empty prefix.
     gotos: Vec<Row>,
     /// What each state does at each kind that may come next.
     moves: Vec<Moves>,
 }
 
 impl Model for Tables {
-    ghost use Rattle.tables.specs.Outlines.{IsOutline};
-    ghost use Rattle.tables.specs.Tables.{Sets, AreTables};
+    ghost use Rattle.tables.specs.Tables.{Sets, seen, AreTables};
 
     ghost Value = { Sets };
 
-    ghost view = { λ a. record {
-      grammar = a.productions.value.grammar;
-      kernels = a.kernels.value;
-    } };
+    ghost view = { λ a. seen a.productions.grammar a.gotos.items a.moves.items };
 
-    ghost invariant = { λ a. AreTables a.productions.value a.kernels.value a.gotos.items a.moves.items × IsOutline a.productions.value a.outline };
+    ghost invariant = { λ a. AreTables a.productions.nonterminals
+        (seen a.productions.grammar a.gotos.items a.moves.items) };
 }
 
 /// Makes the gotos and the moves of all states. They are refused where there are too many states, or two items conflict.
@@ -122,32 +113,19 @@ fn conflict_fault(
 }
 
 /// The tables of all states, of which no two items conflict.
-fn finish(
-    alloc: Global,
-    grammar: AugmentedGrammar,
-    states: States,
-    made: Progress,
-) -> Result<Tables, TableFault>
-    requires states { AreStates grammar states }
-    requires made { AreMade grammar states.kernels made }
-    requires all { length made.gotos ≡ length states.kernels }
+fn finish(grammar: AugmentedGrammar, _states: &States, made: Progress) -> Tables
+    requires states { AreStates grammar _states.now }
+    requires made { AreMade grammar _states.now.kernels made }
+    requires all { length made.gotos ≡ length _states.now.kernels }
     requires free { made.clash ≡ None }
-    ensures grammar { IfOk result (λ t. t.grammar ≡ grammar.grammar) }
-    ensures free { IfOk result (λ _. HasNoConflict grammar.grammar) }
-    ensures refused { IfErr result (IsRight grammar.grammar 8192) }
+    ensures grammar { result.grammar ≡ grammar.grammar }
+    ensures free { HasNoConflict grammar.grammar }
 {
-    let productions = grammar.into_productions();
-    let kernels = states.into_kernels();
-    let Ok(outline) = Outline::of(alloc, &productions) else {
-        return Err(TableFault::Memory);
-    };
-    Ok(Tables {
-        productions: Erased::of(&productions),
-        kernels: Erased::of(&kernels),
-        outline,
+    Tables {
+        productions: grammar.into_productions(),
         gotos: made.gotos,
         moves: made.moves,
-    })
+    }
 }
 
 /// The tables of a grammar.
@@ -162,7 +140,7 @@ fn tables_of(alloc: Global, grammar: AugmentedGrammar) -> Result<Tables, TableFa
     };
     let mut made = Progress::new(alloc);
     complete(alloc, &grammar, &mut states, &mut made)?;
-    finish(alloc, grammar, states, made)
+    Ok(finish(grammar, &states, made))
 }
 
 impl Tables {
@@ -195,7 +173,7 @@ impl Tables {
 
     /// The move of a state where this kind, or the end, is next.
     pub fn action(&self, state: usize, look: Option<Kind>) -> Option<Move>
-        requires { state < length self.now.kernels }
+        requires { state < length self.now.moves }
         ensures is { (prefix : List Symbol) → IsStateOf self.now prefix state
             → IsAction self.now.grammar prefix look result }
         ensures shifts { (prefix : List Symbol) (a to : ℕ) → IsStateOf self.now prefix state
@@ -208,7 +186,7 @@ impl Tables {
             Some(kind) => match kind {
                 Kind::Invalid => None,
                 Kind::Rule(a) => {
-                    if a < self.outline.rules() {
+                    if a < self.productions.rules() {
                         moves.at(a + 1)
                     } else {
                         None
@@ -220,14 +198,14 @@ impl Tables {
 
     /// The state that a nonterminal leads to, if some item calls for it there.
     pub fn goto(&self, state: usize, nonterminal: usize) -> Option<usize>
-        requires { state < length self.now.kernels }
+        requires { state < length self.now.moves }
         ensures { (prefix : List Symbol) → IsStateOf self.now prefix state
             → let g = self.now.grammar in
             let next = prefix ++ (Nonterminal nonterminal ∷ []) in
             MatchOption result (HasItem g next → ⊥)
             (λ to. HasItem g next × IsStateOf self.now next to) }
     {
-        if nonterminal < self.outline.nonterminals() {
+        if nonterminal < self.productions.nonterminals() {
             self.gotos[state].to(nonterminal)
         } else {
             None
@@ -237,7 +215,7 @@ impl Tables {
     /// What may come next in a state: the token rules in file order, and then the end, with which some sentence goes on after
     /// the kinds that were read. It takes no memory.
     pub fn expects(&self, state: usize) -> Expected<'_>
-        requires { state < length self.now.kernels }
+        requires { state < length self.now.moves }
         ensures { (x : List Kind) (stack : List Tree) (prefix : List Symbol)
             → IsStateOf self.now prefix state
             → IsStackAfter self.now.grammar x stack → HaveRoots self.now.grammar stack prefix
@@ -260,7 +238,7 @@ impl Tables {
         ensures { (right : List Symbol) × HasProduction self.now.grammar p result.0 right
             × (length right ≡ result.1) }
     {
-        let side = self.outline.side(ProductionNumber::new(p));
-        (side.left, side.length)
+        let p = ProductionNumber::new(p);
+        (self.productions.left(p), self.productions.right(p).len())
     }
 }

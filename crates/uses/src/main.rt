@@ -12,7 +12,6 @@ use std::process::ExitCode;
 /// All examples, in the order of the crates.
 fn all(rt: &HostRuntime, alloc: Global) -> Option<()> {
     plain::use_definitions(rt)?;
-    plain::use_erased();
     lists::use_seqtree(rt, alloc)?;
     lists::use_patterns(rt, alloc)?;
     grammars::use_grammar_file(rt, alloc)?;
