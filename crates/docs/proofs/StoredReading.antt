@@ -20,7 +20,7 @@ use Rattle.definitions.specs.Trees.{Grammar, Tree, HaveRoots, all_kinds}
 use Rattle.grammar.specs.Grammars.{FileGrammar}
 use Rattle.lexer.specs.declared.sums.Token.{Token}
 use Rattle.lexer.specs.Rescans.{significant_kinds}
-use Rattle.lexer.specs.Tokens.{plain, is_significant, AreTokensOf}
+use Rattle.lexer.specs.Tokens.{kind_in, plain, is_significant, AreTokensOf}
 use Rattle.parser.specs.declared.parse.Verdict.{Verdict}
 use Rattle.parser.specs.declared.parse.Verdict.TheVariants.{Tree as TreeAt, FaultAt, FaultAtEnd}
 use Rattle.parser.specs.Machine.{plain_of}
@@ -51,15 +51,15 @@ if_ok_both (Err e) f p q = tt
 
 -- ---- the kinds of significant tokens
 
-one_more : (marked skipped : Bool) (x : Token) (rest : List Token) (after : List Kind) → marked ≡ skipped → map (λ y. y.kind) rest ≡ after → map (λ y. y.kind) (cond (not marked) (x ∷ rest) rest) ≡ cond (not skipped) (x.kind ∷ after) after
+one_more : (marked skipped : Bool) (x : Token) (rest : List Token) (after : List Kind) → marked ≡ skipped → map kind_in rest ≡ after → map kind_in (cond (not marked) (x ∷ rest) rest) ≡ cond (not skipped) (kind_in x ∷ after) after
 one_more true true x rest after e f = f
-one_more false false x rest after e f = ap (λ ks. x.kind ∷ ks) f
+one_more false false x rest after e f = ap (λ ks. kind_in x ∷ ks) f
 one_more true false x rest after e f = absurd (let g : ⊥ = cc in g)
 one_more false true x rest after e f = absurd (let g : ⊥ = cc in g)
 
-kinds_same : (skips : List Bool) (items : List Token) → AllByRecursion (λ x. x.skipped ≡ is_skipped skips x.kind) items → significant_kinds items ≡ kinds skips (map plain items)
+kinds_same : (skips : List Bool) (items : List Token) → AllByRecursion (λ x. x.skipped ≡ is_skipped skips (kind_in x)) items → significant_kinds items ≡ kinds skips (map plain items)
 kinds_same skips [] all = refl
-kinds_same skips (x ∷ items) all = one_more x.skipped (is_skipped skips x.kind) x (filter is_significant items) (kinds skips (map plain items)) all.0 (kinds_same skips items all.1)
+kinds_same skips (x ∷ items) all = one_more x.skipped (is_skipped skips (kind_in x)) x (filter is_significant items) (kinds skips (map plain items)) all.0 (kinds_same skips items all.1)
 
 kinds_are : (l : LanguageData) (d : Doc) → IsCurrent l d → significant_kinds d.tokens.items ≡ kinds l.file.skips (map plain d.tokens.items)
 kinds_are l d current = kinds_same l.file.skips d.tokens.items (recursion_from_All _ d.tokens.items current.tokens.marked)

@@ -173,7 +173,7 @@ fn are_tokens(tokens: &[Placed], awaited: &[Placed], made: Made) -> bool {
     for (k, (placed, other)) in tokens.iter().zip(awaited.iter()).enumerate() {
         let (token, other_token) = (placed.token, other.token);
         let is_made = made.from <= k && k < made.to;
-        if token.kind != other_token.kind
+        if token.kind() != other_token.kind()
             || token.length != other_token.length
             || token.reach != other_token.reach
             || token.skipped != other_token.skipped

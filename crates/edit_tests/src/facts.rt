@@ -140,7 +140,7 @@ pub fn kinds_in(
     let mut kinds = Vec::new(alloc);
     for (k, placed) in tokens.iter().enumerate() {
         if from <= k && k < to && !placed.token.skipped {
-            kinds.push(placed.token.kind).expect(rt, "memory");
+            kinds.push(placed.token.kind()).expect(rt, "memory");
         }
     }
     kinds

@@ -14,7 +14,7 @@ use Rattle.definitions.specs.Tokens.{AreTokens, boundaries, is_skipped, kinds}
 use Rattle.definitions.specs.TokenEdits.{kept_before, is_rejoined, rejoin, same_kinds, gone, made as made_by, Splice, splice}
 use Rattle.definitions.proofs.TokensKept.{length-boundaries, AreTokens-drop, drop-edit}
 use Rattle.lexer.specs.declared.sums.Token.{Token}
-use Rattle.lexer.specs.Tokens.{plain, is_significant, characters, Fits}
+use Rattle.lexer.specs.Tokens.{kind_in, plain, is_significant, characters, Fits}
 use Rattle.lexer.specs.Rescans.{plain_all, prefix_end, significant_kinds, change, IsEdited, IsRemade, AreRescanned}
 use Rattle.lexer.proofs.SignificantKinds.{length-kinds, kinds_plain, count_range}
 use Rattle.definitions.specs.declared.Kind.{Kind}
@@ -68,9 +68,9 @@ module _ (rules : List Expression) (skips : List Bool) (e : Edit) (items : List 
       subst (λ xs. AreTokens rules u xs) parts
       (leads_tokens rules u (plain_all kept ++ plain_all made) (plain_all (drop to items)) (all_lead rules skips e items u h made r.leads) (subst (λ n. AreTokens rules (drop n u) (plain_all (drop to items))) (sym sum) tail_tokens))
 
-  pub remade_marked : All (λ x. x.skipped ≡ is_skipped skips x.kind) new
+  pub remade_marked : All (λ x. x.skipped ≡ is_skipped skips (kind_in x)) new
   remade_marked =
-      let P = λ (x : Token). x.skipped ≡ is_skipped skips x.kind in
+      let P = λ (x : Token). x.skipped ≡ is_skipped skips (kind_in x) in
       All-append P kept (made ++ drop to items) (All-take P (kept_before e (plain_all items)) items h.tokens.marked) (All-append P made (drop to items) r.marked (All-drop P to items h.tokens.marked))
 
   -- the boundaries before the place of rejoining are none
@@ -165,7 +165,7 @@ module _ (rules : List Expression) (skips : List Bool) (e : Edit) (items : List 
   -- the kinds of the tokens gone give way to those of the tokens made
   pub spliced : Fits items → change items (kept_before e (plain_all items)) to (significant_kinds made) ≡ splice skips e (plain_all items) (plain_all new)
   spliced f =
-      let P = λ (x : Token). x.skipped ≡ is_skipped skips x.kind in
+      let P = λ (x : Token). x.skipped ≡ is_skipped skips (kind_in x) in
       let place = kept_before e (plain_all items) in
       let rest = rejoin e (plain_all items) (plain_all new) in
       let before_it : kinds skips (take place (plain_all items)) ≡ significant_kinds (take place items) =

@@ -1,21 +1,33 @@
 -- Tokens made one after another.
-use Rattle.std.specs.Prelude.{◌≡◌, ℕ, ◌+◌, ◌≤◌, Bool, List, [], ◌∷◌, ◌++◌, length, drop, map, All}
-use Rattle.std.proofs.Common.{arith, sym, ap, subst, ◌∙◌}
+use Rattle.std.specs.Prelude.{◌≡◌, ℕ, ◌+◌, ◌<◌, ◌≤◌, ◌^◌, Bool, List, [], ◌∷◌, ◌++◌, length, take, drop, map, All, Option, Some, None, IfSome, IsSomeAnd}
+use Rattle.std.proofs.Common.{arith, inl, inr, sym, ap, subst, ◌∙◌}
+use Rattle.std.proofs.lemmas.Bool.{cases_lt}
+use Rattle.std.proofs.lemmas.Option.{slice_get_past}
 use Rattle.std.proofs.lemmas.List.{append-nil, drop-drop, drop_all, map-append}
 use Rattle.std.proofs.lemmas.List.Sums.{sum_by-append, sum_by_push}
 use Rattle.std.proofs.lemmas.List.Elements.{All-nil, All-cons, All-append}
 use Rattle.definitions.specs.declared.expression.Expression.{Expression}
-use Rattle.definitions.specs.Tokens.{IsToken, AreTokens, Leads, is_skipped}
+use Rattle.definitions.specs.Patterns.{Matches}
+use Rattle.definitions.specs.Tokens.{IsPiece, IsToken, AreTokens, Leads, is_skipped}
 use Rattle.definitions.proofs.TokensLead.{chars, leads_join, leads_more, leads_tokens}
+use Rattle.dfa.specs.Table.{kind_of}
 use Rattle.lexer.specs.declared.sums.Token.{Token}
-use Rattle.lexer.specs.Tokens.{plain, characters}
+use Rattle.lexer.specs.Tokens.{kind_in, plain, characters}
 use Rattle.lexer.specs.Scans.{AreMade, AreNext}
 use Rattle.lexer.proofs.Remakes.{chars-plain}
 use Rattle.lexer.proofs.Totals.{length-le-characters}
 
+-- the number of a rule with a token fits 16 bits where there are at most 256 rules
+pub rule_fits : (rules : List Expression) (t : List ℕ) (o : Option ℕ) (n : ℕ) → length rules ≤ 256 → IsPiece rules t (kind_of o) n → IfSome o (λ k. k < 2 ^ 16)
+rule_fits rules t None n few p = tt
+rule_fits rules t (Some k) n few p = elim (cases_lt k (length rules)) [
+  | inl lt ↦ omega (arith, lt, few)
+  | inr ge ↦ absurd (subst (λ o. IsSomeAnd o (λ rule. Matches rule (take n t))) (slice_get_past rules k ge) p.matches)
+]
+
 pub made_none : (skips : List Bool) (born : ℕ) → AreMade skips born []
 made_none skips born = record {
-  marked = All-nil (λ x. x.skipped ≡ is_skipped skips x.kind);
+  marked = All-nil (λ x. x.skipped ≡ is_skipped skips (kind_in x));
   stamped = All-nil (λ x. x.born ≡ born);
   nonempty = All-nil (λ x. 1 ≤ x.length);
   near = All-nil (λ x. x.reach ≤ 1048577);
@@ -23,7 +35,7 @@ made_none skips born = record {
 
 pub made_join : (skips : List Bool) (born : ℕ) (xs ys : List Token) → AreMade skips born xs → AreMade skips born ys → AreMade skips born (xs ++ ys)
 made_join skips born xs ys h k = record {
-  marked = All-append (λ x. x.skipped ≡ is_skipped skips x.kind) xs ys h.marked k.marked;
+  marked = All-append (λ x. x.skipped ≡ is_skipped skips (kind_in x)) xs ys h.marked k.marked;
   stamped = All-append (λ x. x.born ≡ born) xs ys h.stamped k.stamped;
   nonempty = All-append (λ x. 1 ≤ x.length) xs ys h.nonempty k.nonempty;
   near = All-append (λ x. x.reach ≤ 1048577) xs ys h.near k.near;
@@ -32,11 +44,11 @@ made_join skips born xs ys h k = record {
 one : (P : Token → Type 0) (x : Token) → P x → All P (x ∷ [])
 one P x p = All-cons P x [] p (All-nil P)
 
-pub made_more : (skips : List Bool) (born : ℕ) (xs : List Token) (x : Token) → AreMade skips born xs → x.skipped ≡ is_skipped skips x.kind → x.born ≡ born → 1 ≤ x.length → x.reach ≤ 1048577 → AreMade skips born (xs ++ x ∷ [])
+pub made_more : (skips : List Bool) (born : ℕ) (xs : List Token) (x : Token) → AreMade skips born xs → x.skipped ≡ is_skipped skips (kind_in x) → x.born ≡ born → 1 ≤ x.length → x.reach ≤ 1048577 → AreMade skips born (xs ++ x ∷ [])
 made_more skips born xs x h a b c d =
     made_join skips born xs (x ∷ []) h
     (record {
-      marked = one (λ x. x.skipped ≡ is_skipped skips x.kind) x a;
+      marked = one (λ x. x.skipped ≡ is_skipped skips (kind_in x)) x a;
       stamped = one (λ x. x.born ≡ born) x b;
       nonempty = one (λ x. 1 ≤ x.length) x c;
       near = one (λ x. x.reach ≤ 1048577) x d;

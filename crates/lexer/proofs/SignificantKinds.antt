@@ -10,28 +10,28 @@ use Rattle.definitions.specs.declared.Kind.{Kind}
 use Rattle.definitions.specs.declared.Kind.TheVariants.{Rule, Invalid}
 use Rattle.definitions.specs.TokenEdits.{IsSpliced, same_kind, same_kinds}
 use Rattle.lexer.specs.declared.sums.Token.{Token}
-use Rattle.lexer.specs.Tokens.{is_significant}
+use Rattle.lexer.specs.Tokens.{kind_in, is_significant}
 use Rattle.definitions.specs.Tokens.{kinds, is_skipped}
 use Rattle.std.proofs.lemmas.List.Elements.{All-head, All-tail, filter-append}
 use Rattle.lexer.specs.Rescans.{significant_kinds, plain_all, change}
 use Rattle.lexer.proofs.Totals.{count-cons}
 
 -- the kind of the significant token that has k before it
-kind_from : (xs : List Token) (p k : ℕ) (x : Token) → slice_get xs p ≡ Some x → count_by is_significant (take p xs) ≡ k → count_by is_significant (take (suc p) xs) ≡ k + 1 → slice_index_or (significant_kinds xs) k Invalid ≡ x.kind
+kind_from : (xs : List Token) (p k : ℕ) (x : Token) → slice_get xs p ≡ Some x → count_by is_significant (take p xs) ≡ k → count_by is_significant (take (suc p) xs) ≡ k + 1 → slice_index_or (significant_kinds xs) k Invalid ≡ kind_in x
 kind_from [] p k x is a b = absurd (omega arith)
 kind_from (y ∷ xs) zero k x is a b = go y.skipped refl
   where
     same : y ≡ x
     same = cc
 
-    go : (s : Bool) → y.skipped ≡ s → slice_index_or (significant_kinds (y ∷ xs)) k Invalid ≡ x.kind
+    go : (s : Bool) → y.skipped ≡ s → slice_index_or (significant_kinds (y ∷ xs)) k Invalid ≡ kind_in x
     go true e = absurd (omega (arith, count-cons y [], subst (λ s. count_by is_significant (y ∷ []) ≡ (if s then 0 else 1) + 0) e (count-cons y []), a, b))
-    go false e = let z : k ≡ 0 = omega (arith, a) in rw (z, e) (ap (λ t. t.kind) same)
+    go false e = let z : k ≡ 0 = omega (arith, a) in rw (z, e) (ap kind_in same)
 kind_from (y ∷ xs) (suc p) k x is a b = go y.skipped refl k a b (λ j c d. kind_from xs p j x is c d)
   where
     go : (s : Bool) → y.skipped ≡ s → (k : ℕ) → count_by is_significant (y ∷ take p xs) ≡ k → count_by is_significant (y ∷ take (suc p) xs) ≡ k + 1
-        → ((j : ℕ) → count_by is_significant (take p xs) ≡ j → count_by is_significant (take (suc p) xs) ≡ j + 1 → slice_index_or (significant_kinds xs) j Invalid ≡ x.kind)
-        → slice_index_or (significant_kinds (y ∷ xs)) k Invalid ≡ x.kind
+        → ((j : ℕ) → count_by is_significant (take p xs) ≡ j → count_by is_significant (take (suc p) xs) ≡ j + 1 → slice_index_or (significant_kinds xs) j Invalid ≡ kind_in x)
+        → slice_index_or (significant_kinds (y ∷ xs)) k Invalid ≡ kind_in x
     go true e k a b later =
         let one : count_by is_significant (y ∷ take p xs) ≡ 0 + count_by is_significant (take p xs) = subst (λ s. count_by is_significant (y ∷ take p xs) ≡ (if s then 0 else 1) + count_by is_significant (take p xs)) e (count-cons y (take p xs)) in
         let two : count_by is_significant (y ∷ take (suc p) xs) ≡ 0 + count_by is_significant (take (suc p) xs) = subst (λ s. count_by is_significant (y ∷ take (suc p) xs) ≡ (if s then 0 else 1) + count_by is_significant (take (suc p) xs)) e (count-cons y (take (suc p) xs)) in
@@ -44,13 +44,13 @@ kind_from (y ∷ xs) (suc p) k x is a b = go y.skipped refl k a b (λ j c d. kin
         let two : count_by is_significant (y ∷ take (suc p) xs) ≡ 1 + count_by is_significant (take (suc p) xs) = subst (λ s. count_by is_significant (y ∷ take (suc p) xs) ≡ (if s then 0 else 1) + count_by is_significant (take (suc p) xs)) e (count-cons y (take (suc p) xs)) in
         rw e (later k (omega (arith, one, a)) (omega (arith, two, b)))
 
-pub kind_at : (xs : List Token) (p k : ℕ) (x : Token) → slice_get xs p ≡ Some x → count_by is_significant (take p xs) ≡ k → count_by is_significant (take (p + 1) xs) ≡ k + 1 → slice_index_or (significant_kinds xs) k Invalid ≡ x.kind
+pub kind_at : (xs : List Token) (p k : ℕ) (x : Token) → slice_get xs p ≡ Some x → count_by is_significant (take p xs) ≡ k → count_by is_significant (take (p + 1) xs) ≡ k + 1 → slice_index_or (significant_kinds xs) k Invalid ≡ kind_in x
 kind_at xs p k x is a b =
     let e : p + 1 ≡ suc p = omega arith in
     kind_from xs p k x is a (subst (λ n. count_by is_significant (take n xs) ≡ k + 1) e b)
 
 pub length-kinds : (xs : List Token) → length (significant_kinds xs) ≡ count_by is_significant xs
-length-kinds xs = length-map (filter is_significant xs) (λ (x : Token). x.kind) ∙ length-filter is_significant xs
+length-kinds xs = length-map (filter is_significant xs) kind_in ∙ length-filter is_significant xs
 
 pub get_none : (xs : List Token) (p : ℕ) → p < length xs → slice_get xs p ≡ None → ⊥
 get_none [] p l e = absurd (omega arith)
@@ -58,20 +58,20 @@ get_none (x ∷ xs) zero l e = cc
 get_none (x ∷ xs) (suc p) l e = get_none xs p (omega arith) e
 
 -- where the marks are right these are the kinds of the tokens without their marks
-pub kinds_plain : (skips : List Bool) (xs : List Token) → All (λ x. x.skipped ≡ is_skipped skips x.kind) xs → kinds skips (plain_all xs) ≡ significant_kinds xs
+pub kinds_plain : (skips : List Bool) (xs : List Token) → All (λ x. x.skipped ≡ is_skipped skips (kind_in x)) xs → kinds skips (plain_all xs) ≡ significant_kinds xs
 kinds_plain skips [] h = refl
-kinds_plain skips (x ∷ xs) h = go x.skipped refl (sym (All-head (λ x. x.skipped ≡ is_skipped skips x.kind) x xs h)) (kinds_plain skips xs (All-tail (λ x. x.skipped ≡ is_skipped skips x.kind) x xs h))
+kinds_plain skips (x ∷ xs) h = go x.skipped refl (sym (All-head (λ x. x.skipped ≡ is_skipped skips (kind_in x)) x xs h)) (kinds_plain skips xs (All-tail (λ x. x.skipped ≡ is_skipped skips (kind_in x)) x xs h))
   where
-    go : (b : Bool) → x.skipped ≡ b → is_skipped skips x.kind ≡ x.skipped → kinds skips (plain_all xs) ≡ significant_kinds xs → kinds skips (plain_all (x ∷ xs)) ≡ significant_kinds (x ∷ xs)
-    go true e m rest = let k : is_skipped skips x.kind ≡ true = m ∙ e in rw (k, e) rest
-    go false e m rest = let k : is_skipped skips x.kind ≡ false = m ∙ e in rw (k, e) (ap (λ ys. x.kind ∷ ys) rest)
+    go : (b : Bool) → x.skipped ≡ b → is_skipped skips (kind_in x) ≡ x.skipped → kinds skips (plain_all xs) ≡ significant_kinds xs → kinds skips (plain_all (x ∷ xs)) ≡ significant_kinds (x ∷ xs)
+    go true e m rest = let k : is_skipped skips (kind_in x) ≡ true = m ∙ e in rw (k, e) rest
+    go false e m rest = let k : is_skipped skips (kind_in x) ≡ false = m ∙ e in rw (k, e) (ap (λ ys. kind_in x ∷ ys) rest)
 
 decided : (b : Bool) → ((b ≡ true) → ⊥) → b ≡ false
 decided true h = absurd (h refl)
 decided false h = refl
 
 pub kinds_append : (xs ys : List Token) → significant_kinds (xs ++ ys) ≡ significant_kinds xs ++ significant_kinds ys
-kinds_append xs ys = ap (map (λ (x : Token). x.kind)) (filter-append is_significant xs ys) ∙ map-append (λ (x : Token). x.kind) (filter is_significant xs) (filter is_significant ys)
+kinds_append xs ys = ap (map kind_in) (filter-append is_significant xs ys) ∙ map-append kind_in (filter is_significant xs) (filter is_significant ys)
 
 between : (xs : List Token) (a b : ℕ) → a ≤ b → take b xs ≡ take a xs ++ slice_range xs a b
 between xs a b ordered =

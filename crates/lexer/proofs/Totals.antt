@@ -18,12 +18,6 @@ tot xs = total no_tokens joined token_sum xs
 one_more : (m n : ℕ) → m + 1 ≤ n → m ≤ n
 one_more m n h = omega arith
 
-pub total_count : (xs : List Token) → length xs ≤ most → (tot xs).count ≡ length xs
-total_count [] h = refl
-total_count (x ∷ xs) h =
-    let rest : (tot xs).count ≡ length xs = total_count xs (one_more (length xs) most (omega arith)) in
-    ap (saturated most 1) rest ∙ saturated-exact most 1 (length xs) (omega arith) ∙ omega arith
-
 at_most_one : (b : Bool) → ◌≤◌ (if b then 0 else 1) 1
 at_most_one true = omega arith
 at_most_one false = omega arith
@@ -69,12 +63,6 @@ length-take-le' (suc n) [] = omega arith
 length-take-le' (suc n) (x ∷ xs) = let h : length (take n xs) ≤ length xs = length-take-le' n xs in omega arith
 
 -- the same of the first n
-pub take_count : (n : ℕ) (xs : List Token) → Fits xs → n ≤ length xs → (tot (take n xs)).count ≡ length (take n xs)
-take_count n xs f l =
-    let short : length (take n xs) ≤ length xs = length-take-le' n xs in
-    let all : length xs ≤ 2 ^ 30 = few xs f in
-    total_count (take n xs) (omega arith)
-
 pub take_significant : (n : ℕ) (xs : List Token) → Fits xs → (tot (take n xs)).significant ≡ count_by is_significant (take n xs)
 take_significant n xs f =
     let short : length (take n xs) ≤ length xs = length-take-le' n xs in
@@ -85,23 +73,6 @@ pub take_characters : (n : ℕ) (xs : List Token) → Fits xs → (tot (take n x
 take_characters n xs f =
     let part : characters (take n xs) ≤ characters xs = sum_by-take-le (λ x. x.length) xs n in
     total_characters (take n xs) (omega (arith, f.short))
-
--- the place found for a count is that count
-pub count_place : (xs : List Token) (i p : ℕ) → Fits xs → i ≤ length xs → p ≤ length xs
-    → ((k : ℕ) → k < p → nat_lt i (tot (take (k + 1) xs)).count ≡ false) → (p < length xs → IsTrue (nat_lt i (tot (take (p + 1) xs)).count)) → p ≡ i
-count_place xs i p f l m before at = elim (cases_lt p i) [
-  | inl lt ↦
-      let here : i < (tot (take (p + 1) xs)).count = ltb-true _ _ (at (omega arith)) in
-      let is : (tot (take (p + 1) xs)).count ≡ length (take (p + 1) xs) = take_count (p + 1) xs f (omega arith) in
-      absurd (omega (arith, here, is, length-take (p + 1) xs))
-  | inr ge ↦ elim (cases_lt i p) [
-    | inl lt ↦
-        let here : (tot (take (i + 1) xs)).count ≤ i = ltb-false _ _ (before i lt) in
-        let is : (tot (take (i + 1) xs)).count ≡ length (take (i + 1) xs) = take_count (i + 1) xs f (omega arith) in
-        absurd (omega (arith, here, is, length-take (i + 1) xs))
-    | inr le ↦ omega arith
-  ]
-]
 
 counts_one : (xs : List Token) (p : ℕ) → count_by is_significant (take (suc p) xs) ≤ count_by is_significant (take p xs) + 1
 counts_one [] zero = omega arith

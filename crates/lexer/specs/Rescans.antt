@@ -8,7 +8,7 @@ use Rattle.definitions.specs.Text.{edit}
 use Rattle.definitions.specs.Tokens.{Token as PlainToken, AreTokens, Leads, placed, is_skipped}
 use Rattle.definitions.specs.TokenEdits.{kept_before, is_rejoined, rejoin, same_kinds, Splice}
 use Rattle.lexer.specs.declared.sums.Token.{Token}
-use Rattle.lexer.specs.Tokens.{plain, is_significant, characters, AreTokensOf}
+use Rattle.lexer.specs.Tokens.{kind_in, plain, is_significant, characters, AreTokensOf}
 
 -- stored tokens without their marks and stamps
 abbrev pub plain_all : List Token → List PlainToken
@@ -47,7 +47,7 @@ pub record AreRescanned (e : Edit) (old new : List Token) : Type 0 where
 
 -- the kinds of stored tokens that aren't skipped
 abbrev pub significant_kinds : List Token → List Kind
-significant_kinds items = map (λ x. x.kind) (filter is_significant items)
+significant_kinds items = map kind_in (filter is_significant items)
 
 -- how the significant kinds change where the tokens from `kept_before` up to `to` give way to tokens of the kinds `after`
 abbrev pub change : List Token → ℕ → ℕ → List Kind → Splice
@@ -62,7 +62,7 @@ change items kept_before to after =
 pub record IsRemade (rules : List Expression) (skips : List Bool) (e : Edit) (items : List Token) (u : List ℕ) (made : List Token)
     (to : ℕ) : Type 0 where
   pub leads : Leads rules (drop (prefix_end e items) u) (plain_all made)
-  pub marked : All (λ x. x.skipped ≡ is_skipped skips x.kind) made
+  pub marked : All (λ x. x.skipped ≡ is_skipped skips (kind_in x)) made
   pub stamped : All (λ x. x.born ≡ e.number) made
   pub nonempty : All (λ x. 1 ≤ x.length) made
   pub near : All (λ x. x.reach ≤ 1048577) made

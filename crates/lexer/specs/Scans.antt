@@ -3,11 +3,11 @@ use Rattle.std.specs.Prelude.{◌≡◌, ℕ, ◌+◌, ◌≤◌, Bool, List, le
 use Rattle.definitions.specs.declared.expression.Expression.{Expression}
 use Rattle.definitions.specs.Tokens.{Leads, is_skipped}
 use Rattle.lexer.specs.declared.sums.Token.{Token}
-use Rattle.lexer.specs.Tokens.{plain, characters}
+use Rattle.lexer.specs.Tokens.{kind_in, plain, characters}
 
 -- these tokens are marked where they are skipped and carry the stamp `born`; none is empty or reaches farther than a text does
 pub record AreMade (skips : List Bool) (born : ℕ) (made : List Token) : Type 0 where
-  pub marked : All (λ x. x.skipped ≡ is_skipped skips x.kind) made
+  pub marked : All (λ x. x.skipped ≡ is_skipped skips (kind_in x)) made
   pub stamped : All (λ x. x.born ≡ born) made
   pub nonempty : All (λ x. 1 ≤ x.length) made
   pub near : All (λ x. x.reach ≤ 1048577) made

@@ -1,12 +1,25 @@
 -- What the stored tokens stand for.
 use Rattle.std.specs.Prelude.{◌≡◌, ℕ, ◌≤◌, ◌^◌, Bool, not, List, map, sum_by, All}
+use Rattle.definitions.specs.declared.Kind.{Kind}
+use Rattle.definitions.specs.declared.Kind.TheVariants.{Rule, Invalid}
 use Rattle.definitions.specs.declared.expression.Expression.{Expression}
 use Rattle.definitions.specs.Tokens.{Token as PlainToken, AreTokens, is_skipped}
+use Rattle.lexer.specs.declared.sums.ShortKind.{ShortKind}
+use Rattle.lexer.specs.declared.sums.ShortKind.TheVariants.{Rule as ShortRule, Invalid as ShortInvalid}
 use Rattle.lexer.specs.declared.sums.Token.{Token}
+
+-- the kind that 16 bits stand for
+abbrev pub long : ShortKind → Kind
+long (ShortRule k) = Rule k
+long ShortInvalid = Invalid
+
+-- the kind of a stored token
+abbrev pub kind_in : Token → Kind
+kind_in x = long x.short_kind
 
 -- a stored token without its mark and stamp
 abbrev pub plain : Token → PlainToken
-plain x = record { kind = x.kind; length = x.length; reach = x.reach }
+plain x = record { kind = kind_in x; length = x.length; reach = x.reach }
 
 -- whether a stored token isn't skipped
 abbrev pub is_significant : Token → Bool
@@ -20,7 +33,7 @@ pub record Stored : Type 0 where
 -- these are the tokens of `t`, marked where their kind is skipped
 pub record AreTokensOf (rules : List Expression) (skips : List Bool) (t : List ℕ) (items : List Token) : Type 0 where
   pub tokens : AreTokens rules t (map plain items)
-  pub marked : All (λ x. x.skipped ≡ is_skipped skips x.kind) items
+  pub marked : All (λ x. x.skipped ≡ is_skipped skips (kind_in x)) items
 
 -- how many characters the tokens have in all
 abbrev pub characters : List Token → ℕ

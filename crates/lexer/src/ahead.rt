@@ -45,7 +45,7 @@ impl<'a> Iterator for KindsAhead<'a> {
     fn next(&mut self) -> Option<Kind> {
         'skipped: while let Some(token) = self.tokens.next() {
             if !token.skipped {
-                return Some(token.kind);
+                return Some(token.kind());
             }
         }
         None

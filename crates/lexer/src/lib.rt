@@ -36,6 +36,6 @@ pub use characters::Characters;
 pub use definitions::{Edit, Kind, KindSplice};
 pub use dfa::Source;
 pub use laws::{each_text_has_tokens, equal_tokens_are_the_same};
-pub use sums::{AfterCharacter, Sums, Token};
+pub use sums::{AfterCharacter, ShortKind, Sums, Token};
 pub use tokens::Tokens;
 pub use whole::Whole;

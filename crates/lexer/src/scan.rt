@@ -1,30 +1,19 @@
 //! The tokens of a whole text.
 ghost use Rattle.std.specs.Prelude.{◌≡◌, ℕ, ◌+◌, ◌<◌, ◌≤◌, ◌++◌, ◌^◌, length, drop, IfOk, OnOk};
 ghost use Rattle.definitions.specs.Tokens.{IsToken, is_skipped};
-ghost use Rattle.dfa.specs.Table.{IsAutomaton, kind_of};
+ghost use Rattle.dfa.specs.Table.{IsAutomaton};
 ghost use Rattle.dfa.specs.Windows.{IsWithinReach};
-ghost use Rattle.lexer.specs.Tokens.{plain};
+ghost use Rattle.lexer.specs.Tokens.{kind_in, plain};
 ghost use Rattle.lexer.specs.Scans.{AreNext};
 
-use crate::sums::Token;
-use definitions::Kind;
+use crate::sums::{ShortKind, Token};
 use dfa::{Automaton, Source};
 use grammar::Grammar;
 use runs::Runs;
 use std::alloc::{AllocError, Global};
 
 /// How many tokens are scanned before they are put into the list, so that they are still in the processor's cache then.
-const PIECE_LEN: usize = 1024;
-
-/// The kind of a token that matches this rule, or none.
-fn kind_of(rule: Option<usize>) -> Kind
-    ensures { result ≡ kind_of rule }
-{
-    match rule {
-        Some(k) => Kind::Rule(k),
-        None => Kind::Invalid,
-    }
-}
+const BATCH_LEN: usize = 1024;
 
 /// The token that starts at this offset.
 pub fn token_at<S: Source>(
@@ -40,24 +29,26 @@ pub fn token_at<S: Source>(
     requires window { (i : ℕ) → IsWithinReach grammar.now.patterns (S.text source.now) at i
         → S.in_window source.now i }
     ensures token { IsToken grammar.now.patterns (drop at (S.text source.now)) (plain result) }
-    ensures marked { result.skipped ≡ is_skipped grammar.now.skips result.kind }
+    ensures marked { result.skipped ≡ is_skipped grammar.now.skips (kind_in result) }
     ensures born { result.born ≡ born }
     ensures inside { at + result.length ≤ length (S.text source.now) }
     ensures nonempty { 1 ≤ result.length }
     ensures near { result.reach ≤ 1048577 }
 {
+    // A grammar has few rules, as the contract of `start` says.
+    let _start = grammar.start();
     let found = automaton.longest(source, at);
-    let kind = kind_of(found.rule);
+    let short_kind = ShortKind::of_rule(found.rule);
     Token {
         born,
-        kind,
         length: found.length as u32,
         reach: found.reach as u32,
-        skipped: grammar.is_skipped(kind),
+        short_kind,
+        skipped: grammar.is_skipped(short_kind.long()),
     }
 }
 
-/// The next tokens from an offset on, as many as a piece takes, and the offset after them.
+/// The next tokens from an offset on, as many as a batch takes, and the offset after them.
 fn scan_batch<S: Source>(
     alloc: Global,
     grammar: &Grammar,
@@ -74,9 +65,9 @@ fn scan_batch<S: Source>(
         r.1) }
     ensures some { IfOk result (λ r. from < r.1) }
 {
-    let mut made = Vec::with_capacity(alloc, PIECE_LEN)?;
+    let mut made = Vec::with_capacity(alloc, BATCH_LEN)?;
     let mut at = from;
-    while at < source.len() && made.len() < PIECE_LEN {
+    while at < source.len() && made.len() < BATCH_LEN {
         let token = token_at(grammar, automaton, source, at, 0);
         made.push(token)?;
         at += token.length as usize;

@@ -1,6 +1,43 @@
 //! Tokens, and what a list of them adds up to.
+
+ghost use Rattle.std.specs.Prelude.{◌≡◌, ◌<◌, ◌^◌, IfSome};
+ghost use Rattle.dfa.specs.Table.{kind_of};
+ghost use Rattle.lexer.specs.Tokens.{long, kind_in};
+
 use definitions::Kind;
 use seqtree::{Goal, Measured, Monoid};
+
+/// A kind in 16 bits, which are enough for the rules of a grammar.
+#[derive(Clone, Copy, Debug, PartialEq, Eq)]
+pub enum ShortKind {
+    /// A token of the rule with this number.
+    Rule(u16),
+    /// A token that matches no rule.
+    Invalid,
+}
+
+impl ShortKind {
+    /// The kind of a token that matches this rule, or none.
+    pub(crate) fn of_rule(rule: Option<usize>) -> ShortKind
+        requires { IfSome rule (λ k. k < 2 ^ 16) }
+        ensures { long result ≡ kind_of rule }
+    {
+        match rule {
+            Some(k) => ShortKind::Rule(k as u16),
+            None => ShortKind::Invalid,
+        }
+    }
+
+    /// The kind that it stands for.
+    pub fn long(self) -> Kind
+        ensures { result ≡ long self }
+    {
+        match self {
+            ShortKind::Rule(k) => Kind::Rule(k as usize),
+            ShortKind::Invalid => Kind::Invalid,
+        }
+    }
+}
 
 /// A token: the number of the edit that made it, its kind, its length and its reach in characters, and whether it is
 /// skipped.
@@ -8,23 +45,32 @@ use seqtree::{Goal, Measured, Monoid};
 pub struct Token {
     /// The number of the edit.
     pub born: u64,
-    /// The rule that it matches, or that it matches none.
-    pub kind: Kind,
     /// How many characters it has.
     pub length: u32,
     /// On how many characters from its start on it rests.
     pub reach: u32,
+    /// The rule that it matches, or that it matches none.
+    pub short_kind: ShortKind,
     /// Whether its rule is one of those that a parser does not see.
     pub skipped: bool,
 }
 
-/// How many tokens there are, how many of them are significant, how many characters they have, and the greatest sum of
-/// a start and a reach, which is 0 for no token.
+const _: () = prove!(size_of::<Token>() == 24);
+
+impl Token {
+    /// The rule that it matches, or that it matches none.
+    pub fn kind(&self) -> Kind
+        ensures { result ≡ kind_in self.now }
+    {
+        self.short_kind.long()
+    }
+}
+
+/// How many tokens are significant, how many characters all have, and the greatest sum of a start and a reach, which is 0
+/// for no token.
 #[derive(Clone, Copy, Debug, PartialEq, Eq)]
 pub struct Sums {
-    /// How many tokens.
-    pub count: u32,
-    /// How many of them are not skipped.
+    /// How many tokens are not skipped.
     pub significant: u32,
     /// How many characters they have.
     pub characters: u32,
@@ -44,7 +90,6 @@ impl Monoid for Sums {
 
     fn zero() -> Sums {
         Sums {
-            count: 0,
             significant: 0,
             characters: 0,
             end: 0,
@@ -53,7 +98,6 @@ impl Monoid for Sums {
 
     fn join(&self, other: &Sums) -> Sums {
         Sums {
-            count: self.count.saturating_add(other.count),
             significant: self.significant.saturating_add(other.significant),
             characters: self.characters.saturating_add(other.characters),
             end: if other.end == 0 {
@@ -74,30 +118,10 @@ impl Measured for Token {
 
     fn sum(&self) -> Sums {
         Sums {
-            count: 1,
             significant: if self.skipped { 0 } else { 1 },
             characters: self.length,
             end: self.reach,
         }
-    }
-}
-
-/// Looks for the token after this many.
-#[derive(Clone, Copy)]
-pub struct AfterCount {
-    pub count: usize,
-}
-
-impl Goal<Sums> for AfterCount {
-    ghost use Rattle.lexer.specs.Sums.{is_after_count};
-    ghost use Rattle.lexer.specs.Laws.{after_count_stays};
-
-    ghost reaches = { is_after_count };
-
-    ghost stays = { after_count_stays };
-
-    fn reached(&self, sum: &Sums) -> bool {
-        self.count < sum.count as usize
     }
 }
 

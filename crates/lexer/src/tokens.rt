@@ -12,7 +12,7 @@ ghost use Rattle.lexer.specs.Rescans.{plain_all, prefix_end, significant_kinds, 
 
 use crate::ahead::KindsAhead;
 use crate::scan::{scan_all, token_at};
-use crate::sums::{AfterCount, AfterSignificant, ReachesPast, Token};
+use crate::sums::{AfterSignificant, ReachesPast, Token};
 use crate::walk::Walk;
 use definitions::{Edit, Kind, KindSplice};
 use dfa::{Automaton, Source};
@@ -88,8 +88,7 @@ impl Tokens {
         ensures is { result ≡ characters (take i self.now.items) }
         ensures few { result ≤ 2 ^ 30 }
     {
-        let (_, before) = self.items.locate(&AfterCount { count: i });
-        before.characters as usize
+        self.items.total_before(i).characters as usize
     }
 
     /// The place among all of the k-th significant token.
@@ -111,7 +110,7 @@ impl Tokens {
             return None;
         }
         let token = self.items.get(self.place(k))?;
-        Some(token.kind)
+        Some(token.kind())
     }
 
     /// The kinds of the significant tokens from number `k` on, and none past the last one. The way to the first is a logarithm of
@@ -261,7 +260,7 @@ fn kinds_of(alloc: Global, tokens: &[Token]) -> Result<Vec<Kind>, AllocError>
     let mut kinds = Vec::new(alloc);
     for token in tokens {
         if !token.skipped {
-            kinds.push(token.kind)?;
+            kinds.push(token.kind())?;
         }
     }
     Ok(kinds)
@@ -269,12 +268,10 @@ fn kinds_of(alloc: Global, tokens: &[Token]) -> Result<Vec<Kind>, AllocError>
 
 /// How many of the tokens before a place are significant.
 fn significant_before(items: &Runs<Token>, place: usize) -> usize
-    requires fits { Fits items.now }
-    requires within { place ≤ length items.now }
+    requires { Fits items.now }
     ensures { result ≡ count_by is_significant (take place items.now) }
 {
-    let (_, before) = items.locate(&AfterCount { count: place });
-    before.significant as usize
+    items.total_before(place).significant as usize
 }
 
 fn is_same(a: Kind, b: Kind) -> bool
@@ -294,7 +291,7 @@ fn without_kind<'a>(token: &Token, kinds: &'a [Kind]) -> Option<&'a [Kind]>
         return Some(kinds);
     }
     match kinds.split_first() {
-        Some((first, rest)) if is_same(token.kind, *first) => Some(rest),
+        Some((first, rest)) if is_same(token.kind(), *first) => Some(rest),
         _ => None,
     }
 }

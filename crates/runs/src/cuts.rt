@@ -1,9 +1,10 @@
 //! Where a list in runs is cut in two.
 
-ghost use Rattle.std.specs.Prelude.{◌^◌, ◌<◌, length};
+ghost use Rattle.std.specs.Prelude.{◌≡◌, ◌^◌, ◌<◌, length, take};
+ghost use Rattle.seqtree.specs.Monoid.{total};
 ghost use Rattle.runs.specs.Runs.{flattened, IsCut};
 
-use crate::counted::AfterItem;
+use crate::counted::{AfterItem, Counted};
 use crate::run::Run;
 use seqtree::{Measured, Seq};
 
@@ -23,18 +24,32 @@ pub fn cut_at<T: Measured>(runs: &Seq<Run<T>>, offset: usize) -> Cut<'_, T>
     requires counted { length (flattened runs.now) < 2 ^ 64 }
     ensures { IsCut runs.now offset result.run result.prefix.now result.back.now }
 {
+    let (cut, _sum) = cut_with_sum(runs, offset);
+    cut
+}
+
+/// The same cut, and the sum of the runs that lie whole before it.
+pub fn cut_with_sum<T: Measured>(runs: &Seq<Run<T>>, offset: usize) -> (Cut<'_, T>, T::Sum)
+    requires counted { length (flattened runs.now) < 2 ^ 64 }
+    ensures cut { IsCut runs.now offset result.0.run result.0.prefix.now result.0.back.now }
+    ensures sum { result.1
+        ≡ total T.Sum.empty T.Sum.op T.measure (flattened (take result.0.run runs.now)) }
+{
     let (place, before) = runs.locate(&AfterItem { offset });
+    let Counted { items, sum } = before;
     let Some(run) = runs.get(place) else {
-        return Cut {
+        let cut = Cut {
             run: place,
             prefix: &[],
             back: &[],
         };
+        return (cut, sum);
     };
-    let (prefix, back) = run.items().split_at(offset - before.items);
-    Cut {
+    let (prefix, back) = run.items().split_at(offset - items);
+    let cut = Cut {
         run: place,
         prefix,
         back,
-    }
+    };
+    (cut, sum)
 }

@@ -2,7 +2,7 @@
 //! themselves: they are stored in runs of up to 32.
 //!
 //! `Runs::new` is an empty list; `replace` puts items in the place of others. `len`, `get`, `total`, `iter_from` and
-//! `locate` are as those of a `Seq`, and `runs` returns the number of runs.
+//! `locate` are as those of a `Seq`; `total_before` is the sum before a place, and `runs` the number of runs.
 //!
 //! Words: a *run* is a node's items, which lie together. The items are `Measured`, and `Copy`: here tokens.
 //!
@@ -13,9 +13,9 @@
 //! ```
 //! let number = Token {
 //!     born: 0,
-//!     kind: Kind::Rule(0),
 //!     length: 2,
 //!     reach: 3,
+//!     short_kind: ShortKind::Rule(0),
 //!     skipped: false,
 //! };
 //! let mut list: Runs<Token> = Runs::new();

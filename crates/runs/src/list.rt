@@ -5,10 +5,10 @@ ghost use Rattle.seqtree.specs.Monoid.{total};
 ghost use Rattle.seqtree.specs.Goal.{IsLeast};
 
 use crate::counted::{Counted, OfSum};
-use crate::cuts::cut_at;
+use crate::cuts::{cut_at, cut_with_sum};
 use crate::gaps::{Splice, splice_between};
 use crate::items::Iter;
-use crate::run::Run;
+use crate::run::{Run, sum_of};
 use seqtree::{Goal, Measured, Monoid, Seq};
 use std::alloc::{AllocError, Global};
 use std::marker::Model;
@@ -60,6 +60,14 @@ impl<T: Measured> Runs<T> {
     {
         let Counted { items: _, sum } = self.runs.total();
         sum
+    }
+
+    /// The sum of the items before the place `i`, and of all where it is past the end.
+    pub fn total_before(&self, i: usize) -> T::Sum
+        ensures { result ≡ total T.Sum.empty T.Sum.op T.measure (take i self.now) }
+    {
+        let (cut, sum) = cut_with_sum(&self.runs, i);
+        sum.join(&sum_of(cut.prefix))
     }
 
     /// The item at the place `i`, if there is one.

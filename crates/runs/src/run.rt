@@ -74,7 +74,7 @@ impl<T: Measured> Measured for Run<T> {
 }
 
 /// The sum of items.
-fn sum_of<T: Measured>(items: &[T]) -> T::Sum
+pub fn sum_of<T: Measured>(items: &[T]) -> T::Sum
     ensures { result ≡ total T.Sum.empty T.Sum.op T.measure items.now }
 {
     let mut sum = T::Sum::zero();

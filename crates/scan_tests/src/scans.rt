@@ -216,7 +216,7 @@ fn are_rows(grammar: &Grammar, tokens: &Tokens, rows: &[(&str, u32, u32, usize)]
         let Some(token) = tokens.token(i) else {
             return false;
         };
-        let name = grammar.kind_name(token.kind);
+        let name = grammar.kind_name(token.kind());
         let start = tokens.start_of(i);
         if (name, token.length, token.reach, start) != *row || token.born != 0 {
             return false;
@@ -284,7 +284,7 @@ fn check_tokens_in_turn(rt: &impl Abort, grammar: &Grammar, tokens: &Tokens) {
     assert!(rt; tokens.count() == 4500);
     for (i, token) in tokens.items().iter_from(0).enumerate() {
         let name = ["NUM", "WS", "PLUS"][i % 3];
-        assert!(rt; grammar.kind_name(token.kind) == name, "at {i}");
+        assert!(rt; grammar.kind_name(token.kind()) == name, "at {i}");
     }
 }
 

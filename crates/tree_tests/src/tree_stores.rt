@@ -192,7 +192,7 @@ fn check_kinds(rt: &impl Abort, alloc: Global, store: &mut Store) {
 
 /// Makes branches whose production and whose edit have this number.
 fn check_numbers(rt: &impl Abort, alloc: Global, store: &mut Store) {
-    for number in [4_294_967_295, 4_294_967_296, GREATEST] {
+    for number in [65_535, 65_536, 4_294_967_295, 4_294_967_296, GREATEST] {
         let id = store
             .branch(alloc, number as usize, &[PLUS], number)
             .expect(rt, "memory");
@@ -201,7 +201,7 @@ fn check_numbers(rt: &impl Abort, alloc: Global, store: &mut Store) {
     }
 }
 
-/// Numbers on both sides of what 32 bits hold.
+/// Numbers on both sides of what 16 and 32 bits hold.
 #[test]
 fn kinds_and_productions_of_any_number(rt: HostRuntime) {
     let mut store = Store::new(rt.alloc());

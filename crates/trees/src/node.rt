@@ -1,7 +1,8 @@
-//! Nodes in little room: 32 bits for each number and each child, where they fit.
+//! Nodes in little room: 16 bits for the production, and 32 for each other number and each child, where they fit.
 
 ghost use Rattle.std.specs.Prelude.{◌≡◌, ◌<◌, ◌^◌, length, map, slice_get, IfOk, IfSome, IsSome};
 ghost use Rattle.std.specs.List.{All};
+ghost use Rattle.trees.specs.Forms.{cell_in, IsNarrow};
 ghost use Rattle.trees.specs.Packing.{unpack, HasNumber};
 
 use crate::children::{Children, pack, unpack};
@@ -9,6 +10,9 @@ use crate::store::Child;
 use smallvec::SmallVec;
 use std::alloc::{AllocError, Global};
 use std::marker::Model;
+
+/// The greatest number of a production in 16 bits.
+const GREATEST_PRODUCTION: usize = 65_535;
 
 /// The greatest number of 32 bits.
 const GREATEST: u64 = 4_294_967_295;
@@ -35,21 +39,20 @@ pub(crate) struct Node {
 /// How a node lies in memory.
 #[derive(Drop)]
 enum Form {
-    /// A node whose numbers and children fit 32 bits each.
-    Narrow(Narrow),
+    /// A node whose numbers and children fit. The production lies beside the tag, where a struct would begin 8 bytes later.
+    Narrow {
+        production: u16,
+        born: u32,
+        tokens: u32,
+        size: u32,
+        /// The packed number of each child.
+        children: SmallVec<u32, 4>,
+    },
     /// Any other one.
     Wide(Box<Wide>),
 }
 
-#[derive(Drop)]
-struct Narrow {
-    production: u32,
-    born: u32,
-    tokens: u32,
-    size: u32,
-    /// The packed number of each child.
-    children: SmallVec<u32, 4>,
-}
+const _: () = prove!(size_of::<Node>() == 48);
 
 #[derive(Drop)]
 struct Wide {
@@ -77,10 +80,8 @@ impl Node {
           children = children.now;
         }) }
     {
-        if let Some(narrow) = narrow_node(alloc, label, children)? {
-            return Ok(Node {
-                form: Form::Narrow(narrow),
-            });
+        if let Some(form) = narrow_node(alloc, label, children)? {
+            return Ok(Node { form });
         }
         let children = Vec::from_slice(alloc, children)?;
         let wide = Box::new(alloc, Wide { label, children })?;
@@ -97,11 +98,17 @@ impl Node {
         ensures size { result.size ≡ self.now.size }
     {
         match &self.form {
-            Form::Narrow(narrow) => Label {
-                production: narrow.production as usize,
-                born: narrow.born as u64,
-                tokens: narrow.tokens as u64,
-                size: narrow.size as u64,
+            Form::Narrow {
+                production,
+                born,
+                tokens,
+                size,
+                children: _,
+            } => Label {
+                production: *production as usize,
+                born: *born as u64,
+                tokens: *tokens as u64,
+                size: *size as u64,
             },
             Form::Wide(wide) => wide.label,
         }
@@ -112,7 +119,7 @@ impl Node {
         ensures { result ≡ self.now.children }
     {
         match &self.form {
-            Form::Narrow(narrow) => Children::narrow(narrow.children.as_slice()),
+            Form::Narrow { children, .. } => Children::narrow(children.as_slice()),
             Form::Wide(wide) => Children::of(wide.children.as_slice()),
         }
     }
@@ -122,7 +129,7 @@ impl Node {
         ensures { result ≡ length self.now.children }
     {
         match &self.form {
-            Form::Narrow(narrow) => narrow.children.len(),
+            Form::Narrow { children, .. } => children.len(),
             Form::Wide(wide) => wide.children.len(),
         }
     }
@@ -132,22 +139,23 @@ impl Node {
         ensures { result ≡ slice_get self.now.children k }
     {
         match &self.form {
-            Form::Narrow(narrow) => narrow.children.get(k).map(|number| unpack(*number)),
+            Form::Narrow { children, .. } => children.get(k).map(|number| unpack(*number)),
             Form::Wide(wide) => wide.children.get(k).copied(),
         }
     }
 }
 
-/// The narrow node of these numbers and children, where they fit.
-fn narrow_node(
-    alloc: Global,
-    label: Label,
-    children: &[Child],
-) -> Result<Option<Narrow>, AllocError>
-    ensures is { IfOk result (λ narrow. IfSome narrow (λ n. (n.production ≡ label.production) ×
-        (n.born ≡ label.born) × (n.tokens ≡ label.tokens) × (n.size ≡ label.size) ×
-        (map unpack n.children.items ≡ children.now))) }
-    ensures every { label.production < 2 ^ 32 → label.born < 2 ^ 32 → label.tokens < 2 ^ 32 →
+/// The narrow form of a node with these numbers and children, where they fit.
+fn narrow_node(alloc: Global, label: Label, children: &[Child]) -> Result<Option<Form>, AllocError>
+    ensures is { IfOk result (λ narrow. IfSome narrow (λ form. cell_in form ≡ record {
+      production = label.production;
+      born = label.born;
+      tokens = label.tokens;
+      size = label.size;
+      children = children.now;
+    })) }
+    ensures narrow { IfOk result (λ narrow. IfSome narrow IsNarrow) }
+    ensures every { label.production < 2 ^ 16 → label.born < 2 ^ 32 → label.tokens < 2 ^ 32 →
         label.size < 2 ^ 32 → All HasNumber children.now → IfOk result IsSome }
 {
     let Label {
@@ -156,12 +164,12 @@ fn narrow_node(
         tokens,
         size,
     } = label;
-    if production > GREATEST as usize || born > GREATEST || tokens > GREATEST || size > GREATEST {
+    if production > GREATEST_PRODUCTION || born.max(tokens).max(size) > GREATEST {
         return Ok(None);
     }
     match all_packed(alloc, children)? {
-        Some(children) => Ok(Some(Narrow {
-            production: production as u32,
+        Some(children) => Ok(Some(Form::Narrow {
+            production: production as u16,
             born: born as u32,
             tokens: tokens as u32,
             size: size as u32,

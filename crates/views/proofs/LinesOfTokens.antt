@@ -13,7 +13,7 @@ use Rattle.definitions.specs.Answers.{Node, SpansLines, end_of}
 use Rattle.definitions.proofs.OffsetOfPosition.{ended, ended-cons}
 use Rattle.definitions.proofs.Significant.{map-significant}
 use Rattle.lexer.specs.declared.sums.Token.{Token}
-use Rattle.lexer.specs.Tokens.{plain}
+use Rattle.lexer.specs.Tokens.{kind_in, plain}
 use Rattle.text.specs.Places.{Place}
 use Rattle.views.proofs.RowsOfTokens.{position-place, min-more}
 use Rattle.views.specs.Folds.{lines_of, line_at, SpanLines, AreAscending}
@@ -23,7 +23,7 @@ abbrev pub lines_from : List Bool → List ℕ → ℕ → List Token → List (
 lines_from skips t o items = lines_of t (significant skips (placed o (map plain items)))
 
 abbrev pub AreMarked : List Bool → List Token → Type 0
-AreMarked skips items = All (λ x. x.skipped ≡ is_skipped skips x.kind) items
+AreMarked skips items = All (λ x. x.skipped ≡ is_skipped skips (kind_in x)) items
 
 -- These lines are listed, of the tokens before an offset. The walk stands there, or at the end of the text where that comes before
 -- it, and the rest of the tokens begins there.
@@ -56,16 +56,16 @@ module _ (skips : List Bool) (t : List ℕ) (items : List Token) (lines : List (
   next_place =
       p ∙ ap (λ n. min (at.offset + x.length) (length n)) h.text ∙ ap (λ n. min (n + x.length) (length t)) h.place ∙ min-more (length t) h.offset x.length
 
-  mark : x.skipped ≡ is_skipped skips x.kind
-  mark = All-head (λ y. y.skipped ≡ is_skipped skips y.kind) x rest h.marked
+  mark : x.skipped ≡ is_skipped skips (kind_in x)
+  mark = All-head (λ y. y.skipped ≡ is_skipped skips (kind_in y)) x rest h.marked
 
   marks : AreMarked skips rest
-  marks = All-tail (λ y. y.skipped ≡ is_skipped skips y.kind) x rest h.marked
+  marks = All-tail (λ y. y.skipped ≡ is_skipped skips (kind_in y)) x rest h.marked
 
   first_line : ℕ × ℕ
   first_line = (line_of t h.offset, line_of t (h.offset + x.length))
 
-  from_first : (b : Bool) → is_skipped skips x.kind ≡ b → lines_from skips t h.offset (x ∷ rest) ≡ cond b (lines_from skips t (h.offset + x.length) rest) (first_line ∷ lines_from skips t (h.offset + x.length) rest)
+  from_first : (b : Bool) → is_skipped skips (kind_in x) ≡ b → lines_from skips t h.offset (x ∷ rest) ≡ cond b (lines_from skips t (h.offset + x.length) rest) (first_line ∷ lines_from skips t (h.offset + x.length) rest)
   unfolding first_line
   from_first false s = ap (λ c. lines_of t (cond (not c) (record { start = h.offset; token = plain x } ∷ significant skips (placed (h.offset + x.length) (map plain rest))) (significant skips (placed (h.offset + x.length) (map plain rest))))) s
   from_first true s = ap (λ c. lines_of t (cond (not c) (record { start = h.offset; token = plain x } ∷ significant skips (placed (h.offset + x.length) (map plain rest))) (significant skips (placed (h.offset + x.length) (map plain rest))))) s

@@ -12,7 +12,7 @@ use Rattle.definitions.proofs.TokensUnique.{IsPiece-inside}
 use Rattle.lexer.specs.declared.sums.Sums.{Sums}
 use Rattle.lexer.specs.declared.sums.Token.{Token}
 use Rattle.lexer.specs.Rescans.{plain_all}
-use Rattle.lexer.specs.Tokens.{AreTokensOf, characters, is_significant, plain}
+use Rattle.lexer.specs.Tokens.{AreTokensOf, characters, is_significant, kind_in, plain}
 use Rattle.lexer.proofs.Boundaries.{length-plain}
 use Rattle.lexer.proofs.Remakes.{chars-plain, plain-take, tokens_length}
 use Rattle.lexer.proofs.SignificantKinds.{kinds_plain, length-kinds}
@@ -31,7 +31,7 @@ pub record IsLocated (items : List Token) (o p : ℕ) (before : Sums) : Type 0 w
 nonempty : (rules : List Expression) (t : List ℕ) (xs : List Token) → AreTokens rules t (map plain xs) → All (λ x. 1 ≤ x.length) xs
 nonempty rules t [] h = All-nil (λ x. 1 ≤ x.length)
 nonempty rules t (x ∷ xs) h =
-    let inside : (1 ≤ x.length) × (x.length ≤ length t) = IsPiece-inside rules t x.kind x.length h.0.piece in
+    let inside : (1 ≤ x.length) × (x.length ≤ length t) = IsPiece-inside rules t (kind_in x) x.length h.0.piece in
     All-cons (λ x. 1 ≤ x.length) x xs inside.0 (nonempty rules (drop x.length t) xs h.1)
 
 -- one more token, and none more
@@ -69,7 +69,7 @@ module _ (rules : List Expression) (skips : List Bool) (t : List ℕ) (items : L
   plain_count : (n : ℕ) → length (kinds skips (take n (plain_all items))) ≡ count_by is_significant (take n items)
   plain_count n =
       ap (λ xs. length (kinds skips xs)) (sym (plain-take n items))
-      ∙ ap length (kinds_plain skips (take n items) (All-take (λ x. x.skipped ≡ is_skipped skips x.kind) n items h.marked))
+      ∙ ap length (kinds_plain skips (take n items) (All-take (λ x. x.skipped ≡ is_skipped skips (kind_in x)) n items h.marked))
       ∙ length-kinds (take n items)
 
   module _ (o p : ℕ) (before : Sums) (l : IsLocated items o p before) where

@@ -11,6 +11,7 @@ use Rattle.definitions.proofs.Characters.{encodes-chars}
 use Rattle.text.specs.Places.{Place}
 use Rattle.grammar.specs.Grammars.{FileGrammar}
 use Rattle.lexer.specs.declared.sums.Token.{Token}
+use Rattle.lexer.specs.Tokens.{kind_in}
 use Rattle.views.specs.declared.rows.Row.{Row}
 use Rattle.views.specs.Views.{row_of, row_bytes, in_utf8, rows_from, rows_of}
 
@@ -36,7 +37,7 @@ shown_none encoding f t items at w e p = record { offset = 0; unit = w; text = e
 
 pub shown_more : (encoding : Encoding) (f : FileGrammar) (t : List ℕ) (items : List Token) (rows : List Row) (at next : Place) (x : Token) (rest : List Token) (r : Row)
     → IsReported encoding f t items rows at (x ∷ rest) → next.unit ≡ at.unit → next.text ≡ at.text → next.offset ≡ min (at.offset + x.length) (length at.text)
-    → chars r.name.now ≡ kind_name f.names x.kind → IsUtf8 r.name.now → r.range.start ≡ position at.unit at.text at.offset → r.range.end ≡ position next.unit next.text next.offset
+    → chars r.name.now ≡ kind_name f.names (kind_in x) → IsUtf8 r.name.now → r.range.start ≡ position at.unit at.text at.offset → r.range.end ≡ position next.unit next.text next.offset
     → IsReported encoding f t items (rows ++ r ∷ []) next rest
 shown_more encoding f t items rows at next x rest r h v e p name utf8 from to =
     let unit : next.unit ≡ encoding = v ∙ h.unit in
@@ -45,7 +46,7 @@ shown_more encoding f t items rows at next x rest r h v e p name utf8 from to =
     p ∙ ap (λ n. min (at.offset + x.length) (length n)) h.text ∙ ap (λ n. min (n + x.length) (length t)) h.place ∙ min-more (length t) h.offset x.length in
     let start = from ∙ position-place encoding t at h.offset h.unit h.text h.place in
     let end = to ∙ position-place encoding t next (h.offset + x.length) unit text place in
-    let row : row_of r ≡ (kind_name f.names x.kind, range_of encoding t (h.offset, h.offset + x.length)) = λ i. (name i, record { start = start i; end = end i }) in
+    let row : row_of r ≡ (kind_name f.names (kind_in x), range_of encoding t (h.offset, h.offset + x.length)) = λ i. (name i, record { start = start i; end = end i }) in
     let bytes : r.name.now ≡ encode_utf8_all (chars r.name.now) = sym (encodes-chars r.name.now utf8) in
     let spelled : row_bytes r ≡ in_utf8 (row_of r) = λ i. (bytes i, r.range) in
     record {

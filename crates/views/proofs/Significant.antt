@@ -3,17 +3,18 @@ use Rattle.std.specs.Prelude.{◌≡◌, ℕ, zero, suc, ◌+◌, Bool, true, fa
 use Rattle.std.proofs.Common.{arith, refl, sym, ap, subst, ◌∙◌}
 use Rattle.std.proofs.lemmas.List.{length-map}
 use Rattle.std.proofs.lemmas.List.Elements.{All-head, All-tail}
+use Rattle.definitions.specs.declared.Kind.{Kind}
 use Rattle.definitions.specs.Answers.{end_of}
 use Rattle.definitions.specs.Tokens.{Placed, is_skipped, kinds, placed, significant}
 use Rattle.lexer.specs.declared.sums.Token.{Token}
-use Rattle.lexer.specs.Tokens.{characters, is_significant, plain}
+use Rattle.lexer.specs.Tokens.{characters, is_significant, kind_in, plain}
 use Rattle.lexer.specs.Rescans.{significant_kinds}
 use Rattle.lexer.proofs.Totals.{characters-cons, count-cons}
 use Rattle.lexer.proofs.SignificantKinds.{length-kinds, kinds_plain}
 
 -- the token is marked where its kind is skipped
 abbrev pub IsMarked : List Bool → Token → Type 0
-IsMarked skips x = x.skipped ≡ is_skipped skips x.kind
+IsMarked skips x = x.skipped ≡ is_skipped skips (kind_in x)
 
 -- the significant ones of these tokens, the first of which starts at offset o
 abbrev pub parts_from : List Bool → ℕ → List Token → List Placed
@@ -22,10 +23,10 @@ parts_from skips o xs = significant skips (placed o (map plain xs))
 abbrev pub part_at : ℕ → Token → Placed
 part_at o x = record { start = o; token = plain x }
 
-parts-skipped : (skips : List Bool) (o : ℕ) (x : Token) (xs : List Token) → is_skipped skips x.kind ≡ true → parts_from skips o (x ∷ xs) ≡ parts_from skips (o + x.length) xs
+parts-skipped : (skips : List Bool) (o : ℕ) (x : Token) (xs : List Token) → is_skipped skips (kind_in x) ≡ true → parts_from skips o (x ∷ xs) ≡ parts_from skips (o + x.length) xs
 parts-skipped skips o x xs e = rw e refl
 
-parts-kept : (skips : List Bool) (o : ℕ) (x : Token) (xs : List Token) → is_skipped skips x.kind ≡ false → parts_from skips o (x ∷ xs) ≡ part_at o x ∷ parts_from skips (o + x.length) xs
+parts-kept : (skips : List Bool) (o : ℕ) (x : Token) (xs : List Token) → is_skipped skips (kind_in x) ≡ false → parts_from skips o (x ∷ xs) ≡ part_at o x ∷ parts_from skips (o + x.length) xs
 parts-kept skips o x xs e = rw e refl
 
 -- how many significant ones there are with one more at the start
@@ -45,7 +46,7 @@ part_from skips o (y ∷ xs) zero k x marked is before at = go y.skipped refl (s
     same : y ≡ x
     same = cc
 
-    go : (b : Bool) → y.skipped ≡ b → is_skipped skips y.kind ≡ y.skipped → slice_get (parts_from skips o (y ∷ xs)) k ≡ Some (part_at (o + 0) x)
+    go : (b : Bool) → y.skipped ≡ b → is_skipped skips (kind_in y) ≡ y.skipped → slice_get (parts_from skips o (y ∷ xs)) k ≡ Some (part_at (o + 0) x)
     go true e m = absurd (omega (arith, count-skipped y [] e, before, at))
     go false e m =
         let none : k ≡ 0 = sym before in
@@ -57,7 +58,7 @@ part_from skips o (y ∷ xs) (suc p) k x marked is before at =
     there : o + y.length + characters (take p xs) ≡ o + characters (y ∷ take p xs)
     there = omega (arith, characters-cons y (take p xs))
 
-    go : (b : Bool) → y.skipped ≡ b → is_skipped skips y.kind ≡ y.skipped
+    go : (b : Bool) → y.skipped ≡ b → is_skipped skips (kind_in y) ≡ y.skipped
         → (k : ℕ) → count_by is_significant (y ∷ take p xs) ≡ k → count_by is_significant (y ∷ take (suc p) xs) ≡ suc k
         → ((j : ℕ) → count_by is_significant (take p xs) ≡ j → count_by is_significant (take (suc p) xs) ≡ suc j → slice_get (parts_from skips (o + y.length) xs) j ≡ Some (part_at (o + y.length + characters (take p xs)) x))
         → slice_get (parts_from skips o (y ∷ xs)) k ≡ Some (part_at (o + characters (y ∷ take p xs)) x)
@@ -81,20 +82,20 @@ part_is skips xs p k x marked is before at =
     part_from skips 0 xs p k x marked is before (ap (λ n. count_by is_significant (take n xs)) (sym next) ∙ at ∙ omega arith) ∙ ap (λ n. Some (part_at n x)) start
 
 -- its offsets and its kind
-pub part_shown : (skips : List Bool) (xs : List Token) (p k start : ℕ) (x : Token) → All (IsMarked skips) xs → slice_get xs p ≡ Some x
-    → count_by is_significant (take p xs) ≡ k → count_by is_significant (take (p + 1) xs) ≡ k + 1 → start ≡ characters (take p xs)
-    → IsSomeAnd (slice_get (parts_from skips 0 xs) k) (λ y. (start ≡ y.start) × (start + x.length ≡ end_of y) × (x.kind ≡ y.token.kind))
-part_shown skips xs p k start x marked is before at begins =
-    subst (λ o. IsSomeAnd o (λ y. (start ≡ y.start) × (start + x.length ≡ end_of y) × (x.kind ≡ y.token.kind))) (sym (part_is skips xs p k x marked is before at)) (begins, ap (λ n. n + x.length) begins, refl)
+pub part_shown : (skips : List Bool) (xs : List Token) (p k start : ℕ) (kind : Kind) (x : Token) → All (IsMarked skips) xs → slice_get xs p ≡ Some x
+    → count_by is_significant (take p xs) ≡ k → count_by is_significant (take (p + 1) xs) ≡ k + 1 → start ≡ characters (take p xs) → kind ≡ kind_in x
+    → IsSomeAnd (slice_get (parts_from skips 0 xs) k) (λ y. (start ≡ y.start) × (start + x.length ≡ end_of y) × (kind ≡ y.token.kind))
+part_shown skips xs p k start kind x marked is before at begins is_kind =
+    subst (λ o. IsSomeAnd o (λ y. (start ≡ y.start) × (start + x.length ≡ end_of y) × (kind ≡ y.token.kind))) (sym (part_is skips xs p k x marked is before at)) (begins, ap (λ n. n + x.length) begins, is_kind)
 
 -- the kinds of the significant ones
 pub kinds_of_parts : (skips : List Bool) (o : ℕ) (xs : List Token) → All (IsMarked skips) xs → map (λ x. x.token.kind) (parts_from skips o xs) ≡ significant_kinds xs
 kinds_of_parts skips o [] marked = refl
 kinds_of_parts skips o (x ∷ xs) marked = go x.skipped refl (sym (All-head (IsMarked skips) x xs marked)) (kinds_of_parts skips (o + x.length) xs (All-tail (IsMarked skips) x xs marked))
   where
-    go : (b : Bool) → x.skipped ≡ b → is_skipped skips x.kind ≡ x.skipped → map (λ y. y.token.kind) (parts_from skips (o + x.length) xs) ≡ significant_kinds xs → map (λ y. y.token.kind) (parts_from skips o (x ∷ xs)) ≡ significant_kinds (x ∷ xs)
+    go : (b : Bool) → x.skipped ≡ b → is_skipped skips (kind_in x) ≡ x.skipped → map (λ y. y.token.kind) (parts_from skips (o + x.length) xs) ≡ significant_kinds xs → map (λ y. y.token.kind) (parts_from skips o (x ∷ xs)) ≡ significant_kinds (x ∷ xs)
     go true e m rest = ap (map (λ y. y.token.kind)) (parts-skipped skips o x xs (m ∙ e)) ∙ rest ∙ rw e refl
-    go false e m rest = ap (map (λ y. y.token.kind)) (parts-kept skips o x xs (m ∙ e)) ∙ ap (λ ks. x.kind ∷ ks) rest ∙ rw e refl
+    go false e m rest = ap (map (λ y. y.token.kind)) (parts-kept skips o x xs (m ∙ e)) ∙ ap (λ ks. kind_in x ∷ ks) rest ∙ rw e refl
 
 -- they are the kinds of the tokens without their marks
 pub kinds_of_placed : (skips : List Bool) (xs : List Token) → All (IsMarked skips) xs → map (λ x. x.token.kind) (parts_from skips 0 xs) ≡ kinds skips (map plain xs)

@@ -5,7 +5,7 @@ ghost use Rattle.definitions.specs.declared.Symbol.{Symbol};
 ghost use Rattle.definitions.specs.Tokens.{is_skipped, placed, significant};
 ghost use Rattle.definitions.specs.Trees.{HaveRoots, all_kinds};
 ghost use Rattle.grammar.specs.Grammars.{left_of};
-ghost use Rattle.lexer.specs.Tokens.{plain, AreTokensOf};
+ghost use Rattle.lexer.specs.Tokens.{kind_in, plain, AreTokensOf};
 ghost use Rattle.trees.specs.Cells.{AreBelow};
 ghost use Rattle.views.specs.Folds.{lines_of, SpanLines, AreAscending, AreSpanned, with_own};
 ghost use Rattle.views.specs.Contents.{AreFoldsOf, AreRootsOf, trees_of_roots};
@@ -51,7 +51,7 @@ pub fn folds(
 /// The first and the last line of each significant token, in order.
 fn lines_of(alloc: Global, text: &Text, tokens: &Tokens) -> Result<Vec<(u32, u32)>, AllocError>
     ensures { IfOk result (λ lines. (skips : List Bool) →
-        All (λ x. x.skipped ≡ is_skipped skips x.kind) tokens.now.items →
+        All (λ x. x.skipped ≡ is_skipped skips (kind_in x)) tokens.now.items →
         lines.items
         ≡ lines_of text.now (significant skips (placed 0 (map plain tokens.now.items)))) }
 {

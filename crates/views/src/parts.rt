@@ -3,7 +3,7 @@
 ghost use Rattle.std.specs.Prelude.{◌≡◌, ◌<◌, Bool, List, All, IsSomeAnd, count_by, map, slice_get};
 ghost use Rattle.definitions.specs.Answers.{end_of};
 ghost use Rattle.definitions.specs.Tokens.{is_skipped, placed, significant};
-ghost use Rattle.lexer.specs.Tokens.{is_significant, plain};
+ghost use Rattle.lexer.specs.Tokens.{kind_in, is_significant, plain};
 
 use lexer::{Kind, Tokens};
 
@@ -18,7 +18,8 @@ pub(crate) struct Part {
 /// The k-th significant token.
 pub(crate) fn span_of(tokens: &Tokens, k: usize) -> Part
     requires { k < count_by is_significant tokens.now.items }
-    ensures { (skips : List Bool) → All (λ x. x.skipped ≡ is_skipped skips x.kind) tokens.now.items
+    ensures { (skips : List Bool)
+        → All (λ x. x.skipped ≡ is_skipped skips (kind_in x)) tokens.now.items
         → IsSomeAnd (slice_get (significant skips (placed 0 (map plain tokens.now.items))) k)
         (λ x. (result.start ≡ x.start) × (result.end ≡ end_of x) × (result.kind ≡ x.token.kind)) }
 {
@@ -30,6 +31,6 @@ pub(crate) fn span_of(tokens: &Tokens, k: usize) -> Part
     Part {
         start,
         end: start + token.length as usize,
-        kind: token.kind,
+        kind: token.kind(),
     }
 }

@@ -36,7 +36,7 @@ pub fn token_rows<'a>(
         let start = places.position();
         places.advance(token.length as usize);
         rows.push(Row {
-            name: grammar.kind_name(token.kind),
+            name: grammar.kind_name(token.kind()),
             range: Range {
                 start,
                 end: places.position(),

@@ -7,7 +7,7 @@ ghost use Rattle.definitions.specs.Answers.{range_of, shortened};
 ghost use Rattle.definitions.specs.Tokens.{is_skipped, placed, significant};
 ghost use Rattle.definitions.specs.Trees.{all_kinds};
 ghost use Rattle.grammar.specs.Grammars.{FileGrammar};
-ghost use Rattle.lexer.specs.Tokens.{plain, is_significant, AreTokensOf};
+ghost use Rattle.lexer.specs.Tokens.{kind_in, plain, is_significant, AreTokensOf};
 ghost use Rattle.trees.specs.Cells.{AreBelow};
 ghost use Rattle.views.specs.Around.{IsAround, IsBranchAround, IsSpanOf, inside, is_same, spans_all};
 ghost use Rattle.views.specs.Around as of;
@@ -146,7 +146,8 @@ fn selection_offsets(
     spans: &[(usize, usize)],
 ) -> Result<Vec<(usize, usize)>, AllocError>
     requires { All (IsSpanOf (count_by is_significant tokens.now.items)) spans.now }
-    ensures { (skips : List Bool) → All (λ x. x.skipped ≡ is_skipped skips x.kind) tokens.now.items
+    ensures { (skips : List Bool)
+        → All (λ x. x.skipped ≡ is_skipped skips (kind_in x)) tokens.now.items
         → let parts = significant skips (placed 0 (map plain tokens.now.items)) in
         IfOk result (λ offsets. offsets.items
         ≡ shortened (whole ∷ inside whole (map (of.offsets_of parts) spans.now))) }
@@ -170,7 +171,7 @@ fn spans_inside<'a>(
     requires { All (IsSpanOf (count_by is_significant tokens.now.items)) spans.now }
     ensures spans { All (IsSpanOf (count_by is_significant tokens.now.items)) result.now }
     ensures inside { (skips : List Bool)
-        → All (λ x. x.skipped ≡ is_skipped skips x.kind) tokens.now.items
+        → All (λ x. x.skipped ≡ is_skipped skips (kind_in x)) tokens.now.items
         → let parts = significant skips (placed 0 (map plain tokens.now.items)) in
         map (of.offsets_of parts) result.now
         ≡ inside whole (map (of.offsets_of parts) spans.now) }
@@ -184,7 +185,8 @@ fn spans_inside<'a>(
 /// The offsets from the start of a span's first token up to the end of its last one.
 fn offsets_of(tokens: &Tokens, span: (usize, usize)) -> (usize, usize)
     requires { IsSpanOf (count_by is_significant tokens.now.items) span }
-    ensures { (skips : List Bool) → All (λ x. x.skipped ≡ is_skipped skips x.kind) tokens.now.items
+    ensures { (skips : List Bool)
+        → All (λ x. x.skipped ≡ is_skipped skips (kind_in x)) tokens.now.items
         → result ≡ of.offsets_of (significant skips (placed 0 (map plain tokens.now.items))) span }
 {
     (

@@ -21,4 +21,4 @@ returns c =
     let is : slice_get xs c.place.result ≡ Some x = ap (λ d. slice_get d.items c.place.result) (sym c.self.view_is) ∙ sym c.get.ensures ∙ ap option_copied c.in_ok-token.was in
     let kind = kind_at xs c.place.result c.args.k x is c.place.ensures.before c.place.ensures.at in
     let inside : c.args.k < length (significant_kinds xs) = omega (arith, c.if-k-significant.false, c.significant.ensures, length-kinds xs) in
-    sym (slice_get-get_or (significant_kinds xs) c.args.k Invalid inside ∙ ap (λ k. Some k) kind)
+    sym (slice_get-get_or (significant_kinds xs) c.args.k Invalid inside ∙ ap (λ k. Some k) (kind ∙ sym c.kind.ensures))

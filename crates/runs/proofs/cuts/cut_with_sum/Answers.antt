@@ -3,8 +3,8 @@ use Rattle.std.specs.Prelude.{Some, None, slice_get, option_copied}
 use Rattle.runs.specs.Counted.{most}
 use Rattle.runs.specs.Runs.{flattened}
 use Rattle.runs.proofs.Flat.{prefix, within_runs, inside, before_cut, after_cut, past_run, before_end, after_end}
-use Rattle.runs.proofs.Totals.{items_before, starts_before, ends_after}
-use Rattle.runs.proofs.cuts.cut_at.Goals as goal
+use Rattle.runs.proofs.Totals.{total-sum, items_before, starts_before, ends_after}
+use Rattle.runs.proofs.cuts.cut_with_sum.Goals as goal
 
 pub overflow_sub-offset : goal.overflow_sub-offset
 overflow_sub-offset g c =
@@ -31,8 +31,8 @@ split_at-requires g c =
     let count : c.locate-place.result.1.items ≡ length (prefix runs place) = ap (λ s. s.items) c.locate-place.ensures.before ∙ items_before m laws runs few c.args.offset place in
     omega (arith, count, inside runs place run at c.args.offset starts ends, ap length c.items.ensures.same)
 
-pub returns : goal.returns
-returns g c =
+pub returns-clause-cut : goal.returns-clause-cut
+returns-clause-cut g c =
     let m = g.T.Measured.measure in
     let laws = g.met.T.Sum.Monoid.laws in
     let runs = c.args.runs.now in
@@ -53,8 +53,8 @@ returns g c =
       ends = λ _. ends;
     }
 
-pub returns-in_default : goal.returns-in_default
-returns-in_default g c =
+pub returns-in_default-clause-cut : goal.returns-in_default-clause-cut
+returns-in_default-clause-cut g c =
     let m = g.T.Measured.measure in
     let laws = g.met.T.Sum.Monoid.laws in
     let runs = c.args.runs.now in
@@ -71,3 +71,9 @@ returns-in_default g c =
       starts = starts;
       ends = λ l. absurd (omega (arith, l, end));
     }
+
+pub returns-clause-sum : goal.returns-clause-sum
+returns-clause-sum g c = ap (λ s. s.sum) c.locate-place.ensures.before ∙ total-sum g.T.Measured.measure g.met.T.Sum.Monoid.laws (take c.locate-place.result.0 c.args.runs.now)
+
+pub returns-in_default-clause-sum : goal.returns-in_default-clause-sum
+returns-in_default-clause-sum g c = ap (λ s. s.sum) c.locate-place.ensures.before ∙ total-sum g.T.Measured.measure g.met.T.Sum.Monoid.laws (take c.locate-place.result.0 c.args.runs.now)

@@ -1,0 +1,17 @@
+use Rattle.std.proofs.Common.{ap, sym, ◌∙◌, take}
+use Rattle.seqtree.specs.Monoid.{total}
+use Rattle.seqtree.proofs.Totals.{total-append}
+use Rattle.runs.specs.Runs.{flattened}
+use Rattle.runs.proofs.list.Runs.total_before.Goals as goal
+
+pub returns : goal.returns
+returns g c =
+    let cut = c.cut_with_sum-sum.result.0 in
+    let op = g.T.Sum.Monoid.op in
+    let sum_of = total g.T.Sum.Monoid.empty op g.T.Measured.measure in
+    let before = flattened (take cut.run c.self.inside.runs) in
+    c.join.ensures
+    ∙ (λ i. op (c.cut_with_sum-sum.ensures.sum i) (c.sum_of.ensures i))
+    ∙ sym (total-append g.T.Measured.measure g.met.T.Sum.Monoid.laws before cut.prefix.now)
+    ∙ ap sum_of (sym c.cut_with_sum-sum.ensures.cut.before)
+    ∙ ap (λ items. sum_of (take c.args.i items)) c.self.view_is
