@@ -1,8 +1,8 @@
 """The crates' pages and their examples.
 
-The comment at the head of a crate's root file is its page: what the crate is for, the first call, its words, its limits, and an example.
-Where the crate has a function in `crates/uses`, the example is its body, which is proved and run, and the comments in it say what is
-printed.
+The comment at the head of a crate's root file is its page: what the crate is for, the first call, its words, its limits, and, of a
+library, an example. The example is the body of the crate's function in `crates/uses`, which is proved and run, and the comments in it
+say what is printed.
 """
 
 import os
@@ -22,10 +22,14 @@ def products(top):
     return re.findall(r"^(\w+):", text[: text.index("# What tests share")], re.M)
 
 
-def page_of(top, crate):
-    """The lines of a crate's page."""
+def root_of(top, crate):
+    """The root file of a library, or of a program."""
     folder = os.path.join(top, "crates", crate, "src")
-    root = next(path for name in ("lib.rt", "main.rt") for path in [os.path.join(folder, name)] if os.path.exists(path))
+    return next(path for name in ("lib.rt", "main.rt") for path in [os.path.join(folder, name)] if os.path.exists(path))
+
+
+def page_of(root):
+    """The lines of the page at the head of a root file."""
     return [line[len("//! ") :] for line in lines_of(root) if line.startswith("//!")]
 
 
@@ -49,18 +53,20 @@ def uses(top):
 def printed(top, examples):
     """What the comments say is printed, in the order in which the examples are run."""
     calls = re.findall(r"::use_(\w+)\(", "\n".join(lines_of(os.path.join(top, "crates", "uses", "src", "main.rt"))))
-    return [line.strip()[len("// ") :] for crate in calls for line in examples[crate] if line.strip().startswith("// ")]
+    return [line.strip()[len("// ") :] for crate in calls for line in examples.get(crate, []) if line.strip().startswith("// ")]
 
 
 def check(cases, top):
-    """Each crate of the program has a page, whose example is one that is run, and prints what it says."""
+    """Each crate of the program has a page. That of a library has an example, which is run, and prints what its comments say."""
     examples = uses(top)
     fewest, most = LINES_OF_PAGES
     for crate in products(top):
-        page = page_of(top, crate)
+        root = root_of(top, crate)
+        page = page_of(root)
         cases.check(f"the page of {crate}: its lines are from {fewest} to {most}", True, fewest <= len(page) <= most)
         example = example_on(page)
-        cases.check(f"the page of {crate}: its example is that of crates/uses", examples.get(crate, example), example)
+        cases.check(f"the page of {crate}: a library's has an example", root.endswith("lib.rt"), bool(example))
+        cases.check(f"the page of {crate}: its example is that of crates/uses", examples.get(crate, []), example)
     cases.check("each example of crates/uses is of a crate", set(), set(examples) - set(products(top)))
     awaited = lines_of(os.path.join(top, "crates", "uses", "stdout"))[:-1]
     cases.check("the comments of crates/uses say what it prints", awaited, printed(top, examples))

@@ -7,15 +7,17 @@
 //! Words: the *reach* of a match is how many characters had to be looked at, the end of the text counting as one.
 //!
 //! Limits: an automaton of more than 4,096 states is refused (`DfaFault`). `longest` takes no memory, and costs one
-//! step for each character of the reach. In the example `SUMS` is the grammar file in README.md.
+//! step for each character of the reach. In the example `grammar` is read from the grammar file in README.md.
 //!
 //! ```
-//! let grammar = Grammar::read(alloc, SUMS).ok()?;
-//! let automaton = Automaton::build(alloc, grammar.patterns()).ok()?;
+//! let Ok(automaton) = Automaton::build(alloc, grammar.patterns()) else {
+//!     return None;
+//! };
 //! let text = Text::open(alloc, "12+3").ok()?;
+//! let end = text.len();
 //! let found = automaton.longest(&Whole(&text), 0);
-//! println!(rt; "length {}, reach {}", found.length, found.reach).ok()?;
-//! // length 2, reach 3
+//! println!(rt; "length {} of {end}, reach {}", found.length, found.reach).ok()
+//! // length 2 of 4, reach 3
 //! ```
 #![tactic(auto)]
 

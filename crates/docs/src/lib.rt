@@ -13,14 +13,14 @@
 //!
 //! ```
 //! let language = Language::load(alloc, SUMS).ok()?;
-//! let doc = Doc::open(alloc, &language, Unit::Utf16, 1, "1+(2").ok()?;
-//! let fault = doc.diagnostic(alloc, &language).ok()??;
-//! println!(rt; "{}", fault.message).ok()?;
-//! // unexpected end; expected PLUS, RP
-//! let doc = doc.change(alloc, &language, None, "1+2").ok()?;
-//! let tree = doc.tree(alloc, &language).ok()??;
-//! println!(rt; "{tree}").ok()?;
-//! // (Sum (Sum (Atom NUM)) PLUS (Atom NUM))
+//! if let Ok(doc) = Doc::open(alloc, &language, Unit::Utf16, 1, "1+(2")
+//!     && let Ok(Some(fault)) = doc.diagnostic(alloc, &language)
+//!     && let Ok(doc) = doc.change(alloc, &language, None, "1+2")
+//!     && let Ok(Some(tree)) = doc.tree(alloc, &language)
+//! {
+//!     println!(rt; "{}; then {tree}", fault.message).ok()?;
+//!     // unexpected end; expected PLUS, RP; then (Sum (Sum (Atom NUM)) PLUS (Atom NUM))
+//! }
 //! ```
 #![tactic(auto)]
 

@@ -10,13 +10,12 @@
 //!
 //! Limits: none of its own; `tables` stops at 8,192 sets. A closure costs its items, each with each of its lookaheads,
 //! so a grammar with many levels of operators that occur in many places, such as `grammars/lua.lr`, takes by far the
-//! longest. In the example `SUMS` is the grammar file in README.md.
+//! longest. In the example `grammar` is read from the grammar file in README.md.
 //!
 //! ```
-//! let grammar = Grammar::read(alloc, SUMS).ok()?;
-//! let grammar = AugmentedGrammar::of(alloc, &grammar).ok()?;
-//! let states = States::new(alloc, &grammar).ok()?;
-//! println!(rt; "{} state to begin with", states.len()).ok()?;
+//! let augmented = AugmentedGrammar::of(alloc, grammar).ok()?;
+//! let states = States::new(alloc, &augmented).ok()?;
+//! println!(rt; "{} state to begin with", states.len()).ok()
 //! // 1 state to begin with
 //! ```
 #![tactic(auto)]

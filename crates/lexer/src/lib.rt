@@ -8,17 +8,16 @@
 //! Words: a token's *stamp* is the number of the edit that made it; `scanned` counts the tokens made by the last edit.
 //!
 //! Limits: those of `text`. A rescan reads from the first token whose reach the edit meets to the first place where an
-//! old token begins again; the other tokens stay. In the example `SUMS` is the grammar file in README.md.
+//! old token begins again; the other tokens stay. In the example `grammar` is read from the grammar file in README.md,
+//! and `automaton` is built of its patterns.
 //!
 //! ```
-//! let grammar = Grammar::read(alloc, SUMS).ok()?;
-//! let automaton = Automaton::build(alloc, grammar.patterns()).ok()?;
 //! let text = Text::open(alloc, "1 + 2").ok()?;
-//! let source = Whole(&text);
-//! let tokens = Tokens::scan(alloc, &grammar, &automaton, &source).ok()?;
+//! let end = text.len();
+//! let tokens = Tokens::scan(alloc, grammar, automaton, &Whole(&text)).ok()?;
 //! let (all, read) = (tokens.count(), tokens.significant());
-//! println!(rt; "{all} tokens, {read} significant").ok()?;
-//! // 5 tokens, 3 significant
+//! println!(rt; "{end} characters, {all} tokens, {read} significant").ok()
+//! // 5 characters, 5 tokens, 3 significant
 //! ```
 #![tactic(auto)]
 

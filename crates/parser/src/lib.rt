@@ -8,17 +8,17 @@
 //! what may come at it; `counts` says how many nodes there are, and how many the last edit made.
 //!
 //! Limits: the store has at most 1,024 nodes more than twice the branches of the parse. A change reads few kinds
-//! besides those that the splice brings, and doesn't recurse. In the example `SUMS` is the grammar file in README.md.
+//! besides those that the splice brings, and doesn't recurse. In the example `tables` are those of the grammar file in
+//! README.md, and rule 0 is that of its numbers.
 //!
 //! ```
-//! let grammar = Grammar::read(alloc, SUMS).ok()?;
-//! let tables = Tables::build(alloc, &grammar).ok()?;
 //! let kinds = Listed(&[Kind::Rule(0), Kind::Rule(0)]);
 //! let mut store = Store::new(alloc);
-//! let parse = Parse::whole(alloc, &tables, &mut store, &kinds).ok()?;
-//! if let Verdict::FaultAt(k) = parse.verdict() {
-//!     println!(rt; "no sentence continues with kind {k}").ok()?;
-//! }
+//! let parse = Parse::whole(alloc, tables, &mut store, &kinds).ok()?;
+//! let Verdict::FaultAt(k) = parse.verdict() else {
+//!     return None;
+//! };
+//! println!(rt; "no sentence continues with kind {k}").ok()
 //! // no sentence continues with kind 1
 //! ```
 #![tactic(auto)]

@@ -13,10 +13,12 @@
 //!
 //! ```
 //! let content = br#"{"jsonrpc":"2.0","id":7,"method":"shutdown"}"#;
-//! if let Message::Request(id, _) = read(alloc, content).ok()? {
-//!     let bytes = to_bytes(alloc, &Reply::Null { id }).ok()?;
-//!     println!(rt; "{}", str::from_utf8(&bytes).ok()?).ok()?;
-//! }
+//! let message = read(alloc, content).ok()?;
+//! let Message::Request(id, _) = message else {
+//!     return None;
+//! };
+//! let bytes = to_bytes(alloc, &Reply::Null { id }).ok()?;
+//! println!(rt; "{}", str::from_utf8(&bytes).unwrap_or("")).ok()
 //! // {"id":7,"jsonrpc":"2.0","result":null}
 //! ```
 #![tactic(auto)]

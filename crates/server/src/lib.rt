@@ -15,8 +15,8 @@
 //! let mut server = Server::new(alloc, language);
 //! let message = read(alloc, br#"{"jsonrpc":"2.0","method":"exit"}"#);
 //! let out = server.handle(alloc, message).ok()?;
-//! println!(rt; "{} replies; status {}", out.replies.len(), out.stop?).ok()?;
-//! // 0 replies; status 1
+//! println!(rt; "{} replies; status {:?}", out.replies.len(), out.stop).ok()
+//! // 0 replies; status Some(1)
 //! ```
 #![tactic(auto)]
 

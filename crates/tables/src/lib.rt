@@ -9,17 +9,15 @@
 //! require that it is one.
 //!
 //! Limits: more than 8,192 sets of items are refused as `TooManySets`. Building costs what the collection of
-//! `item_sets` costs; the other calls are one look-up each and don't allocate. In the example `SUMS` is the grammar
-//! file in README.md.
+//! `item_sets` costs; the other calls are one look-up each and don't allocate. In the example `grammar` is read from
+//! the grammar file in README.md.
 //!
 //! ```
-//! let grammar = Grammar::read(alloc, SUMS).ok()?;
-//! let tables = Tables::build(alloc, &grammar).ok()?;
+//! let tables = Tables::build(alloc, grammar).ok()?;
 //! let action = tables.action(tables.start(), Some(Kind::Rule(0)));
-//! if let Some(Move::Shift(_)) = action {
-//!     println!(rt; "a number is shifted").ok()?;
-//! }
-//! // a number is shifted
+//! let shifts = matches!(action, Some(Move::Shift(_)));
+//! println!(rt; "a number is shifted: {shifts}").ok()
+//! // a number is shifted: true
 //! ```
 #![tactic(auto)]
 

@@ -1,4 +1,4 @@
-//! Uses of grammar files.
+//! Examples of grammar files.
 
 use definitions::Kind;
 use grammar::Grammar;

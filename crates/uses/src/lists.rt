@@ -1,8 +1,9 @@
-//! Uses of lists, of pieces, of patterns and of stores of trees.
+//! Examples of lists, of pieces, of patterns and of stores of trees.
 
-use definitions::Kind;
+use lexer::{Kind, ShortKind, Token};
 use patterns::Pattern;
 use pieces::{Piece, Sums, of_text, pieces_of};
+use runs::Runs;
 use seqtree::{Seq, Slots};
 use std::alloc::Global;
 use trees::{Child, Store};
@@ -14,6 +15,22 @@ pub fn use_seqtree(rt: &HostRuntime, alloc: Global) -> Option<()> {
     let _gone = pieces.replace(0, 0, slots);
     println!(rt; "{} piece", pieces.len()).ok()?;
     // 1 piece
+    Some(())
+}
+
+/// The example of `runs`.
+pub fn use_runs(rt: &HostRuntime, alloc: Global) -> Option<()> {
+    let number = Token {
+        born: 0,
+        length: 2,
+        reach: 3,
+        short_kind: ShortKind::Rule(0),
+        skipped: false,
+    };
+    let mut list: Runs<Token> = Runs::new();
+    list.replace(alloc, 0, 0, &[number, number]).ok()?;
+    println!(rt; "{} characters", list.total().characters).ok()?;
+    // 4 characters
     Some(())
 }
 

@@ -1,28 +1,113 @@
-//! Examples of the crates' pages: for a crate a function with the first calls that a caller makes. What is printed stands in the
-//! comment after each print, and in the file `stdout`.
+//! The examples of the crates' pages: for each crate a function with the first calls that a caller makes. What is printed stands in
+//! the comment after each print, and in the file `stdout`.
 #![tactic(auto)]
 
+mod answers;
 mod grammars;
 mod lists;
+mod parses;
 mod plain;
+mod programs;
+mod texts;
 
+ghost use Rattle.dfa.specs.Table.{IsAutomaton};
+
+use dfa::Automaton;
+use grammar::Grammar;
+use lexer::{Tokens, Whole};
 use std::alloc::Global;
 use std::process::ExitCode;
+use tables::Tables;
+use text::Text;
+use worked::SUMS;
 
-/// All examples, in the order of the crates.
-fn all(rt: &HostRuntime, alloc: Global) -> Option<()> {
+/// The examples that take nothing from other examples.
+fn of_values(rt: &HostRuntime, alloc: Global) -> Option<()> {
     plain::use_definitions(rt)?;
+    plain::use_theory();
+    plain::use_frames(rt, alloc)?;
     lists::use_seqtree(rt, alloc)?;
+    lists::use_runs(rt, alloc)?;
     lists::use_patterns(rt, alloc)?;
-    grammars::use_grammar_file(rt, alloc)?;
-    grammars::use_grammar(rt, alloc)?;
     lists::use_pieces(rt, alloc)?;
-    lists::use_trees(rt, alloc)
+    lists::use_trees(rt, alloc)?;
+    texts::use_text(rt, alloc)?;
+    answers::use_rpc(rt, alloc)?;
+    grammars::use_grammar_file(rt, alloc)?;
+    grammars::use_grammar(rt, alloc)
+}
+
+/// The examples of a grammar file.
+fn of_file(rt: &HostRuntime, alloc: Global) -> Option<()> {
+    let grammar = Grammar::read(alloc, SUMS).ok()?;
+    by_grammar(rt, alloc, &grammar)
+}
+
+/// The examples that take a grammar, or what is built of one.
+fn by_grammar(rt: &HostRuntime, alloc: Global, grammar: &Grammar) -> Option<()> {
+    texts::use_dfa(rt, alloc, grammar)?;
+    parses::use_item_sets(rt, alloc, grammar)?;
+    parses::use_tables(rt, alloc, grammar)?;
+    with_tables(rt, alloc, grammar)?;
+    with_automaton(rt, alloc, grammar)
+}
+
+/// The example that takes tables.
+fn with_tables(rt: &HostRuntime, alloc: Global, grammar: &Grammar) -> Option<()> {
+    let tables = Tables::build(alloc, grammar).ok()?;
+    parses::use_parser(rt, alloc, &tables)
+}
+
+/// The examples that take an automaton, or the tokens that it finds.
+fn with_automaton(rt: &HostRuntime, alloc: Global, grammar: &Grammar) -> Option<()> {
+    let Ok(automaton) = Automaton::build(alloc, grammar.patterns()) else {
+        return None;
+    };
+    by_automaton(rt, alloc, grammar, &automaton)
+}
+
+/// The same, with the automaton.
+fn by_automaton(
+    rt: &HostRuntime,
+    alloc: Global,
+    grammar: &Grammar,
+    automaton: &Automaton,
+) -> Option<()>
+    requires { IsAutomaton grammar.now.patterns automaton.now }
+{
+    texts::use_lexer(rt, alloc, grammar, automaton)?;
+    with_tokens(rt, alloc, grammar, automaton)
+}
+
+/// The example that takes a text and its tokens.
+fn with_tokens(
+    rt: &HostRuntime,
+    alloc: Global,
+    grammar: &Grammar,
+    automaton: &Automaton,
+) -> Option<()>
+    requires { IsAutomaton grammar.now.patterns automaton.now }
+{
+    let text = Text::open(alloc, "12").ok()?;
+    // The scan requires that the text is short, as each `Text` is.
+    let _length = text.len();
+    let tokens = Tokens::scan(alloc, grammar, automaton, &Whole(&text)).ok()?;
+    answers::use_views(rt, alloc, grammar, &text, &tokens)
+}
+
+/// The examples that load a language.
+fn of_language(rt: &HostRuntime, alloc: Global) -> Option<()> {
+    answers::use_docs(rt, alloc)?;
+    programs::use_server(rt, alloc)?;
+    programs::use_commands(rt, alloc)
 }
 
 fn main(rt: HostRuntime) -> ExitCode {
     let alloc = rt.alloc();
-    if all(&rt, alloc).is_some() {
+    if of_values(&rt, alloc).is_some()
+        && of_file(&rt, alloc).is_some()
+        && of_language(&rt, alloc).is_some()
+    {
         ExitCode::SUCCESS
     } else {
         ExitCode::FAILURE

@@ -9,18 +9,13 @@
 //! Words: positions count in the *unit* that the caller gives.
 //!
 //! Limits: a selection has at most 32 ranges. Each call costs the tokens or nodes that it goes over, which is all of
-//! them, except for `diagnostic` and `selection`. In the example `SUMS` is the grammar file in README.md.
+//! them, except for `diagnostic` and `selection`. In the example `grammar` is read from the grammar file in README.md,
+//! and `tokens` are those of `text`, which is `12`.
 //!
 //! ```
-//! let grammar = Grammar::read(alloc, SUMS).ok()?;
-//! let automaton = Automaton::build(alloc, grammar.patterns()).ok()?;
-//! let text = Text::open(alloc, "12").ok()?;
-//! let source = Whole(&text);
-//! let tokens = Tokens::scan(alloc, &grammar, &automaton, &source).ok()?;
-//! let rows = token_rows(alloc, &grammar, Unit::Utf8, &text, &tokens).ok()?;
-//! for row in &rows {
-//!     println!(rt; "{} up to {}", row.name, row.range.end.character).ok()?;
-//! }
+//! let rows = token_rows(alloc, grammar, Unit::Utf8, text, tokens).ok()?;
+//! let row = rows.first()?;
+//! println!(rt; "{} up to {}", row.name, row.range.end.character).ok()
 //! // NUM up to 2
 //! ```
 #![tactic(auto)]

@@ -1,7 +1,7 @@
 use Rattle.std.proofs.Common.{arith}
 use Rattle.lexer.proofs.Scans.{made_more, next_few, next_one}
 use Rattle.lexer.proofs.scan.scan_batch.Goals as goal
-use Rattle.lexer.proofs.scan.scan_batch.Goals.{then-loop-at-test+else-len-lt-PIECE_LEN, else-loop-at-test}
+use Rattle.lexer.proofs.scan.scan_batch.Goals.{then-loop-at-test+else-len-lt-BATCH_LEN, else-loop-at-test}
 
 pub loop-at-preserved : goal.loop-at-preserved
 loop-at-preserved g c =
@@ -13,6 +13,6 @@ pub returns-clause-some : goal.returns-clause-some
 returns-clause-some g c =
     let few = next_few _ _ _ _ _ _ c.loop-at.invariant in
     elim c.loop-at-test.branch [
-      | then-loop-at-test+else-len-lt-PIECE_LEN w ↦ omega (arith, few, w.if-len-lt-PIECE_LEN, w.len-in-loop-at.ensures)
+      | then-loop-at-test+else-len-lt-BATCH_LEN w ↦ omega (arith, few, w.if-len-lt-BATCH_LEN, w.len-in-loop-at.ensures)
       | else-loop-at-test w ↦ omega (arith, w.loop-at-test, c.len.ensures, c.requires.within)
     ]

@@ -1,0 +1,27 @@
+//! Examples of the server and of what the program prints.
+
+use commands::{load, parse};
+use docs::Language;
+use rpc::read;
+use server::Server;
+use std::alloc::Global;
+use worked::SUMS;
+
+/// The example of `server`.
+pub fn use_server(rt: &HostRuntime, alloc: Global) -> Option<()> {
+    let language = Language::load(alloc, SUMS).ok()?;
+    let mut server = Server::new(alloc, language);
+    let message = read(alloc, br#"{"jsonrpc":"2.0","method":"exit"}"#);
+    let out = server.handle(alloc, message).ok()?;
+    println!(rt; "{} replies; status {:?}", out.replies.len(), out.stop).ok()
+    // 0 replies; status Some(1)
+}
+
+/// The example of `commands`.
+pub fn use_commands(rt: &HostRuntime, alloc: Global) -> Option<()> {
+    let language = load(alloc, SUMS.as_bytes()).ok()?.ok()?;
+    let printed = parse(alloc, &language, b"1 2").ok()?;
+    let line = str::from_utf8(&printed.out).unwrap_or("");
+    println!(rt; "status {}: {}", printed.status, line.trim_end()).ok()
+    // status 1: 0:2-0:3: unexpected NUM; expected PLUS, end
+}
