@@ -97,7 +97,7 @@ some_after ps o cut is l = go (cases_lt cut.piece (length ps))
     go : (cut.piece < length ps) ⊎ (length ps ≤ cut.piece) → 1 ≤ length (chars cut.back.now)
     go (inl m) =
         let ahead : List ℕ = concat (drop (cut.piece + 1) ps) in
-        omega (arith, l, is.ends m, ap length is.units_after, length-drop o (concat ps), length-append (chars cut.back.now) ahead, ap length (parted ps (cut.piece + 1)), length-append (text_before ps (cut.piece + 1)) ahead)
+        omega (arith, l, is.ends m, ap length is.after, length-drop o (concat ps), length-append (chars cut.back.now) ahead, ap length (parted ps (cut.piece + 1)), length-append (text_before ps (cut.piece + 1)) ahead)
     go (inr m) =
         let end : cut.piece ≡ length ps = omega (arith, m, is.within) in
         absurd (omega (arith, l, past_end ps o cut.piece end is.starts))

@@ -11,7 +11,7 @@ use Rattle.pieces.specs.declared.places.Cut.{Cut}
 pub record IsCut (pieces : List (List ℕ)) (offset : ℕ) (cut : Cut) : Type 0 where
   pub within : cut.piece ≤ length pieces
   pub before : take offset (concat pieces) ≡ concat (take cut.piece pieces) ++ chars cut.prefix.now
-  pub units_after : drop offset (concat pieces) ≡ chars cut.back.now ++ concat (drop (cut.piece + 1) pieces)
+  pub after : drop offset (concat pieces) ≡ chars cut.back.now ++ concat (drop (cut.piece + 1) pieces)
   pub bytes : cut.bytes ≡ units Utf8 (take offset (concat pieces))
   pub starts : length (concat (take cut.piece pieces)) ≤ offset
   pub ends : cut.piece < length pieces → offset < length (concat (take (cut.piece + 1) pieces))

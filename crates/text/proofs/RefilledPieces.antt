@@ -23,8 +23,8 @@ filled_after ps to prefix s new l e =
     ap (λ q. prefix ++ s ++ q) (ap concat (drop_more ps to [] l)) ∙ sym (append_assoc (prefix ++ s) p ahead) ∙ ap (λ q. q ++ ahead) (append_assoc prefix s p ∙ ap (λ q. prefix ++ q) (sym e))
 
 -- what lies before one cut and after another, with a text between them
-pub filled_between : (ps : List (List ℕ)) (before new position_after : List ℕ) (from to : ℕ) (prefix back text : List ℕ) → before ≡ concat (take from ps) ++ prefix → position_after ≡ back ++ concat (drop to ps) → text ≡ prefix ++ new ++ back → before ++ new ++ position_after ≡ concat (take from ps) ++ text ++ concat (drop to ps)
-filled_between ps before new position_after from to prefix back text e f g =
+pub filled_between : (ps : List (List ℕ)) (before new after : List ℕ) (from to : ℕ) (prefix back text : List ℕ) → before ≡ concat (take from ps) ++ prefix → after ≡ back ++ concat (drop to ps) → text ≡ prefix ++ new ++ back → before ++ new ++ after ≡ concat (take from ps) ++ text ++ concat (drop to ps)
+filled_between ps before new after from to prefix back text e f g =
     let first : List ℕ = concat (take from ps) in
     let last : List ℕ = concat (drop to ps) in
     (λ i. e i ++ new ++ f i)

@@ -30,17 +30,17 @@ pub size-chars : (bs : List ℕ) → IsUtf8 bs → size (chars bs) ≡ length bs
 size-chars bs u = ap length (encodes-chars bs u)
 
 -- what an edit keeps, from the bytes before each of its ends
-pub record IsKept (t : List ℕ) (a b before position_after bytes : ℕ) : Type 0 where
-  pub within : position_after ≤ bytes
-  pub few : before + (bytes - position_after) ≤ bytes
-  pub edited : (s : List ℕ) → size (edit t a b s) ≡ before + (bytes - position_after) + size s
+pub record IsKept (t : List ℕ) (a b before after bytes : ℕ) : Type 0 where
+  pub within : after ≤ bytes
+  pub few : before + (bytes - after) ≤ bytes
+  pub edited : (s : List ℕ) → size (edit t a b s) ≡ before + (bytes - after) + size s
 
-kept : (t : List ℕ) (a b before position_after bytes : ℕ) → a ≤ b → before ≡ units Utf8 (take a t) → position_after ≡ units Utf8 (take b t) → bytes ≡ size t → IsKept t a b before position_after bytes
-kept t a b before position_after bytes l e f g =
+kept : (t : List ℕ) (a b before after bytes : ℕ) → a ≤ b → before ≡ units Utf8 (take a t) → after ≡ units Utf8 (take b t) → bytes ≡ size t → IsKept t a b before after bytes
+kept t a b before after bytes l e f g =
     let far : b ≡ a + (b - a) = omega (arith, l) in
     let parts : size (take b t) ≡ size (take a t) + size (take (b - a) (drop a t)) = ap size (ap (λ n. take n t) far ∙ take-add a (b - a) t) ∙ size-append (take a t) (take (b - a) (drop a t)) in
     let one : before ≡ size (take a t) = e ∙ units-bytes (take a t) in
-    let two : position_after ≡ size (take b t) = f ∙ units-bytes (take b t) in
+    let two : after ≡ size (take b t) = f ∙ units-bytes (take b t) in
     let rest = size-take t b in
     record {
       within = omega (arith, two, rest, g);

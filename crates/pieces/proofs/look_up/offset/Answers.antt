@@ -34,7 +34,7 @@ returns-clause-is c =
     let place : ℕ = c.locate-place.result.0 in
     let piece : List ℕ = c.in-Some.piece.now in
     let before : List ℕ = text_before pieces place in
-    let units_after : List ℕ = concat (drop (place + 1) pieces) in
+    let after : List ℕ = concat (drop (place + 1) pieces) in
     let known = c.new-prefix.ensures before (c.locate-place.ensures.before ∙ sum-before pieces c.requires.few place) in
     let not_past = position-not_before pieces c.requires.few (record { unit = c.args.unit; position = c.args.position }) place c.locate-place.ensures.not_before in
     let reached = position-reached pieces c.requires.few (record { unit = c.args.unit; position = c.args.position }) (place + 1) (c.locate-place.ensures.reached (within_pieces pieces place piece c.in-Some.ensures)) in
@@ -42,9 +42,9 @@ returns-clause-is c =
     before-more pieces place piece c.in-Some.ensures ∙ ap (λ l. before ++ l) (sym c.text.ensures.characters) in
     let fits : units Utf8 (before ++ chars c.text.result.now) ≤ 2 ^ 30 = subst (λ l. units Utf8 l ≤ 2 ^ 30) more (few_before pieces (place + 1) (2 ^ 30) c.requires.few) in
     let past : IsPast c.args.position (end_before_feed c.args.unit (before ++ chars c.text.result.now)) = subst (λ l. IsPast c.args.position (end_before_feed c.args.unit l)) more reached in
-    c.offset_in.ensures before units_after fits known not_past past
+    c.offset_in.ensures before after fits known not_past past
     ∙ ap (λ l. offset c.args.unit l c.args.position)
-    (ap (λ l. before ++ l ++ units_after) c.text.ensures.characters ∙ append_assoc before piece units_after ∙ text-at pieces place piece c.in-Some.ensures)
+    (ap (λ l. before ++ l ++ after) c.text.ensures.characters ∙ append_assoc before piece after ∙ text-at pieces place piece c.in-Some.ensures)
 
 pub returns-clause-within : goal.returns-clause-within
 returns-clause-within c = omega (arith, returns-clause-is c, offset-within c.args.unit (concat c.args.pieces.now) c.args.position)

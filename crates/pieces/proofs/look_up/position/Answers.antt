@@ -39,7 +39,7 @@ returns c =
     let place : ℕ = c.locate-place.result.0 in
     let piece : List ℕ = c.in-Some.piece.now in
     let before : List ℕ = text_before pieces place in
-    let units_after : List ℕ = concat (drop (place + 1) pieces) in
+    let after : List ℕ = concat (drop (place + 1) pieces) in
     let n : ℕ = c.args.offset - c.new-prefix.result.characters in
     let known = c.new-prefix.ensures before (c.locate-place.ensures.before ∙ sum-before pieces c.requires.few place) in
     let same : n ≡ c.args.offset - length before = ap (λ f. c.args.offset - f.characters) known in
@@ -51,7 +51,7 @@ returns c =
     let fits : units Utf8 (before ++ piece) ≤ 2 ^ 30 = subst (λ l. units Utf8 l ≤ 2 ^ 30) more (few_before pieces (place + 1) (2 ^ 30) c.requires.few) in
     let text : chars c.text.result.now ≡ piece = c.text.ensures.characters in
     let prefix = c.with_first-before_feed.ensures.prefix before (subst (λ l. units Utf8 (before ++ l) ≤ 2 ^ 30) (sym text) fits) known ∙ ap (λ l. prefix_of c.args.unit (before ++ take n l)) text in
-    let next = c.with_first-before_feed.ensures.feed ∙ ap (λ l. begins_with 10 (drop n l)) text ∙ cut-next before piece units_after n c.args.offset same low high in
-    c.position-2.ensures c.args.unit (before ++ take n piece) (drop n piece ++ units_after) (few-take before piece n (2 ^ 30) fits) prefix next
-    ∙ ap (λ l. position c.args.unit l (length (before ++ take n piece))) (cut-text before piece units_after n ∙ text-at pieces place piece c.in-Some.ensures)
+    let next = c.with_first-before_feed.ensures.feed ∙ ap (λ l. begins_with 10 (drop n l)) text ∙ cut-next before piece after n c.args.offset same low high in
+    c.position-2.ensures c.args.unit (before ++ take n piece) (drop n piece ++ after) (few-take before piece n (2 ^ 30) fits) prefix next
+    ∙ ap (λ l. position c.args.unit l (length (before ++ take n piece))) (cut-text before piece after n ∙ text-at pieces place piece c.in-Some.ensures)
     ∙ ap (λ o. position c.args.unit (concat pieces) o) (cut-length before piece n c.args.offset same low high)

@@ -51,7 +51,7 @@ returns c =
     record {
       within = c.locate-place.ensures.within;
       before = before;
-      units_after = after_cut ps i p at o starts ends ∙ ap (λ n. drop (o - n) p ++ concat (drop (i + 1) ps)) (sym count) ∙ ap (λ q. q ++ concat (drop (i + 1) ps)) (sym c.split.ensures.back);
+      after = after_cut ps i p at o starts ends ∙ ap (λ n. drop (o - n) p ++ concat (drop (i + 1) ps)) (sym count) ∙ ap (λ q. q ++ concat (drop (i + 1) ps)) (sym c.split.ensures.back);
       bytes = omega (arith, c.bytes_in-before_place.ensures (text_before ps i) sum, c.split.ensures.bytes, ap (units Utf8) c.split.ensures.prefix, ap (units Utf8) before, units-append Utf8 (text_before ps i) (chars c.split.result.0.now));
       starts = starts;
       ends = λ _. ends;
@@ -70,7 +70,7 @@ returns-in_default c =
     record {
       within = c.locate-place.ensures.within;
       before = before;
-      units_after = after_end ps o i end starts ∙ ap (λ q. q ++ concat (drop (i + 1) ps)) (sym chars-nil);
+      after = after_end ps o i end starts ∙ ap (λ q. q ++ concat (drop (i + 1) ps)) (sym chars-nil);
       bytes = omega (arith, c.bytes_in-before_place.ensures (text_before ps i) sum, ap (units Utf8) before, units-append Utf8 (text_before ps i) (chars []), ap (units Utf8) chars-nil, units-nil Utf8);
       starts = starts;
       ends = λ l. absurd (omega (arith, l, end));

@@ -15,7 +15,7 @@ returns c ps a b count l p q =
           record {
             ordered = omega (arith, order, w.to-is);
             within = omega (arith, w.to-is, w.if-end-count, count);
-            filled = filled_between ps (take a (concat ps)) (chars c.args.new.now) (drop b (concat ps)) c.args.start.piece c.if-end-count.to (chars c.args.start.prefix.now) (chars c.args.end.back.now) _ p.before (q.position_after ∙ ap (λ n. chars c.args.end.back.now ++ concat (drop n ps)) (sym w.to-is)) c.in_ok-text.ensures.characters;
+            filled = filled_between ps (take a (concat ps)) (chars c.args.new.now) (drop b (concat ps)) c.args.start.piece c.if-end-count.to (chars c.args.start.prefix.now) (chars c.args.end.back.now) _ p.before (q.after ∙ ap (λ n. chars c.args.end.back.now ++ concat (drop n ps)) (sym w.to-is)) c.in_ok-text.ensures.characters;
           }
       | else-end-count w ↦
           let last : c.if-end-count.to ≡ length ps = w.to-is ∙ count in
@@ -23,6 +23,6 @@ returns c ps a b count l p q =
           record {
             ordered = omega (arith, p.within, last);
             within = omega (arith, last);
-            filled = filled_between ps (take a (concat ps)) (chars c.args.new.now) (drop b (concat ps)) c.args.start.piece c.if-end-count.to (chars c.args.start.prefix.now) (chars c.args.end.back.now) _ p.before (q.position_after ∙ ap (λ d. chars c.args.end.back.now ++ concat d) none) c.in_ok-text.ensures.characters;
+            filled = filled_between ps (take a (concat ps)) (chars c.args.new.now) (drop b (concat ps)) c.args.start.piece c.if-end-count.to (chars c.args.start.prefix.now) (chars c.args.end.back.now) _ p.before (q.after ∙ ap (λ d. chars c.args.end.back.now ++ concat d) none) c.in_ok-text.ensures.characters;
           }
     ]
