@@ -10,8 +10,8 @@ use Rattle.definitions.specs.Trees.{Production as Production'}
 use Rattle.grammar_file.specs.declared.fault.Refusal.{Refusal}
 use Rattle.grammar_file.specs.declared.statements.Numbered.{Numbered}
 use Rattle.grammar_file.specs.declared.statements.File.{File}
-use Rattle.grammar_file.specs.Words.{Word}
-use Rattle.grammar_file.specs.Statements.{Statement, statements}
+use Rattle.grammar_line.specs.Words.{Word}
+use Rattle.grammar_line.specs.Statements.{Statement, statements}
 use Rattle.std.specs.List.{flat_map}
 use Rattle.grammar_file.specs.Contents.{RuleLine, productions, nonterminals, defined}
 use Rattle.grammar_file.specs.WrittenOut.{added, marked, written_out}
@@ -22,7 +22,8 @@ use Rattle.grammar.specs.Grammars.{FileGrammar, IsGrammar, IsUsable}
 use Rattle.grammar.specs.Marks.{AreBelow, AllProductiveIn, IsUnproductiveIn}
 use Rattle.grammar.specs.Meaning.{grammar_with, file_grammar, IsGrammarOf}
 use Rattle.grammar_file.specs.declared.names.Names.{Names}
-use Rattle.grammar_file.specs.Kept.{texts, lines_view, AreNames, ArePatterns, IsWrittenOut}
+use Rattle.grammar_line.specs.Kept.{texts}
+use Rattle.grammar_file.specs.Kept.{lines_view, AreNames, ArePatterns, IsWrittenOut}
 use Rattle.grammar.specs.declared.read.Parts.{Parts}
 use Rattle.grammar.specs.Parts.{AreParts, AreProductive, IsUnproductive}
 use Rattle.grammar_file.specs.Causes.{Reports}

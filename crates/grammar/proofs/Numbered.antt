@@ -11,9 +11,9 @@ use Rattle.std.proofs.lemmas.List.Folds.{list_any_at}
 use Rattle.std.proofs.lemmas.Bool.{cases_lt}
 use Rattle.definitions.specs.declared.Symbol.TheVariants.{Rule as Terminal, Nonterminal}
 use Rattle.definitions.specs.Trees.{HasDistinctProductions}
-use Rattle.grammar_file.specs.Words.{Word, plain}
+use Rattle.grammar_line.specs.Words.{Word, plain}
 use Rattle.grammar.proofs.Lefts.{bytes_eq_same}
-use Rattle.grammar_file.specs.Statements.{Statement, Line, Nothing, Production, Rule, Start, Fold, Bad}
+use Rattle.grammar_line.specs.Statements.{Statement, Line, Nothing, Production, Rule, Start, Fold, Bad}
 use Rattle.grammar_file.specs.Contents.{ProductionLine, as_production, productions, nonterminals, is_among, number_of}
 use Rattle.grammar.specs.Contents.{rule_names, symbol_of, production_of, grammar_of}
 use Rattle.grammar_file.specs.Faults.{AreFaultless, early_fault, has_production, is_production, has_rule, or_else, cause_if, reserved, Cause, DefinedTwice}

@@ -9,8 +9,8 @@ use Rattle.std.specs.Str.{chars}
 use Rattle.definitions.specs.declared.Symbol.{Symbol}
 use Rattle.definitions.specs.declared.Symbol.TheVariants.{Rule as Terminal, Nonterminal}
 use Rattle.definitions.specs.declared.expression.Expression.{Expression}
-use Rattle.grammar_file.specs.Words.{Word}
-use Rattle.grammar_file.specs.Statements.{Statement, Line, Nothing, Production, Rule, Start, Fold, Bad}
+use Rattle.grammar_line.specs.Words.{Word}
+use Rattle.grammar_line.specs.Statements.{Statement, Line, Nothing, Production, Rule, Start, Fold, Bad}
 use Rattle.grammar_file.specs.Contents.{as_rule, as_production, rules, productions, nonterminals, is_among, with_name, defines, defined_after, defined}
 use Rattle.grammar.specs.Contents.{rule_names}
 use Rattle.grammar.specs.Grammars.{IsKnown}

@@ -16,8 +16,8 @@ use Rattle.grammar.specs.Grammars.{FileGrammar, IsUsable, IsKnown, IsGrammar}
 use Rattle.grammar.specs.Marks.{AreBelow}
 use Rattle.grammar.specs.Meaning.{grammar_with}
 use Rattle.grammar_file.specs.Kept.{ArePatterns}
-use Rattle.grammar_file.specs.Words.{Word, plain}
-use Rattle.grammar_file.specs.Statements.{Statement, Line, Nothing, Production, Rule, Start, Fold, Bad}
+use Rattle.grammar_line.specs.Words.{Word, plain}
+use Rattle.grammar_line.specs.Statements.{Statement, Line, Nothing, Production, Rule, Start, Fold, Bad}
 use Rattle.grammar_file.specs.Contents.{RuleLine, ProductionLine, as_production, as_start, rules, productions, starts, nonterminals, with_name, is_among, number_of}
 use Rattle.grammar.specs.Contents.{first_of, rule_names, symbol_of, production_of, is_fold, grammar_of}
 use Rattle.grammar_file.specs.Faults.{HaveReferents, symbol_fault, right_fault, reference_fault, NotANonterminal, is_skip_rule, has_rule}

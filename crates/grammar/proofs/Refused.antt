@@ -7,7 +7,7 @@ use Rattle.definitions.specs.declared.expression.PatternFault.{PatternFault}
 use Rattle.patterns.proofs.Runs.{refused}
 use Rattle.grammar_file.specs.declared.fault.Refusal.{Refusal}
 use Rattle.grammar_file.specs.declared.fault.Refusal.TheVariants.{Fault, Memory}
-use Rattle.grammar_file.specs.Statements.{Statement, statements, Line, Nothing, Production, Rule, Start, Fold, Bad}
+use Rattle.grammar_line.specs.Statements.{Statement, statements, Line, Nothing, Production, Rule, Start, Fold, Bad}
 use Rattle.grammar_file.specs.Contents.{nonterminals}
 use Rattle.grammar_file.specs.WrittenOut.{written_out}
 use Rattle.grammar_file.specs.Faults.{Cause, HasPattern, HasPatternFault, IsFaultless, IsLineFault, IsFileFault, too_large, first_line, line, no_start, reference, reference_fault}

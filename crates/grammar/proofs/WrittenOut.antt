@@ -8,17 +8,17 @@ use Rattle.std.proofs.lemmas.List.{map-append}
 use Rattle.std.proofs.lemmas.List.Elements.{filter_map-append}
 use Rattle.std.proofs.lemmas.List.Sums.{fold-append}
 use Rattle.std.proofs.lemmas.List.Folds.{list_any-append}
-use Rattle.grammar_file.specs.declared.line.Version.{Version}
-use Rattle.grammar_file.specs.declared.line.Version.TheVariants.{One}
-use Rattle.grammar_file.specs.declared.right_word.Mark.{Mark}
-use Rattle.grammar_file.specs.declared.right_word.Mark.TheVariants.{Once, Any, AtLeastOnce, AtMostOnce}
-use Rattle.grammar_file.specs.Words.{Word, words, is_name, after_equals, mark_of, is_mark, is_marked, without_last, plain}
-use Rattle.grammar_file.specs.Statements.{Line, Nothing, Production, Rule, Start, Fold, Bad, Statement, at, numbered, is_comment, is_right_word, production, rule, statement, longer_line, line_of_words, line_of, statements_in, version_of, statements}
+use Rattle.grammar_line.specs.declared.line.Version.{Version}
+use Rattle.grammar_line.specs.declared.line.Version.TheVariants.{One}
+use Rattle.grammar_line.specs.declared.right_word.Mark.{Mark}
+use Rattle.grammar_line.specs.declared.right_word.Mark.TheVariants.{Once, Any, AtLeastOnce, AtMostOnce}
+use Rattle.grammar_line.specs.Words.{Word, words, is_name, after_equals, mark_of, is_mark, is_marked, without_last, plain}
+use Rattle.grammar_line.specs.Statements.{Line, Nothing, Production, Rule, Start, Fold, Bad, Statement, at, numbered, is_comment, is_right_word, production, rule, statement, longer_line, line_of_words, line_of, statements_in, version_of, statements}
 use Rattle.grammar_file.specs.Contents.{ProductionLine, as_rule, as_production, as_start, rules, productions, starts, nonterminals, is_among, with_name}
 use Rattle.grammar_file.specs.WrittenOut.{right_sides, added, marked, written_out}
 use Rattle.grammar_file.specs.Faults.{AreFaultless, HaveReferents, symbol_fault, right_fault, is_skip_rule}
 use Rattle.grammar_file.specs.Kept.{AreFew}
-use Rattle.grammar_file.proofs.Marked.{name_unmarked}
+use Rattle.grammar_line.proofs.Marked.{name_unmarked}
 use Rattle.grammar.specs.Contents.{first_of}
 use Rattle.grammar.proofs.Lefts.{bytes_eq_same, among_fold}
 use Rattle.grammar.proofs.Numbered.{same_bytes, neither, comes_from, says_production, one_line, AreOnce}

@@ -5,8 +5,8 @@ use Rattle.std.specs.Str.{bytes_eq}
 use Rattle.definitions.specs.declared.Symbol.{Symbol}
 use Rattle.definitions.specs.declared.Symbol.TheVariants.{Rule as Terminal, Nonterminal}
 use Rattle.definitions.specs.Trees.{Production as Production', Grammar}
-use Rattle.grammar_file.specs.Words.{Word}
-use Rattle.grammar_file.specs.Statements.{Line, Fold, Statement}
+use Rattle.grammar_line.specs.Words.{Word}
+use Rattle.grammar_line.specs.Statements.{Line, Fold, Statement}
 use Rattle.grammar_file.specs.Contents.{ProductionLine, rules, productions, starts, nonterminals, is_among, number_of}
 
 -- `folds_name w line`: whether the line folds this name

@@ -4,8 +4,8 @@ use Rattle.std.specs.List.{list_any}
 use Rattle.std.specs.Str.{bytes_eq}
 use Rattle.definitions.specs.declared.Symbol.TheVariants.{Nonterminal}
 use Rattle.definitions.specs.Sentences.{IsProductive}
-use Rattle.grammar_file.specs.Words.{Word}
-use Rattle.grammar_file.specs.Statements.{Line, Production, Statement, statements}
+use Rattle.grammar_line.specs.Words.{Word}
+use Rattle.grammar_line.specs.Statements.{Line, Production, Statement, statements}
 use Rattle.grammar_file.specs.Contents.{nonterminals}
 use Rattle.grammar_file.specs.WrittenOut.{written_out}
 use Rattle.grammar_file.specs.Faults.{IsWhole, HaveReferents, IsFileFault}

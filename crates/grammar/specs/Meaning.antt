@@ -5,7 +5,7 @@ use Rattle.definitions.specs.declared.Symbol.{Symbol}
 use Rattle.definitions.specs.declared.Symbol.TheVariants.{Nonterminal}
 use Rattle.definitions.specs.declared.expression.Expression.{Expression}
 use Rattle.definitions.specs.Sentences.{IsProductive}
-use Rattle.grammar_file.specs.Statements.{Statement, statements}
+use Rattle.grammar_line.specs.Statements.{Statement, statements}
 use Rattle.grammar_file.specs.Contents.{rules, nonterminals, defined}
 use Rattle.grammar_file.specs.WrittenOut.{written_out}
 use Rattle.grammar.specs.Contents.{rule_names, is_fold, grammar_of}

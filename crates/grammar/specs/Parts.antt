@@ -2,8 +2,8 @@
 use Rattle.std.specs.Prelude.{◌≡◌, ℕ, ◌<◌, List, Some, length, slice_get}
 use Rattle.definitions.specs.declared.Symbol.TheVariants.{Nonterminal}
 use Rattle.definitions.specs.Sentences.{IsProductive}
-use Rattle.grammar_file.specs.Words.{Word}
-use Rattle.grammar_file.specs.Statements.{Statement}
+use Rattle.grammar_line.specs.Words.{Word}
+use Rattle.grammar_line.specs.Statements.{Statement}
 use Rattle.grammar_file.specs.Contents.{nonterminals}
 use Rattle.grammar_file.specs.Faults.{Cause, Unproductive}
 use Rattle.grammar.specs.declared.read.Parts.{Parts}

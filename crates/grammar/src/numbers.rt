@@ -5,7 +5,8 @@ ghost use Rattle.std.specs.Str.{chars};
 ghost use Rattle.std.specs.List.{cons_option};
 ghost use Rattle.grammar_file.specs.Contents.{number_of, as_production, productions, starts};
 ghost use Rattle.grammar.specs.Contents.{symbol_of, production_of, first_of, folds_name, is_fold};
-ghost use Rattle.grammar_file.specs.Kept.{line_view, lines_view, texts};
+ghost use Rattle.grammar_line.specs.Kept.{line_view, texts};
+ghost use Rattle.grammar_file.specs.Kept.{lines_view};
 
 use crate::grammar::{Name, Production};
 use definitions::Symbol;

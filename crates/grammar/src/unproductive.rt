@@ -5,12 +5,13 @@ ghost use Rattle.std.specs.List.{list_any};
 ghost use Rattle.definitions.specs.declared.Symbol.TheVariants.{Nonterminal};
 ghost use Rattle.definitions.specs.Trees.{Grammar};
 ghost use Rattle.definitions.specs.Sentences.{IsProductive};
-ghost use Rattle.grammar_file.specs.Words.{Word};
+ghost use Rattle.grammar_line.specs.Words.{Word};
 ghost use Rattle.grammar_file.specs.Contents.{nonterminals};
 ghost use Rattle.grammar_file.specs.Faults.{Unproductive};
 ghost use Rattle.grammar.specs.Faults.{is_production_of, IsFirstProduction};
 ghost use Rattle.grammar.specs.Marks.{AreBelow, IsFirstUnmarked, AllProductiveIn, IsUnproductiveIn};
-ghost use Rattle.grammar_file.specs.Kept.{line_view, lines_view, texts};
+ghost use Rattle.grammar_line.specs.Kept.{line_view, texts};
+ghost use Rattle.grammar_file.specs.Kept.{lines_view};
 ghost use Rattle.grammar_file.specs.Causes.{Reports};
 
 use crate::grammar::Production;

@@ -1,8 +1,6 @@
 pub mod TestedItems
 pub mod NameLookUps
 pub mod Sets
-pub mod Marked
-pub mod Blanks
 pub mod OneMoreItem
 pub mod Lines
 pub mod Splits

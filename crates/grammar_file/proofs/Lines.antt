@@ -17,9 +17,9 @@ use Rattle.grammar_file.specs.Causes.{Reports}
 use Rattle.grammar_file.proofs.Splits.{shows_map}
 use Rattle.std.proofs.lemmas.List.Elements.{filter-append, filter_map-append}
 use Rattle.definitions.specs.declared.expression.Expression.{Expression}
-use Rattle.grammar_file.specs.Statements.{Line, Nothing, Production, Rule, Start, Fold, Bad, Statement, at}
+use Rattle.grammar_line.specs.Statements.{Line, Nothing, Production, Rule, Start, Fold, Bad, Statement, at}
 use Rattle.definitions.specs.declared.Symbol.{Symbol}
-use Rattle.grammar_file.specs.Words.{Word, is_marked}
+use Rattle.grammar_line.specs.Words.{Word, is_marked}
 use Rattle.grammar_file.specs.Contents as of
 use Rattle.grammar_file.specs.WrittenOut.{with_marked, marked}
 use Rattle.grammar_file.specs.Faults.{Cause, is_skip_rule, HasPattern, early_fault, line_limit, limit_fault, late_fault, nonterminal_count, production_count, exceeded_limit, cause_if, or_else, IsFaultless, AreFaultless, IsLineFault}

@@ -9,9 +9,9 @@ use Rattle.std.specs.List.{list_any, position_or_len}
 use Rattle.std.specs.Str.{bytes_eq}
 use Rattle.std.specs.Cmp.Lexicographic.{bytes_decides, nat_list_eq_equiv}
 use Rattle.std.specs.Map.{lookup}
-use Rattle.grammar_file.specs.Words.{Word}
+use Rattle.grammar_line.specs.Words.{Word}
 use Rattle.grammar_file.specs.Contents.{is_among, number_of, with_name}
-use Rattle.grammar_file.specs.Kept.{texts}
+use Rattle.grammar_line.specs.Kept.{texts}
 use Rattle.grammar_file.specs.Numbers.{AreNumbers}
 use Rattle.grammar_file.proofs.Splits.{length-texts}
 

@@ -7,11 +7,12 @@ use Rattle.std.specs.Str.{bytes_eq}
 use Rattle.std.specs.Cmp.Lexicographic.{pointwise, bytes_decides}
 use Rattle.std.proofs.lemmas.List.Folds.{list_any-append}
 use Rattle.std.proofs.lemmas.List.{map-append}
-use Rattle.grammar_file.specs.Words.{Word}
+use Rattle.grammar_line.specs.Words.{Word}
 use Rattle.grammar_file.specs.Contents.{RuleLine, is_among}
 use Rattle.grammar_file.specs.Faults.{is_production, is_skip_rule, has_production}
-use Rattle.grammar_file.specs.Kept.{texts, are_among, with_names, with_rule, with_skip, with_sides}
-use Rattle.grammar_file.specs.Statements.{Line, Nothing, Production, Rule, Start, Fold, Bad, Statement, at}
+use Rattle.grammar_line.specs.Kept.{texts}
+use Rattle.grammar_file.specs.Kept.{are_among, with_names, with_rule, with_skip, with_sides}
+use Rattle.grammar_line.specs.Statements.{Line, Nothing, Production, Rule, Start, Fold, Bad, Statement, at}
 use Rattle.grammar_file.proofs.NameLookUps.{turned}
 use Rattle.grammar_file.proofs.TestedItems.{pointwise-map}
 

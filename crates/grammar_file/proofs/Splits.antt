@@ -3,13 +3,14 @@ use Rattle.std.proofs.Common.{◌≡◌, ◌≢◌, ℕ, suc, ◌+◌, ◌<◌, 
 use Rattle.std.specs.Prelude.{Option, Some, None, map, option_map}
 use Rattle.std.specs.List.{filter_map, cons_option, enumerate_from}
 use Rattle.std.proofs.lemmas.List.{map-append, take_more, take-append-drop, length-take-le}
-use Rattle.grammar_file.specs.declared.line.Version.{Version}
+use Rattle.grammar_line.specs.declared.line.Version.{Version}
 use Rattle.grammar_file.specs.declared.statements.Numbered.{Numbered}
-use Rattle.grammar_file.specs.Statements.{Statement, Line, Nothing, Production, Rule, Start, Fold, Bad, at, line_of, numbered, statements_in}
+use Rattle.grammar_line.specs.Statements.{Statement, Line, Nothing, Production, Rule, Start, Fold, Bad, at, line_of, numbered, statements_in}
 use Rattle.std.proofs.lemmas.List.Elements.{filter_map-append}
 use Rattle.grammar_file.specs.Contents.{ProductionLine, productions, as_production}
 use Rattle.grammar_file.specs.Faults.{Cause, HaveReferents, reference_fault, IsLineFault, IsFirstLineFault}
-use Rattle.grammar_file.specs.Kept.{statement_of, lines_view, texts, IsRead}
+use Rattle.grammar_line.specs.Kept.{texts}
+use Rattle.grammar_file.specs.Kept.{statement_of, lines_view, IsRead}
 use Rattle.grammar_file.specs.declared.statements.File.{File}
 use Rattle.grammar_file.specs.declared.fault.Refusal.{Refusal}
 use Rattle.grammar_file.specs.declared.fault.Refusal.TheVariants.{Fault, Memory}

@@ -4,8 +4,8 @@ use Rattle.std.specs.List.{cons_option, filter_map, fold, list_any, position}
 use Rattle.std.specs.Str.{bytes_eq}
 use Rattle.definitions.specs.declared.Symbol.{Symbol}
 use Rattle.definitions.specs.declared.Symbol.TheVariants.{Rule as Terminal, Nonterminal}
-use Rattle.grammar_file.specs.Words.{Word}
-use Rattle.grammar_file.specs.Statements.{Line, Production, Rule, Start, Statement}
+use Rattle.grammar_line.specs.Words.{Word}
+use Rattle.grammar_line.specs.Statements.{Line, Production, Rule, Start, Statement}
 
 -- what a `token` or `skip` line says: whether it is `skip`, the name and the pattern
 pub record RuleLine : Type 0 where

@@ -11,8 +11,8 @@ use Rattle.definitions.specs.PatternFaults.{IsFault as IsPatternFault}
 use Rattle.definitions.specs.Spelling.{IsPattern}
 use Rattle.grammar_file.specs.declared.fault.Limit.{Limit}
 use Rattle.grammar_file.specs.declared.fault.Limit.TheVariants.{File, Tokens, Nonterminals, Productions, Symbols}
-use Rattle.grammar_file.specs.Words.{Word, is_reserved, plain}
-use Rattle.grammar_file.specs.Statements.{Line, Nothing, Production, Rule, Start, Fold, Bad, Statement, at, statements, is_headed}
+use Rattle.grammar_line.specs.Words.{Word, is_reserved, plain}
+use Rattle.grammar_line.specs.Statements.{Line, Nothing, Production, Rule, Start, Fold, Bad, Statement, at, statements, is_headed}
 use Rattle.grammar_file.specs.Contents.{RuleLine, rules, productions, starts, nonterminals, is_among}
 use Rattle.grammar_file.specs.WrittenOut.{marked}
 

@@ -7,30 +7,16 @@ use Rattle.std.specs.List.{list_any}
 use Rattle.std.specs.Cmp.Lexicographic.{pointwise}
 use Rattle.definitions.specs.declared.expression.Expression.{Expression}
 use Rattle.definitions.specs.Spelling.{IsPattern}
-use Rattle.grammar_file.specs.declared.line.Line.{Line as Kept}
-use Rattle.grammar_file.specs.declared.line.Line.TheVariants as k
 use Rattle.grammar_file.specs.declared.rules.RuleName.{RuleName}
 use Rattle.grammar_file.specs.declared.names.Names.{Names}
 use Rattle.grammar_file.specs.declared.statements.Numbered.{Numbered}
 use Rattle.grammar_file.specs.declared.statements.File.{File}
-use Rattle.grammar_file.specs.Words.{Word}
-use Rattle.grammar_file.specs.Statements.{Line, Nothing, Production, Rule, Start, Fold, Bad, Statement}
+use Rattle.grammar_line.specs.Kept.{texts, line_view}
+use Rattle.grammar_line.specs.Words.{Word}
+use Rattle.grammar_line.specs.Statements.{Line, Nothing, Production, Rule, Start, Fold, Bad, Statement}
 use Rattle.grammar_file.specs.Contents.{RuleLine, ProductionLine, rules, productions, starts, nonterminals, is_among, with_name, defined}
 use Rattle.grammar_file.specs.WrittenOut.{with_marked, marked, written_out}
 use Rattle.grammar_file.specs.Faults.{AreFaultless, is_skip_rule, has_production, nonterminal_count, production_count}
-
--- the words that the code points to
-abbrev pub texts : List (Bor (List ℕ)) → List Word
-texts ws = map (λ w. w.now) ws
-
--- `line_view line`: what a line that the code keeps says, as a `Line`
-abbrev pub line_view : Kept → Line
-line_view k.Nothing = Nothing
-line_view (k.Production left right) = Production left.now (texts right.items)
-line_view (k.Rule skip name pattern) = Rule skip name.now pattern.now
-line_view (k.Start name) = Start name.now
-line_view (k.Fold name) = Fold name.now
-line_view k.Bad = Bad
 
 abbrev pub statement_of : Numbered → Statement
 statement_of n = record { number = n.number; says = line_view n.line }

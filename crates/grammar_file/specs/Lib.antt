@@ -1,5 +1,3 @@
-pub mod Words
-pub mod Statements
 pub mod Contents
 pub mod WrittenOut
 pub mod Faults

@@ -4,7 +4,7 @@ use Rattle.std.specs.List.{position}
 use Rattle.std.specs.Str.{bytes_eq}
 use Rattle.std.specs.Borrow.{Bor}
 use Rattle.std.specs.Map.{lookup}
-use Rattle.grammar_file.specs.Words.{Word}
+use Rattle.grammar_line.specs.Words.{Word}
 
 -- each name has an entry with its first place in the list, and nothing else has one
 abbrev pub AreNumbers : List Word → List (Bor (List ℕ) × ℕ) → Type 0

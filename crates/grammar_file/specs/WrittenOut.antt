@@ -1,10 +1,10 @@
 -- What the marked words of a grammar file mean: each is a nonterminal with two productions.
 use Rattle.std.specs.Prelude.{List, [], ◌∷◌, ◌++◌, map, filter}
 use Rattle.std.specs.List.{fold, flat_map}
-use Rattle.grammar_file.specs.declared.right_word.Mark.{Mark}
-use Rattle.grammar_file.specs.declared.right_word.Mark.TheVariants.{Once, Any, AtLeastOnce, AtMostOnce}
-use Rattle.grammar_file.specs.Words.{Word, mark_of, is_marked, plain}
-use Rattle.grammar_file.specs.Statements.{Production, Statement, at}
+use Rattle.grammar_line.specs.declared.right_word.Mark.{Mark}
+use Rattle.grammar_line.specs.declared.right_word.Mark.TheVariants.{Once, Any, AtLeastOnce, AtMostOnce}
+use Rattle.grammar_line.specs.Words.{Word, mark_of, is_marked, plain}
+use Rattle.grammar_line.specs.Statements.{Production, Statement, at}
 use Rattle.grammar_file.specs.Contents.{productions, with_name}
 
 -- `right_sides mark w x`: the right sides of the marked word `w` of the name `x`: `x* =` and `x* = x* x`; `x+ = x` and `x+ = x+ x`; `x? =`

@@ -2,16 +2,17 @@
 
 ghost use Rattle.std.specs.Prelude.{◌≡◌, [], drop, IfOk, IfErr, OnOk};
 ghost use Rattle.std.specs.Str.Lines.{lines};
-ghost use Rattle.grammar_file.specs.Statements.{statements, first_line_version, version_of};
+ghost use Rattle.grammar_line.specs.Statements.{statements, first_line_version, version_of};
 ghost use Rattle.grammar_file.specs.Faults.{IsWhole, HaveReferents, IsFileFault};
-ghost use Rattle.grammar_file.specs.Kept.{texts, IsRead, IsWrittenOut};
+ghost use Rattle.grammar_line.specs.Kept.{texts};
+ghost use Rattle.grammar_file.specs.Kept.{IsRead, IsWrittenOut};
 ghost use Rattle.grammar_file.specs.Causes.{Reports};
 
 use crate::fault::{Cause, Limit, Refusal};
-use crate::line::Version;
 use crate::references::test_references;
 use crate::statements::File;
 use crate::written_out::write_out;
+use grammar_line::Version;
 use std::alloc::{AllocError, Global};
 
 /// The most bytes of a file.

@@ -23,20 +23,17 @@
 mod fault;
 mod file;
 pub mod laws;
-mod line;
 mod name_set;
 mod names;
 mod production_set;
 mod references;
-mod right_word;
 mod rules;
 mod statements;
-mod words;
 mod written_out;
 
 pub use fault::{Cause, Limit, Refusal};
 pub use file::read_file;
-pub use line::Line;
+pub use grammar_line::Line;
 pub use name_set::NameSet;
 pub use names::Names;
 pub use rules::{RuleName, Rules};

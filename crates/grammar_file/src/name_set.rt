@@ -2,7 +2,7 @@
 
 ghost use Rattle.std.specs.Prelude.{◌≡◌, ◌<◌, ◌^◌, [], length, OnOk};
 ghost use Rattle.grammar_file.specs.Contents.{is_among, number_of, with_name};
-ghost use Rattle.grammar_file.specs.Kept.{texts};
+ghost use Rattle.grammar_line.specs.Kept.{texts};
 
 use indexmap::IndexSet;
 use std::alloc::{AllocError, Global};
@@ -16,7 +16,7 @@ pub struct NameSet<'a> {
 
 impl<'a> Model for NameSet<'a> {
     ghost use Rattle.std.specs.Prelude.{List, map};
-    ghost use Rattle.grammar_file.specs.Words.{Word};
+    ghost use Rattle.grammar_line.specs.Words.{Word};
 
     ghost Value = { List Word };
 

@@ -2,17 +2,17 @@
 
 ghost use Rattle.std.specs.Prelude.{◌≡◌, ◌+◌, ◌<◌, ◌≤◌, ◌^◌, ◌++◌, ◌∷◌, List, [], None, Some, if◌then◌else◌, length, map, OnOk, IfOk, nat_lt};
 ghost use Rattle.definitions.specs.declared.Symbol.TheVariants.{Nonterminal};
-ghost use Rattle.grammar_file.specs.Statements.{Statement};
+ghost use Rattle.grammar_line.specs.Statements.{Statement};
 ghost use Rattle.grammar_file.specs.Contents.{defines, is_among, with_name};
 ghost use Rattle.grammar_file.specs.WrittenOut.{with_marked};
-ghost use Rattle.grammar_file.specs.Kept.{line_view, rule_line, texts, AreNames, with_rule, with_skip, with_left, with_right, with_sides, with_names, with_production, with_start};
+ghost use Rattle.grammar_line.specs.Kept.{line_view, texts};
+ghost use Rattle.grammar_file.specs.Kept.{rule_line, AreNames, with_rule, with_skip, with_left, with_right, with_sides, with_names, with_production, with_start};
 
-use crate::line::Line;
 use crate::name_set::NameSet;
 use crate::production_set::ProductionSet;
-use crate::right_word::is_marked;
 use crate::rules::{RuleName, Rules};
 use definitions::Symbol;
+use grammar_line::{Line, is_marked};
 use std::alloc::{AllocError, Global};
 
 /// What the lines so far define.

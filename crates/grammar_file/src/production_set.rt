@@ -1,7 +1,8 @@
 //! Productions, each found by its two sides.
 
 ghost use Rattle.std.specs.Prelude.{◌≡◌, ◌∷◌, [], IfOk, OnOk};
-ghost use Rattle.grammar_file.specs.Kept.{texts, are_among, with_names};
+ghost use Rattle.grammar_line.specs.Kept.{texts};
+ghost use Rattle.grammar_file.specs.Kept.{are_among, with_names};
 
 use indexmap::IndexSet;
 use std::alloc::{AllocError, Global};
@@ -15,7 +16,7 @@ pub struct ProductionSet<'a> {
 
 impl<'a> Model for ProductionSet<'a> {
     ghost use Rattle.std.specs.Prelude.{List, map};
-    ghost use Rattle.grammar_file.specs.Words.{Word};
+    ghost use Rattle.grammar_line.specs.Words.{Word};
 
     ghost Value = { List (List Word) };
 

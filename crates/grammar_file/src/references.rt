@@ -4,16 +4,16 @@ ghost use Rattle.std.specs.Prelude.{◌≡◌, IfErr, OnOk, List, map, not, opti
 ghost use Rattle.grammar_file.specs.Contents.{nonterminals, is_among};
 ghost use Rattle.grammar_file.specs.Faults;
 ghost use Rattle.grammar_file.specs.Faults.{cause_if, symbol_fault, right_fault, reference_fault, HaveReferents, IsFirstReferenceFault};
-ghost use Rattle.grammar_file.specs.Statements.{Statement};
-ghost use Rattle.grammar_file.specs.Words.{plain};
-ghost use Rattle.grammar_file.specs.Kept.{line_view, lines_view, texts, AreNames};
+ghost use Rattle.grammar_line.specs.Statements.{Statement};
+ghost use Rattle.grammar_line.specs.Words.{plain};
+ghost use Rattle.grammar_line.specs.Kept.{line_view, texts};
+ghost use Rattle.grammar_file.specs.Kept.{lines_view, AreNames};
 ghost use Rattle.grammar_file.specs.Causes.{cause_of, Reports};
 
 use crate::fault::{Cause, Refusal};
-use crate::line::Line;
 use crate::names::Names;
-use crate::right_word::plain;
 use crate::statements::Numbered;
+use grammar_line::{Line, plain};
 
 /// Tests the names that the lines use, from the first line on.
 pub fn test_references<'a>(

@@ -6,7 +6,7 @@ ghost use Rattle.std.specs.List.{list_any};
 ghost use Rattle.grammar_file.specs.Contents.{number_of};
 ghost use Rattle.grammar_file.specs.Numbers.{AreNumbers};
 ghost use Rattle.grammar_file.specs.Kept.{rule_line};
-ghost use Rattle.grammar_file.specs.Words.{Word};
+ghost use Rattle.grammar_line.specs.Words.{Word};
 
 use indexmap::IndexMap;
 use std::alloc::{AllocError, Global};

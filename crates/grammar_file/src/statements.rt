@@ -6,20 +6,19 @@ ghost use Rattle.std.specs.Str.{chars};
 ghost use Rattle.definitions.specs.declared.expression.PatternFault.{PatternFault};
 ghost use Rattle.definitions.specs.PatternFaults.{IsFault as IsPatternFault};
 ghost use Rattle.definitions.specs.Spelling.{IsPattern};
-ghost use Rattle.grammar_file.specs.Statements.{line_of, Statement, numbered, statements_in, Nothing, at};
-ghost use Rattle.grammar_file.specs.Statements;
+ghost use Rattle.grammar_line.specs.Statements.{line_of, Statement, numbered, statements_in, Nothing, at};
+ghost use Rattle.grammar_line.specs.Statements;
 ghost use Rattle.grammar_file.specs.Contents.{defines};
-ghost use Rattle.grammar_file.specs.Words.{plain};
+ghost use Rattle.grammar_line.specs.Words.{plain};
 ghost use Rattle.grammar_file.specs.Faults.{reserved, has_rule, has_production, early_fault, line_limit, limit_fault, IsLineFault, IsFirstLineFault, HasPatternFault, BadPattern, Passed};
-ghost use Rattle.grammar_file.specs.Kept.{line_view, lines_view, texts, AreNames, IsRead, IsPatternOf, with_pattern};
+ghost use Rattle.grammar_line.specs.Kept.{line_view, texts};
+ghost use Rattle.grammar_file.specs.Kept.{lines_view, AreNames, IsRead, IsPatternOf, with_pattern};
 ghost use Rattle.grammar_file.specs.Causes.{cause_of, Reports};
 
 use crate::fault::{Cause, Limit, Refusal};
-use crate::line::{Line, Version, read_line};
 use crate::names::Names;
-use crate::right_word::plain;
-use crate::words::is_reserved;
 use definitions::{PatternCause, Symbol};
+use grammar_line::{Line, Version, is_reserved, plain, read_line};
 use patterns::Pattern;
 use std::alloc::{AllocError, Global};
 

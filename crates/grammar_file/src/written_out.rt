@@ -1,16 +1,16 @@
 //! What marked words mean: each is a nonterminal with two productions.
 
 ghost use Rattle.std.specs.Prelude.{◌≡◌, ◌+◌, ◌≤◌, ◌<◌, ◌^◌, ◌++◌, ◌∷◌, [], length, OnOk};
-ghost use Rattle.grammar_file.specs.Statements.{at};
-ghost use Rattle.grammar_file.specs.Statements;
+ghost use Rattle.grammar_line.specs.Statements.{at};
+ghost use Rattle.grammar_line.specs.Statements;
 ghost use Rattle.grammar_file.specs.Faults.{production_count};
 ghost use Rattle.grammar_file.specs.WrittenOut.{added, written_out};
-ghost use Rattle.grammar_file.specs.Kept.{lines_view, texts, AreNames};
+ghost use Rattle.grammar_line.specs.Kept.{texts};
+ghost use Rattle.grammar_file.specs.Kept.{lines_view, AreNames};
 
-use crate::line::Line;
 use crate::names::Names;
-use crate::right_word::{Mark, RightWord};
 use crate::statements::{Numbered, add_line};
+use grammar_line::{Line, Mark, RightWord};
 use std::alloc::{AllocError, Global};
 
 /// Adds the productions of the marked words after the lines, in the order in which the words first stand.

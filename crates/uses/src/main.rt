@@ -33,6 +33,7 @@ fn of_values(rt: &HostRuntime, alloc: Global) -> Option<()> {
     lists::use_trees(rt, alloc)?;
     texts::use_text(rt, alloc)?;
     answers::use_rpc(rt, alloc)?;
+    grammars::use_grammar_line(rt, alloc)?;
     grammars::use_grammar_file(rt, alloc)?;
     grammars::use_grammar(rt, alloc)
 }

@@ -1,7 +1,8 @@
 use Rattle.std.proofs.Common.{◌∙◌, ap, arith, take_all}
 use Rattle.std.specs.Prelude.{map}
 use Rattle.grammar.specs.Contents.{is_fold}
-use Rattle.grammar_file.specs.Kept.{texts, lines_view}
+use Rattle.grammar_line.specs.Kept.{texts}
+use Rattle.grammar_file.specs.Kept.{lines_view}
 use Rattle.grammar.proofs.numbers.folds.Goals as goal
 
 pub returns : goal.returns

@@ -1,7 +1,7 @@
 use Rattle.std.proofs.Common.{◌≡◌, take}
 use Rattle.std.specs.Prelude.{map}
 use Rattle.grammar.specs.Contents.{symbol_of}
-use Rattle.grammar_file.specs.Kept.{texts}
+use Rattle.grammar_line.specs.Kept.{texts}
 use Rattle.grammar.proofs.numbers.symbols_of.Given as goal
 
 abbrev pub invariant-loop-name : goal.invariant-loop-name

@@ -1,7 +1,8 @@
 use Rattle.std.proofs.Common.{◌≡◌, ◌++◌, ◌∙◌, ap, arith, rules, take_all}
 use Rattle.std.specs.List.{flat_map}
 use Rattle.grammar_file.specs.WrittenOut.{added, marked}
-use Rattle.grammar_file.specs.Kept.{texts, lines_view}
+use Rattle.grammar_line.specs.Kept.{texts}
+use Rattle.grammar_file.specs.Kept.{lines_view}
 use Rattle.grammar_file.proofs.WritingOut.{added_more}
 use Rattle.grammar_file.proofs.written_out.write_out.Goals as goal
 

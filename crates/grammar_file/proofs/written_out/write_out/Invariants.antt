@@ -1,7 +1,8 @@
 use Rattle.std.proofs.Common.{◌≡◌, ◌+◌, ◌*◌, ◌≤◌, ◌++◌, take}
 use Rattle.std.specs.List.{flat_map}
 use Rattle.grammar_file.specs.WrittenOut.{added}
-use Rattle.grammar_file.specs.Kept.{texts, lines_view, AreNames}
+use Rattle.grammar_line.specs.Kept.{texts}
+use Rattle.grammar_file.specs.Kept.{lines_view, AreNames}
 use Rattle.grammar_file.proofs.written_out.write_out.Given as goal
 
 abbrev pub invariant-loop-word : goal.invariant-loop-word

@@ -1,6 +1,7 @@
 use Rattle.std.proofs.Common.{refl, sym, ap, ◌∙◌}
 use Rattle.std.specs.Prelude.{option_map}
-use Rattle.grammar_file.specs.Kept.{line_view, lines_view}
+use Rattle.grammar_line.specs.Kept.{line_view}
+use Rattle.grammar_file.specs.Kept.{lines_view}
 use Rattle.grammar_file.specs.Causes.{cause_of}
 use Rattle.grammar_file.proofs.Lines.{late-own, late_line_fault}
 use Rattle.grammar_file.proofs.statements.File.test.Goals as goal

@@ -1,8 +1,0 @@
-use Rattle.std.proofs.Common.{◌≡◌, ◌++◌, take}
-use Rattle.std.specs.Prelude.{filter}
-use Rattle.grammar_file.specs.Words.{is_filled}
-use Rattle.grammar_file.specs.Kept.{texts}
-use Rattle.grammar_file.proofs.words.add_words.Given as goal
-
-abbrev pub invariant-loop-word : goal.invariant-loop-word
-invariant-loop-word l = texts l.found.items ≡ texts l.fn.found.items ++ filter is_filled (texts (take l.word-index l.word-items))

@@ -1,0 +1,2 @@
+mod Blanks
+mod Marked

@@ -1,0 +1,8 @@
+use Rattle.std.proofs.Common.{◌≡◌, ◌++◌, take}
+use Rattle.std.specs.Prelude.{filter}
+use Rattle.grammar_line.specs.Words.{is_filled}
+use Rattle.grammar_line.specs.Kept.{texts}
+use Rattle.grammar_line.proofs.words.add_words.Given as goal
+
+abbrev pub invariant-loop-word : goal.invariant-loop-word
+invariant-loop-word l = texts l.found.items ≡ texts l.fn.found.items ++ filter is_filled (texts (take l.word-index l.word-items))

@@ -1,0 +1,10 @@
+use Rattle.std.proofs.Common.{◌≡◌, take}
+use Rattle.std.specs.Prelude.{filter}
+use Rattle.std.specs.List.{flat_map, slice_split}
+use Rattle.std.specs.Prelude.{◌==◌}
+use Rattle.grammar_line.specs.Words.{is_filled}
+use Rattle.grammar_line.specs.Kept.{texts}
+use Rattle.grammar_line.proofs.words.words.Given as goal
+
+abbrev pub invariant-loop-part : goal.invariant-loop-part
+invariant-loop-part l = texts l.found.items ≡ filter is_filled (flat_map (λ part. slice_split (λ b. b == 9) part) (texts (take l.part-index l.part-items)))
