@@ -362,8 +362,8 @@ fn send_diagnostics<S: Serializer>(
     diagnostic: &Option<Diagnostic>,
     out: &mut S,
 ) -> Result<(), S::Error>
-    ensures { let notification = option_map diagnostic_view diagnostic.now in
-        OnOk result (SendsValue (reply_data (published_diagnostics uri.now version notification))
+    ensures { let shown = option_map diagnostic_view diagnostic.now in
+        OnOk result (SendsValue (reply_data (published_diagnostics uri.now version shown))
         (S.written out.old) (S.written out.new)) }
 {
     out.begin_map(Some(3))?;

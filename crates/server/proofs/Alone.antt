@@ -42,19 +42,19 @@ effect_left name old answers stop new (stays quiet file documents units) uri apa
 effect_left name old answers stop new (stands other (is_open d) is fit unit s) uri apart =
     let away = apart_from name uri other is apart in (
       ap (λ (x : State). get x.documents uri) s.3.1 ∙ get_other old.documents other uri (is_open d) away,
-      subst (λ (notification : List Answer). All (λ a. ¬ Publishes uri a) notification) (sym s.2) (All-from_recursion (λ a. ¬ Publishes uri a) (s.0 ∷ []) (published_elsewhere old.file uri other d s.0 s.1 away, tt)),
+      subst (λ (given : List Answer). All (λ a. ¬ Publishes uri a) given) (sym s.2) (All-from_recursion (λ a. ¬ Publishes uri a) (s.0 ∷ []) (published_elsewhere old.file uri other d s.0 s.1 away, tt)),
     )
 effect_left name old answers stop new (stands other (is_lost loss) is fit unit s) uri apart =
     let away = apart_from name uri other is apart in
-    let notification : List Answer = published_diagnostics other None None ∷ log_message (Lost loss) ∷ [] in (
+    let given : List Answer = published_diagnostics other None None ∷ log_message (Lost loss) ∷ [] in (
       ap (λ (x : State). get x.documents uri) s.1.1 ∙ get_other old.documents other uri (is_lost loss) away,
-      subst (λ (notification : List Answer). All (λ a. ¬ Publishes uri a) notification) (sym s.0) (All-from_recursion (λ a. ¬ Publishes uri a) notification (λ p. away (sym p), ((λ p. p), tt))),
+      subst (λ (given : List Answer). All (λ a. ¬ Publishes uri a) given) (sym s.0) (All-from_recursion (λ a. ¬ Publishes uri a) given (λ p. away (sym p), ((λ p. p), tt))),
     )
 effect_left name old answers stop new (goes other is s) uri apart =
     let away = apart_from name uri other is apart in
-    let notification : List Answer = published_diagnostics other None None ∷ [] in (
+    let given : List Answer = published_diagnostics other None None ∷ [] in (
       ap (λ (x : State). get x.documents uri) s.1.1 ∙ get_other_removed old.documents other uri away,
-      subst (λ (notification : List Answer). All (λ a. ¬ Publishes uri a) notification) (sym s.0) (All-from_recursion (λ a. ¬ Publishes uri a) notification (λ p. away (sym p), tt)),
+      subst (λ (given : List Answer). All (λ a. ¬ Publishes uri a) given) (sym s.0) (All-from_recursion (λ a. ¬ Publishes uri a) given (λ p. away (sym p), tt)),
     )
 
 -- ---- a message that names it
@@ -91,8 +91,8 @@ module _ (file : FileGrammar) (once : AnswersOnce file) (counts : CountsOnce fil
   Same = SameFor uri answers other_answers stop other_stop new other
 
   -- nothing changes in either
-  both_stay : (notification : List Answer) (halt : Option ℕ) → answers ≡ notification → other_answers ≡ notification → stop ≡ halt → other_stop ≡ halt → new.documents ≡ old.documents → other.documents ≡ two.documents → Same
-  both_stay notification halt a b s t n o = record {
+  both_stay : (given : List Answer) (halt : Option ℕ) → answers ≡ given → other_answers ≡ given → stop ≡ halt → other_stop ≡ halt → new.documents ≡ old.documents → other.documents ≡ two.documents → Same
+  both_stay given halt a b s t n o = record {
     sent = ap (map but_nodes) (b ∙ sym a);
     stops = t ∙ sym s;
     held = ap (λ h. get h uri) o ∙ (held ∙ sym (ap (λ h. get h uri) n));
@@ -161,9 +161,9 @@ module _ (file : FileGrammar) (once : AnswersOnce file) (counts : CountsOnce fil
   both_open true state a b = both_hold state a b
   both_open false state a b = both_reply _ a b
 
-  held_after : (x y : State) (notification : List Answer) (halt : Option ℕ) (state : DocumentState) → Holds x uri state notification halt y → get y.documents uri ≡ Some state
-  held_after x y notification halt (is_open d) s = ap (λ (z : State). get z.documents uri) s.3.1 ∙ get_inserted x.documents uri (is_open d)
-  held_after x y notification halt (is_lost loss) s = ap (λ (z : State). get z.documents uri) s.1.1 ∙ get_inserted x.documents uri (is_lost loss)
+  held_after : (x y : State) (given : List Answer) (halt : Option ℕ) (state : DocumentState) → Holds x uri state given halt y → get y.documents uri ≡ Some state
+  held_after x y given halt (is_open d) s = ap (λ (z : State). get z.documents uri) s.3.1 ∙ get_inserted x.documents uri (is_open d)
+  held_after x y given halt (is_lost loss) s = ap (λ (z : State). get z.documents uri) s.1.1 ∙ get_inserted x.documents uri (is_lost loss)
 
   both_change : (o : Option DocumentState) (version : ℤ) (changes : List TextChange) → get old.documents uri ≡ o → loses_memory uri two other ≡ loses_memory uri old new → Changes o old uri version changes answers stop new → Changes o two uri version changes other_answers other_stop other → Same
   both_change None version changes e alike a b = both_reply _ a b
@@ -224,7 +224,7 @@ module _ (file : FileGrammar) (once : AnswersOnce file) (counts : CountsOnce fil
   abbrev Alike : Received → List ℕ → Type 0
   Alike received uri = AreAlikeFor uri received old two → loses_memory uri two other ≡ loses_memory uri old new → SameFor uri answers other_answers stop other_stop new other
 
-  shows_alike : (notification : Notification) (uri : List ℕ) → named (message (notification notification)) ≡ Some uri → OnNotification old.phase old notification answers stop new → OnNotification two.phase two notification other_answers other_stop other → Alike (message (notification notification)) uri
+  shows_alike : (note : Notification) (uri : List ℕ) → named (message (notification note)) ≡ Some uri → OnNotification old.phase old note answers stop new → OnNotification two.phase two note other_answers other_stop other → Alike (message (notification note)) uri
   shows_alike initialized uri name a b = absurd (let f : ⊥ = cc in f)
   shows_alike exit uri name a b = absurd (let f : ⊥ = cc in f)
   shows_alike (open_text u version text) uri name a b =
@@ -257,7 +257,7 @@ module _ (file : FileGrammar) (once : AnswersOnce file) (counts : CountsOnce fil
   step_alike unread uri name a b = absurd (let f : ⊥ = cc in f)
   step_alike (refused why) uri name a b = absurd (let f : ⊥ = cc in f)
   step_alike (message (call id request)) uri name a b = asks_alike id request uri name a b
-  step_alike (message (notification notification)) uri name a b = shows_alike notification uri name a b
+  step_alike (message (notification note)) uri name a b = shows_alike note uri name a b
   step_alike (message ignored) uri name a b = absurd (let f : ⊥ = cc in f)
 
 pub each_document_is_alone : (file : FileGrammar) → AnswersOnce file → CountsOnce file → EachDocumentIsAlone file

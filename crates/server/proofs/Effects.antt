@@ -31,8 +31,8 @@ one_quiet : (answer : Answer) → ((uri : List ℕ) → ¬ Publishes uri answer)
 one_quiet answer quiet uri = All-from_recursion (λ a. ¬ Publishes uri a) (answer ∷ []) (quiet uri, tt)
 
 -- an answer that is not about diagnostics
-said_quiet : (answer notification : Answer) → answer ≡ notification → ((uri : List ℕ) → ¬ Publishes uri notification) → (uri : List ℕ) → ¬ Publishes uri answer
-said_quiet answer notification e quiet uri p = quiet uri (subst (Publishes uri) e p)
+said_quiet : (answer other : Answer) → answer ≡ other → ((uri : List ℕ) → ¬ Publishes uri other) → (uri : List ℕ) → ¬ Publishes uri answer
+said_quiet answer other e quiet uri p = quiet uri (subst (Publishes uri) e p)
 
 tree_quiet : (id : Ident) (o : Option (List ℕ)) (uri : List ℕ) → ¬ Publishes uri (tree_answer id o)
 tree_quiet id None uri p = p
@@ -151,7 +151,7 @@ module _ (name : Option (List ℕ)) (old : State) (answers : List Answer) (stop 
   misses_effect (unfit_change (Some uri)) is s = spoils_effect (get old.documents uri) uri is s
   misses_effect unfit_close is s = replied _ (λ uri p. p) s
 
-  shows_effect : (phase : Phase) → old.phase ≡ phase → (notification : Notification) → name ≡ named (message (notification notification)) → OnNotification phase old notification answers stop new → Effect name old answers stop new
+  shows_effect : (phase : Phase) → old.phase ≡ phase → (note : Notification) → name ≡ named (message (notification note)) → OnNotification phase old note answers stop new → Effect name old answers stop new
   shows_effect New at initialized is s = silent s.0 s.2
   shows_effect New at exit is s = silent s.0 s.2
   shows_effect New at (open_text uri version text) is s = silent s.0 s.2
@@ -177,7 +177,7 @@ module _ (name : Option (List ℕ)) (old : State) (answers : List Answer) (stop 
   effect_of (refused (unknown id)) is s = replied _ (λ uri p. p) s
   effect_of (refused (params id first)) is s = replied _ (λ uri p. p) s
   effect_of (message (call id request)) is s = asks_effect old.phase refl id request s
-  effect_of (message (notification notification)) is s = shows_effect old.phase refl notification is s
+  effect_of (message (notification note)) is s = shows_effect old.phase refl note is s
   effect_of (message ignored) is s = silent s.0 s.2
 
 pub step_effect : (old : State) (answers : List Answer) (stop : Option ℕ) (new : State) (received : Received) → Step old received answers stop new → Effect (named received) old answers stop new

@@ -37,11 +37,11 @@ module _ (file : FileGrammar) (once : AnswersOnce file) where
   one_answer d id its_tokens one other a b = b.2 ∙ (ap (λ (r : Reading). tokens_reply id (rows d.unit file d.text r.tokens)) (once.readings d.text a.0 b.0 a.1 b.1) ∙ sym a.2)
   one_answer d id its_tree one other a b = b.2 ∙ (ap (λ (r : Reading). tree_answer id (written_tree file r.verdict)) (once.readings d.text a.0 b.0 a.1 b.1) ∙ sym a.2)
   one_answer d id its_folds one other a b =
-      let notification : AreFoldsOf file d.text a.0.tokens a.0.trees b.2.0 = subst (λ (r : Reading). AreFoldsOf file d.text r.tokens r.trees b.2.0) (once.readings d.text a.0 b.0 a.1 b.1) b.2.1 in
-      b.2.2 ∙ (ap (folds_reply id) (once.folds d.text a.0 a.2.0 b.2.0 a.2.1 notification) ∙ sym a.2.2)
+      let same : AreFoldsOf file d.text a.0.tokens a.0.trees b.2.0 = subst (λ (r : Reading). AreFoldsOf file d.text r.tokens r.trees b.2.0) (once.readings d.text a.0 b.0 a.1 b.1) b.2.1 in
+      b.2.2 ∙ (ap (folds_reply id) (once.folds d.text a.0 a.2.0 b.2.0 a.2.1 same) ∙ sym a.2.2)
   one_answer d id (its_selections positions) one other a b =
-      let notification : AreSelections d.unit file d.text a.0 positions b.2.0 = subst (λ (r : Reading). AreSelections d.unit file d.text r positions b.2.0) (once.readings d.text a.0 b.0 a.1 b.1) b.2.1 in
-      b.2.2 ∙ (ap (selections_reply id) (once.selections d.unit d.text a.0 positions a.2.0 b.2.0 a.2.1 notification) ∙ sym a.2.2)
+      let same : AreSelections d.unit file d.text a.0 positions b.2.0 = subst (λ (r : Reading). AreSelections d.unit file d.text r positions b.2.0) (once.readings d.text a.0 b.0 a.1 b.1) b.2.1 in
+      b.2.2 ∙ (ap (selections_reply id) (once.selections d.unit d.text a.0 positions a.2.0 b.2.0 a.2.1 same) ∙ sym a.2.2)
 
   pub one_published : (uri : List ℕ) (d : OpenDocument) (one other : Answer) → IsPublished file uri d one → IsPublished file uri d other → other ≡ one
   one_published uri d one other a b =
@@ -102,35 +102,35 @@ holds_published file prior old uri (is_open d) answers stop new by_file s all =
     let document : d ≡ e = cc in
     (s.0, subst (λ (x : OpenDocument). IsPublished file uri x s.0) document is, published_last file uri d prior s.0 is))
     all in
-    subst (λ (notification : List Answer). AllPublished file (prior ++ notification) new.documents) (sym s.2) (subst (λ (h : Held). AllPublished file (prior ++ (s.0 ∷ [])) h) (sym (ap (λ (x : State). x.documents) s.3.1)) next)
+    subst (λ (given : List Answer). AllPublished file (prior ++ given) new.documents) (sym s.2) (subst (λ (h : Held). AllPublished file (prior ++ (s.0 ∷ [])) h) (sym (ap (λ (x : State). x.documents) s.3.1)) next)
 holds_published file prior old uri (is_lost loss) answers stop new by_file s all =
-    let notification : List Answer = published_diagnostics uri None None ∷ log_message (Lost loss) ∷ [] in
-    let next : AllPublished file (prior ++ notification) (insert old.documents uri (is_lost loss)) =
-    one_step file prior notification uri old.documents (insert old.documents uri (is_lost loss))
-    (λ other apart. All-from_recursion (λ x. ¬ Publishes other x) notification (λ p. apart (sym p), ((λ p. p), tt)))
+    let given : List Answer = published_diagnostics uri None None ∷ log_message (Lost loss) ∷ [] in
+    let next : AllPublished file (prior ++ given) (insert old.documents uri (is_lost loss)) =
+    one_step file prior given uri old.documents (insert old.documents uri (is_lost loss))
+    (λ other apart. All-from_recursion (λ x. ¬ Publishes other x) given (λ p. apart (sym p), ((λ p. p), tt)))
     (λ other apart. get_other old.documents uri other (is_lost loss) apart)
     (λ e found. absurd (
     let here : Some (is_lost loss) ≡ Some (is_open e) = sym (get_inserted old.documents uri (is_lost loss)) ∙ found in
     let f : ⊥ = cc in
     f))
     all in
-    subst (λ (notification : List Answer). AllPublished file (prior ++ notification) new.documents) (sym s.0) (subst (λ (h : Held). AllPublished file (prior ++ notification) h) (sym (ap (λ (x : State). x.documents) s.1.1)) next)
+    subst (λ (given : List Answer). AllPublished file (prior ++ given) new.documents) (sym s.0) (subst (λ (h : Held). AllPublished file (prior ++ given) h) (sym (ap (λ (x : State). x.documents) s.1.1)) next)
 
 effect_published : (file : FileGrammar) (prior : List Answer) (name : Option (List ℕ)) (old : State) (answers : List Answer) (stop : Option ℕ) (new : State) → old.file ≡ file → Effect name old answers stop new → AllPublished file prior old.documents → AllPublished file (prior ++ answers) new.documents
 effect_published file prior name old answers stop new by_file (stays quiet same_file documents units) all = quiet_step file prior answers old.documents new.documents quiet documents all
 effect_published file prior name old answers stop new by_file (stands uri state is fit unit s) all = holds_published file prior old uri state answers stop new by_file s all
 effect_published file prior name old answers stop new by_file (goes uri is s) all =
-    let notification : List Answer = published_diagnostics uri None None ∷ [] in
-    let next : AllPublished file (prior ++ notification) (remove old.documents uri) =
-    one_step file prior notification uri old.documents (remove old.documents uri)
-    (λ other apart. All-from_recursion (λ x. ¬ Publishes other x) notification (λ p. apart (sym p), tt))
+    let given : List Answer = published_diagnostics uri None None ∷ [] in
+    let next : AllPublished file (prior ++ given) (remove old.documents uri) =
+    one_step file prior given uri old.documents (remove old.documents uri)
+    (λ other apart. All-from_recursion (λ x. ¬ Publishes other x) given (λ p. apart (sym p), tt))
     (λ other apart. get_other_removed old.documents uri other apart)
     (λ e found. absurd (
     let here : None ≡ Some (is_open e) = sym (get_removed old.documents uri) ∙ found in
     let f : ⊥ = cc in
     f))
     all in
-    subst (λ (notification : List Answer). AllPublished file (prior ++ notification) new.documents) (sym s.0) (subst (λ (h : Held). AllPublished file (prior ++ notification) h) (sym (ap (λ (x : State). x.documents) s.1.1)) next)
+    subst (λ (given : List Answer). AllPublished file (prior ++ given) new.documents) (sym s.0) (subst (λ (h : Held). AllPublished file (prior ++ given) h) (sym (ap (λ (x : State). x.documents) s.1.1)) next)
 
 step_published : (file : FileGrammar) (prior : List Answer) (old : State) (received : Received) (answers : List Answer) (stop : Option ℕ) (new : State) → old.file ≡ file → Step old received answers stop new → AllPublished file prior old.documents → AllPublished file (prior ++ answers) new.documents
 step_published file prior old received answers stop new by_file s = effect_published file prior _ old answers stop new by_file (step_effect old answers stop new received s)
@@ -144,10 +144,10 @@ run_published file (content ∷ contents) prior old answers stop new by_file r a
   where
     by : (halt : Option ℕ) (first : List Answer) (mid : State) → MatchOption halt ((rest : List Answer) × (answers ≡ first ++ rest) × Run mid contents rest stop new) (λ status. (answers ≡ first) × (stop ≡ Some status) × (new ≡ mid)) → AllPublished file (prior ++ first) mid.documents → ((rest : List Answer) → Run mid contents rest stop new → AllPublished file ((prior ++ first) ++ rest) new.documents) → AllPublished file (prior ++ answers) new.documents
     by None first mid h now more =
-        let same : (prior ++ first) ++ h.0 ≡ prior ++ answers = append_assoc prior first h.0 ∙ ap (λ notification. prior ++ notification) (sym h.1) in
-        subst (λ (notification : List Answer). AllPublished file notification new.documents) same (more h.0 h.2)
+        let same : (prior ++ first) ++ h.0 ≡ prior ++ answers = append_assoc prior first h.0 ∙ ap (λ given. prior ++ given) (sym h.1) in
+        subst (λ (given : List Answer). AllPublished file given new.documents) same (more h.0 h.2)
     by (Some status) first mid h now more =
-        subst (λ (notification : List Answer). AllPublished file (prior ++ notification) new.documents) (sym h.0) (subst (λ (s : State). AllPublished file (prior ++ first) s.documents) (sym h.2) now)
+        subst (λ (given : List Answer). AllPublished file (prior ++ given) new.documents) (sym h.0) (subst (λ (s : State). AllPublished file (prior ++ first) s.documents) (sym h.2) now)
 
 none_published : (file : FileGrammar) → AllPublished file [] empty
 none_published file uri d found = absurd (let e : Some (is_open d) ≡ None = sym found ∙ get-empty (slice_cmp nat_cmp) uri in let f : ⊥ = cc in f)
@@ -187,31 +187,31 @@ opens_is file unit uri version bytes text answers stop state spelled fit =
     ap (λ b. Opens b old uri (new_document unit version (chars bytes)) answers stop state) (room_first uri)
     ∙ ap (λ s. Holds old uri s answers stop state) (ap (new_document unit version) spelled ∙ opened_so unit version text fit)
 
-fresh_holds : (file : FileGrammar) (unit : Encoding) (uri : List ℕ) (version : ℤ) (text : List ℕ) (publish : Answer) (state : State) → fits text ≡ true → IsFresh file unit uri version text publish state → Holds (ready_state file unit) uri (is_open (document_of unit version text)) (publish ∷ []) None state
-fresh_holds file unit uri version text publish state fit f =
-    let opens : Step (ready_state file unit) (message (notification (open_text uri version f.bytes))) (publish ∷ []) None state = subst (λ (s : State). Step s (message (notification (open_text uri version f.bytes))) (publish ∷ []) None state) f.initializes.2 f.opens in
-    subst (λ (T : Type 0). T) (opens_is file unit uri version f.bytes text (publish ∷ []) None state f.spelled fit) opens
+fresh_holds : (file : FileGrammar) (unit : Encoding) (uri : List ℕ) (version : ℤ) (text : List ℕ) (published : Answer) (state : State) → fits text ≡ true → IsFresh file unit uri version text published state → Holds (ready_state file unit) uri (is_open (document_of unit version text)) (published ∷ []) None state
+fresh_holds file unit uri version text published state fit f =
+    let opens : Step (ready_state file unit) (message (notification (open_text uri version f.bytes))) (published ∷ []) None state = subst (λ (s : State). Step s (message (notification (open_text uri version f.bytes))) (published ∷ []) None state) f.initializes.2 f.opens in
+    subst (λ (T : Type 0). T) (opens_is file unit uri version f.bytes text (published ∷ []) None state f.spelled fit) opens
 
-fresh_has : (file : FileGrammar) (unit : Encoding) (uri : List ℕ) (version : ℤ) (text : List ℕ) (publish : Answer) (state : State) → Holds (ready_state file unit) uri (is_open (document_of unit version text)) (publish ∷ []) None state → HasOpen file uri (document_of unit version text) state
-fresh_has file unit uri version text publish state h = record {
+fresh_has : (file : FileGrammar) (unit : Encoding) (uri : List ℕ) (version : ℤ) (text : List ℕ) (published : Answer) (state : State) → Holds (ready_state file unit) uri (is_open (document_of unit version text)) (published ∷ []) None state → HasOpen file uri (document_of unit version text) state
+fresh_has file unit uri version text published state h = record {
   by_file = ap (λ (s : State). s.file) h.3.1;
   ready = ap (λ (s : State). s.phase) h.3.1;
   held = ap (λ (s : State). get s.documents uri) h.3.1 ∙ get_inserted empty uri (is_open (document_of unit version text));
 }
 
-fresh_published : (file : FileGrammar) (unit : Encoding) (uri : List ℕ) (version : ℤ) (text : List ℕ) (publish : Answer) (state : State) → Holds (ready_state file unit) uri (is_open (document_of unit version text)) (publish ∷ []) None state → IsPublished file uri (document_of unit version text) publish
-fresh_published file unit uri version text publish state h =
-    let lists : publish ∷ [] ≡ h.0 ∷ [] = h.2 in
-    let same : h.0 ≡ publish = cc in
+fresh_published : (file : FileGrammar) (unit : Encoding) (uri : List ℕ) (version : ℤ) (text : List ℕ) (published : Answer) (state : State) → Holds (ready_state file unit) uri (is_open (document_of unit version text)) (published ∷ []) None state → IsPublished file uri (document_of unit version text) published
+fresh_published file unit uri version text published state h =
+    let lists : published ∷ [] ≡ h.0 ∷ [] = h.2 in
+    let same : h.0 ≡ published = cc in
     subst (λ (a : Answer). IsPublished file uri (document_of unit version text) a) same h.1
 
-some_fresh : (file : FileGrammar) (unit : Encoding) (uri : List ℕ) (version : ℤ) (text : List ℕ) (publish : Answer) → fits text ≡ true → IsPublished file uri (document_of unit version text) publish → (state : State) × (notification : Answer) × IsFresh file unit uri version text notification state
-some_fresh file unit uri version text publish fit is =
+some_fresh : (file : FileGrammar) (unit : Encoding) (uri : List ℕ) (version : ℤ) (text : List ℕ) (published : Answer) → fits text ≡ true → IsPublished file uri (document_of unit version text) published → (state : State) × (given : Answer) × IsFresh file unit uri version text given state
+some_fresh file unit uri version text published fit is =
     let spelled : chars (encode_utf8_all text) ≡ text = spelled_again text fit in
     let state = open_state file uri (document_of unit version text) in
-    let holds : Holds (ready_state file unit) uri (is_open (document_of unit version text)) (publish ∷ []) None state = (publish, is, refl, (refl, refl)) in
-    let opens = subst (λ (T : Type 0). T) (sym (opens_is file unit uri version (encode_utf8_all text) text (publish ∷ []) None state spelled fit)) holds in
-    (state, publish, record { id = numbered (pos 0); bytes = encode_utf8_all text; mid = ready_state file unit; spelled = spelled; initializes = (refl, refl, refl); opens = opens })
+    let holds : Holds (ready_state file unit) uri (is_open (document_of unit version text)) (published ∷ []) None state = (published, is, refl, (refl, refl)) in
+    let opens = subst (λ (T : Type 0). T) (sym (opens_is file unit uri version (encode_utf8_all text) text (published ∷ []) None state spelled fit)) holds in
+    (state, published, record { id = numbered (pos 0); bytes = encode_utf8_all text; mid = ready_state file unit; spelled = spelled; initializes = (refl, refl, refl); opens = opens })
 
 -- ---- the answers of both
 
@@ -248,9 +248,9 @@ alike file always once uri d fit state fresh has fresh_has id question =
 -- there is a fresh server with this unit, and each such one answers alike
 abbrev IsAsFresh : FileGrammar → List Answer → State → List ℕ → OpenDocument → Encoding → Type 0
 IsAsFresh file answers state uri document unit =
-    ((fresh : State) × (publish : Answer) × IsFresh file unit uri document.version document.text publish fresh)
-    × ((fresh : State) (publish : Answer) → IsFresh file unit uri document.version document.text publish fresh
-    → AnswerAlike uri state fresh × IsLastPublished uri answers publish)
+    ((fresh : State) × (published : Answer) × IsFresh file unit uri document.version document.text published fresh)
+    × ((fresh : State) (published : Answer) → IsFresh file unit uri document.version document.text published fresh
+    → AnswerAlike uri state fresh × IsLastPublished uri answers published)
 
 pub every_answer_is_fresh : (file : FileGrammar) → AlwaysAnswers file → AnswersOnce file → EveryAnswerIsFresh file
 every_answer_is_fresh file always once contents answers state unit uri document run ready held = subst (IsAsFresh file answers state uri document) of_phase own
@@ -274,10 +274,10 @@ every_answer_is_fresh file always once contents answers state unit uri document 
     own : IsAsFresh file answers state uri document document.unit
     own = (
       some_fresh file document.unit uri document.version document.text last.0 fit last.1,
-      λ fresh publish is.
-          let holds = fresh_holds file document.unit uri document.version document.text publish fresh fit is in
-          let same : last.0 ≡ publish = one_published file once uri document publish last.0 (fresh_published file document.unit uri document.version document.text publish fresh holds) last.1 in
-          (alike file always once uri document fit state fresh has (fresh_has file document.unit uri document.version document.text publish fresh holds), subst (λ (a : Answer). IsLastPublished uri answers a) same last.2),
+      λ fresh published is.
+          let holds = fresh_holds file document.unit uri document.version document.text published fresh fit is in
+          let same : last.0 ≡ published = one_published file once uri document published last.0 (fresh_published file document.unit uri document.version document.text published fresh holds) last.1 in
+          (alike file always once uri document fit state fresh has (fresh_has file document.unit uri document.version document.text published fresh holds), subst (λ (a : Answer). IsLastPublished uri answers a) same last.2),
     )
 
 -- ---- edits

@@ -46,15 +46,15 @@ GoesOnAs uri contents answers first stop new mid more rest halt =
 
 pub each_run_has_a_history : EachRunHasAHistory
 each_run_has_a_history uri old [] answers stop new run = ([], [], (run, refl, refl))
-each_run_has_a_history uri old (content ∷ contents) answers stop new run = notification (on run.1 run.4 (λ later r. each_run_has_a_history uri run.2 contents later stop new r))
+each_run_has_a_history uri old (content ∷ contents) answers stop new run = recorded (on run.1 run.4 (λ later r. each_run_has_a_history uri run.2 contents later stop new r))
   where
     on : (halt : Option ℕ) → MatchOption halt ((rest : List Answer) × (answers ≡ run.0 ++ rest) × Run run.2 contents rest stop new) (λ status. (answers ≡ run.0) × (stop ≡ Some status) × (new ≡ run.2)) → ((later : List Answer) → Run run.2 contents later stop new → (events : List Event) × (sent : List Answer) × History uri run.2 contents later stop new events sent)
         → (more : List Event) × (rest : List Answer) × GoesOnAs uri contents answers run.0 stop new run.2 more rest halt
     on None m go = let t = go m.0 m.2 in (t.0, t.1, (m.0, m.1, t.2))
     on (Some status) m go = ([], [], (m.0, m.1, m.2, refl, refl))
 
-    notification : (more : List Event) × (rest : List Answer) × GoesOnAs uri contents answers run.0 stop new run.2 more rest run.1 → (events : List Event) × (sent : List Answer) × History uri old (content ∷ contents) answers stop new events sent
-    notification t = let n = noted uri old (received_in content) run.0 run.2 t.0 t.1 in (n.0, n.1, (run.0, run.1, run.2, t.0, t.1, run.3, n.2, t.2))
+    recorded : (more : List Event) × (rest : List Answer) × GoesOnAs uri contents answers run.0 stop new run.2 more rest run.1 → (events : List Event) × (sent : List Answer) × History uri old (content ∷ contents) answers stop new events sent
+    recorded t = let n = noted uri old (received_in content) run.0 run.2 t.0 t.1 in (n.0, n.1, (run.0, run.1, run.2, t.0, t.1, run.3, n.2, t.2))
 
 -- ---- the same is received, and the same is sent
 
@@ -166,11 +166,11 @@ module _ (file : FileGrammar) (alone : EachDocumentIsAlone file) (uri : List ℕ
       after (Some a) None e held same on m = absurd (let f : ⊥ = cc in f)
 
       heard_both : named (received_in content) ≡ Some uri → events ≡ event_in uri two (received_in content) t.2 ∷ t.3 → sent ≡ t.0 ++ t.4 → SendTheSame (first ++ rest) sent
-      heard_both name noted_so notification =
+      heard_both name noted_so so_alike =
           let lists = sym is ∙ noted_so in
           let same : SameFor uri first t.0 halt t.1 mid t.2 = both_hear one two mid t.2 received (received_in content) first t.0 halt t.1 both mine (first_event _ _ _ _ lists) t.5 in
           let last : SendTheSame rest t.4 = after halt t.1 same.stops same.held (sym (other_events _ _ _ _ lists)) go (follows uri others answers t.0 stop new t.2 t.3 t.4 t.1 t.7) in
-          ap (map but_nodes) notification ∙ say_both first rest t.0 t.4 same.sent last
+          ap (map but_nodes) so_alike ∙ say_both first rest t.0 t.4 same.sent last
 
       by : Notes uri two (received_in content) t.0 t.2 events sent t.3 t.4 → (HoldAlike one t.2 → t.3 ≡ event_in uri one received mid ∷ more → (later : List Answer) → History uri t.2 others later stop new t.3 t.4 → SendTheSame (first ++ rest) t.4) → SendTheSame (first ++ rest) sent
       by (inl n) again = heard_both n.0 n.1 n.2

@@ -24,10 +24,10 @@ pub state_same : (file file' : FileGrammar) (phase : Phase) (documents documents
 state_same file file' phase documents documents' e f = ap (λ (x : FileGrammar). state_of x phase documents') e ∙ ap (λ (h : Held). state_of file phase h) f
 
 -- an open document, whose diagnostics are published
-pub holds_open : (old : State) (uri : List ℕ) (made : Entry) (d : Doc) → made ≡ entry.Open d → (publish : Answer) (answers : List Answer) (stop : Option ℕ) (new : State) → IsPublished old.file uri (open_document d) publish → answers ≡ publish ∷ [] → stop ≡ None → new ≡ state_of old.file old.phase (insert old.documents uri (entry_view made)) → Holds old uri (entry_view made) answers stop new
-holds_open old uri made d e publish answers stop new is notification stays same =
+pub holds_open : (old : State) (uri : List ℕ) (made : Entry) (d : Doc) → made ≡ entry.Open d → (published : Answer) (answers : List Answer) (stop : Option ℕ) (new : State) → IsPublished old.file uri (open_document d) published → answers ≡ published ∷ [] → stop ≡ None → new ≡ state_of old.file old.phase (insert old.documents uri (entry_view made)) → Holds old uri (entry_view made) answers stop new
+holds_open old uri made d e published answers stop new is sends stays same =
     let here : new ≡ state_of old.file old.phase (insert old.documents uri (entry_view (entry.Open d))) = same ∙ ap (λ (x : Entry). state_of old.file old.phase (insert old.documents uri (entry_view x))) e in
-    subst (λ (x : Entry). Holds old uri (entry_view x) answers stop new) (sym e) (publish, is, notification, (stays, here))
+    subst (λ (x : Entry). Holds old uri (entry_view x) answers stop new) (sym e) (published, is, sends, (stays, here))
 
 -- one that stood otherwise in between
 pub holds_again : (old mid : State) (uri : List ℕ) (before state : DocumentState) (answers : List Answer) (stop : Option ℕ) (new : State) → mid ≡ state_of old.file old.phase (insert old.documents uri before) → Holds mid uri state answers stop new → Holds old uri state answers stop new
@@ -44,8 +44,8 @@ changes_open old mid uri before d version changes state answers stop new held sa
 
 -- nothing is held that could be closed
 pub closes_none : (old : State) (uri : List ℕ) (answers : List Answer) (stop : Option ℕ) (new : State) → get old.documents uri ≡ None → answers ≡ log_message CloseNotOpen ∷ [] → stop ≡ None → new ≡ old → Closes (get old.documents uri) old uri answers stop new
-closes_none old uri answers stop new none notification stays same =
-    subst (λ (o : Option DocumentState). Closes o old uri answers stop new) (sym none) (notification, stays, same)
+closes_none old uri answers stop new none sends stays same =
+    subst (λ (o : Option DocumentState). Closes o old uri answers stop new) (sym none) (sends, stays, same)
 
 -- a document that there is room for
 pub opens_room : (room : Bool) (old : State) (uri : List ℕ) (made state : DocumentState) (answers : List Answer) (stop : Option ℕ) (new : State) → Holds old uri made answers stop new → made ≡ state → room ≡ true → Opens room old uri state answers stop new

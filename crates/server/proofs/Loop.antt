@@ -128,18 +128,18 @@ Refuses fault tail piece new = fault ≢ frame.Memory → GoesOn tail piece [] n
 pub feeding_fails : (file : FileGrammar) → AlwaysAnswers file → (fault : FrameFault) (ri rm rn oo om : Option (List ℕ)) (fi fo : ℕ) (tail new : Tail) (a : State) (piece : List ℕ) → IsReady file ri rm fi oo om fo tail a → Consumes rm rn piece → Refuses fault tail piece new → (contents : List (List ℕ)) (other : Tail) → GoesOn tail piece contents other → Session file ri rn oo om (Err (run_fault fault))
 feeding_fails file total fault ri rm rn oo om fi fo tail new a piece ready read refuses contents other goes = by fault refuses
   where
-    notification : (f : FrameFault) → GoesOn tail piece [] new × (new ≡ Faulty f) → Session file ri rn oo om (Err (Frame f))
-    notification f h = stream_fails file ri rn oo om new a f (sym (ap fault_of h.1)) (fed file ri rm rn oo om om fi fo tail new a a None piece [] ready read h.0 (served_nothing om a))
+    on_fault : (f : FrameFault) → GoesOn tail piece [] new × (new ≡ Faulty f) → Session file ri rn oo om (Err (Frame f))
+    on_fault f h = stream_fails file ri rn oo om new a f (sym (ap fault_of h.1)) (fed file ri rm rn oo om om fi fo tail new a a None piece [] ready read h.0 (served_nothing om a))
 
     by : (f : FrameFault) → Refuses f tail piece new → Session file ri rn oo om (Err (run_fault f))
-    by frame.BadField r = notification frame.BadField (r (λ e. cc))
-    by frame.NoLength r = notification frame.NoLength (r (λ e. cc))
-    by frame.SecondLength r = notification frame.SecondLength (r (λ e. cc))
-    by frame.BadLength r = notification frame.BadLength (r (λ e. cc))
-    by frame.BadCharset r = notification frame.BadCharset (r (λ e. cc))
-    by frame.Truncated r = notification frame.Truncated (r (λ e. cc))
+    by frame.BadField r = on_fault frame.BadField (r (λ e. cc))
+    by frame.NoLength r = on_fault frame.NoLength (r (λ e. cc))
+    by frame.SecondLength r = on_fault frame.SecondLength (r (λ e. cc))
+    by frame.BadLength r = on_fault frame.BadLength (r (λ e. cc))
+    by frame.BadCharset r = on_fault frame.BadCharset (r (λ e. cc))
+    by frame.Truncated r = on_fault frame.Truncated (r (λ e. cc))
     by frame.Memory r = answering_fails file Memory 0 ri rm rn oo om om fi fo tail other a piece contents refl ready read goes (part_nothing om a (can_serve file total ri rm oo om fi fo tail a ready) contents)
-    by frame.LongHeader r = notification frame.LongHeader (r (λ e. cc))
+    by frame.LongHeader r = on_fault frame.LongHeader (r (λ e. cc))
 
 pub is_open : (t : Tail) → None ≡ fault_of t → IsOpen t
 is_open (Open rest) h = tt

@@ -95,8 +95,8 @@ SomeStep P = (answers : List Answer) × (stop : Option ℕ) × (new : State) × 
 module _ (old : State) (can : CanServe old) where
   some_holds : (uri : List ℕ) (state : DocumentState) → IsFit state → SomeStep (Holds old uri state)
   some_holds uri (is_open d) fit =
-      let publish = some_published old.file can.always uri d fit in
-      (publish.0 ∷ [], None, _, (publish.0, publish.1, refl, (refl, refl)))
+      let published = some_published old.file can.always uri d fit in
+      (published.0 ∷ [], None, _, (published.0, published.1, refl, (refl, refl)))
   some_holds uri (is_lost loss) fit = (_, _, _, (refl, (refl, refl)))
 
   some_opens : (room : Bool) (uri : List ℕ) (state : DocumentState) → IsFit state → SomeStep (Opens room old uri state)
@@ -141,7 +141,7 @@ module _ (old : State) (can : CanServe old) where
       (some.0 ∷ [], None, old, (some.0, some.1, (refl, refl, refl)))
   some_asks Down id request = (_, _, _, (refl, refl, refl))
 
-  some_shows : (phase : Phase) (notification : Notification) → SomeStep (OnNotification phase old notification)
+  some_shows : (phase : Phase) (note : Notification) → SomeStep (OnNotification phase old note)
   some_shows New initialized = (_, _, _, (refl, refl, refl))
   some_shows New exit = (_, _, _, (refl, refl, refl))
   some_shows New (open_text uri version text) = (_, _, _, (refl, refl, refl))
@@ -167,7 +167,7 @@ module _ (old : State) (can : CanServe old) where
   some_step (refused (unknown id)) = (_, _, _, (refl, refl, refl))
   some_step (refused (params id first)) = (_, _, _, (refl, refl, refl))
   some_step (message (call id request)) = some_asks old.phase id request
-  some_step (message (notification notification)) = some_shows old.phase notification
+  some_step (message (notification note)) = some_shows old.phase note
   some_step (message ignored) = (_, _, _, (refl, refl, refl))
 
 pub some_run : (old : State) → CanServe old → (contents : List (List ℕ)) → (answers : List Answer) × (stop : Option ℕ) × (new : State) × Run old contents answers stop new

@@ -15,14 +15,14 @@ use Rattle.server.specs.Steps.{State, first_state, Replies, Step}
 use Rattle.server.specs.Runs.{Run}
 
 -- the state of a server that was just initialized with this unit and then opened this text, and the diagnostics that it published
-pub record IsFresh (file : FileGrammar) (unit : Encoding) (uri : List ℕ) (version : ℤ) (text : List ℕ) (publish : Answer)
+pub record IsFresh (file : FileGrammar) (unit : Encoding) (uri : List ℕ) (version : ℤ) (text : List ℕ) (published : Answer)
     (state : State) : Type 0 where
   pub id : Ident
   pub bytes : List ℕ
   pub mid : State
   pub spelled : chars bytes ≡ text
   pub initializes : Step (first_state file) (message (request id (initialize unit))) (capabilities_reply id unit ∷ []) None mid
-  pub opens : Step mid (message (notification (open_text uri version bytes))) (publish ∷ []) None state
+  pub opens : Step mid (message (notification (open_text uri version bytes))) (published ∷ []) None state
 
 -- on what was received there is one reply, this one, and nothing changes
 pub record RepliesOnly (state : State) (received : Received) (answer : Answer) : Type 0 where
@@ -43,8 +43,8 @@ Publishes uri _ = ⊥
 
 -- of these answers this one is the last that `Publishes` diagnostics of the URI
 abbrev pub IsLastPublished : List ℕ → List Answer → Answer → Type 0
-IsLastPublished uri answers publish =
-    (before after : List Answer) × (answers ≡ before ++ publish ∷ after) × Publishes uri publish
+IsLastPublished uri answers published =
+    (before after : List Answer) × (answers ≡ before ++ published ∷ after) × Publishes uri published
     × All (λ a. ¬ Publishes uri a) after
 
 -- whatever was read before: there is a fresh server with the unit of the session and the version and the text of an open document, and to
@@ -54,9 +54,9 @@ abbrev pub EveryAnswerIsFresh : FileGrammar → Type 0
 EveryAnswerIsFresh file =
     (contents : List (List ℕ)) (answers : List Answer) (state : State) (unit : Encoding) (uri : List ℕ) (document : OpenDocument)
     → Run (first_state file) contents answers None state → state.phase ≡ Ready unit → get state.documents uri ≡ Some (is_open document)
-    → ((fresh : State) × (publish : Answer) × IsFresh file unit uri document.version document.text publish fresh)
-    × ((fresh : State) (publish : Answer) → IsFresh file unit uri document.version document.text publish fresh
-    → AnswerAlike uri state fresh × IsLastPublished uri answers publish)
+    → ((fresh : State) × (published : Answer) × IsFresh file unit uri document.version document.text published fresh)
+    × ((fresh : State) (published : Answer) → IsFresh file unit uri document.version document.text published fresh
+    → AnswerAlike uri state fresh × IsLastPublished uri answers published)
 
 -- where all texts on the way fit, a document's text after a change is its text before, edited by the changes in turn (`edited`), unless the
 -- document is lost because memory was refused; no other document changes

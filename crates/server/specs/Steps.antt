@@ -68,7 +68,7 @@ Leaves old documents stop new = (stop ≡ None) × (new ≡ record { file = old.
 -- list without version, and after it the log message of the loss
 abbrev pub Holds : State → List ℕ → DocumentState → List Answer → Option ℕ → State → Type 0
 Holds old uri (is_open d) answers stop new =
-    (publish : Answer) × IsPublished old.file uri d publish × (answers ≡ publish ∷ [])
+    (published : Answer) × IsPublished old.file uri d published × (answers ≡ published ∷ [])
     × Leaves old (insert old.documents uri (is_open d)) stop new
 Holds old uri (is_lost loss) answers stop new =
     (answers ≡ published_diagnostics uri None None ∷ log_message (Lost loss) ∷ [])
@@ -180,7 +180,7 @@ Step old (refused (invalid id)) answers stop new = Replies old (error_reply id I
 Step old (refused (unknown id)) answers stop new = Replies old (error_reply (Some id) (unknown_in old.phase)) answers stop new
 Step old (refused (params id first)) answers stop new = Replies old (error_reply (Some id) (params_in old.phase first)) answers stop new
 Step old (message (call id request)) answers stop new = OnRequest old.phase old id request answers stop new
-Step old (message (notification notification)) answers stop new = OnNotification old.phase old notification answers stop new
+Step old (message (notification note)) answers stop new = OnNotification old.phase old note answers stop new
 Step old (message ignored) answers stop new = Ignores old answers stop new
 
 -- `StepOn received old answers stop new`: something was received, and the server makes this `Step` on it

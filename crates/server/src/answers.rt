@@ -69,18 +69,18 @@ pub fn answer(
 fn rows(alloc: Global, language: &Language, doc: &Doc) -> Result<Vec<Row>, AllocError>
     requires { IsCurrent language.now doc.now }
     ensures { let file = language.now.file in
-        IfOk result (λ notification. Reads file doc.now.text (λ reading.
-        map row_view notification.items ≡ rows doc.now.unit file doc.now.text reading.tokens)) }
+        IfOk result (λ out. Reads file doc.now.text (λ reading.
+        map row_view out.items ≡ rows doc.now.unit file doc.now.text reading.tokens)) }
 {
     let found = doc.rows(alloc, language)?;
-    let mut notification = Vec::with_capacity(alloc, found.len())?;
+    let mut out = Vec::with_capacity(alloc, found.len())?;
     for row in &found {
-        notification.push(Row {
+        out.push(Row {
             name: String::from_str(alloc, row.name)?,
             range: row.range,
         })?;
     }
-    Ok(notification)
+    Ok(out)
 }
 
 /// The diagnostics of an open document, with its version. Refuses for memory alone.

@@ -6,5 +6,5 @@ use Rattle.rpc.proofs.sending.to_bytes.Goals as goal
 pub returns-in-Ok : goal.returns-in-Ok
 returns-in-Ok c =
     let sent = reply_view c.args.reply.now in
-    let notification = c.in-Ok.ensures.events in
-    text_of_value (reply_data sent) notification.0 c.in-Ok.bytes.items notification.1 notification.2 (reply_is_whole sent)
+    let events = c.in-Ok.ensures.events in
+    text_of_value (reply_data sent) events.0 c.in-Ok.bytes.items events.1 events.2 (reply_is_whole sent)

@@ -4,4 +4,4 @@ use Rattle.docs.specs.Views.{row_bytes}
 use Rattle.server.proofs.answers.rows.Given as goal
 
 abbrev pub invariant-loop-row : goal.invariant-loop-row
-invariant-loop-row l = map row_view l.notification.items ≡ map row_bytes (take l.row-index l.row-items)
+invariant-loop-row l = map row_view l.out.items ≡ map row_bytes (take l.row-index l.row-items)

@@ -28,5 +28,5 @@ returns-in-Ok-clause-is c =
 
 pub returns-in-Err-TooLarge-clause-is : goal.returns-in-Err-TooLarge-clause-is
 returns-in-Err-TooLarge-clause-is c =
-    let notification : c.open.result ≡ Err DocFault.TooLarge = c.in-Err-TooLarge.is ∙ ap (λ (e : DocFault). Err e) c.in-Err-TooLarge.field-0-is in
-    over c.args.unit c.args.version (chars c.args.text.now) (c.open.ensures.too_large.0 notification)
+    let refused : c.open.result ≡ Err DocFault.TooLarge = c.in-Err-TooLarge.is ∙ ap (λ (e : DocFault). Err e) c.in-Err-TooLarge.field-0-is in
+    over c.args.unit c.args.version (chars c.args.text.now) (c.open.ensures.too_large.0 refused)

@@ -13,9 +13,9 @@ returns-in_ok-publish-in-Open c =
     let old = state_view c.args.self.now in
     let uri = c.args.uri.now in
     let d = c.in-Open.doc in
-    let publish = reply_view c.in_ok-publish-in-Open.field-0 in
-    let is : IsPublished old.file uri (open_document d) publish = subst (λ (l : LanguageData). IsPublished l.file uri (open_document d) publish) c.language-language.ensures c.in_ok-publish-in-Open.ensures in
+    let published = reply_view c.in_ok-publish-in-Open.field-0 in
+    let is : IsPublished old.file uri (open_document d) published = subst (λ (l : LanguageData). IsPublished l.file uri (open_document d) published) c.language-language.ensures c.in_ok-publish-in-Open.ensures in
     if_ok_both c.one_reply.result
-    (λ out replies stop. holds_open old uri c.args.entry.now d c.in-Open.is publish _ _ _ is replies stop refl)
+    (λ out replies stop. holds_open old uri c.args.entry.now d c.in-Open.is published _ _ _ is replies stop refl)
     c.one_reply.ensures.replies
     c.one_reply.ensures.stop
