@@ -1,2 +1,2 @@
 mod Blanks
-mod Marked
+pub mod Marked

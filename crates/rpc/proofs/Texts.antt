@@ -12,7 +12,7 @@ use Rattle.serde_json.specs.Read.{read}
 use Rattle.definitions.specs.declared.Position.{Position}
 use Rattle.definitions.specs.declared.Range.{Range}
 use Rattle.rpc.specs.Fields.{integer_of, text_at}
-use Rattle.rpc.specs.Messages.{Ident, numbered, Question, its_text, its_tokens, its_tree, its_folds, initialize, shutdown, initialized, exit, ignored, unknown, TextChange, Notification, Received, refused, invalid, params, message, request, notification}
+use Rattle.rpc.specs.Messages.{Ident, numbered, Question, its_text, its_tokens, its_tree, its_folds, initialize, shutdown, initialized, exit, ignored, unknown, TextChange, Notification, Received, refused, invalid, params, accepted, request, notification}
 use Rattle.rpc.specs.Reading.{ident_of, id_at, uri_at, version_at, document_text, maybe_range, change_with, change_of, first_and, changes_of, changes_at, positions_at, unit_at, document_request, stats_request, selections_request, request_of, open_notification, read_open, change_notification, read_change, close_notification, read_close, notification_of, of_method, is_reply, is_invalid, params_at, message_of, value_of, received_as, Receives}
 use Rattle.rpc.specs.Texts.{IsSpelled, id_texts, notification_texts, texts_of}
 use Rattle.rpc.proofs.Strings.{if_map, if_then}
@@ -122,7 +122,7 @@ changes_spelled d h =
 -- ---- messages
 
 abbrev IsSpelledNotification : Notification → Type 0
-IsSpelledNotification notification = All IsSpelled (notification_texts notification)
+IsSpelledNotification note = All IsSpelled (notification_texts note)
 
 either : (b : Bool) (one two : Received) → AreSpelled one → AreSpelled two → AreSpelled (if b then one else two)
 either true one two h k = h
@@ -137,7 +137,7 @@ module _ (id : Ident) (hid : IsSpelledId id) where
   stats_spelled None h = hid
   stats_spelled (Some uri) h = All-append IsSpelled (id_texts id) (uri ∷ []) hid (one_spelled uri [] h (All-nil IsSpelled))
 
-  alone : AreSpelled (message (request id shutdown))
+  alone : AreSpelled (accepted (request id shutdown))
   alone = All-append IsSpelled (id_texts id) [] hid (All-nil IsSpelled)
 
   selections_spelled : (uri : Option (List ℕ)) (positions : Option (List Position)) → IfSome uri IsSpelled → AreSpelled (selections_request id uri positions)
@@ -148,8 +148,8 @@ module _ (id : Ident) (hid : IsSpelledId id) where
   request_spelled : (method : List ℕ) (d : Data) → IsSpelledData d → AreSpelled (request_of method id d)
   request_spelled method d h =
       let u = uri_spelled d h in
-      either (bytes_eq method (codes "initialize")) _ _ (either (is_some (as_object d)) (message (request id (initialize (unit_at d)))) (refused (params id true)) alone hid)
-      (either (bytes_eq method (codes "shutdown")) (message (request id shutdown)) _ alone
+      either (bytes_eq method (codes "initialize")) _ _ (either (is_some (as_object d)) (accepted (request id (initialize (unit_at d)))) (refused (params id true)) alone hid)
+      (either (bytes_eq method (codes "shutdown")) (accepted (request id shutdown)) _ alone
       (either (bytes_eq method (codes "textDocument/foldingRange")) _ _ (about_spelled its_folds (uri_at d) u)
       (either (bytes_eq method (codes "textDocument/selectionRange")) _ _ (selections_spelled (uri_at d) (positions_at d) u)
       (either (bytes_eq method (codes "lr/text")) _ _ (about_spelled its_text (uri_at d) u)
@@ -176,11 +176,11 @@ close_spelled (Some uri) h = one_spelled uri [] h (All-nil IsSpelled)
 notice_spelled : (method : List ℕ) (d : Data) → IsSpelledData d → AreSpelled (notification_of method d)
 notice_spelled method d h =
     let u = uri_spelled d h in
-    either (bytes_eq method (codes "initialized")) (message (notification initialized)) _ (All-nil IsSpelled)
-    (either (bytes_eq method (codes "exit")) (message (notification exit)) _ (All-nil IsSpelled)
-    (either (bytes_eq method (codes "textDocument/didOpen")) (message (notification (read_open d))) _ (open_spelled (uri_at d) (version_at d) (document_text d) u (document_spelled d h))
-    (either (bytes_eq method (codes "textDocument/didChange")) (message (notification (read_change d))) _ (change_spelled (uri_at d) (version_at d) (changes_at d) u (changes_spelled d h))
-    (either (bytes_eq method (codes "textDocument/didClose")) (message (notification (read_close d))) (message ignored) (close_spelled (uri_at d) u) (All-nil IsSpelled)))))
+    either (bytes_eq method (codes "initialized")) (accepted (notification initialized)) _ (All-nil IsSpelled)
+    (either (bytes_eq method (codes "exit")) (accepted (notification exit)) _ (All-nil IsSpelled)
+    (either (bytes_eq method (codes "textDocument/didOpen")) (accepted (notification (read_open d))) _ (open_spelled (uri_at d) (version_at d) (document_text d) u (document_spelled d h))
+    (either (bytes_eq method (codes "textDocument/didChange")) (accepted (notification (read_change d))) _ (change_spelled (uri_at d) (version_at d) (changes_at d) u (changes_spelled d h))
+    (either (bytes_eq method (codes "textDocument/didClose")) (accepted (notification (read_close d))) (accepted ignored) (close_spelled (uri_at d) u) (All-nil IsSpelled)))))
 
 invalid_spelled : (id : Option Ident) → IfSome id IsSpelledId → AreSpelled (refused (invalid id))
 invalid_spelled None h = All-nil IsSpelled
@@ -199,7 +199,7 @@ params_spelled (Some d) h = h
 message_spelled : (d : Data) → IsSpelledData d → AreSpelled (message_of d)
 message_spelled d h =
     either (is_none (as_object d)) (refused (invalid None)) _ (All-nil IsSpelled)
-    (either (is_reply d) (message ignored) _ (All-nil IsSpelled)
+    (either (is_reply d) (accepted ignored) _ (All-nil IsSpelled)
     (either (is_invalid d) (refused (invalid (id_at d))) _ (invalid_spelled (id_at d) (id_spelled d h))
     (method_spelled (text_at (codes "method") d) (id_at d) (params_at d) (id_spelled d h) (params_spelled (get (codes "params") d) (get_spelled (codes "params") d h)))))
 

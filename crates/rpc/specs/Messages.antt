@@ -75,7 +75,7 @@ pub data Refused : Type 0 where
 pub data Received : Type 0 where
   unread : Received
   refused : Refused → Received
-  message : ReceivedMessage → Received
+  accepted : ReceivedMessage → Received
 
 -- `id_view id`: an id of the code as an `Ident`
 abbrev pub id_view : Id → Ident
@@ -128,5 +128,5 @@ fault_view fault.Memory = None
 
 -- `received_of result`: a result of the code as a `Received`; none where memory was refused
 abbrev pub received_of : Result Message RpcFault → Option Received
-received_of (Ok m) = Some (message (message_view m))
+received_of (Ok m) = Some (accepted (message_view m))
 received_of (Err e) = fault_view e

@@ -16,7 +16,7 @@ use Rattle.rpc.specs.Fields.{integer_of, text_at, integer_at, natural_at, has_ke
 use Rattle.rpc.specs.Messages.{Ident, named, numbered, Question, its_text, its_tokens, its_tree, its_folds, its_selections, initialize}
 use Rattle.rpc.specs.Messages.{shutdown, about, stats, TextChange, unfit_open, unfit_change, unfit_close, Notification, initialized, exit}
 use Rattle.rpc.specs.Messages.{open_text, change_text, close, malformed, request, notification, ignored, invalid, unknown, params, Received}
-use Rattle.rpc.specs.Messages.{unread, refused, message, received_of}
+use Rattle.rpc.specs.Messages.{unread, refused, accepted, received_of}
 
 -- ---- parts of a value
 
@@ -136,31 +136,31 @@ unit_at d = unwrap_or (option_and_then first_unit (option_and_then as_array (enc
 
 -- what `initialize` is read as: a request with the unit that its parameters choose, which have to be an object
 abbrev pub initialize_request : Ident → Data → Received
-initialize_request id d = if is_some (as_object d) then message (request id (initialize (unit_at d))) else refused (params id true)
+initialize_request id d = if is_some (as_object d) then accepted (request id (initialize (unit_at d))) else refused (params id true)
 
 -- `document_request question id uri`: what a question is read as: a request about the document of the URI, or, with none, parameters that
 -- don't fit
 abbrev pub document_request : Question → Ident → Option (List ℕ) → Received
-document_request question id (Some uri) = message (request id (about uri question))
+document_request question id (Some uri) = accepted (request id (about uri question))
 document_request question id None = refused (params id false)
 
 -- `stats_request id uri`: what `lr/stats` is read as: a request for the counts of the document of the URI, or, with none, parameters that
 -- don't fit
 abbrev pub stats_request : Ident → Option (List ℕ) → Received
-stats_request id (Some uri) = message (request id (stats uri))
+stats_request id (Some uri) = accepted (request id (stats uri))
 stats_request id None = refused (params id false)
 
 -- `selections_request id uri positions`: what `textDocument/selectionRange` is read as: a request about the document of the URI and these
 -- positions, or, where one is missing, parameters that don't fit
 abbrev pub selections_request : Ident → Option (List ℕ) → Option (List Position) → Received
-selections_request id (Some uri) (Some positions) = message (request id (about uri (its_selections positions)))
+selections_request id (Some uri) (Some positions) = accepted (request id (about uri (its_selections positions)))
 selections_request id _ _ = refused (params id false)
 
 -- what a request of a method is read as; one of an unknown method is refused
 abbrev pub request_of : List ℕ → Ident → Data → Received
 request_of method id d =
     if bytes_eq method (codes "initialize") then initialize_request id d else (
-    if bytes_eq method (codes "shutdown") then message (request id shutdown) else (
+    if bytes_eq method (codes "shutdown") then accepted (request id shutdown) else (
     if bytes_eq method (codes "textDocument/foldingRange") then document_request its_folds id (uri_at d) else (
     if bytes_eq method (codes "textDocument/selectionRange") then selections_request id (uri_at d) (positions_at d) else (
     if bytes_eq method (codes "lr/text") then document_request its_text id (uri_at d) else (
@@ -201,12 +201,12 @@ read_close d = close_notification (uri_at d)
 -- what a notification of a method is read as; one of an unknown method is ignored
 abbrev pub notification_of : List ℕ → Data → Received
 notification_of method d =
-    if bytes_eq method (codes "initialized") then message (notification initialized) else (
-    if bytes_eq method (codes "exit") then message (notification exit) else (
-    if bytes_eq method (codes "textDocument/didOpen") then message (notification (read_open d)) else (
-    if bytes_eq method (codes "textDocument/didChange") then message (notification (read_change d)) else (
-    if bytes_eq method (codes "textDocument/didClose") then message (notification (read_close d)) else
-    message ignored))))
+    if bytes_eq method (codes "initialized") then accepted (notification initialized) else (
+    if bytes_eq method (codes "exit") then accepted (notification exit) else (
+    if bytes_eq method (codes "textDocument/didOpen") then accepted (notification (read_open d)) else (
+    if bytes_eq method (codes "textDocument/didChange") then accepted (notification (read_change d)) else (
+    if bytes_eq method (codes "textDocument/didClose") then accepted (notification (read_close d)) else
+    accepted ignored))))
 
 -- ---- messages
 
@@ -237,7 +237,7 @@ message_of d =
     -- the value isn't an object
     if is_none (as_object d) then refused (invalid None) else (
     -- it is a reply: there is no `method`, and there is `result` or `error`
-    if is_reply d then message ignored else (
+    if is_reply d then accepted ignored else (
     -- the version isn't 2.0, there is no method, or the id can't be read
     if is_invalid d then refused (invalid (id_at d)) else
     -- with an id it is a request, without one a notification

@@ -5,7 +5,7 @@ use Rattle.rpc.specs.Messages.{Ident, named, numbered, Request, initialize, shut
 use Rattle.rpc.specs.Messages.{open_text}
 use Rattle.rpc.specs.Messages.{change_text, close, malformed, unfit_open, unfit_change, unfit_close, request, notification, ignored}
 use Rattle.rpc.specs.Messages.{invalid}
-use Rattle.rpc.specs.Messages.{unknown, params, Received, unread, refused, message}
+use Rattle.rpc.specs.Messages.{unknown, params, Received, unread, refused, accepted}
 
 -- the characters of the bytes are Unicode scalar values, and the bytes are their UTF-8
 pub record IsSpelled (bytes : List ℕ) : Type 0 where
@@ -43,6 +43,6 @@ texts_of (refused (invalid None)) = []
 texts_of (refused (invalid (Some id))) = id_texts id
 texts_of (refused (unknown id)) = id_texts id
 texts_of (refused (params id first)) = id_texts id
-texts_of (message (request id request)) = id_texts id ++ request_texts request
-texts_of (message (notification notification)) = notification_texts notification
-texts_of (message ignored) = []
+texts_of (accepted (request id call)) = id_texts id ++ request_texts call
+texts_of (accepted (notification note)) = notification_texts note
+texts_of (accepted ignored) = []

@@ -4,7 +4,7 @@ ghost use Rattle.std.specs.Prelude.{◌≡◌, Some, codes, map, option_map, opt
 ghost use Rattle.serde_json.specs.Find.{get};
 ghost use Rattle.serde_json.specs.View.{view, items_view};
 ghost use Rattle.rpc.specs.Fields.{text_at};
-ghost use Rattle.rpc.specs.Messages.{message, refused, params, its_text, its_tokens, its_tree, its_folds, id_view, change_view, note_view, message_view, fault_view, received_of};
+ghost use Rattle.rpc.specs.Messages.{accepted, refused, params, its_text, its_tokens, its_tree, its_folds, id_view, change_view, note_view, message_view, fault_view, received_of};
 ghost use Rattle.rpc.specs.Reading.{maybe_range, change_of, changes_of, changes_at, read_open, read_change, read_close, initialize_request, document_request, stats_request, selections_request, request_of, notification_of, of_method, message_of, uri_at, positions_at, params_at, Gives, Receives};
 
 use crate::fields::text_at;
@@ -225,7 +225,7 @@ fn request_of(alloc: Global, method: &str, id: Id, params: &Value) -> Result<Mes
 /// The notification of a method. One of an unknown method is ignored.
 fn notification_of(alloc: Global, method: &str, params: &Value) -> Result<Message, AllocError>
     ensures { IfOk result (λ message.
-        message (message_view message) ≡ notification_of method.now (view params.now)) }
+        accepted (message_view message) ≡ notification_of method.now (view params.now)) }
 {
     match method {
         "initialized" => Ok(Message::Notice(Note::Initialized)),
@@ -287,7 +287,7 @@ fn message_of(alloc: Global, value: &Value) -> Result<Message, RpcFault>
 /// The message that a content is (JSON-RPC 2.0). It is refused where the content is no JSON value in
 /// UTF-8 or is nested too deep, where the value is no request, notification or reply, and where the
 /// method of a request is unknown or its parameters don't fit.
-#[tactic(auto, using(crate::proofs::Hearing::received_value, crate::proofs::Hearing::received_unread))]
+#[tactic(auto, using(crate::proofs::Receiving::received_value, crate::proofs::Receiving::received_unread))]
 pub fn read(alloc: Global, content: &[u8]) -> Result<Message, RpcFault>
     // Nothing is received where memory was refused.
     ensures { IfSome (received_of result) (λ received. Receives content.now received) }

@@ -10,7 +10,7 @@ use Rattle.docs.specs.Answers.{AnswersOnce}
 use Rattle.docs.specs.Edits.{CountsOnce}
 use Rattle.docs.specs.Texts.{LastEdit, OpenDocument}
 use Rattle.docs.specs.Grammars.{FileGrammar}
-use Rattle.rpc.specs.Messages.{Ident, Request, initialize, shutdown, about, stats, Question, Notification, initialized, exit, open_text, change_text, close, malformed, unfit_open, unfit_change, unfit_close, call, notification, ignored, Received, unread, refused, message, TextChange}
+use Rattle.rpc.specs.Messages.{Ident, Request, initialize, shutdown, about, stats, Question, Notification, initialized, exit, open_text, change_text, close, malformed, unfit_open, unfit_change, unfit_close, request, notification, ignored, Received, unread, refused, accepted, TextChange}
 use Rattle.rpc.specs.Replies.{Answer, published_diagnostics, log_message, stats_reply}
 use Rattle.rpc.specs.declared.reply.Log.TheVariants.{Lost}
 use Rattle.rpc.specs.declared.reply.Loss.TheVariants.{TooLarge, MalformedChange, NoMemory}
@@ -224,41 +224,41 @@ module _ (file : FileGrammar) (once : AnswersOnce file) (counts : CountsOnce fil
   abbrev Alike : Received → List ℕ → Type 0
   Alike received uri = AreAlikeFor uri received old two → loses_memory uri two other ≡ loses_memory uri old new → SameFor uri answers other_answers stop other_stop new other
 
-  shows_alike : (note : Notification) (uri : List ℕ) → named (message (notification note)) ≡ Some uri → OnNotification old.phase old note answers stop new → OnNotification two.phase two note other_answers other_stop other → Alike (message (notification note)) uri
+  shows_alike : (note : Notification) (uri : List ℕ) → named (accepted (notification note)) ≡ Some uri → OnNotification old.phase old note answers stop new → OnNotification two.phase two note other_answers other_stop other → Alike (accepted (notification note)) uri
   shows_alike initialized uri name a b = absurd (let f : ⊥ = cc in f)
   shows_alike exit uri name a b = absurd (let f : ⊥ = cc in f)
   shows_alike (open_text u version text) uri name a b =
       let there = λ (p : Phase). OnNotification p two (open_text u version text) other_answers other_stop other in
-      subst (Alike (message (notification (open_text u version text)))) (same_name u uri name) (λ look alike. both_hear_open file once counts u old two new other answers other_answers stop other_stop by_file look.held (look.file ∙ by_file) old.phase version text look.room a (subst there look.phase b))
+      subst (Alike (accepted (notification (open_text u version text)))) (same_name u uri name) (λ look alike. both_hear_open file once counts u old two new other answers other_answers stop other_stop by_file look.held (look.file ∙ by_file) old.phase version text look.room a (subst there look.phase b))
   shows_alike (change_text u version changes) uri name a b =
       let there = λ (p : Phase). OnNotification p two (change_text u version changes) other_answers other_stop other in
-      subst (Alike (message (notification (change_text u version changes)))) (same_name u uri name) (λ look alike. both_hear_change file once counts u old two new other answers other_answers stop other_stop by_file look.held (look.file ∙ by_file) old.phase version changes alike a (subst there look.phase b))
+      subst (Alike (accepted (notification (change_text u version changes)))) (same_name u uri name) (λ look alike. both_hear_change file once counts u old two new other answers other_answers stop other_stop by_file look.held (look.file ∙ by_file) old.phase version changes alike a (subst there look.phase b))
   shows_alike (close u) uri name a b =
       let there = λ (p : Phase). OnNotification p two (close u) other_answers other_stop other in
-      subst (Alike (message (notification (close u)))) (same_name u uri name) (λ look alike. both_hear_close file once counts u old two new other answers other_answers stop other_stop by_file look.held (look.file ∙ by_file) old.phase a (subst there look.phase b))
+      subst (Alike (accepted (notification (close u)))) (same_name u uri name) (λ look alike. both_hear_close file once counts u old two new other answers other_answers stop other_stop by_file look.held (look.file ∙ by_file) old.phase a (subst there look.phase b))
   shows_alike (malformed unfit_open) uri name a b = absurd (let f : ⊥ = cc in f)
   shows_alike (malformed (unfit_change None)) uri name a b = absurd (let f : ⊥ = cc in f)
   shows_alike (malformed (unfit_change (Some u))) uri name a b =
       let there = λ (p : Phase). OnNotification p two (malformed (unfit_change (Some u))) other_answers other_stop other in
-      subst (Alike (message (notification (malformed (unfit_change (Some u)))))) (same_name u uri name) (λ look alike. both_hear_misfit file once counts u old two new other answers other_answers stop other_stop by_file look.held (look.file ∙ by_file) old.phase a (subst there look.phase b))
+      subst (Alike (accepted (notification (malformed (unfit_change (Some u)))))) (same_name u uri name) (λ look alike. both_hear_misfit file once counts u old two new other answers other_answers stop other_stop by_file look.held (look.file ∙ by_file) old.phase a (subst there look.phase b))
   shows_alike (malformed unfit_close) uri name a b = absurd (let f : ⊥ = cc in f)
 
-  asks_alike : (id : Ident) (request : Request) (uri : List ℕ) → named (message (call id request)) ≡ Some uri → OnRequest old.phase old id request answers stop new → OnRequest two.phase two id request other_answers other_stop other → Alike (message (call id request)) uri
+  asks_alike : (id : Ident) (call : Request) (uri : List ℕ) → named (accepted (request id call)) ≡ Some uri → OnRequest old.phase old id call answers stop new → OnRequest two.phase two id call other_answers other_stop other → Alike (accepted (request id call)) uri
   asks_alike id (initialize unit) uri name a b = absurd (let f : ⊥ = cc in f)
   asks_alike id shutdown uri name a b = absurd (let f : ⊥ = cc in f)
   asks_alike id (about u question) uri name a b =
       let there = λ (p : Phase). OnRequest p two id (about u question) other_answers other_stop other in
-      subst (Alike (message (call id (about u question)))) (same_name u uri name) (λ look alike. both_ask file once counts u old two new other answers other_answers stop other_stop by_file look.held (look.file ∙ by_file) old.phase id question a (subst there look.phase b))
+      subst (Alike (accepted (request id (about u question)))) (same_name u uri name) (λ look alike. both_ask file once counts u old two new other answers other_answers stop other_stop by_file look.held (look.file ∙ by_file) old.phase id question a (subst there look.phase b))
   asks_alike id (stats u) uri name a b =
       let there = λ (p : Phase). OnRequest p two id (stats u) other_answers other_stop other in
-      subst (Alike (message (call id (stats u)))) (same_name u uri name) (λ look alike. both_ask_counts file once counts u old two new other answers other_answers stop other_stop by_file look.held (look.file ∙ by_file) old.phase id a (subst there look.phase b))
+      subst (Alike (accepted (request id (stats u)))) (same_name u uri name) (λ look alike. both_ask_counts file once counts u old two new other answers other_answers stop other_stop by_file look.held (look.file ∙ by_file) old.phase id a (subst there look.phase b))
 
   step_alike : (received : Received) (uri : List ℕ) → named received ≡ Some uri → Step old received answers stop new → Step two received other_answers other_stop other → Alike received uri
   step_alike unread uri name a b = absurd (let f : ⊥ = cc in f)
   step_alike (refused why) uri name a b = absurd (let f : ⊥ = cc in f)
-  step_alike (message (call id request)) uri name a b = asks_alike id request uri name a b
-  step_alike (message (notification note)) uri name a b = shows_alike note uri name a b
-  step_alike (message ignored) uri name a b = absurd (let f : ⊥ = cc in f)
+  step_alike (accepted (request id call)) uri name a b = asks_alike id call uri name a b
+  step_alike (accepted (notification note)) uri name a b = shows_alike note uri name a b
+  step_alike (accepted ignored) uri name a b = absurd (let f : ⊥ = cc in f)
 
 pub each_document_is_alone : (file : FileGrammar) → AnswersOnce file → CountsOnce file → EachDocumentIsAlone file
 each_document_is_alone file once counts uri received old answers stop new by_file step = (

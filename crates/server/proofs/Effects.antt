@@ -7,7 +7,7 @@ use Rattle.std.proofs.lemmas.List.Elements.{All-from_recursion}
 use Rattle.rpc.specs.Unit.{Unit as Encoding}
 use Rattle.docs.specs.Texts.{OpenDocument, fits}
 use Rattle.docs.specs.Grammars.{FileGrammar}
-use Rattle.rpc.specs.Messages.{Ident, Request, initialize, shutdown, about, stats, Question, its_text, its_tokens, its_tree, its_folds, its_selections, Notification, initialized, exit, open_text, change_text, close, malformed, Unfit, unfit_open, unfit_change, unfit_close, call, notification, ignored, invalid, unknown, params, Received, unread, refused, message, TextChange}
+use Rattle.rpc.specs.Messages.{Ident, Request, initialize, shutdown, about, stats, Question, its_text, its_tokens, its_tree, its_folds, its_selections, Notification, initialized, exit, open_text, change_text, close, malformed, Unfit, unfit_open, unfit_change, unfit_close, request, notification, ignored, invalid, unknown, params, Received, unread, refused, accepted, TextChange}
 use Rattle.rpc.specs.Replies.{Answer}
 use Rattle.rpc.specs.declared.reply.Loss.TheVariants.{TooLarge, MalformedChange}
 use Rattle.server.specs.declared.state.Phase.{Phase}
@@ -114,7 +114,7 @@ module _ (name : Option (List ℕ)) (old : State) (answers : List Answer) (stop 
       stays (subst AreQuiet (sym one) (one_quiet answer quiet)) (ap (λ (x : State). x.file) same) (ap (λ (x : State). x.documents) same)
       (λ all. subst (λ (x : State). AreOfPhase x.phase old.documents) (sym same) (units all))
 
-  asks_effect : (phase : Phase) → old.phase ≡ phase → (id : Ident) (request : Request) → OnRequest phase old id request answers stop new → Effect name old answers stop new
+  asks_effect : (phase : Phase) → old.phase ≡ phase → (id : Ident) (call : Request) → OnRequest phase old id call answers stop new → Effect name old answers stop new
   asks_effect New at id (initialize unit) s =
       entered (Ready unit) _ (λ uri p. p)
       (λ all uri d found. let none : ⊥ = subst (λ (p : Phase). AreOfPhase p old.documents) at all uri d found in absurd none) s.0 s.2
@@ -125,7 +125,7 @@ module _ (name : Option (List ℕ)) (old : State) (answers : List Answer) (stop 
   asks_effect (Ready unit) at id shutdown s = entered Down _ (λ uri p. p) (λ all uri d found. tt) s.0 s.2
   asks_effect (Ready unit) at id (about uri question) s = replied s.0 (answer_quiet old.file id (get old.documents uri) question s.0 s.1) s.2
   asks_effect (Ready unit) at id (stats uri) s = replied s.0 (count_quiet old.file id (get old.documents uri) s.0 s.1) s.2
-  asks_effect Down at id request s = replied _ (λ uri p. p) s
+  asks_effect Down at id call s = replied _ (λ uri p. p) s
 
   opens_effect : (room : Bool) (uri : List ℕ) (state : DocumentState) → name ≡ Some uri → IsFit state → (AreOfPhase old.phase old.documents → StandsIn old.phase state) → Opens room old uri state answers stop new → Effect name old answers stop new
   opens_effect true uri state is fit unit s = stands uri state is (λ all. fit) unit s
@@ -145,13 +145,13 @@ module _ (name : Option (List ℕ)) (old : State) (answers : List Answer) (stop 
   closes_effect None uri is s = replied _ (λ uri p. p) s
   closes_effect (Some state) uri is s = goes uri is s
 
-  misses_effect : (unfit : Unfit) → name ≡ named (message (notification (malformed unfit))) → OnMalformed old unfit answers stop new → Effect name old answers stop new
+  misses_effect : (unfit : Unfit) → name ≡ named (accepted (notification (malformed unfit))) → OnMalformed old unfit answers stop new → Effect name old answers stop new
   misses_effect unfit_open is s = replied _ (λ uri p. p) s
   misses_effect (unfit_change None) is s = replied _ (λ uri p. p) s
   misses_effect (unfit_change (Some uri)) is s = spoils_effect (get old.documents uri) uri is s
   misses_effect unfit_close is s = replied _ (λ uri p. p) s
 
-  shows_effect : (phase : Phase) → old.phase ≡ phase → (note : Notification) → name ≡ named (message (notification note)) → OnNotification phase old note answers stop new → Effect name old answers stop new
+  shows_effect : (phase : Phase) → old.phase ≡ phase → (note : Notification) → name ≡ named (accepted (notification note)) → OnNotification phase old note answers stop new → Effect name old answers stop new
   shows_effect New at initialized is s = silent s.0 s.2
   shows_effect New at exit is s = silent s.0 s.2
   shows_effect New at (open_text uri version text) is s = silent s.0 s.2
@@ -176,9 +176,9 @@ module _ (name : Option (List ℕ)) (old : State) (answers : List Answer) (stop 
   effect_of (refused (invalid id)) is s = replied _ (λ uri p. p) s
   effect_of (refused (unknown id)) is s = replied _ (λ uri p. p) s
   effect_of (refused (params id first)) is s = replied _ (λ uri p. p) s
-  effect_of (message (call id request)) is s = asks_effect old.phase refl id request s
-  effect_of (message (notification note)) is s = shows_effect old.phase refl note is s
-  effect_of (message ignored) is s = silent s.0 s.2
+  effect_of (accepted (request id call)) is s = asks_effect old.phase refl id call s
+  effect_of (accepted (notification note)) is s = shows_effect old.phase refl note is s
+  effect_of (accepted ignored) is s = silent s.0 s.2
 
 pub step_effect : (old : State) (answers : List Answer) (stop : Option ℕ) (new : State) (received : Received) → Step old received answers stop new → Effect (named received) old answers stop new
 step_effect old answers stop new received s = effect_of (named received) old answers stop new received refl s

@@ -11,7 +11,7 @@ use Rattle.docs.specs.Answers.{Reading, AlwaysAnswers, AnswersOnce, AreSelection
 use Rattle.docs.specs.Texts.{LastEdit, OpenDocument, fits}
 use Rattle.docs.proofs.Texts.{spelled_again}
 use Rattle.docs.specs.Grammars.{FileGrammar}
-use Rattle.rpc.specs.Messages.{Ident, numbered, Question, its_text, its_tokens, its_tree, its_folds, its_selections, about, open_text, change_text, request, notification, Received, message, TextChange}
+use Rattle.rpc.specs.Messages.{Ident, numbered, Question, its_text, its_tokens, its_tree, its_folds, its_selections, about, open_text, change_text, request, notification, Received, accepted, TextChange}
 use Rattle.rpc.specs.Reading.{received_in}
 use Rattle.rpc.specs.Replies.{Answer, tokens_reply, folds_reply, selections_reply, published_diagnostics, log_message}
 use Rattle.rpc.specs.declared.reply.Log.TheVariants.{Lost}
@@ -181,7 +181,7 @@ record HasOpen (file : FileGrammar) (uri : List ℕ) (document : OpenDocument) (
 
 -- opening a text in the ready state is to hold it
 opens_is : (file : FileGrammar) (unit : Encoding) (uri : List ℕ) (version : ℤ) (bytes text : List ℕ) (answers : List Answer) (stop : Option ℕ) (state : State) → chars bytes ≡ text → fits text ≡ true
-    → Step (ready_state file unit) (message (notification (open_text uri version bytes))) answers stop state ≡ Holds (ready_state file unit) uri (is_open (document_of unit version text)) answers stop state
+    → Step (ready_state file unit) (accepted (notification (open_text uri version bytes))) answers stop state ≡ Holds (ready_state file unit) uri (is_open (document_of unit version text)) answers stop state
 opens_is file unit uri version bytes text answers stop state spelled fit =
     let old = ready_state file unit in
     ap (λ b. Opens b old uri (new_document unit version (chars bytes)) answers stop state) (room_first uri)
@@ -189,7 +189,7 @@ opens_is file unit uri version bytes text answers stop state spelled fit =
 
 fresh_holds : (file : FileGrammar) (unit : Encoding) (uri : List ℕ) (version : ℤ) (text : List ℕ) (published : Answer) (state : State) → fits text ≡ true → IsFresh file unit uri version text published state → Holds (ready_state file unit) uri (is_open (document_of unit version text)) (published ∷ []) None state
 fresh_holds file unit uri version text published state fit f =
-    let opens : Step (ready_state file unit) (message (notification (open_text uri version f.bytes))) (published ∷ []) None state = subst (λ (s : State). Step s (message (notification (open_text uri version f.bytes))) (published ∷ []) None state) f.initializes.2 f.opens in
+    let opens : Step (ready_state file unit) (accepted (notification (open_text uri version f.bytes))) (published ∷ []) None state = subst (λ (s : State). Step s (accepted (notification (open_text uri version f.bytes))) (published ∷ []) None state) f.initializes.2 f.opens in
     subst (λ (T : Type 0). T) (opens_is file unit uri version f.bytes text (published ∷ []) None state f.spelled fit) opens
 
 fresh_has : (file : FileGrammar) (unit : Encoding) (uri : List ℕ) (version : ℤ) (text : List ℕ) (published : Answer) (state : State) → Holds (ready_state file unit) uri (is_open (document_of unit version text)) (published ∷ []) None state → HasOpen file uri (document_of unit version text) state
@@ -216,7 +216,7 @@ some_fresh file unit uri version text published fit is =
 -- ---- the answers of both
 
 -- the only answer about a document is the only reply of a server that has it open
-replies_only : (file : FileGrammar) (uri : List ℕ) (d : OpenDocument) (state : State) → HasOpen file uri d state → (id : Ident) (question : Question) (answer : Answer) → IsAnswerOf file id d question answer → ((other : Answer) → IsAnswerOf file id d question other → other ≡ answer) → RepliesOnly state (message (request id (about uri question))) answer
+replies_only : (file : FileGrammar) (uri : List ℕ) (d : OpenDocument) (state : State) → HasOpen file uri d state → (id : Ident) (question : Question) (answer : Answer) → IsAnswerOf file id d question answer → ((other : Answer) → IsAnswerOf file id d question other → other ≡ answer) → RepliesOnly state (accepted (request id (about uri question))) answer
 replies_only file uri d state has id question answer is only =
     let here : (a : Answer) → IsAnswer state.file id (get state.documents uri) question a ≡ IsAnswerOf file id d question a =
     λ a. ap (λ (f : FileGrammar). IsAnswer f id (get state.documents uri) question a) has.by_file ∙ ap (λ (o : Option DocumentState). IsAnswer file id o question a) has.held in

@@ -9,7 +9,7 @@ use Rattle.docs.specs.Answers.{AlwaysAnswers, Reading, IsReading}
 use Rattle.docs.specs.Edits.{AreStats, ReportsLast}
 use Rattle.docs.specs.Texts.{LastEdit, OpenDocument, fits}
 use Rattle.docs.specs.Grammars.{FileGrammar}
-use Rattle.rpc.specs.Messages.{Ident, Request, Question, its_text, its_tokens, its_tree, its_folds, its_selections, initialize, shutdown, about, stats, Notification, initialized, exit, open_text, change_text, close, malformed, Unfit, unfit_open, unfit_change, unfit_close, call, notification, ignored, invalid, unknown, params, Received, unread, refused, message, TextChange}
+use Rattle.rpc.specs.Messages.{Ident, Request, Question, its_text, its_tokens, its_tree, its_folds, its_selections, initialize, shutdown, about, stats, Notification, initialized, exit, open_text, change_text, close, malformed, Unfit, unfit_open, unfit_change, unfit_close, request, notification, ignored, invalid, unknown, params, Received, unread, refused, accepted, TextChange}
 use Rattle.rpc.specs.Reading.{received_in}
 use Rattle.rpc.specs.Replies.{Answer, folds_reply, selections_reply, published_diagnostics}
 use Rattle.rpc.specs.declared.reply.Loss.TheVariants.{MalformedChange}
@@ -126,7 +126,7 @@ module _ (old : State) (can : CanServe old) where
   some_misses (unfit_change (Some uri)) = some_spoils (get old.documents uri) uri
   some_misses unfit_close = (_, _, _, (refl, refl, refl))
 
-  some_asks : (phase : Phase) (id : Ident) (request : Request) → SomeStep (OnRequest phase old id request)
+  some_asks : (phase : Phase) (id : Ident) (call : Request) → SomeStep (OnRequest phase old id call)
   some_asks New id (initialize unit) = (_, _, _, (refl, refl, refl))
   some_asks New id shutdown = (_, _, _, (refl, refl, refl))
   some_asks New id (about uri question) = (_, _, _, (refl, refl, refl))
@@ -139,7 +139,7 @@ module _ (old : State) (can : CanServe old) where
   some_asks (Ready unit) id (stats uri) =
       let some = some_count old.file can.always id (get old.documents uri) (λ d e. can.fit uri d e) in
       (some.0 ∷ [], None, old, (some.0, some.1, (refl, refl, refl)))
-  some_asks Down id request = (_, _, _, (refl, refl, refl))
+  some_asks Down id call = (_, _, _, (refl, refl, refl))
 
   some_shows : (phase : Phase) (note : Notification) → SomeStep (OnNotification phase old note)
   some_shows New initialized = (_, _, _, (refl, refl, refl))
@@ -166,9 +166,9 @@ module _ (old : State) (can : CanServe old) where
   some_step (refused (invalid id)) = (_, _, _, (refl, refl, refl))
   some_step (refused (unknown id)) = (_, _, _, (refl, refl, refl))
   some_step (refused (params id first)) = (_, _, _, (refl, refl, refl))
-  some_step (message (call id request)) = some_asks old.phase id request
-  some_step (message (notification note)) = some_shows old.phase note
-  some_step (message ignored) = (_, _, _, (refl, refl, refl))
+  some_step (accepted (request id call)) = some_asks old.phase id call
+  some_step (accepted (notification note)) = some_shows old.phase note
+  some_step (accepted ignored) = (_, _, _, (refl, refl, refl))
 
 pub some_run : (old : State) → CanServe old → (contents : List (List ℕ)) → (answers : List Answer) × (stop : Option ℕ) × (new : State) × Run old contents answers stop new
 some_run old can [] = ([], None, old, (refl, refl, refl))

@@ -4,7 +4,7 @@ use Rattle.std.specs.FinMap.{get}
 use Rattle.docs.specs.Grammars.{FileGrammar}
 use Rattle.rpc.specs.declared.reply.Loss.TheVariants.{NoMemory}
 use Rattle.rpc.specs.Messages.{request, about, stats, notification, open_text, change_text, close, malformed, unfit_change, Received}
-use Rattle.rpc.specs.Messages.{message}
+use Rattle.rpc.specs.Messages.{accepted}
 use Rattle.rpc.specs.Reading.{received_in}
 use Rattle.rpc.specs.Replies.{Answer}
 use Rattle.server.specs.Answers.{but_nodes}
@@ -17,17 +17,17 @@ use Rattle.server.specs.declared.state.Phase.{Phase}
 -- `named received`: the URI of the document that a message names, if it names one; a message whose parameters don't fit names none, but for
 -- a change whose URI can be read
 abbrev pub named : Received → Option (List ℕ)
-named (message (request id (about uri question))) = Some uri
-named (message (request id (stats uri))) = Some uri
-named (message (notification (open_text uri version text))) = Some uri
-named (message (notification (change_text uri version changes))) = Some uri
-named (message (notification (close uri))) = Some uri
-named (message (notification (malformed (unfit_change (Some uri))))) = Some uri
+named (accepted (request id (about uri question))) = Some uri
+named (accepted (request id (stats uri))) = Some uri
+named (accepted (notification (open_text uri version text))) = Some uri
+named (accepted (notification (change_text uri version changes))) = Some uri
+named (accepted (notification (close uri))) = Some uri
+named (accepted (notification (malformed (unfit_change (Some uri))))) = Some uri
 named _ = None
 
 -- `finds_room uri state received`: there is room for the document that the message opens; a message that opens none asks for no room
 abbrev pub finds_room : List ℕ → State → Received → Bool
-finds_room uri state (message (notification (open_text other version text))) = has_room uri state.documents
+finds_room uri state (accepted (notification (open_text other version text))) = has_room uri state.documents
 finds_room uri state _ = true
 
 -- `loses old new`: what is held was an open document, and is lost because memory was refused

@@ -4,7 +4,7 @@ use Rattle.std.specs.Str.{chars}
 use Rattle.std.specs.FinMap.{get}
 use Rattle.rpc.specs.Unit.{Unit as Encoding}
 use Rattle.docs.specs.Grammars.{FileGrammar}
-use Rattle.rpc.specs.Messages.{Ident, initialize, Question, about, open_text, change_text, request, notification, message, TextChange}
+use Rattle.rpc.specs.Messages.{Ident, initialize, Question, about, open_text, change_text, request, notification, accepted, TextChange}
 use Rattle.rpc.specs.Messages.{Received}
 use Rattle.rpc.specs.Replies.{Answer, capabilities_reply, published_diagnostics}
 use Rattle.docs.specs.Texts.{LastEdit, OpenDocument}
@@ -21,8 +21,8 @@ pub record IsFresh (file : FileGrammar) (unit : Encoding) (uri : List ℕ) (vers
   pub bytes : List ℕ
   pub mid : State
   pub spelled : chars bytes ≡ text
-  pub initializes : Step (first_state file) (message (request id (initialize unit))) (capabilities_reply id unit ∷ []) None mid
-  pub opens : Step mid (message (notification (open_text uri version bytes))) (published ∷ []) None state
+  pub initializes : Step (first_state file) (accepted (request id (initialize unit))) (capabilities_reply id unit ∷ []) None mid
+  pub opens : Step mid (accepted (notification (open_text uri version bytes))) (published ∷ []) None state
 
 -- on what was received there is one reply, this one, and nothing changes
 pub record RepliesOnly (state : State) (received : Received) (answer : Answer) : Type 0 where
@@ -33,7 +33,7 @@ pub record RepliesOnly (state : State) (received : Received) (answer : Answer) :
 -- to each question about the document both have one answer, the same
 abbrev pub AnswerAlike : List ℕ → State → State → Type 0
 AnswerAlike uri one other = (id : Ident) (question : Question) →
-    let received = message (request id (about uri question)) in
+    let received = accepted (request id (about uri question)) in
     (answer : Answer) × RepliesOnly one received answer × RepliesOnly other received answer
 
 -- `Publishes uri answer`: the answer publishes diagnostics of the URI
@@ -65,7 +65,7 @@ EachTextIsItsEdits =
     (old new : State) (unit : Encoding) (uri : List ℕ) (version : ℤ) (changes : List TextChange) (document : OpenDocument) (text : List ℕ)
     (answers : List Answer) (stop : Option ℕ)
     → old.phase ≡ Ready unit → get old.documents uri ≡ Some (is_open document) → edited document.unit document.text changes ≡ Some text
-    → Step old (message (notification (change_text uri version changes))) answers stop new
+    → Step old (accepted (notification (change_text uri version changes))) answers stop new
     → (((last : Option LastEdit)
     × (get new.documents uri ≡ Some (is_open (record { unit = document.unit; version = version; text = text; last = last }))))
     ⊎ (get new.documents uri ≡ Some (is_lost NoMemory)))

@@ -13,8 +13,8 @@ use Rattle.rpc.specs.declared.reply.Log.TheVariants.{TooManyDocuments, Lost}
 use Rattle.rpc.specs.declared.reply.Loss.TheVariants.{TooLarge, MalformedChange}
 use Rattle.rpc.specs.Messages.{Ident, Request, initialize, shutdown, about, stats, Notification, exit, open_text, change_text, close}
 use Rattle.rpc.specs.Messages.{malformed}
-use Rattle.rpc.specs.Messages.{Unfit, unfit_open, unfit_change, unfit_close, call, notification, ignored, invalid, unknown, params}
-use Rattle.rpc.specs.Messages.{TextChange, Received, unread, refused, message}
+use Rattle.rpc.specs.Messages.{Unfit, unfit_open, unfit_change, unfit_close, request, notification, ignored, invalid, unknown, params}
+use Rattle.rpc.specs.Messages.{TextChange, Received, unread, refused, accepted}
 use Rattle.rpc.specs.Replies.{Answer, capabilities_reply, null_reply, error_reply, published_diagnostics, log_message}
 use Rattle.server.specs.Documents.{DocumentState, is_open, is_lost, Held, Becomes, has_room}
 use Rattle.server.specs.Answers.{IsAnswer, IsCount, IsPublished}
@@ -179,9 +179,9 @@ Step old unread answers stop new = Replies old (error_reply None ParseError) ans
 Step old (refused (invalid id)) answers stop new = Replies old (error_reply id InvalidRequest) answers stop new
 Step old (refused (unknown id)) answers stop new = Replies old (error_reply (Some id) (unknown_in old.phase)) answers stop new
 Step old (refused (params id first)) answers stop new = Replies old (error_reply (Some id) (params_in old.phase first)) answers stop new
-Step old (message (call id request)) answers stop new = OnRequest old.phase old id request answers stop new
-Step old (message (notification note)) answers stop new = OnNotification old.phase old note answers stop new
-Step old (message ignored) answers stop new = Ignores old answers stop new
+Step old (accepted (request id call)) answers stop new = OnRequest old.phase old id call answers stop new
+Step old (accepted (notification note)) answers stop new = OnNotification old.phase old note answers stop new
+Step old (accepted ignored) answers stop new = Ignores old answers stop new
 
 -- `StepOn received old answers stop new`: something was received, and the server makes this `Step` on it
 abbrev pub StepOn : Option Received → State → List Answer → Option ℕ → State → Type 0

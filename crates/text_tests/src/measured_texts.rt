@@ -55,7 +55,7 @@ fn breaks_after(text: &Text, n: u32) -> bool {
 
 /// The text of a line and what stands after it.
 fn text_after(rt: &impl Abort, alloc: Global, line: &str, following: &str) -> Text {
-    let text = format!(in alloc; "{line}{behind}").expect(rt, "memory");
+    let text = format!(in alloc; "{line}{following}").expect(rt, "memory");
     Text::open(alloc, text.as_str()).expect(rt, "a text")
 }
 
@@ -75,7 +75,7 @@ fn join_break(rt: &impl Abort, alloc: Global, text: &mut Text, following: usize)
 fn check_joined_break(rt: &impl Abort, alloc: Global, line: &str, n: u32) {
     let mut joined = text_after(rt, alloc, line, "\ry");
     join_break(rt, alloc, &mut joined, n as usize + 1);
-    assert!(rt; breaks_after(&joined, n), "joined behind a line of {n}");
+    assert!(rt; breaks_after(&joined, n), "joined after a line of {n}");
 }
 
 #[test]

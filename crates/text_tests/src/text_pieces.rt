@@ -18,7 +18,7 @@ fn ended(characters: u32, bytes: u32, breaks: u32) -> Sums {
         characters,
         bytes,
         breaks,
-        after: Units {
+        units_after: Units {
             utf8: 0,
             utf16: 0,
             utf32: 0,

@@ -19,9 +19,9 @@
 //!             positions += o * (10000 * line + units(start, min(o, end)))
 //!         for line, first in places:
 //!             start, end = lines[line] if line < len(lines) else (len(text), len(text))
-//!             behind = [units(start, o) for o in range(start, end + 1)]
+//!             after = [units(start, o) for o in range(start, end + 1)]
 //!             for c in range(first, first + 12):
-//!                 offsets += (10000 * line + c) * (start + bisect.bisect_right(behind, c) - 1)
+//!                 offsets += (10000 * line + c) * (start + bisect.bisect_right(after, c) - 1)
 //!         print((positions, offsets), end=",\n")
 //! ```
 
@@ -142,7 +142,7 @@ const PLACES: &[(u32, u32)] = &[
 fn text_around(rt: &impl Abort, alloc: Global, count: usize, between: &str) -> Text {
     let before = filled(rt, alloc, 'x', count);
     let after = filled(rt, alloc, 'z', 1_100);
-    let text = format!(in alloc; "{before}{between}{behind}").expect(rt, "memory");
+    let text = format!(in alloc; "{before}{between}{after}").expect(rt, "memory");
     Text::open(alloc, text.as_str()).expect(rt, "a text")
 }
 
