@@ -6,7 +6,7 @@ use Rattle.definitions.specs.Trees.{Grammar}
 use Rattle.definitions.specs.Derivations.{first}
 use Rattle.definitions.specs.Items.{Move, Shift, Reduce, Accept, CallsFor, kind_of}
 use Rattle.item_sets.specs.declared.item.Item.{Item}
-use Rattle.item_sets.specs.Sets.{item_of, after}
+use Rattle.item_sets.specs.Sets.{item_of, after_dot}
 
 pub kind_back : (x y : Option ℕ) → kind_of x ≡ kind_of y → x ≡ y
 kind_back None None e = refl
@@ -16,19 +16,19 @@ kind_back (Some a) (Some b) e = let k : a ≡ b = cc e in ap (λ n. Some n) k
 
 module _ (g : Grammar) (i : Item) (look : Option ℕ) where
   -- an item before a token rule calls at that rule alone
-  pub calls_at_rule : (a : ℕ) → first (after g i) ≡ Some (Terminal a) → (m : Move) → CallsFor (item_of g i) (kind_of look) m → look ≡ Some a
+  pub calls_at_rule : (a : ℕ) → first (after_dot g i) ≡ Some (Terminal a) → (m : Move) → CallsFor (item_of g i) (kind_of look) m → look ≡ Some a
   calls_at_rule a e Shift (b, rest, f, n) = let s : b ≡ a = cc (sym (ap first f) ∙ e) in kind_back look (Some a) (n ∙ ap (λ x. Some (Token x)) s)
   calls_at_rule a e (Reduce p) (x, f, n) = absurd (cc (sym (ap first f) ∙ e))
   calls_at_rule a e Accept (x, f, n) = absurd (cc (sym (ap first f) ∙ e))
 
   -- one before a nonterminal calls for nothing
-  pub calls_nowhere : (n : ℕ) → first (after g i) ≡ Some (Nonterminal n) → (m : Move) → CallsFor (item_of g i) (kind_of look) m → ⊥
+  pub calls_nowhere : (n : ℕ) → first (after_dot g i) ≡ Some (Nonterminal n) → (m : Move) → CallsFor (item_of g i) (kind_of look) m → ⊥
   calls_nowhere n e Shift (b, rest, f, k) = cc (sym (ap first f) ∙ e)
   calls_nowhere n e (Reduce p) (x, f, k) = cc (sym (ap first f) ∙ e)
   calls_nowhere n e Accept (x, f, k) = cc (sym (ap first f) ∙ e)
 
   -- one at the end calls at its lookahead alone
-  pub calls_at_end : first (after g i) ≡ None → (m : Move) → CallsFor (item_of g i) (kind_of look) m → look ≡ i.look
+  pub calls_at_end : first (after_dot g i) ≡ None → (m : Move) → CallsFor (item_of g i) (kind_of look) m → look ≡ i.look
   calls_at_end e Shift (b, rest, f, k) = absurd (cc (sym (ap first f) ∙ e))
   calls_at_end e (Reduce p) (x, f, k) = kind_back look i.look k
   calls_at_end e Accept (x, f, k) = kind_back look i.look k

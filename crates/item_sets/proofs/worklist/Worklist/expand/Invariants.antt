@@ -8,6 +8,6 @@ abbrev pub invariant-loop-p : goal.invariant-loop-p
 invariant-loop-p l = record {
   entries : AreEntries l.grammar l.self;
   grows : Grows l.initial.self l.self;
-  entered : (i d : ℕ) → i < l.p-index → AreListed l.grammar l.self.rows (right_of l.grammar.grammar (slice_index_or l.p-items i d)) (lookahead_at l.insert_new.column);
-  only : (n k : ℕ) → marked l.self.rows n k ≡ true → (marked l.initial.self.rows n k ≡ true) ⊎ IsExpanded l.grammar.grammar l.insert_new.nonterminal l.insert_new.column n k;
+  entered : (i d : ℕ) → i < l.p-index → AreListed l.grammar l.self.rows (right_of l.grammar.grammar (slice_index_or l.p-items i d)) (lookahead_at l.entry.column);
+  only : (n k : ℕ) → marked l.self.rows n k ≡ true → (marked l.initial.self.rows n k ≡ true) ⊎ IsExpanded l.grammar.grammar l.entry.nonterminal l.entry.column n k;
 }
