@@ -7,7 +7,7 @@ use worked::SUMS;
 
 /// The grammar of a file that is given in two parts.
 pub fn read_both(rt: &impl Abort, alloc: Global, prefix: &str, lines: &str) -> Grammar {
-    let file = format!(in alloc; "{front}{lines}").expect(rt, "memory");
+    let file = format!(in alloc; "{prefix}{lines}").expect(rt, "memory");
     Grammar::read(alloc, &file).expect(rt, "a grammar")
 }
 
