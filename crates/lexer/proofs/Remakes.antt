@@ -144,7 +144,7 @@ module _ (rules : List Expression) (skips : List Bool) (e : Edit) (items : List 
             )
 
     pub needed : (i : ℕ) → prefix_end e items + characters made < length u → IsWithinReach rules u (prefix_end e items + characters made) i → IsNeeded rules e items u i
-    needed i lt w = record { past = omega (arith, w.past); inside = w.inside; reached = reached_by i lt w }
+    needed i lt w = record { past = omega (arith, w.after); inside = w.inside; reached = reached_by i lt w }
 
 pub earlier_one : (e : Edit) (items : List Token) (from : ℕ) (made : List Token) (x : Token)
     → ((k : ℕ) → k < length made → is_rejoined e (plain_all items) (from + characters (take k made)) ≡ false)

@@ -36,19 +36,19 @@ old_input t kinds cells parse h =
     let ts = plain_of cells parse.stack in
     let all = all_kinds ts in
     let n : 0 + length all ≡ length all = omega arith in
-    let first_input = stacked_prefix t.grammar kinds (verdict_in cells parse.verdict) ts h.stop.verdict h.stop.stack in
+    let prefix = stacked_prefix t.grammar kinds (verdict_in cells parse.verdict) ts h.stop.verdict h.stop.stack in
     record {
       below = h.stop.below;
       parts = roots_parts t.grammar ts h.stop.roots h.stop.are_roots;
-      covers = kinds-append ts (leaves (drop (0 + length all) kinds)) ∙ ap (λ l. all ++ l) (kinds_leaves (drop (0 + length all) kinds)) ∙ ap (λ m. all ++ drop m kinds) n ∙ ap (λ l. all ++ drop (length all) l) first_input.1 ∙ ap (λ l. all ++ l) (drop-append_seam all first_input.0) ∙ sym first_input.1;
+      covers = kinds-append ts (leaves (drop (0 + length all) kinds)) ∙ ap (λ l. all ++ l) (kinds_leaves (drop (0 + length all) kinds)) ∙ ap (λ m. all ++ drop m kinds) n ∙ ap (λ l. all ++ drop (length all) l) prefix.1 ∙ ap (λ l. all ++ l) (drop-append_seam all prefix.0) ∙ sym prefix.1;
     }
 
 -- and no more kinds than can be counted
 pub stack_countable : (t : Sets) (kinds : List Kind) (cells : List Cell) (parse : Stop) → IsParseOf t kinds cells parse → place_of (plain_of cells parse.stack) ≤ most
 stack_countable t kinds cells parse h =
     let ts = plain_of cells parse.stack in
-    let first_input = stacked_prefix t.grammar kinds (verdict_in cells parse.verdict) ts h.stop.verdict h.stop.stack in
-    omega (arith, h.countable, ap length first_input.1, length-append (all_kinds ts) first_input.0)
+    let prefix = stacked_prefix t.grammar kinds (verdict_in cells parse.verdict) ts h.stop.verdict h.stop.stack in
+    omega (arith, h.countable, ap length prefix.1, length-append (all_kinds ts) prefix.0)
 
 module _ (g : Grammar) where
   settled_answer : (x tail : List Kind) (settled stack : List Tree) → IsSettled g x settled → stack ≡ settled ++ last_leaf x → AreAnswer g (x ++ tail) stack ⊎ (stack ≡ [])

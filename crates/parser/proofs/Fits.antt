@@ -4,7 +4,7 @@ use Rattle.std.proofs.Common.{◌≡◌, ℕ, ◌+◌, ◌≤◌, List, [], ◌�
 use Rattle.definitions.specs.declared.Kind.{Kind}
 use Rattle.definitions.specs.Nodes.{branches, all_branches}
 use Rattle.definitions.specs.Trees.{Grammar, Tree, Branch, Leaf, all_kinds, trees}
-use Rattle.theory.specs.Reuse.{FirstInput, Take, AtToken, AtEnd, Tries, Nothing_left, Dropped, Passed, Opened, At_token, Goes_on, Ends, Reuses, Takes_token, Makes}
+use Rattle.theory.specs.Reuse.{NextInput, Take, AtToken, AtEnd, Tries, Nothing_left, Dropped, Passed, Opened, At_token, Goes_on, Ends, Reuses, Takes_token, Makes}
 use Rattle.theory.proofs.KeptIsReused.{branches-append, branches-trees}
 use Rattle.trees.specs.declared.store.Child.{Child}
 use Rattle.trees.specs.Cells.{Cell}
@@ -14,13 +14,13 @@ use Rattle.parser.specs.Input.{leaves, input_of}
 use Rattle.parser.specs.Run.{IsMadeByRun, makes}
 
 -- the branches of what an offer leaves
-abbrev offered : FirstInput → ℕ
+abbrev offered : NextInput → ℕ
 offered (Take t ts) = branches t + all_branches ts
 offered (AtToken k ts) = all_branches ts
 offered AtEnd = 0
 
 module _ (g : Grammar) where
-  tries_fit : {s i : List Tree} {f : FirstInput} → Tries g s i f → offered f ≤ all_branches i
+  tries_fit : {s i : List Tree} {f : NextInput} → Tries g s i f → offered f ≤ all_branches i
   tries_fit Nothing_left = omega arith
   tries_fit (Dropped e d) = omega (arith, tries_fit d)
   tries_fit (Passed c) = omega arith

@@ -38,8 +38,8 @@ pub place-append : (one two : List Tree) → place_of (one ++ two) ≡ place_of 
 place-append one two = ap length (kinds-append one two) ∙ length-append (all_kinds one) (all_kinds two)
 
 -- the kinds before a node that stands after these trees
-split_place : (first_input more at lefts : List Tree) → all_kinds at ≡ all_kinds lefts → at ≡ first_input ++ more → place_of first_input + place_of more ≡ place_of lefts
-split_place first_input more at lefts same e = omega (arith, ap length same, ap place_of e, place-append first_input more)
+split_place : (prefix more at lefts : List Tree) → all_kinds at ≡ all_kinds lefts → at ≡ prefix ++ more → place_of prefix + place_of more ≡ place_of lefts
+split_place prefix more at lefts same e = omega (arith, ap length same, ap place_of e, place-append prefix more)
 
 module _ (s : Splice) where
   -- what stands before the splice, or after it, is not touched
@@ -84,12 +84,12 @@ module _ (s : Splice) where
     );
   }
 
-  module _ (cells : List Cell) (ordered : s.from ≤ s.to) (changes : s.from ≡ s.to → length s.kinds ≢ 0) {old first_input back : List Child} (first : Cut cells s.from old first_input back) where
+  module _ (cells : List Cell) (ordered : s.from ≤ s.to) (changes : s.from ≡ s.to → length s.kinds ≢ 0) {old prefix back : List Child} (first : Cut cells s.from old prefix back) where
     abbrev olds : List Tree
     olds = plain_of cells old
 
     abbrev prefixes : List Tree
-    prefixes = plain_of cells first_input
+    prefixes = plain_of cells prefix
 
     abbrev backs : List Tree
     backs = plain_of cells back

@@ -37,9 +37,9 @@ pub below-append : (n : ℕ) (xs ys : List Child) → AreBelow n xs → AreBelow
 below-append n [] ys h k = k
 below-append n (x ∷ xs) ys h k = (h.0, below-append n xs ys h.1 k)
 
-pub below-first_input : (n : ℕ) (xs ys : List Child) → AreBelow n (xs ++ ys) → AreBelow n xs
-below-first_input n [] ys h = tt
-below-first_input n (x ∷ xs) ys h = (h.0, below-first_input n xs ys h.1)
+pub below-prefix : (n : ℕ) (xs ys : List Child) → AreBelow n (xs ++ ys) → AreBelow n xs
+below-prefix n [] ys h = tt
+below-prefix n (x ∷ xs) ys h = (h.0, below-prefix n xs ys h.1)
 
 pub below-drop : (n k : ℕ) (cs : List Child) → AreBelow n cs → AreBelow n (drop k cs)
 below-drop n zero cs h = h
@@ -97,7 +97,7 @@ reduced g cells new stack stack' p number m b look symbols roots called left rig
       production = production;
       size = sym (ap length are) ∙ plain-length cells m.kids ∙ long;
       from_is = ap (plain_of cells) m.stack_is ∙ plain-append cells m.under m.kids ∙ ap (λ l. plain_of cells m.under ++ l) are;
-      to_is = ap (plain_of new) m.stack_is' ∙ made_trees cells new p number m.under m.kids m.id m.grown (below-first_input (length cells) m.under m.kids (subst (AreBelow (length cells)) m.stack_is b));
+      to_is = ap (plain_of new) m.stack_is' ∙ made_trees cells new p number m.under m.kids m.id m.grown (below-prefix (length cells) m.under m.kids (subst (AreBelow (length cells)) m.stack_is b));
     }
 
 module _ (t : Sets) (stack : List Tree) (states : List ℕ) (h : HasStates t stack states) (symbols : List Symbol) (roots : HaveRoots t.grammar stack symbols) (left : ℕ) (right : List Symbol) (k : Handle t.grammar stack symbols left right) (n : ℕ) (at : n + length right ≡ length stack) where
@@ -120,30 +120,30 @@ module _ (t : Sets) (stack : List Tree) (states : List ℕ) (h : HasStates t sta
       let lt : length k.d < n + 1 = omega (arith, depth) in
       let is : get_or (take (n + 1) states) (length (take (n + 1) states) - 1) 0 ≡ get_or states (length k.d) 0 = ap (λ i. get_or (take (n + 1) states) i 0) top ∙ get_prefix (n + 1) (length k.d) states lt in
       let there : IsStateOf t (take (length k.d) h.symbols) (get_or states (length k.d) 0) = h.each (length k.d) (omega (arith, depth, long)) in
-      let first_input : take (length k.d) h.symbols ≡ k.d = ap (take (length k.d)) same ∙ take_prefix k.d right in
-      subst (λ s. IsStateOf t k.d s) (sym is) (subst (λ l. IsStateOf t l (get_or states (length k.d) 0)) first_input there)
+      let prefix : take (length k.d) h.symbols ≡ k.d = ap (take (length k.d)) same ∙ take_prefix k.d right in
+      subst (λ s. IsStateOf t k.d s) (sym is) (subst (λ l. IsStateOf t l (get_or states (length k.d) 0)) prefix there)
 
   -- and with the state that goes on from it, the states above the reduced stack
   pub states_after : (stack' : List Tree) (next : ℕ) → HaveRoots t.grammar stack' (k.d ++ (Nonterminal left ∷ [])) → IsStateOf t (k.d ++ (Nonterminal left ∷ [])) next → HasStates t stack' (take (n + 1) states ++ (next ∷ []))
   states_after stack' next roots' there =
-      let first_input = take (n + 1) states in
+      let prefix = take (n + 1) states in
       let whole = k.d ++ (Nonterminal left ∷ []) in
       let whole_long : length whole ≡ n + 1 = omega (arith, depth, length-append k.d (Nonterminal left ∷ [])) in
       record {
         symbols = whole;
         roots = roots';
-        long = omega (arith, length-append first_input (next ∷ []), prefix_long, whole_long);
+        long = omega (arith, length-append prefix (next ∷ []), prefix_long, whole_long);
         each = λ i lt. ⊎_elim
             (λ low.
             let le : i ≤ length k.d = omega (arith, low, depth) in
             let old : IsStateOf t (take i h.symbols) (get_or states i 0) = h.each i (omega (arith, low, long)) in
             let is : take i h.symbols ≡ take i whole = ap (take i) same ∙ take-append-le i k.d right le ∙ sym (take-append-le i k.d (Nonterminal left ∷ []) le) in
-            let there' : get_or (first_input ++ (next ∷ [])) i 0 ≡ get_or states i 0 = get_or_append_left first_input (next ∷ []) 0 i (omega (arith, low, prefix_long)) ∙ get_prefix (n + 1) i states low in
+            let there' : get_or (prefix ++ (next ∷ [])) i 0 ≡ get_or states i 0 = get_or_append_left prefix (next ∷ []) 0 i (omega (arith, low, prefix_long)) ∙ get_prefix (n + 1) i states low in
             subst (λ s. IsStateOf t (take i whole) s) (sym there') (subst (λ l. IsStateOf t l (get_or states i 0)) is old))
             (λ high.
-            let i_is : i ≡ n + 1 = omega (arith, high, lt, length-append first_input (next ∷ []), prefix_long) in
+            let i_is : i ≡ n + 1 = omega (arith, high, lt, length-append prefix (next ∷ []), prefix_long) in
             let all : take i whole ≡ whole = take_all i whole (omega (arith, i_is, whole_long)) in
-            let is : get_or (first_input ++ (next ∷ [])) i 0 ≡ next = ap (λ j. get_or (first_input ++ (next ∷ [])) j 0) (let q : i ≡ length first_input = omega (arith, i_is, prefix_long) in q) ∙ get_or-append_seam first_input next [] 0 in
+            let is : get_or (prefix ++ (next ∷ [])) i 0 ≡ next = ap (λ j. get_or (prefix ++ (next ∷ [])) j 0) (let q : i ≡ length prefix = omega (arith, i_is, prefix_long) in q) ∙ get_or-append_seam prefix next [] 0 in
             subst (λ s. IsStateOf t (take i whole) s) (sym is) (subst (λ l. IsStateOf t l next) (sym all) there))
             (cases_lt i (n + 1));
       }

@@ -10,7 +10,7 @@ use Rattle.definitions.specs.TreeEdits.{StampedBranch, StampedLeaf, plain, plain
 use Rattle.definitions.specs.Sentences.{AllProductive}
 use Rattle.definitions.specs.Items.{HasMove, Shift, Reduce}
 use Rattle.theory.specs.Machine.{look_at, Reduces, Shifts, Run, IsStackAfter}
-use Rattle.theory.specs.Reuse.{FirstInput, Take, AtToken, AtEnd, IsNoTree, CanReuse, Tries, Nothing_left, Passed, At_token, Goes_on, Ends, Reuses, Takes_token, Makes, MakesAt}
+use Rattle.theory.specs.Reuse.{NextInput, Take, AtToken, AtEnd, IsNoTree, CanReuse, Tries, Nothing_left, Passed, At_token, Goes_on, Ends, Reuses, Takes_token, Makes, MakesAt}
 use Rattle.theory.proofs.Incremental.{goes_on_passes}
 use Rattle.theory.proofs.Lists.{ends_equal}
 use Rattle.theory.proofs.MadeIsBuilt.{goes_on_join}
@@ -33,7 +33,7 @@ use Rattle.parser.proofs.WhereBranchesComeFrom.{come_after, come_older}
 use Rattle.parser.proofs.Counts.{by-append, by-branch, by-none}
 use Rattle.parser.proofs.LeftEdge.{after_drop, dropped, first_fits}
 use Rattle.parser.proofs.Moves.{Reached, states_push}
-use Rattle.parser.proofs.Reductions.{plain-append, plain-stay, below-append, below-first_input, made_trees}
+use Rattle.parser.proofs.Reductions.{plain-append, plain-stay, below-append, below-prefix, made_trees}
 use Rattle.parser.proofs.Reusing.{look_drop}
 use Rattle.parser.proofs.Stamping.{none_after, none_first, nowhere_stamped, older_up_to, stamped-children, stamps_made, stamps_taken, stamps_token, trees_of-append, up_to-append, up_to-leaf, up_to-made}
 use Rattle.parser.proofs.Stamps.{below_on, grown_by_one, made_stamped, trees-stay}
@@ -85,12 +85,12 @@ module _ (g : Grammar) where
       let both = skipped cells kinds read k.0 rest' k.2 (subst (λ l. IsInput g cells l kinds read) k.1 h) in
       (both.0, λ s f d. subst (λ l. Tries g s (input_of cells l kinds read) f) (sym k.1) (both.1 s f d))
 
-  leaves_prefix : (s : List Tree) (ks : List Kind) → (f : FirstInput) × Tries g s (leaves ks) f × IsNoTree f
+  leaves_prefix : (s : List Tree) (ks : List Kind) → (f : NextInput) × Tries g s (leaves ks) f × IsNoTree f
   leaves_prefix s [] = (AtEnd, Nothing_left, tt)
   leaves_prefix s (k ∷ ks) = (AtToken k (leaves ks), At_token, tt)
 
   -- where no node stands at the start, the input offers no tree
-  pub no_tree_prefix : (s : List Tree) (cells : List Cell) (kinds : List Kind) (read : ℕ) (now : List Child) → BeginsWithNoNode now → (f : FirstInput) × Tries g s (input_of cells now kinds read) f × IsNoTree f
+  pub no_tree_prefix : (s : List Tree) (cells : List Cell) (kinds : List Kind) (read : ℕ) (now : List Child) → BeginsWithNoNode now → (f : NextInput) × Tries g s (input_of cells now kinds read) f × IsNoTree f
   no_tree_prefix s cells kinds read [] h = leaves_prefix s (drop (read + 0) kinds)
   no_tree_prefix s cells kinds read (TokenChild k ∷ rest) h = (AtToken k _, At_token, tt)
   no_tree_prefix s cells kinds read (Node id ∷ rest) h = absurd h
@@ -138,7 +138,7 @@ module _ (g : Grammar) where
 
 module _ (t : Sets) (whole : List Tree) (kinds : List Kind) (before number : ℕ) (cells : List Cell) (stack : List Child) (states : List ℕ) (read : ℕ) (rest : List Child) (h : SoFar t whole kinds before number cells stack states read rest) where
   -- what the input offers above the stack, the run's input does
-  offered : (now : List Child) → Offers t.grammar (plain_of cells stack) (input_of cells now kinds read) (input_of cells rest kinds read) → (f : FirstInput) → Tries t.grammar (plain_of cells stack) (input_of cells now kinds read) f → Tries t.grammar h.top h.now f
+  offered : (now : List Child) → Offers t.grammar (plain_of cells stack) (input_of cells now kinds read) (input_of cells rest kinds read) → (f : NextInput) → Tries t.grammar (plain_of cells stack) (input_of cells now kinds read) f → Tries t.grammar h.top h.now f
   offered now offers f d = subst (λ s. Tries t.grammar s h.now f) h.top_is (h.offers (plain_of cells stack) f (offers f d))
 
   -- a tree is taken over
@@ -221,13 +221,13 @@ module _ (t : Sets) (whole : List Tree) (kinds : List Kind) (before number : ℕ
       let g = t.grammar in
       let trees = plain_of cells stack in
       let top' = plain_of new stack' in
-      let first_input = no_tree_prefix g trees cells kinds read now' begins in
+      let prefix = no_tree_prefix g trees cells kinds read now' begins in
       let look : slice_get kinds read ≡ look_at (all_kinds h.now) None = look_drop kinds read ∙ ap (λ l. look_at l None) (sym h.left) in
       let r' : Reduces g h.top (look_at (all_kinds h.now) None) top' = record { symbols = r.symbols; roots = subst (λ l. HaveRoots g l r.symbols) h.top_is r.roots; number = r.number; called = subst (λ l. HasMove g r.symbols l (Reduce r.number)) look r.called; below = r.below; ts = r.ts; left = r.left; right = r.right; production = r.production; size = r.size; from_is = sym h.top_is ∙ r.from_is; to_is = r.to_is } in
-      let step : Goes_on g h.top h.now top' h.now = Makes top' first_input.0 (offered now' offers first_input.0 first_input.1) first_input.2 r' Ends in
+      let step : Goes_on g h.top h.now top' h.now = Makes top' prefix.0 (offered now' offers prefix.0 prefix.1) prefix.2 r' Ends in
       let under = made.under in
       let f = forest_in cells made.kids in
-      let under_below : AreBelow (length cells) under = below-first_input (length cells) under made.kids (subst (AreBelow (length cells)) made.stack_is h.below) in
+      let under_below : AreBelow (length cells) under = below-prefix (length cells) under made.kids (subst (AreBelow (length cells)) made.stack_is h.below) in
       let same_end = ends_equal r.below (plain_of cells under) (Branch r.number r.ts ∷ []) (Branch p (plain_all f) ∷ []) refl (sym r.to_is ∙ ap (plain_of new) made.stack_is' ∙ made_trees cells new p number under made.kids made.id made.grown under_below) in
       let node : Branch r.number r.ts ≡ Branch p (plain_all f) = head-eq_of_cons-eq same_end.1 in
       let makes_it : (below : List Tree) (w : Tree) → MakesAt g step below w ↔ ((plain_of cells under ≡ below) × (Branch p (plain_all f) ≡ w)) = λ below w. (
@@ -266,9 +266,9 @@ module _ (t : Sets) (whole : List Tree) (kinds : List Kind) (before number : ℕ
       let g = t.grammar in
       let p = goes_on_passes g productive h.run in
       let all : kinds ≡ p.read ++ drop read kinds = sym h.whole_is ∙ p.split ∙ ap (λ l. p.read ++ l) h.left in
-      let first_input : p.read ≡ take read kinds = append_cancel_right p.read (take read kinds) (drop read kinds) (sym all ∙ sym (take-append-drop read kinds)) in
+      let prefix : p.read ≡ take read kinds = append_cancel_right p.read (take read kinds) (drop read kinds) (sym all ∙ sym (take-append-drop read kinds)) in
       let look : look_at (all_kinds h.now) None ≡ slice_get kinds read = ap (λ l. look_at l None) h.left ∙ sym (look_drop kinds read) in
-      let run : Run g (slice_get kinds read) [] (take read kinds) (plain_of cells stack) = subst (λ s. Run g (slice_get kinds read) [] (take read kinds) s) (sym h.top_is) (subst (λ x. Run g (slice_get kinds read) [] x h.top) first_input (subst (λ l. Run g l [] p.read h.top) look p.run)) in
+      let run : Run g (slice_get kinds read) [] (take read kinds) (plain_of cells stack) = subst (λ s. Run g (slice_get kinds read) [] (take read kinds) s) (sym h.top_is) (subst (λ x. Run g (slice_get kinds read) [] x h.top) prefix (subst (λ l. Run g l [] p.read h.top) look p.run)) in
       let parts = settle (take read kinds) run in
       record { has_states = h.has_states; below = h.below; within = h.within; shifted = parts.0; after = parts.1; run = parts.2 }
     where

@@ -55,5 +55,5 @@ stacked_prefix g kinds FaultAtEnd stack h s =
 
 pub stacked_length : (g : Grammar) (kinds : List Kind) (v : Verdict) (stack : List Tree) → IsVerdict g kinds v → AreStacked g kinds v stack → length (all_kinds stack) ≤ length kinds
 stacked_length g kinds v stack h s =
-    let first_input = stacked_prefix g kinds v stack h s in
-    omega (arith, ap length first_input.1, length-append (all_kinds stack) first_input.0)
+    let prefix = stacked_prefix g kinds v stack h s in
+    omega (arith, ap length prefix.1, length-append (all_kinds stack) prefix.0)

@@ -8,7 +8,7 @@ use Rattle.trees.specs.declared.store.NodeId.{NodeId}
 use Rattle.trees.proofs.Cells.{grown-new, grown-tree, all_below-more, take-tree}
 use Rattle.parser.specs.Machine.{HasMade}
 use Rattle.parser.proofs.Stamping.{trees_of-append}
-use Rattle.parser.proofs.Reductions.{below-append, below-first_input}
+use Rattle.parser.proofs.Reductions.{below-append, below-prefix}
 
 -- where the store grows, the trees of children stay
 pub trees-stay : (cells : List Cell) (c : Cell) (cs : List Child) → AreBelow (length cells) cs → all_trees (cells ++ (c ∷ [])) cs ≡ all_trees cells cs
@@ -30,7 +30,7 @@ grown_by_one cells stack p n new stack' m = ap length m.grown.cells_are ∙ leng
 pub below_on : (cells : List Cell) (stack : List Child) (p n : ℕ) (new : List Cell) (stack' : List Child) → HasMade cells stack p n new stack' → AreBelow (length cells) stack → AreBelow (length new) stack'
 below_on cells stack p n new stack' m below =
     let long = grown_by_one cells stack p n new stack' m in
-    let under = below-first_input (length cells) m.under m.kids (subst (AreBelow (length cells)) m.stack_is below) in
+    let under = below-prefix (length cells) m.under m.kids (subst (AreBelow (length cells)) m.stack_is below) in
     let under' = all_below-more (length cells) (length new) (omega (arith, long)) m.under under in
     let node : m.id.index < length new = omega (arith, long, m.grown.id_is) in
     subst (AreBelow (length new)) (sym m.stack_is') (below-append (length new) m.under (Node m.id ∷ []) under' (node, tt))

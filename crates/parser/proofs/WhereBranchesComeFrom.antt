@@ -19,7 +19,7 @@ use Rattle.parser.specs.Machine.{HasMade, plain_of}
 use Rattle.parser.specs.Run.{CameFrom, ComeFrom, MoveFrom}
 use Rattle.parser.specs.Stamps.{AreOlder, KeepStamps, all_numbered, numbered, numbered_in}
 use Rattle.parser.proofs.Counts.{HaveNone}
-use Rattle.parser.proofs.Reductions.{below-first_input, plain-append}
+use Rattle.parser.proofs.Reductions.{below-prefix, plain-append}
 use Rattle.parser.proofs.Stamping.{in_branch, InBranch, Itself, Under, no_branch_in_leaf, nowhere_stamped, plain-stamped, stamped-children, stamped_after, stamped_before, stamped_split, trees_of-append}
 use Rattle.parser.proofs.Stamps.{grown_by_one, made_stamped, trees-stay}
 
@@ -194,7 +194,7 @@ module _ (input : List Stamped) (before number : ℕ) (cells : List Cell) (stack
       let f = forest_in cells kids in
       let node = StampedBranch p number f in
       let kids_are : stamped_trees f ≡ all_trees cells kids = stamped-children (trees_from [] cells) kids in
-      let under_below = below-first_input (length cells) under kids (subst (AreBelow (length cells)) made.stack_is below) in
+      let under_below = below-prefix (length cells) under kids (subst (AreBelow (length cells)) made.stack_is below) in
       let parts : all_trees cells stack ≡ all_trees cells under ++ all_trees cells kids = ap (all_trees cells) made.stack_is ∙ trees_of-append (trees_from [] cells) under kids in
       let now_is : all_trees new stack' ≡ all_trees cells under ++ (node ∷ []) = ap (all_trees new) made.stack_is' ∙ made_stamped cells new p number under kids made.id made.grown under_below in
       let same_rest : all_trees new rest' ≡ all_trees cells rest' = ap (λ l. all_trees l rest') made.grown.cells_are ∙ trees-stay cells made.grown.cell rest' below' in

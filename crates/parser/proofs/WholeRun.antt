@@ -7,7 +7,7 @@ use Rattle.definitions.specs.declared.Symbol.TheVariants.{Nonterminal}
 use Rattle.definitions.specs.Trees.{Grammar, Tree, Leaf, Branch, Forest, IsTree, yield, all_kinds}
 use Rattle.definitions.specs.TreeEdits.{StampedIn, plain_all}
 use Rattle.definitions.specs.Nodes.{StandsIn, all_branches}
-use Rattle.theory.specs.Reuse.{FirstInput, Take, AtToken, AtEnd, Tries, Nothing_left, Dropped, Passed, Opened, At_token, Goes_on, Ends, Reuses, Takes_token, Makes, MakesAt}
+use Rattle.theory.specs.Reuse.{NextInput, Take, AtToken, AtEnd, Tries, Nothing_left, Dropped, Passed, Opened, At_token, Goes_on, Ends, Reuses, Takes_token, Makes, MakesAt}
 use Rattle.theory.specs.Machine.{look_at}
 use Rattle.theory.proofs.MadeIsBuilt.{made_or_taken, stamped_stands}
 use Rattle.theory.proofs.KeptIsReused.{TakesOver, branches-append}
@@ -22,7 +22,7 @@ use Rattle.parser.proofs.Counts.{reduce_count}
 use Rattle.parser.proofs.Stamping.{made_forest, stamped-children}
 
 -- what leaves offer: a kind, with the leaves after it, or the end
-abbrev IsPlain : FirstInput → Type 0
+abbrev IsPlain : NextInput → Type 0
 IsPlain (Take t ts) = ⊥
 IsPlain (AtToken k ts) = (ks : List Kind) × (ts ≡ leaves ks)
 IsPlain AtEnd = Unit {0}
@@ -38,7 +38,7 @@ module _ (g : Grammar) where
   leaf_is_branch : (k : Kind) (p : ℕ) (us : Forest) → Branch p us ≡ Leaf k → ⊥
   leaf_is_branch k p us e = cc e
 
-  plain_prefix : {s i : List Tree} {f : FirstInput} → Tries g s i f → (ks : List Kind) → i ≡ leaves ks → IsPlain f
+  plain_prefix : {s i : List Tree} {f : NextInput} → Tries g s i f → (ks : List Kind) → i ≡ leaves ks → IsPlain f
   plain_prefix Nothing_left ks e = tt
   plain_prefix (Dropped empty d) [] e = absurd (cc e)
   plain_prefix (Dropped {t = t} empty d) (k ∷ ks) e = absurd (leaf_has_kind k t (head-eq_of_cons-eq e) empty)

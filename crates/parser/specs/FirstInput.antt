@@ -9,14 +9,14 @@ use Rattle.trees.specs.declared.store.NodeId.{NodeId}
 use Rattle.trees.specs.declared.store.Child.{Child}
 use Rattle.trees.specs.declared.store.Child.TheVariants.{Token, Node}
 use Rattle.trees.specs.Cells.{Cell, tree}
-use Rattle.theory.specs.Reuse.{FirstInput, CanReuse, Tries}
+use Rattle.theory.specs.Reuse.{NextInput, CanReuse, Tries}
 use Rattle.tables.specs.Tables.{Sets, IsStateOf}
 use Rattle.parser.specs.declared.machine.FirstInput.{FirstInput as Offer}
 use Rattle.parser.specs.declared.machine.FirstInput.TheVariants.{Tree as OffersTree, Next as OffersNext}
 
 -- whatever the left edge of the input `one` offers, that of `two` offers too
 abbrev pub Offers : Grammar → List Tree → List Tree → List Tree → Type 0
-Offers g stack one two = (f : FirstInput) → Tries g stack one f → Tries g stack two f
+Offers g stack one two = (f : NextInput) → Tries g stack one f → Tries g stack two f
 
 -- the tree of a node can be taken over, and `next` is the state after it
 pub record IsReusable (t : Sets) (cells : List Cell) (stack : List Tree) (kinds : List Kind) (read : ℕ) (id : NodeId)

@@ -115,12 +115,12 @@ pub fn prepare(
     }
     let (whole, left) = count_whole(store, old, splice.from as u64);
     input.put_all(Children::of(&old[whole..]))?;
-    let (first_input, missing) = take_prefix(alloc, store, &mut input, left)?;
+    let (prefix, missing) = take_prefix(alloc, store, &mut input, left)?;
     if missing == 0 {
         take_prefix(alloc, store, &mut input, (splice.to - splice.from) as u64)?;
         put_kinds(&mut input, &splice.kinds)?;
     }
-    input.put_all(Children::of(&first_input))?;
+    input.put_all(Children::of(&prefix))?;
     input.put_all(Children::of(&old[..whole]))?;
     Ok(input)
 }

@@ -19,14 +19,14 @@ pub returns-in-Token : goal.returns-in-Token
 returns-in-Token c =
     let rest = c.next.new.self in
     let kinds = c.edge.invariant.1 in
-    let first_input : c.edge.trees ≡ Token c.in-Token.kind ∷ rest = c.in_ok-kind.ensures.steps ∙ ap (λ x. x ∷ rest) c.in-Token.is in
-    (all_kinds (plain_of c.args.store.now rest) ++ kinds.0, kinds.1 ∙ ap (λ l. all_kinds (plain_of c.args.store.now l) ++ kinds.0) first_input)
+    let prefix : c.edge.trees ≡ Token c.in-Token.kind ∷ rest = c.in_ok-kind.ensures.steps ∙ ap (λ x. x ∷ rest) c.in-Token.is in
+    (all_kinds (plain_of c.args.store.now rest) ++ kinds.0, kinds.1 ∙ ap (λ l. all_kinds (plain_of c.args.store.now l) ++ kinds.0) prefix)
 
 pub tokens-requires : goal.tokens-requires
 tokens-requires c =
     let rest = c.next.new.self in
-    let first_input : c.edge.trees ≡ Node c.in-Node.id ∷ rest = c.in_ok-kind.ensures.steps ∙ ap (λ x. x ∷ rest) c.in-Node.is in
-    (subst (AreBelow (length c.args.store.now)) first_input c.edge.invariant.0).0
+    let prefix : c.edge.trees ≡ Node c.in-Node.id ∷ rest = c.in_ok-kind.ensures.steps ∙ ap (λ x. x ∷ rest) c.in-Node.is in
+    (subst (AreBelow (length c.args.store.now)) prefix c.edge.invariant.0).0
 
 pub edge-preserved : goal.edge-preserved
 edge-preserved c =
@@ -34,10 +34,10 @@ edge-preserved c =
     let id = c.in-Node.id in
     let rest = c.next.new.self in
     let all = all_kinds (plain_of cells c.args.trees) in
-    let first_input : c.edge.trees ≡ Node id ∷ rest = c.in_ok-kind.ensures.steps ∙ ap (λ x. x ∷ rest) c.in-Node.is in
-    let below = subst (AreBelow (length cells)) first_input c.edge.invariant.0 in
+    let prefix : c.edge.trees ≡ Node id ∷ rest = c.in_ok-kind.ensures.steps ∙ ap (λ x. x ∷ rest) c.in-Node.is in
+    let below = subst (AreBelow (length cells)) prefix c.edge.invariant.0 in
     let more = c.edge.invariant.1.0 in
-    let kinds : all ≡ all_kinds (plain_of cells (Node id ∷ rest)) ++ more = c.edge.invariant.1.1 ∙ ap (λ l. all_kinds (plain_of cells l) ++ more) first_input in
+    let kinds : all ≡ all_kinds (plain_of cells (Node id ∷ rest)) ++ more = c.edge.invariant.1.1 ∙ ap (λ l. all_kinds (plain_of cells l) ++ more) prefix in
     elim c.if-tokens-gt0.branch [
       | then-tokens-gt0 w ↦
           let kids = w.children-trees.result in

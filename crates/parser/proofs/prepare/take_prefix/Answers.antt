@@ -25,7 +25,7 @@ kinds-preserved-in-Continue-1 c =
     record {
       below = (subst (AreBelow (length cells)) old c.kinds.invariant.below).1;
       countable = omega (arith, shorter);
-      cut = λ first_input back d. subst (λ l. Cut cells c.args.n c.args.trees.now l back) (sym (ap (λ l. l ++ first_input) new ∙ append_assoc c.kinds.taken.items (child ∷ []) first_input)) (c.kinds.invariant.cut (child ∷ first_input) back (subst (λ l. Cut cells c.kinds.left l (child ∷ first_input) back) (sym old) (Whole (omega (arith, count, c.if-count-left.true)) d)));
+      cut = λ prefix back d. subst (λ l. Cut cells c.args.n c.args.trees.now l back) (sym (ap (λ l. l ++ prefix) new ∙ append_assoc c.kinds.taken.items (child ∷ []) prefix)) (c.kinds.invariant.cut (child ∷ prefix) back (subst (λ l. Cut cells c.kinds.left l (child ∷ prefix) back) (sym old) (Whole (omega (arith, count, c.if-count-left.true)) d)));
       left = omega (arith, ap (λ l. place_of (plain_of cells l)) new, place_push cells c.kinds.taken.items child, count, c.kinds.invariant.left, c.if-count-left.true);
     }
 
@@ -56,7 +56,7 @@ kinds-preserved-in-Continue-branch-2 c =
     record {
       below = subst (AreBelow (length cells)) (sym new) (opened_below cells of_id (length cells) rest (subst (AreBelow (length cells)) old c.kinds.invariant.below));
       countable = omega (arith, c.kinds.invariant.countable, ap (λ l. place_of (plain_of cells l)) old, ap length (opened_kinds cells of_id rest), ap (λ l. place_of (plain_of cells l)) new);
-      cut = λ first_input back d. c.kinds.invariant.cut first_input back (subst (λ l. Cut cells c.kinds.left l first_input back) (sym old) (Opened c.kinds-test.true less of_id (subst (λ l. Cut cells c.kinds.left l first_input back) new d)));
+      cut = λ prefix back d. c.kinds.invariant.cut prefix back (subst (λ l. Cut cells c.kinds.left l prefix back) (sym old) (Opened c.kinds-test.true less of_id (subst (λ l. Cut cells c.kinds.left l prefix back) new d)));
       left = c.kinds.invariant.left;
     }
 

@@ -12,7 +12,7 @@ abbrev pub invariant-kinds : goal.invariant-kinds
 invariant-kinds l = record {
   below : AreBelow (length l.store) l.trees;
   countable : place_of (plain_of l.store l.trees) ≤ most;
-  cut : (first_input back : List Child) → Cut l.store l.left l.trees first_input back → Cut l.store l.n l.fn.trees (l.taken.items ++ first_input) back;
+  cut : (prefix back : List Child) → Cut l.store l.left l.trees prefix back → Cut l.store l.n l.fn.trees (l.taken.items ++ prefix) back;
   left : place_of (plain_of l.store l.taken.items) + l.left ≡ l.n;
 }
 

@@ -14,7 +14,7 @@ tokens_of-requires c =
 pub empty-preserved : goal.empty-preserved
 empty-preserved c =
     let child = c.in-Some.child in
-    let first_input = taken c.take.result c.empty.self c.take.new.self c.in-Some.ensures.0 child c.take.ensures c.in-Some.ensures.1 in
+    let prefix = taken c.take.result c.empty.self c.take.new.self c.in-Some.ensures.0 child c.take.ensures c.in-Some.ensures.1 in
     let zero_tokens : c.tokens_of.result ≡ 0 = omega (arith, c.if-tokens_of-gt0.false) in
     let empty = none_counted (length (yield (plain (tree c.args.store.now child)))) (sym c.tokens_of.ensures ∙ zero_tokens) in
-    skips_one c.args.store.now c.args.self.now c.empty.self c.take.new.self child c.empty.invariant first_input empty
+    skips_one c.args.store.now c.args.self.now c.empty.self c.take.new.self child c.empty.invariant prefix empty
