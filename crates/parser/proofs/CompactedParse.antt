@@ -36,7 +36,7 @@ module _ (old : List Cell) (p : Stop) (new : List Cell) (q : Stop) (same : IsSam
       below = same.below;
       verdict = subst (IsVerdict t.grammar kinds) (sym same.verdict) h.stop.verdict;
       stack = subst (λ v. AreStacked t.grammar kinds v (plain_of new q.stack)) (sym same.verdict) (subst (AreStacked t.grammar kinds (verdict_in old p.verdict)) (sym same_plain) h.stop.stack);
-      alone = same.alone;
+      root = same.root;
       roots = h.stop.roots;
       are_roots = subst (λ ts. HaveRoots t.grammar ts h.stop.roots) (sym same_plain) h.stop.are_roots;
       state = subst (IsStateOf t h.stop.roots) (sym same.state) h.stop.state;

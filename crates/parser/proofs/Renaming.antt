@@ -1,6 +1,6 @@
 -- Children that are renamed mean what they meant.
 use Rattle.std.specs.Prelude.{◌≡◌, ℕ, suc, ◌+◌, List, [], ◌∷◌, length}
-use Rattle.std.proofs.Common.{refl, sym, ap, subst, ◌++◌, take, arith}
+use Rattle.std.proofs.Common.{refl, sym, ap, ◌++◌, take, arith}
 use Rattle.std.proofs.lemmas.List.{take_at}
 use mathlib.Core.List.{head-eq_of_cons-eq, tail-eq_of_cons-eq}
 use Rattle.definitions.specs.Nodes.{branches}
@@ -11,10 +11,10 @@ use Rattle.trees.specs.declared.store.Child.TheVariants.{Token, Node}
 use Rattle.trees.specs.Cells.{Cell, AreBelow, all_trees, tree}
 use Rattle.trees.specs.Compaction.{nodes, sizes}
 use Rattle.definitions.specs.Sentences.{HasTree}
-use Rattle.parser.specs.declared.parse.Verdict.{Verdict}
-use Rattle.parser.specs.declared.parse.Verdict.TheVariants.{Tree as TreeAt, FaultAt, FaultAtEnd}
-use Rattle.parser.specs.Compact.{node_ids, renamed, verdict_on}
-use Rattle.parser.specs.Parses.{IsAlone, verdict_in}
+use Rattle.parser.specs.declared.machine.Halt.{Halt}
+use Rattle.parser.specs.declared.machine.Halt.TheVariants.{Accepted, FaultAt, FaultAtEnd}
+use Rattle.parser.specs.Compact.{node_ids, renamed}
+use Rattle.parser.specs.Parses.{verdict_in, verdict_of}
 
 pub renamed_trees : (old new : List Cell) (cs : List Child) (names : List NodeId) → all_trees new (nodes names) ≡ all_trees old (nodes (node_ids cs)) → all_trees new (renamed cs names) ≡ all_trees old cs
 renamed_trees old new [] names e = refl
@@ -54,17 +54,15 @@ renamed_long (Token k ∷ cs) names = ap suc (renamed_long cs names)
 renamed_long (Node id ∷ cs) [] = ap suc (renamed_long cs [])
 renamed_long (Node id ∷ cs) (name ∷ names) = ap suc (renamed_long cs names)
 
--- the verdict on renamed trees
-pub verdict_stays : (old new : List Cell) (v : Verdict) (cs : List Child) (names : List NodeId) → IsAlone v cs → all_trees new (renamed cs names) ≡ all_trees old cs
-    → (verdict_in new (verdict_on v (renamed cs names)) ≡ verdict_in old v) × IsAlone (verdict_on v (renamed cs names)) (renamed cs names)
-verdict_stays old new (TreeAt id) cs names alone trees = by names (subst (λ l. all_trees new (renamed l names) ≡ all_trees old l) alone trees)
-  where
-    by : (names : List NodeId) → all_trees new (renamed (Node id ∷ []) names) ≡ all_trees old (Node id ∷ [])
-        → (verdict_in new (verdict_on (TreeAt id) (renamed cs names)) ≡ verdict_in old (TreeAt id)) × IsAlone (verdict_on (TreeAt id) (renamed cs names)) (renamed cs names)
-    by [] e = rw alone (ap (λ t. HasTree (plain t)) (head-eq_of_cons-eq e), refl)
-    by (name ∷ names) e = rw alone (ap (λ t. HasTree (plain t)) (head-eq_of_cons-eq e), refl)
-verdict_stays old new (FaultAt k) cs names alone trees = (refl, tt)
-verdict_stays old new FaultAtEnd cs names alone trees = (refl, tt)
+-- the verdict over renamed trees is what it was
+pub verdict_stays : (old new : List Cell) (halt : Halt) (cs : List Child) (names : List NodeId) → all_trees new (renamed cs names) ≡ all_trees old cs
+    → verdict_in new (verdict_of halt (renamed cs names)) ≡ verdict_in old (verdict_of halt cs)
+verdict_stays old new Accepted [] names e = refl
+verdict_stays old new Accepted (Token k ∷ cs) names e = refl
+verdict_stays old new Accepted (Node id ∷ cs) [] e = ap (λ t. HasTree (plain t)) (head-eq_of_cons-eq e)
+verdict_stays old new Accepted (Node id ∷ cs) (name ∷ names) e = ap (λ t. HasTree (plain t)) (head-eq_of_cons-eq e)
+verdict_stays old new (FaultAt k) cs names e = refl
+verdict_stays old new FaultAtEnd cs names e = refl
 
 -- what was written back into a vector
 pub written : (new rest : List Child) (n : ℕ) → n ≡ length new → take n (new ++ rest) ≡ new

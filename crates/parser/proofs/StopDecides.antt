@@ -21,10 +21,11 @@ use Rattle.trees.specs.declared.store.Child.TheVariants.{Token, Node}
 use Rattle.trees.specs.Cells.{Cell, tree}
 use Rattle.tables.specs.Tables.{Sets, IsAccepted}
 use Rattle.parser.specs.declared.parse.Verdict.TheVariants.{Tree as TreeAt, FaultAt as StopsAt, FaultAtEnd as StopsAtEnd}
+use Rattle.parser.specs.declared.machine.Halt.TheVariants.{Accepted, FaultAt as HaltsAt, FaultAtEnd as HaltsAtEnd}
 use Rattle.parser.specs.Machine.{plain_of}
 use Rattle.definitions.specs.DocumentNodes.{AreDocumentTrees}
 use Rattle.definitions.specs.Sentences.{Verdict as Answer}
-use Rattle.parser.specs.Parses.{AreStacked, IsStoppedAt, before_fault, last_leaf}
+use Rattle.parser.specs.Parses.{AreStacked, IsStoppedAt, before_fault, last_leaf, verdict_of}
 use Rattle.parser.proofs.Moves.{Reached, top_stands, run_on}
 
 pub last-append : (before : List Kind) (last : Kind) → last_leaf (before ++ (last ∷ [])) ≡ Leaf last ∷ []
@@ -107,7 +108,7 @@ module _ (t : Sets) (accepted : IsAccepted t.grammar) (kinds : List Kind) (cells
           below = h.below;
           verdict = subst (λ n. IsVerdict g kinds (FaultAt n)) place (subst (λ l. IsVerdict g l (FaultAt (length x))) (sym (split_at kinds read k there.1)) fault);
           stack = record { trees = settled.0; are = settled.1; stack_is = settled.2 };
-          alone = tt;
+          root = (HaltsAt read, refl);
           roots = h.has_states.symbols;
           are_roots = h.has_states.roots;
           state = top_stands t trees states h.has_states;
@@ -130,7 +131,7 @@ module _ (t : Sets) (accepted : IsAccepted t.grammar) (kinds : List Kind) (cells
           below = h.below;
           verdict = verdict_at_end g accepted.free accepted.productive kinds h.shifted trees after run none;
           stack = record { trees = settled.0; are = settled.1; stack_is = settled.2 };
-          alone = tt;
+          root = (HaltsAtEnd, refl);
           roots = h.has_states.symbols;
           are_roots = h.has_states.roots;
           state = top_stands t trees states h.has_states;
@@ -141,22 +142,26 @@ module _ (t : Sets) (accepted : IsAccepted t.grammar) (kinds : List Kind) (cells
     the_tree : (u : Tree) × (plain_of cells stack ≡ u ∷ []) × IsTreeOf t.grammar (take read kinds) u × (slice_get kinds read ≡ None)
     the_tree = accepted_tree t.grammar (take read kinds) (plain_of cells stack) h.has_states.symbols (slice_get kinds read) (run_on t.grammar (take read kinds) h.shifted (plain_of cells stack) (slice_get kinds read) h.after h.run) h.has_states.roots called
 
-    pub one_on_stack : (id : NodeId) × (stack ≡ Node id ∷ [])
+    one_on_stack : (id : NodeId) × (stack ≡ Node id ∷ [])
     one_on_stack = one_node t.grammar cells stack the_tree.0 t.grammar.start the_tree.1 the_tree.2.root
 
-    pub at_tree : (id : NodeId) → stack ≡ Node id ∷ [] → IsStoppedAt t kinds cells (TreeAt id) stack states
-    at_tree id e =
+    pub at_tree : IsStoppedAt t kinds cells (verdict_of Accepted stack) stack states
+    at_tree =
         let g = t.grammar in
+        let id = one_on_stack.0 in
+        let e = one_on_stack.1 in
+        let root : TreeAt id ≡ verdict_of Accepted stack = ap (verdict_of Accepted) (sym e) in
         let u = the_tree.0 in
         let all : take read kinds ≡ kinds = take_all read kinds (none_there kinds read the_tree.3) in
         let node : plain (tree cells (Node id)) ∷ [] ≡ u ∷ [] = sym (ap (plain_of cells) e) ∙ the_tree.1 in
-        let same : plain (tree cells (Node id)) ≡ u = cc node in (
+        let same : plain (tree cells (Node id)) ≡ u = cc node in
+        subst (λ v. IsStoppedAt t kinds cells v stack states) root (
           some_state,
           record {
             below = h.below;
             verdict = subst (IsTreeOf g kinds) (sym same) (subst (λ l. IsTreeOf g l u) all the_tree.2);
             stack = record { trees = plain (tree cells (Node id)) ∷ []; are = refl; stack_is = ap (plain_of cells) e };
-            alone = e;
+            root = (Accepted, root);
             roots = h.has_states.symbols;
             are_roots = h.has_states.roots;
             state = top_stands t (plain_of cells stack) states h.has_states;

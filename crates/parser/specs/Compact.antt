@@ -6,9 +6,8 @@ use Rattle.trees.specs.declared.store.Child.TheVariants.{Token, Node}
 use Rattle.trees.specs.Cells.{Cell, AreBelow, all_trees}
 use Rattle.definitions.specs.Nodes.{all_branches}
 use Rattle.parser.specs.Machine.{plain_of}
-use Rattle.parser.specs.declared.parse.Verdict.{Verdict}
-use Rattle.parser.specs.declared.parse.Verdict.TheVariants.{Tree as TreeAt, FaultAt, FaultAtEnd}
-use Rattle.parser.specs.Parses.{IsAlone, Stop, verdict_in}
+use Rattle.parser.specs.declared.machine.Halt.{Halt}
+use Rattle.parser.specs.Parses.{Stop, verdict_in, verdict_of}
 
 -- how many nodes a store may have for a parse of so many branches: `2 * branches + 1024`
 abbrev pub bound : ℕ → ℕ
@@ -23,20 +22,12 @@ pub record IsSameParse (old : List Cell) (p : Stop) (new : List Cell) (q : Stop)
   pub trees : all_trees new q.stack ≡ all_trees old p.stack
   pub below : AreBelow (length new) q.stack
   pub verdict : verdict_in new q.verdict ≡ verdict_in old p.verdict
-  pub alone : IsAlone q.verdict q.stack
+  pub root : (halt : Halt) × (q.verdict ≡ verdict_of halt q.stack)
   pub state : q.state ≡ p.state
   pub branches : q.branches ≡ p.branches
   pub built : q.built ≡ p.built
   pub number : q.number ≡ p.number
   pub fits : all_branches (plain_of old p.stack) ≤ length old → all_branches (plain_of old p.stack) ≤ length new
-
--- `verdict_on v cs`: the verdict under other names: the tree is the first child of the stack
-abbrev pub verdict_on : Verdict → List Child → Verdict
-verdict_on (TreeAt id) (Node name ∷ cs) = TreeAt name
-verdict_on (TreeAt id) (Token k ∷ cs) = TreeAt id
-verdict_on (TreeAt id) [] = TreeAt id
-verdict_on (FaultAt k) cs = FaultAt k
-verdict_on FaultAtEnd cs = FaultAtEnd
 
 -- the nodes among children
 abbrev pub node_ids : List Child → List NodeId

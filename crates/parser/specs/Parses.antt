@@ -9,12 +9,14 @@ use Rattle.definitions.specs.Sentences.{IsVerdict}
 use Rattle.definitions.specs.Sentences.{Verdict as Answer, HasTree, FaultAt, FaultAtEnd}
 use Rattle.definitions.specs.DocumentNodes.{AreDocumentTrees}
 use Rattle.trees.specs.declared.store.Child.{Child}
-use Rattle.trees.specs.declared.store.Child.TheVariants.{Node}
+use Rattle.trees.specs.declared.store.Child.TheVariants.{Node, Token}
 use Rattle.trees.specs.Cells.{Cell, AreBelow, all_trees, most, tree}
 use Rattle.tables.specs.Expected.{AreExpected}
 use Rattle.tables.specs.Tables.{Sets, IsStateOf}
 use Rattle.parser.specs.declared.parse.Verdict.{Verdict}
 use Rattle.parser.specs.declared.parse.Verdict.TheVariants.{Tree as TreeAt, FaultAt as StopsAt, FaultAtEnd as StopsAtEnd}
+use Rattle.parser.specs.declared.machine.Halt.{Halt}
+use Rattle.parser.specs.declared.machine.Halt.TheVariants.{Accepted, FaultAt as HaltsAt, FaultAtEnd as HaltsAtEnd}
 use Rattle.parser.specs.Machine.{plain_of}
 
 -- what callers see of a parse: the verdict, the stack, the state, how many branches the stack has and how many of them the last edit built,
@@ -26,6 +28,15 @@ pub record Stop : Type 0 where
   pub branches : ℕ
   pub built : ℕ
   pub number : ℕ
+
+-- `verdict_of halt stack`: the verdict of a machine that stopped so, with this stack. Where it has accepted, the tree is the stack's first,
+-- which is never a token
+abbrev pub verdict_of : Halt → List Child → Verdict
+verdict_of Accepted (Node id ∷ cs) = TreeAt id
+verdict_of Accepted (Token k ∷ cs) = StopsAtEnd
+verdict_of Accepted [] = StopsAtEnd
+verdict_of (HaltsAt k) cs = StopsAt k
+verdict_of HaltsAtEnd cs = StopsAtEnd
 
 -- `verdict_in cells v`: an answer of the code as a `Verdict` of the definitions, its tree in this store
 abbrev pub verdict_in : List Cell → Verdict → Answer
@@ -51,18 +62,13 @@ pub record AreStacked (g : Grammar) (kinds : List Kind) (v : Answer) (stack : Li
   pub are : AreDocumentTrees g kinds v trees
   pub stack_is : stack ≡ trees ++ last_leaf (before_fault kinds v)
 
--- `IsAlone v stack`: where there is a tree, its node stands alone on the stack
-abbrev pub IsAlone : Verdict → List Child → Type 0
-IsAlone (TreeAt id) stack = stack ≡ Node id ∷ []
-IsAlone (StopsAt k) stack = Unit {0}
-IsAlone StopsAtEnd stack = Unit {0}
-
--- `IsStop t kinds cells v stack state`: the machine stops on these kinds as it should, with this verdict, this stack and this state
+-- `IsStop t kinds cells v stack state`: the machine stops on these kinds as it should, with this verdict, this stack and this state; the
+-- verdict's tree is the stack's first
 pub record IsStop (t : Sets) (kinds : List Kind) (cells : List Cell) (v : Verdict) (children : List Child) (top : ℕ) : Type 0 where
   pub below : AreBelow (length cells) children
   pub verdict : IsVerdict t.grammar kinds (verdict_in cells v)
   pub stack : AreStacked t.grammar kinds (verdict_in cells v) (plain_of cells children)
-  pub alone : IsAlone v children
+  pub root : (halt : Halt) × (v ≡ verdict_of halt children)
   pub roots : List Symbol
   pub are_roots : HaveRoots t.grammar (plain_of cells children) roots
   pub state : IsStateOf t roots top

@@ -17,9 +17,8 @@ ghost use Rattle.parser.specs.Machine.{plain_of, HasStates, HasMade};
 ghost use Rattle.parser.specs.Input.{input_of, IsFull, IsInput, IsOpened};
 ghost use Rattle.parser.specs.FirstInput.{Offers, IsReusable, IsOffer};
 ghost use Rattle.parser.specs.Run.{CameFrom, ComeFrom, SoFar};
-ghost use Rattle.parser.specs.Parses.{IsStoppedAt};
+ghost use Rattle.parser.specs.Parses.{IsStoppedAt, verdict_of};
 
-use crate::Verdict;
 use crate::input::Input;
 use crate::reader::Reader;
 use definitions::Kind;
@@ -34,6 +33,17 @@ pub enum FirstInput {
     Tree(NodeId, usize),
     /// A token of this kind, or the end.
     Next(Option<Kind>),
+}
+
+/// How the machine stopped.
+#[derive(Clone, Copy)]
+pub enum Halt {
+    /// It has accepted: the tree of all tokens is on the stack.
+    Accepted,
+    /// The first token with which no sentence goes on, counted from 0.
+    FaultAt(usize),
+    /// All tokens begin some sentence, and they are none.
+    FaultAtEnd,
 }
 
 /// The trees on the stack, the states below and above them, and the count of tokens read.
@@ -248,7 +258,7 @@ impl Machine {
         kinds: &mut Reader<'_, K>,
         mut input: Input,
         number: u64,
-    ) -> Result<Verdict, AllocError>
+    ) -> Result<Halt, AllocError>
         requires accepted { IsAccepted tables.now.grammar }
         requires so_far { SoFar tables.now (input_of store.old input kinds.old 0)
             kinds.old (length store.old) number store.old self.old.stack.items
@@ -257,7 +267,8 @@ impl Machine {
             CameFrom whole (length store.old) number store.old self.old.stack.items
             self.old.read input }
         ensures stops { IfOk result
-            (λ v. IsStoppedAt tables.now kinds.old store.new v self.new.stack.items
+            (λ halt. IsStoppedAt tables.now kinds.old store.new
+            (verdict_of halt self.new.stack.items) self.new.stack.items
             self.new.states.items) }
         ensures so_far { IfOk result (λ _. (rest : List Child)
             × SoFar tables.now (input_of store.old input kinds.old 0) kinds.old
@@ -298,17 +309,12 @@ impl Machine {
                     input.close(first, trees)?;
                     self.reduce(alloc, tables, store, production, number)?;
                 }
-                Some(Move::Accept) => match self.stack[0] {
-                    Child::Node(id) => {
-                        return Ok(Verdict::Tree(id));
-                    }
-                    Child::Token(_) => unreachable!(),
-                },
+                Some(Move::Accept) => return Ok(Halt::Accepted),
                 None => {
                     return Ok(if self.read < count {
-                        Verdict::FaultAt(self.read)
+                        Halt::FaultAt(self.read)
                     } else {
-                        Verdict::FaultAtEnd
+                        Halt::FaultAtEnd
                     });
                 }
             }

@@ -13,12 +13,12 @@ ghost use Rattle.parser.specs.Machine.{plain_of, AreMadeBy};
 ghost use Rattle.parser.specs.Input.{input_of, IsInput};
 ghost use Rattle.parser.specs.Run.{CameFrom, IsMadeByRun, MoveFrom};
 ghost use Rattle.parser.specs.Stamps.{AddsNumbered, AreOlder, KeepStamps};
-ghost use Rattle.parser.specs.Compact.{IsLonger, IsSameParse, bound, verdict_on};
-ghost use Rattle.parser.specs.Parses.{AreExpectedAt, IsAlone, IsParseOf, verdict_in};
+ghost use Rattle.parser.specs.Compact.{IsLonger, IsSameParse, bound};
+ghost use Rattle.parser.specs.Parses.{AreExpectedAt, IsParseOf, verdict_in};
 
 use crate::compact::compact;
 use crate::input::Input;
-use crate::machine::Machine;
+use crate::machine::{Halt, Machine};
 use crate::older::are_older;
 use crate::prepare::prepare;
 use crate::reader::Reader;
@@ -43,9 +43,9 @@ pub enum Verdict {
 /// and the store that has its nodes.
 #[derive(Drop)]
 pub struct Parse {
-    /// The tree, or the fault.
-    verdict: Verdict,
-    /// The trees with which the machine stopped.
+    /// How the machine stopped.
+    halt: Halt,
+    /// The trees with which it stopped.
     stack: Vec<Child>,
     /// The state above the stack.
     state: usize,
@@ -58,12 +58,12 @@ pub struct Parse {
 }
 
 impl Model for Parse {
-    ghost use Rattle.parser.specs.Parses.{Stop};
+    ghost use Rattle.parser.specs.Parses.{Stop, verdict_of};
 
     ghost Value = { Stop };
 
     ghost view = { λ p. record {
-      verdict = p.verdict;
+      verdict = verdict_of p.halt p.stack.items;
       stack = p.stack.items;
       state = p.state;
       branches = p.branches;
@@ -89,16 +89,6 @@ fn bound(branches: usize) -> usize
     ensures { result ≡ min most (bound branches) }
 {
     branches.saturating_mul(2).saturating_add(1024)
-}
-
-/// The verdict, where these are the trees of the stack under other names.
-fn verdict_on(verdict: Verdict, stack: &[Child]) -> Verdict
-    ensures { result ≡ verdict_on verdict stack.now }
-{
-    match (verdict, stack.first()) {
-        (Verdict::Tree(_), Some(Child::Node(id))) => Verdict::Tree(*id),
-        _ => verdict,
-    }
 }
 
 /// The parse of the kinds, over trees that begin at the first of them. Its new nodes have this number. After a refusal some
@@ -129,11 +119,11 @@ fn parse_from<K: Kinds>(
     let before = store.len();
     let mut machine = Machine::new(alloc, tables)?;
     let mut reader = Reader::new(kinds);
-    let verdict = machine.run(alloc, tables, store, &mut reader, input, number)?;
+    let halt = machine.run(alloc, tables, store, &mut reader, input, number)?;
     let state = machine.state();
     let branches = branches_of(store, &machine.stack);
     Ok(Parse {
-        verdict,
+        halt,
         stack: machine.stack,
         state,
         branches: branches as usize,
@@ -269,9 +259,8 @@ impl Parse {
     /// This parse, in a store within the bound: where there are more nodes, those of no tree of the stack are given up.
     ///
     /// After a refusal the store is as before.
-    fn within_bound(self, alloc: Global, store: &mut Store) -> Result<Parse, AllocError>
+    fn within_bound(mut self, alloc: Global, store: &mut Store) -> Result<Parse, AllocError>
         requires below { AreBelow (length store.old) self.stack }
-        requires alone { IsAlone self.verdict self.stack }
         requires branches { self.branches ≡ all_branches (plain_of store.old self.stack) }
         ensures same { IfOk result (IsSameParse store.old self store.new) }
         ensures bound { IfOk result (λ p. length store.new ≤ bound p.branches) }
@@ -281,23 +270,8 @@ impl Parse {
         if store.len() <= bound(self.branches) {
             return Ok(self);
         }
-        let Parse {
-            verdict,
-            mut stack,
-            state,
-            branches,
-            built,
-            number,
-        } = self;
-        compact(alloc, store, &mut stack)?;
-        Ok(Parse {
-            verdict: verdict_on(verdict, &stack),
-            stack,
-            state,
-            branches,
-            built,
-            number,
-        })
+        compact(alloc, store, &mut self.stack)?;
+        Ok(self)
     }
 
     /// What the splice leaves of the trees of the stack, with the new kinds between. It is nothing where the number is not above
@@ -338,7 +312,11 @@ impl Parse {
     pub fn verdict(&self) -> Verdict
         ensures { result ≡ self.now.verdict }
     {
-        self.verdict
+        match (self.halt, self.stack.first()) {
+            (Halt::Accepted, Some(Child::Node(id))) => Verdict::Tree(*id),
+            (Halt::FaultAt(k), _) => Verdict::FaultAt(k),
+            _ => Verdict::FaultAtEnd,
+        }
     }
 
     /// The tree alone; or at a fault the settled trees of the tokens before it, and after them the last of these tokens, if
@@ -374,7 +352,7 @@ impl Parse {
             → IsParseOf tables.now kinds cells self.now
             → AreExpectedAt tables.now.grammar kinds (verdict_in cells self.now.verdict) result }
     {
-        match self.verdict {
+        match self.verdict() {
             Verdict::Tree(_) => Expected::nothing(),
             Verdict::FaultAt(_) | Verdict::FaultAtEnd => tables.expects(self.state),
         }

@@ -3,7 +3,7 @@ use Rattle.parser.specs.Input.{input_of}
 use Rattle.trees.specs.Cells.{all_trees, most}
 use Rattle.definitions.specs.Nodes.{all_branches}
 use Rattle.parser.specs.Machine.{plain_of}
-use Rattle.parser.specs.Parses.{IsStop}
+use Rattle.parser.specs.Parses.{IsStop, verdict_of}
 use Rattle.parser.proofs.Cuts.{counted}
 use Rattle.parser.proofs.Fits.{stack_fits}
 use Rattle.parser.specs.Run.{CameFrom, SoFar}
@@ -36,11 +36,11 @@ run-requires-clause-came g c =
     subst (λ stack. CameFrom (all_trees cells input) (length cells) n cells stack m.read input) (sym made.stack) (subst (λ r. CameFrom (all_trees cells input) (length cells) n cells [] r input) (sym made.read) first)
 
 pub returns-clause-came : goal.returns-clause-came
-returns-clause-came g c = let there = c.in_ok-verdict.ensures.came in (c.run.new.self.read, there.0, there.1)
+returns-clause-came g c = let there = c.in_ok-halt.ensures.came in (c.run.new.self.read, there.0, there.1)
 
 pub returns-clause-run : goal.returns-clause-run
 returns-clause-run g c =
-    let there = c.in_ok-verdict.ensures.so_far in
+    let there = c.in_ok-halt.ensures.so_far in
     record { states = c.run.new.self.states.items; read = c.run.new.self.read; rest = there.0; so_far = subst (λ kinds. SoFar c.args.tables.now (input_of c.args.store.now c.args.input kinds 0) kinds (length c.args.store.now) c.args.number c.run.new.store c.run.new.self.stack.items c.run.new.self.states.items c.run.new.self.read there.0) c.new-reader.ensures there.1 }
 
 pub returns-clause-parse : goal.returns-clause-parse
@@ -50,14 +50,14 @@ returns-clause-parse g c =
     let new = c.run.new.store in
     let stack = c.run.new.self.stack.items in
     let made = returns-clause-run g c in
-    let stops = c.in_ok-verdict.ensures.stops.1 in
+    let stops = c.in_ok-halt.ensures.stops.1 in
     let small : c.len.result < 2 ^ 64 = c.len.type_inv in
     let fits : all_branches (plain_of new stack) ≤ length new = stack_fits t c.args.store.now new c.args.input stack kinds c.args.number made c.requires.fits in
     record {
-      stop = subst (λ ks. IsStop t ks new c.in_ok-verdict.verdict stack c.state-state.result) c.new-reader.ensures (subst (IsStop t _ new c.in_ok-verdict.verdict stack) (sym c.state-state.ensures) stops);
+      stop = subst (λ ks. IsStop t ks new (verdict_of c.in_ok-halt.halt stack) stack c.state-state.result) c.new-reader.ensures (subst (IsStop t _ new (verdict_of c.in_ok-halt.halt stack) stack) (sym c.state-state.ensures) stops);
       branches = c.branches_of-branches.ensures ∙ ap (λ l. min most (all_branches (plain_of new l))) c.deref.ensures.value ∙ counted (all_branches (plain_of new stack)) (omega (arith, fits, small, c.len.ensures.is));
       built = omega (arith, c.len.ensures.is, c.len-before.ensures.is, made.so_far.count, made.so_far.made);
       older = made.so_far.up_to;
       fits = fits;
-      countable = omega (arith, c.in_ok-verdict.ensures.countable, ap length c.new-reader.ensures);
+      countable = omega (arith, c.in_ok-halt.ensures.countable, ap length c.new-reader.ensures);
     }

@@ -1,4 +1,4 @@
-use Rattle.std.proofs.Common.{◌≡◌, ◌<◌, ◌+◌, ◌∷◌, ◌++◌, [], length, get_or, slice_get, Some, sym, ap, ◌∙◌, subst, arith}
+use Rattle.std.proofs.Common.{◌≡◌, ◌<◌, ◌+◌, ◌∷◌, ◌++◌, [], length, slice_get, Some, sym, ap, ◌∙◌, subst, arith}
 use Rattle.std.proofs.lemmas.Option.{slice_get_within}
 use Rattle.definitions.specs.Items.{HasMove, Shift, Reduce, Accept}
 use Rattle.definitions.specs.Trees.{yield}
@@ -13,7 +13,7 @@ use Rattle.parser.specs.FirstInput.{Offers, IsOffer}
 use Rattle.parser.specs.declared.machine.FirstInput.TheVariants.{Tree as OffersTree, Next as OffersNext}
 use Rattle.parser.specs.Input.{input_of, IsInput}
 use Rattle.parser.specs.Machine.{plain_of}
-use Rattle.parser.specs.Parses.{IsStoppedAt}
+use Rattle.parser.specs.Parses.{IsStoppedAt, verdict_of}
 use Rattle.parser.specs.Run.{CameFrom, SoFar}
 use Rattle.parser.proofs.WhereBranchesComeFrom.{came_reduced, came_shifted, came_taken, come_older, come_on, prefix_came, prefix_from, skipped_came, skipped_left}
 use Rattle.parser.proofs.Inputs.{taken}
@@ -21,7 +21,7 @@ use Rattle.parser.proofs.Moves.{top_stands}
 use Rattle.parser.proofs.Reusing.{counted}
 use Rattle.parser.proofs.Running.{after_first, reached, reduced_on, shifted_on, skipped_on, taken_on}
 use Rattle.parser.proofs.Stamps.{prefix_stays}
-use Rattle.parser.proofs.StopDecides.{IsStuck, at_fault, at_end, at_tree, one_on_stack}
+use Rattle.parser.proofs.StopDecides.{IsStuck, at_fault, at_end, at_tree}
 use Rattle.parser.proofs.machine.Machine.run.Goals.{then-self-count, else-self-count}
 use Rattle.parser.proofs.machine.Machine.run.Goals as goal
 
@@ -155,24 +155,8 @@ moves-preserved g c =
       same = c.in_ok-id.ensures.same ∙ c.moves.invariant.same;
     }
 
-pub index-requires : goal.index-requires
-index-requires g c =
-    let t = c.args.tables.now in
-    let kinds = c.args.kinds.now in
-    let cells = c.moves.store in
-    let m = c.moves.self in
-    let whole = input_of c.args.store.now c.args.input kinds 0 in
-    let trees = plain_of cells m.stack.items in
-    let offer = subst (λ kinds. IsOffer t cells trees kinds m.read c.first_input.new.input (OffersNext c.in-Next.look)) c.moves.invariant.same (subst (IsOffer t cells trees c.moves.kinds m.read c.first_input.new.input) c.in-Next.is c.in_ok-id.ensures.offer) in
-    let here = reached t whole kinds (length c.args.store.now) c.args.number cells m.stack.items m.states.items m.read c.moves.input c.moves.invariant.so_far c.requires.accepted.productive in
-    let symbols = here.has_states.symbols in
-    let there = subst (IsStateOf t symbols) (sym c.state.ensures) (top_stands t trees m.states.items here.has_states) in
-    let called : HasMove t.grammar symbols (slice_get kinds m.read) Accept = subst (λ l. HasMove t.grammar symbols l Accept) offer.0 (subst (λ move. HasMove t.grammar symbols c.in-Next.look (plain move)) c.in-Some-Accept.field-0-is (c.in-Some-Accept.ensures.is symbols there)) in
-    let one = one_on_stack t c.requires.accepted kinds cells m.stack.items m.states.items m.read here called in
-    omega (arith, ap length one.1)
-
-pub returns-in-Node-clause-stops : goal.returns-in-Node-clause-stops
-returns-in-Node-clause-stops g c =
+pub returns-in-Some-Accept-clause-stops : goal.returns-in-Some-Accept-clause-stops
+returns-in-Some-Accept-clause-stops g c =
     let t = c.args.tables.now in
     let kinds = c.args.kinds.now in
     let cells = c.moves.store in
@@ -185,9 +169,7 @@ returns-in-Node-clause-stops g c =
     let symbols = here.has_states.symbols in
     let there = subst (IsStateOf t symbols) (sym c.state.ensures) (top_stands t trees m.states.items here.has_states) in
     let called : HasMove t.grammar symbols (slice_get kinds m.read) Accept = subst (λ l. HasMove t.grammar symbols l Accept) offer.0 (subst (λ move. HasMove t.grammar symbols c.in-Next.look (plain move)) c.in-Some-Accept.field-0-is (c.in-Some-Accept.ensures.is symbols there)) in
-    let one = one_on_stack t c.requires.accepted kinds cells m.stack.items m.states.items m.read here called in
-    let first : Node c.in-Node.id ≡ Node one.0 = sym c.in-Node.is ∙ c.index.ensures ∙ ap (λ l. get_or l 0 c.index.result.now) one.1 in
-    at_tree t c.requires.accepted kinds cells m.stack.items m.states.items m.read here called c.in-Node.id (one.1 ∙ ap (λ n. n ∷ []) (sym first))
+    at_tree t c.requires.accepted kinds cells m.stack.items m.states.items m.read here called
 
 pub returns-in-None-clause-stops : goal.returns-in-None-clause-stops
 returns-in-None-clause-stops g c =
@@ -204,6 +186,6 @@ returns-in-None-clause-stops g c =
     let there = subst (IsStateOf t symbols) (sym c.state.ensures) (top_stands t trees m.states.items here.has_states) in
     let stuck : IsStuck t c.requires.accepted kinds cells m.stack.items m.states.items m.read here = λ move called. c.in-None.ensures.is symbols there move (subst (λ l. HasMove t.grammar symbols l move) (sym offer.0) called) in
     elim c.if-self-count.branch [
-      | then-self-count w ↦ subst (λ v. IsStoppedAt t kinds cells v m.stack.items m.states.items) (sym w.result-is) (at_fault t c.requires.accepted kinds cells m.stack.items m.states.items m.read here stuck (omega (arith, w.if-self-count.true, c.len-count.ensures)))
-      | else-self-count w ↦ subst (λ v. IsStoppedAt t kinds cells v m.stack.items m.states.items) (sym w.result-is) (at_end t c.requires.accepted kinds cells m.stack.items m.states.items m.read here stuck (omega (arith, w.if-self-count.false, c.len-count.ensures)))
+      | then-self-count w ↦ subst (λ halt. IsStoppedAt t kinds cells (verdict_of halt m.stack.items) m.stack.items m.states.items) (sym w.result-is) (at_fault t c.requires.accepted kinds cells m.stack.items m.states.items m.read here stuck (omega (arith, w.if-self-count.true, c.len-count.ensures)))
+      | else-self-count w ↦ subst (λ halt. IsStoppedAt t kinds cells (verdict_of halt m.stack.items) m.stack.items m.states.items) (sym w.result-is) (at_end t c.requires.accepted kinds cells m.stack.items m.states.items m.read here stuck (omega (arith, w.if-self-count.false, c.len-count.ensures)))
     ]
