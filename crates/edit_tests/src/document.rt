@@ -102,17 +102,17 @@ pub fn open(rt: &impl Abort, alloc: Global, language: &Language, text: &str) -> 
 
 /// What is reported of a parse.
 #[derive(Clone, Copy, PartialEq, Eq)]
-pub enum Shown {
+pub enum Ending {
     Tree,
     FaultAt(usize),
     FaultAtEnd,
 }
 
-pub fn shown(parse: &Parse) -> Shown {
+pub fn ending_of(parse: &Parse) -> Ending {
     match parse.verdict() {
-        Verdict::Tree(_) => Shown::Tree,
-        Verdict::FaultAt(k) => Shown::FaultAt(k),
-        Verdict::FaultAtEnd => Shown::FaultAtEnd,
+        Verdict::Tree(_) => Ending::Tree,
+        Verdict::FaultAt(k) => Ending::FaultAt(k),
+        Verdict::FaultAtEnd => Ending::FaultAtEnd,
     }
 }
 

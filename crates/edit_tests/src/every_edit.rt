@@ -239,7 +239,7 @@ fn is_brought(
     are_tokens(&facts.tokens, &new.tokens, made)
         && are_branches(&facts.branches, &new.branches, &built)
         && are_counts(document, &facts, made, &built)
-        && facts.shown == new.shown
+        && facts.ending == new.ending
         && facts.expected.as_slice() == new.expected.as_slice()
 }
 

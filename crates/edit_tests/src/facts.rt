@@ -6,7 +6,7 @@ ghost use Rattle.trees.specs.Cells.{Cell};
 ghost use Rattle.lexer.specs.Rescans.{significant_kinds};
 ghost use Rattle.parser.specs.Parses.{IsParseOf};
 
-use crate::document::{Document, Language, Shown, shown};
+use crate::document::{Document, Ending, Language, ending_of};
 use definitions::Kind;
 use lexer::{Token, Tokens};
 use parser::Parse;
@@ -40,7 +40,7 @@ pub struct Branch {
 pub struct Facts {
     pub tokens: Vec<Placed>,
     pub branches: Vec<Branch>,
-    pub shown: Shown,
+    pub ending: Ending,
     pub expected: Vec<Option<usize>>,
 }
 
@@ -124,7 +124,7 @@ pub fn facts_of(rt: &impl Abort, alloc: Global, language: &Language, document: &
     Facts {
         tokens: placed_tokens(rt, alloc, &document.tokens),
         branches: branches_of(rt, alloc, &document.store, document.parse.stack()),
-        shown: shown(&document.parse),
+        ending: ending_of(&document.parse),
         expected: expected_of(rt, alloc, &language.tables, &document.parse),
     }
 }

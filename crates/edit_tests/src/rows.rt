@@ -6,7 +6,7 @@ ghost use Rattle.lexer.specs.Tokens.{AreTokensOf};
 ghost use Rattle.lexer.specs.Rescans.{significant_kinds};
 ghost use Rattle.parser.specs.Parses.{IsParseOf};
 
-use crate::document::{Change, Document, Language, Shown, apply, load, open, shown};
+use crate::document::{Change, Document, Ending, Language, apply, ending_of, load, open};
 use std::alloc::Global;
 use std::process::Abort;
 use worked::{LISTS, SUMS};
@@ -18,7 +18,7 @@ struct Outcome {
     scanned: usize,
     branches: usize,
     built: usize,
-    shown: Shown,
+    ending: Ending,
 }
 
 /// The number of an edit, the edit, and what is to come of it: the counts of tokens, of those scanned, of branches and of those
@@ -27,7 +27,7 @@ type Row<'a> = (
     u64,
     (usize, usize, &'a str),
     (usize, usize, usize, usize),
-    Shown,
+    Ending,
 );
 
 fn outcome_of(document: &Document) -> Outcome {
@@ -37,7 +37,7 @@ fn outcome_of(document: &Document) -> Outcome {
         scanned: document.tokens.scanned(),
         branches,
         built,
-        shown: shown(&document.parse),
+        ending: ending_of(&document.parse),
     }
 }
 
@@ -59,7 +59,7 @@ fn check_row(
     ensures parse { IsParseOf language.now.tables (significant_kinds document.new.tokens.items)
         document.new.store document.new.parse }
 {
-    let (number, (at, removed, piece), counts, shown) = *row;
+    let (number, (at, removed, piece), counts, ending) = *row;
     let edit = Change {
         at,
         removed,
@@ -73,7 +73,7 @@ fn check_row(
         scanned,
         branches,
         built,
-        shown,
+        ending,
     };
     assert!(rt; outcome_of(document) == awaited, "edit {number}");
 }
@@ -96,16 +96,16 @@ fn check_by(rt: &impl Abort, alloc: Global, file: &str, text: &str, rows: &[Row<
 
 /// Sums, and an edit of each.
 const EDITED_SUMS: &[(&str, Row<'static>)] = &[
-    ("1+2", (1, (1, 0, " "), (4, 2, 4, 0), Shown::Tree)),
-    ("1+ 2", (1, (3, 0, "3+"), (6, 3, 6, 3), Shown::Tree)),
-    ("(1", (1, (2, 0, ")"), (3, 2, 4, 4), Shown::Tree)),
-    ("(1+2", (1, (4, 0, ")"), (5, 2, 6, 4), Shown::Tree)),
-    ("(1)", (1, (2, 1, ""), (2, 1, 0, 0), Shown::FaultAtEnd)),
-    ("1+2+3", (1, (5, 0, "4"), (5, 1, 6, 0), Shown::Tree)),
-    ("1+2+3", (1, (5, 0, "+4"), (7, 3, 8, 4), Shown::Tree)),
-    ("1+2+3", (1, (0, 0, "9"), (5, 1, 6, 0), Shown::Tree)),
-    ("1+2+3", (1, (4, 1, ""), (4, 1, 4, 0), Shown::FaultAtEnd)),
-    ("1+2", (1, (1, 0, ""), (3, 1, 4, 0), Shown::Tree)),
+    ("1+2", (1, (1, 0, " "), (4, 2, 4, 0), Ending::Tree)),
+    ("1+ 2", (1, (3, 0, "3+"), (6, 3, 6, 3), Ending::Tree)),
+    ("(1", (1, (2, 0, ")"), (3, 2, 4, 4), Ending::Tree)),
+    ("(1+2", (1, (4, 0, ")"), (5, 2, 6, 4), Ending::Tree)),
+    ("(1)", (1, (2, 1, ""), (2, 1, 0, 0), Ending::FaultAtEnd)),
+    ("1+2+3", (1, (5, 0, "4"), (5, 1, 6, 0), Ending::Tree)),
+    ("1+2+3", (1, (5, 0, "+4"), (7, 3, 8, 4), Ending::Tree)),
+    ("1+2+3", (1, (0, 0, "9"), (5, 1, 6, 0), Ending::Tree)),
+    ("1+2+3", (1, (4, 1, ""), (4, 1, 4, 0), Ending::FaultAtEnd)),
+    ("1+2", (1, (1, 0, ""), (3, 1, 4, 0), Ending::Tree)),
 ];
 
 #[test]
@@ -118,9 +118,9 @@ fn edits_of_sums(rt: HostRuntime) {
 #[test]
 fn edits_of_lists(rt: HostRuntime) {
     let rows = [
-        (1, (0, 0, "\""), (4, 1, 0, 0), Shown::FaultAt(0)),
-        (2, (6, 0, "\""), (1, 1, 3, 3), Shown::Tree),
-        (3, (6, 1, ""), (4, 4, 0, 0), Shown::FaultAt(0)),
+        (1, (0, 0, "\""), (4, 1, 0, 0), Ending::FaultAt(0)),
+        (2, (6, 0, "\""), (1, 1, 3, 3), Ending::Tree),
+        (3, (6, 1, ""), (4, 4, 0, 0), Ending::FaultAt(0)),
     ];
     check_by(&rt, rt.alloc(), LISTS, "ab cd", &rows);
 }
@@ -130,12 +130,12 @@ fn edits_of_lists(rt: HostRuntime) {
 #[test]
 fn faulty_and_back(rt: HostRuntime) {
     let rows = [
-        (1, (0, 0, ")"), (6, 1, 0, 0), Shown::FaultAt(0)),
-        (2, (0, 1, ""), (5, 0, 6, 6), Shown::Tree),
-        (3, (4, 0, "+"), (6, 2, 4, 0), Shown::FaultAt(4)),
-        (4, (6, 0, "+4"), (8, 3, 4, 0), Shown::FaultAt(4)),
-        (5, (0, 0, "5+"), (10, 2, 6, 4), Shown::FaultAt(6)),
-        (6, (6, 1, ""), (9, 1, 10, 4), Shown::Tree),
+        (1, (0, 0, ")"), (6, 1, 0, 0), Ending::FaultAt(0)),
+        (2, (0, 1, ""), (5, 0, 6, 6), Ending::Tree),
+        (3, (4, 0, "+"), (6, 2, 4, 0), Ending::FaultAt(4)),
+        (4, (6, 0, "+4"), (8, 3, 4, 0), Ending::FaultAt(4)),
+        (5, (0, 0, "5+"), (10, 2, 6, 4), Ending::FaultAt(6)),
+        (6, (6, 1, ""), (9, 1, 10, 4), Ending::Tree),
     ];
     check_by(&rt, rt.alloc(), SUMS, "1+2+3", &rows);
 }
@@ -145,13 +145,13 @@ fn faulty_and_back(rt: HostRuntime) {
 fn numbers_that_are_no_new_ones(rt: HostRuntime) {
     let space = (1, 0, " ");
     let rows = [
-        (7, space, (4, 2, 4, 0), Shown::Tree),
-        (7, space, (4, 2, 4, 0), Shown::Tree),
-        (3, space, (4, 2, 4, 0), Shown::Tree),
-        (3, (6, 0, "+3"), (6, 3, 6, 4), Shown::Tree),
-        (3, space, (6, 2, 6, 6), Shown::Tree),
-        (2, space, (6, 2, 6, 6), Shown::Tree),
-        (4, space, (6, 2, 6, 0), Shown::Tree),
+        (7, space, (4, 2, 4, 0), Ending::Tree),
+        (7, space, (4, 2, 4, 0), Ending::Tree),
+        (3, space, (4, 2, 4, 0), Ending::Tree),
+        (3, (6, 0, "+3"), (6, 3, 6, 4), Ending::Tree),
+        (3, space, (6, 2, 6, 6), Ending::Tree),
+        (2, space, (6, 2, 6, 6), Ending::Tree),
+        (4, space, (6, 2, 6, 0), Ending::Tree),
     ];
     check_by(&rt, rt.alloc(), SUMS, "1+2", &rows);
 }
@@ -172,6 +172,6 @@ fn deep_trees(rt: HostRuntime) {
     let opening = repeated(&rt, alloc, "", '(');
     let closing = repeated(&rt, alloc, "1", ')');
     let edit = (100_000, 0, closing.as_str());
-    let mended = (1, edit, (200_001, 100_002, 200_002, 200_002), Shown::Tree);
+    let mended = (1, edit, (200_001, 100_002, 200_002, 200_002), Ending::Tree);
     check_by(&rt, alloc, SUMS, &opening, &[mended]);
 }
