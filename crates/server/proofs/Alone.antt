@@ -5,7 +5,7 @@ use Rattle.std.specs.Str.{chars}
 use Rattle.std.specs.FinMap.{get}
 use Rattle.std.proofs.lemmas.List.Elements.{All-from_recursion}
 use Rattle.rpc.specs.Unit.{Unit as Encoding}
-use Rattle.docs.specs.Text.{apply_changes}
+use Rattle.docs.specs.Text.{changed}
 use Rattle.docs.specs.Answers.{AnswersOnce}
 use Rattle.docs.specs.Edits.{CountsOnce}
 use Rattle.docs.specs.Texts.{LastEdit, OpenDocument}
@@ -64,7 +64,7 @@ one_last : (encoding : Encoding) (file : FileGrammar) → CountsOnce file → (t
 one_last encoding file counts text [] last one other a b = b ∙ sym a
 one_last encoding file counts text (c ∷ cs) last one other a b =
     let same : b.0 ≡ a.0 = counts.edits encoding text c.range (chars c.text) last a.0 b.0 a.1 b.1 in
-    one_last encoding file counts (apply_changes encoding text c.range (chars c.text)) cs (Some a.0) one other a.2 (subst (λ (e : LastEdit). IsLastAfter encoding file (apply_changes encoding text c.range (chars c.text)) cs (Some e) other) same b.2)
+    one_last encoding file counts (changed encoding text c.range (chars c.text)) cs (Some a.0) one other a.2 (subst (λ (e : LastEdit). IsLastAfter encoding file (changed encoding text c.range (chars c.text)) cs (Some e) other) same b.2)
 
 -- what an open document becomes, where memory is refused in both or in neither
 one_becomes : (file : FileGrammar) → CountsOnce file → (version : ℤ) (now : OpenDocument) (changes : List TextChange) (s t : DocumentState) → loses (Some (is_open now)) (Some t) ≡ loses (Some (is_open now)) (Some s) → Becomes file version now changes s → Becomes file version now changes t → t ≡ s

@@ -3,7 +3,7 @@ use Rattle.std.proofs.Common.{◌≡◌, ◌<◌, ◌+◌, ℕ, ℤ, Bool, true,
 use Rattle.std.proofs.lemmas.List.{drop_more, take_more, map-append, take-append-drop}
 use Rattle.std.specs.Prelude.{Option, Some, None}
 use Rattle.std.specs.Str.{chars}
-use Rattle.docs.specs.Text.{apply_changes}
+use Rattle.docs.specs.Text.{changed}
 use Rattle.rpc.specs.Unit.{Unit as Encoding}
 use Rattle.docs.specs.Edits.{IsNext}
 use Rattle.docs.specs.Texts.{LastEdit, OpenDocument, fits}
@@ -16,7 +16,7 @@ use Rattle.server.specs.Documents.{DocumentState, is_open, is_lost, edited, Beco
 module _ (encoding : Encoding) where
   -- the text after one change
   abbrev pub after : List ℕ → TextChange → List ℕ
-  after t c = apply_changes encoding t c.range (chars c.text)
+  after t c = changed encoding t c.range (chars c.text)
 
   pub edited_fits : (text : List ℕ) (changes : List TextChange) (new : List ℕ) → fits text ≡ true → edited encoding text changes ≡ Some new → fits new ≡ true
   edited_fits text [] new fit e = let same : text ≡ new = cc in subst (λ t. fits t ≡ true) same fit

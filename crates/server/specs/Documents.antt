@@ -4,7 +4,7 @@ use Rattle.std.specs.Ordering.{nat_cmp}
 use Rattle.std.specs.Str.{chars}
 use Rattle.std.specs.Cmp.Lexicographic.{slice_cmp}
 use Rattle.std.specs.FinMap.{FinMap, contains_key, len}
-use Rattle.docs.specs.Text.{apply_changes}
+use Rattle.docs.specs.Text.{changed}
 use Rattle.rpc.specs.Unit.{Unit as Encoding}
 use Rattle.docs.specs.Edits.{IsNext}
 use Rattle.docs.specs.Texts.{LastEdit, OpenDocument, fits}
@@ -27,8 +27,8 @@ Held = FinMap (slice_cmp nat_cmp) DocumentState
 abbrev pub edited : Encoding → List ℕ → List TextChange → Option (List ℕ)
 edited encoding text [] = Some text
 edited encoding text (c ∷ cs) =
-    if fits (apply_changes encoding text c.range (chars c.text))
-    then edited encoding (apply_changes encoding text c.range (chars c.text)) cs
+    if fits (changed encoding text c.range (chars c.text))
+    then edited encoding (changed encoding text c.range (chars c.text)) cs
     else None
 
 -- `IsLastAfter encoding file text changes last after`: what the last edit is after changes, each an edit of the text that the one before it
@@ -37,7 +37,7 @@ abbrev pub IsLastAfter : Encoding → FileGrammar → List ℕ → List TextChan
 IsLastAfter encoding file text [] last after = after ≡ last
 IsLastAfter encoding file text (c ∷ cs) last after =
     (next : LastEdit) × IsNext encoding file text c.range (chars c.text) last next
-    × IsLastAfter encoding file (apply_changes encoding text c.range (chars c.text)) cs (Some next) after
+    × IsLastAfter encoding file (changed encoding text c.range (chars c.text)) cs (Some next) after
 
 -- `Becomes file version d changes state`: what an open document may become by the changes of a message: open with the text after them and
 -- the last of these edits, where all texts on the way fit; lost as too large where one doesn't; or lost because memory was refused at a
