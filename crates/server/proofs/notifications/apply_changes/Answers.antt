@@ -26,7 +26,7 @@ pub returns-in-Err-TooLarge-clause-becomes : goal.returns-in-Err-TooLarge-clause
 returns-in-Err-TooLarge-clause-becomes c =
     let doc = c.loop-change.doc in
     let change = c.change-item.result in
-    let same = ap (λ (e : Encoding). changed e doc.text change.range (chars c.as_str.result.now)) c.loop-change.invariant.unit ∙ ap (λ b. apply_changes c.args.doc.unit doc.text change.range (chars b)) c.as_str.ensures.value in
+    let same = ap (λ (e : Encoding). changed e doc.text change.range (chars c.as_str.result.now)) c.loop-change.invariant.unit ∙ ap (λ b. changed c.args.doc.unit doc.text change.range (chars b)) c.as_str.ensures.value in
     let refused : c.change.result ≡ Err TooLarge = c.in-Err-TooLarge.is ∙ ap (λ (e : DocFault). Err e) c.in-Err-TooLarge.field-0-is in
     let over : fits (after c.args.doc.unit doc.text (change_view change)) ≡ false = subst (λ t. fits t ≡ false) same (c.change.ensures.too_large.0 refused) in
     ends_there c.args.changes.now c.loop-change.change-index change c.loop-change-test.true c.change-item.is c.args.language.now.file (open_document c.args.doc) doc.text c.loop-change.invariant.edits over
@@ -35,7 +35,7 @@ pub returns-in-Err-NoMemory-clause-becomes : goal.returns-in-Err-NoMemory-clause
 returns-in-Err-NoMemory-clause-becomes c =
     let doc = c.loop-change.doc in
     let change = c.change-item.result in
-    let same = ap (λ (e : Encoding). changed e doc.text change.range (chars c.as_str.result.now)) c.loop-change.invariant.unit ∙ ap (λ b. apply_changes c.args.doc.unit doc.text change.range (chars b)) c.as_str.ensures.value in
+    let same = ap (λ (e : Encoding). changed e doc.text change.range (chars c.as_str.result.now)) c.loop-change.invariant.unit ∙ ap (λ b. changed c.args.doc.unit doc.text change.range (chars b)) c.as_str.ensures.value in
     let refused : c.change.result ≡ Err NoMemory = c.in-Err-NoMemory.is ∙ ap (λ (e : DocFault). Err e) c.in-Err-NoMemory.field-0-is in
     let fit = fits_then c.change.result _ (after c.args.doc.unit doc.text (change_view change)) same c.change.ensures.too_large (λ wrong. let both : Err TooLarge ≡ Err NoMemory = sym wrong ∙ refused in let f : ⊥ = cc in f) in
     may_lose c.args.changes.now c.loop-change.change-index change c.loop-change-test.true c.change-item.is c.args.language.now.file (open_document c.args.doc) doc.text c.loop-change.invariant.edits c.args.version fit
@@ -44,7 +44,7 @@ pub loop-change-preserved : goal.loop-change-preserved
 loop-change-preserved c =
     let doc = c.loop-change.doc in
     let change = c.change-item.result in
-    let same = ap (λ (e : Encoding). changed e doc.text change.range (chars c.as_str.result.now)) c.loop-change.invariant.unit ∙ ap (λ b. apply_changes c.args.doc.unit doc.text change.range (chars b)) c.as_str.ensures.value in
+    let same = ap (λ (e : Encoding). changed e doc.text change.range (chars c.as_str.result.now)) c.loop-change.invariant.unit ∙ ap (λ b. changed c.args.doc.unit doc.text change.range (chars b)) c.as_str.ensures.value in
     let fit = fits_then c.change.result _ (after c.args.doc.unit doc.text (change_view change)) same c.change.ensures.too_large (λ wrong. let both : Err TooLarge ≡ Ok c.in-Ok.next = sym wrong ∙ c.in-Ok.is in let f : ⊥ = cc in f) in
     let text : c.in-Ok.next.text ≡ after c.args.doc.unit doc.text (change_view change) = ap (λ (d : OpenDocument). d.text) c.in-Ok.ensures.is ∙ same in
     let next = c.in-Ok.ensures.last in
