@@ -27,7 +27,7 @@ FIRST_FAULTS = {
 """,
 }
 
-FAULTS_BEHIND_EDITS = {
+FAULTS_AFTER_EDITS = {
     "a parenthesis that is deleted is missed": r"""
 > {"jsonrpc":"2.0","method":"textDocument/didOpen","params":{"textDocument":{"uri":"a:x","languageId":"g","version":1,"text":"(1)"}}}
 < {"jsonrpc":"2.0","method":"textDocument/publishDiagnostics","params":{"diagnostics":[],"uri":"a:x","version":1}}
@@ -140,7 +140,7 @@ TWO_UNITS = {
 
 def sessions():
     yield from served("the first fault is reported", FIRST_FAULTS)
-    yield from served("faults follow the edits", FAULTS_BEHIND_EDITS)
+    yield from served("faults follow the edits", FAULTS_AFTER_EDITS)
     yield from served("texts are edited", EDITS)
     for character in ["\U0001f600", "\U00010000", "\U0010ffff"]:
         test = f"a character may count two units, as U+{ord(character):X}"

@@ -233,7 +233,7 @@ OPENED = r"""
 < {"jsonrpc":"2.0","method":"textDocument/publishDiagnostics","params":{"diagnostics":[],"uri":"b:@","version":1}}
 """
 
-BEHIND_64 = {
+AFTER_64 = {
     "of 64 documents, one may be replaced, lost or closed; a 65th has no room until one is closed": r"""
 > {"jsonrpc":"2.0","method":"textDocument/didOpen","params":{"textDocument":{"uri":"a:x","languageId":"g","version":1,"text":"2"}}}
 < {"jsonrpc":"2.0","method":"window/logMessage","params":{"message":"didOpen: too many documents","type":1}}
@@ -262,7 +262,7 @@ BEHIND_64 = {
 }
 
 # The `@` stands for 1,048,577 digits, one more than a text may have.
-LARGE_BEHIND_64 = {
+LARGE_AFTER_64 = {
     "that there is no room is reported before the size of a text": r"""
 > {"jsonrpc":"2.0","method":"textDocument/didOpen","params":{"textDocument":{"uri":"a:x","languageId":"g","version":1,"text":"@"}}}
 < {"jsonrpc":"2.0","method":"window/logMessage","params":{"message":"didOpen: too many documents","type":1}}
@@ -276,7 +276,7 @@ def digits(count):
     return "1" * count
 
 
-def behind_64(talks):
+def after_64(talks):
     """These transcripts after one that opens 64 documents."""
     opened = "".join(OPENED.replace("@", str(number)) for number in range(64))
     return {name: opened + talk for name, talk in talks.items()}
@@ -293,6 +293,6 @@ def sessions():
     yield from served("each change has to fit", filled(CHANGES_THAT_FIT, digits(1_048_575)))
     yield from served("malformed changes lose a document", each(SPOILED, MALFORMED_CHANGES))
     yield from served("documents are lost, closed and replaced", LOSSES)
-    yield from served("no 65th document is held", behind_64(BEHIND_64))
-    yield from served("no 65th document is held", behind_64(filled(LARGE_BEHIND_64, digits(1_048_577))))
+    yield from served("no 65th document is held", after_64(AFTER_64))
+    yield from served("no 65th document is held", after_64(filled(LARGE_AFTER_64, digits(1_048_577))))
     yield from talked("a content of the greatest length is answered", {"initialize and blanks": greatest_content()}, 1)

@@ -31,8 +31,8 @@ or_right true b e = refl
 or_right false b e = e
 
 module _ (g : Grammar) where
-  vanishes_join : (n : ℕ) (rest : List Symbol) → IsNullable g (Nonterminal n ∷ []) → IsNullable g rest → IsNullable g (Nonterminal n ∷ rest)
-  vanishes_join n rest (Drop p h v w) k = Drop p h v k
+  nullable_join : (n : ℕ) (rest : List Symbol) → IsNullable g (Nonterminal n ∷ []) → IsNullable g rest → IsNullable g (Nonterminal n ∷ rest)
+  nullable_join n rest (Drop p h v w) k = Drop p h v k
 
   nothing_begins : (a : ℕ) → InFirst g a [] → ⊥
   nothing_begins a b = elim b [ ]
@@ -41,12 +41,12 @@ module _ (g : Grammar) where
   begins_join a n rest (Within p h b) = Within p h b
   begins_join a n rest (After v b) = absurd (nothing_begins a b)
 
-  pub vanish_sound : (marks : List Bool) → AreTrue g None marks → (ss : List Symbol) → nullable_by marks ss ≡ true → IsNullable g ss
-  vanish_sound marks t [] e = None_left
-  vanish_sound marks t (Terminal a ∷ ss) e = absurd (cc e)
-  vanish_sound marks t (Nonterminal n ∷ ss) e =
+  pub nullable_sound : (marks : List Bool) → AreTrue g None marks → (ss : List Symbol) → nullable_by marks ss ≡ true → IsNullable g ss
+  nullable_sound marks t [] e = None_left
+  nullable_sound marks t (Terminal a ∷ ss) e = absurd (cc e)
+  nullable_sound marks t (Nonterminal n ∷ ss) e =
       let parts = and_parts (slice_index_or marks n false) (nullable_by marks ss) e in
-      vanishes_join n ss (t n parts.0) (vanish_sound marks t ss parts.1)
+      nullable_join n ss (t n parts.0) (nullable_sound marks t ss parts.1)
 
   after_dot : (n a : ℕ) (nullable marks : List Bool) → AreTrue g None nullable → (ss : List Symbol) → (begin_by a nullable marks ss ≡ true → InFirst g a ss) → (slice_index_or nullable n false && begin_by a nullable marks ss) ≡ true → InFirst g a (Nonterminal n ∷ ss)
   after_dot n a nullable marks v ss rest f = let parts = and_parts (slice_index_or nullable n false) (begin_by a nullable marks ss) f in After (v n parts.0) (rest parts.1)
@@ -57,12 +57,12 @@ module _ (g : Grammar) where
   begin_sound a nullable marks v t (Nonterminal n ∷ ss) e = ⊎_elim (λ x. begins_join a n ss (t n x)) (λ f. after_dot n a nullable marks v ss (begin_sound a nullable marks v t ss) f) (or_parts (slice_index_or marks n false) (slice_index_or nullable n false && begin_by a nullable marks ss) e)
 
   pub holds_sound : (look : Option ℕ) (nullable marks : List Bool) → AreTrue g None nullable → AreTrue g look marks → (ss : List Symbol) → holds_by look nullable marks ss ≡ true → Means g look ss
-  holds_sound None nullable marks v t ss e = vanish_sound marks t ss e
+  holds_sound None nullable marks v t ss e = nullable_sound marks t ss e
   holds_sound (Some a) nullable marks v t ss e = begin_sound a nullable marks v t ss e
 
-  pub vanish_complete : (nullable marks : List Bool) → AreClosed g None nullable marks → {ss : List Symbol} → IsNullable g ss → nullable_by marks ss ≡ true
-  vanish_complete nullable marks c None_left = refl
-  vanish_complete nullable marks c (Drop p {n = n} {right = right} {rest = rest} h v w) = and_both (slice_index_or marks n false) (nullable_by marks rest) (c p n right h (vanish_complete nullable marks c v)) (vanish_complete nullable marks c w)
+  pub nullable_complete : (nullable marks : List Bool) → AreClosed g None nullable marks → {ss : List Symbol} → IsNullable g ss → nullable_by marks ss ≡ true
+  nullable_complete nullable marks c None_left = refl
+  nullable_complete nullable marks c (Drop p {n = n} {right = right} {rest = rest} h v w) = and_both (slice_index_or marks n false) (nullable_by marks rest) (c p n right h (nullable_complete nullable marks c v)) (nullable_complete nullable marks c w)
 
   pub begin_complete : (a : ℕ) (nullable marks : List Bool) → ((n : ℕ) → IsNullable g (Nonterminal n ∷ []) → slice_index_or nullable n false ≡ true) → AreClosed g (Some a) nullable marks → {ss : List Symbol} → InFirst g a ss → begin_by a nullable marks ss ≡ true
   begin_complete a nullable marks v c At_once = eq-eqb a a refl
@@ -78,8 +78,8 @@ module _ (g : Grammar) where
   first_or false true e = e
   first_or false false e = e
 
-  pub exact_vanish : (nullable marks : List Bool) → AreTrue g None marks → AreClosed g None nullable marks → AreExact g None marks
-  exact_vanish nullable marks t c = record { sound = t; complete = λ n v. first_part (slice_index_or marks n false) (vanish_complete nullable marks c v) }
+  pub exact_nullable : (nullable marks : List Bool) → AreTrue g None marks → AreClosed g None nullable marks → AreExact g None marks
+  exact_nullable nullable marks t c = record { sound = t; complete = λ n v. first_part (slice_index_or marks n false) (nullable_complete nullable marks c v) }
 
   pub exact_begin : (a : ℕ) (nullable marks : List Bool) → AreExact g None nullable → AreTrue g (Some a) marks → AreClosed g (Some a) nullable marks → AreExact g (Some a) marks
   exact_begin a nullable marks v t c = record { sound = t; complete = λ n b. first_or (slice_index_or marks n false) (slice_index_or nullable n false) (begin_complete a nullable marks v.complete c b) }
@@ -120,8 +120,8 @@ closed_more g look nullable marks at below here p n right l h e = ⊎_elim same 
     other : (p ≡ at → ⊥) → slice_index_or marks n false ≡ true
     other i = below p n right (omega (arith, i)) h e
 
-pub vanish_iff : (g : Grammar) (nullable : List Bool) → AreExact g None nullable → (ss : List Symbol) → (nullable_by nullable ss ≡ true → IsNullable g ss) × (IsNullable g ss → nullable_by nullable ss ≡ true)
-vanish_iff g nullable x ss = (vanish_sound g nullable x.sound ss, vanish_complete g nullable nullable (λ p n right h e. x.complete n (Drop p h (vanish_sound g nullable x.sound right e) None_left)))
+pub nullable_iff : (g : Grammar) (nullable : List Bool) → AreExact g None nullable → (ss : List Symbol) → (nullable_by nullable ss ≡ true → IsNullable g ss) × (IsNullable g ss → nullable_by nullable ss ≡ true)
+nullable_iff g nullable x ss = (nullable_sound g nullable x.sound ss, nullable_complete g nullable nullable (λ p n right h e. x.complete n (Drop p h (nullable_sound g nullable x.sound right e) None_left)))
 
 pub begin_iff : (g : Grammar) (a : ℕ) (nullable marks : List Bool) → AreExact g None nullable → AreExact g (Some a) marks → (ss : List Symbol) → (begin_by a nullable marks ss ≡ true → InFirst g a ss) × (InFirst g a ss → begin_by a nullable marks ss ≡ true)
 begin_iff g a nullable marks v x ss = (begin_sound g a nullable marks v.sound x.sound ss, begin_complete g a nullable marks v.complete (λ p n right h e. x.complete n (Within p h (begin_sound g a nullable marks v.sound x.sound right e))))

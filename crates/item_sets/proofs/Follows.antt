@@ -15,9 +15,9 @@ begins_rule g a b ss rest e At_once = cc e
 begins_rule g a b ss rest e (Within p h i) = absurd (cc e)
 begins_rule g a b ss rest e (After v i) = absurd (cc e)
 
-vanishes_rule : (g : Grammar) (a : ℕ) (ss rest : List Symbol) → ss ≡ Terminal a ∷ rest → IsNullable g ss → ⊥
-vanishes_rule g a ss rest e None_left = cc e
-vanishes_rule g a ss rest e (Drop p h v w) = cc e
+not_nullable_rule : (g : Grammar) (a : ℕ) (ss rest : List Symbol) → ss ≡ Terminal a ∷ rest → IsNullable g ss → ⊥
+not_nullable_rule g a ss rest e None_left = cc e
+not_nullable_rule g a ss rest e (Drop p h v w) = cc e
 
 -- after no symbols, only the lookahead itself
 pub follows_nothing : (g : Grammar) (ss : List Symbol) (look b : Option ℕ) → length ss ≡ 0 → MayFollow g ss look b ↔ (b ≡ look)
@@ -26,7 +26,7 @@ follows_nothing g [] look b l = (⊎_elim (λ x. absurd (begins_nothing g x.0 []
 
 follows_rule : (g : Grammar) (a : ℕ) (rest : List Symbol) (look b : Option ℕ) → MayFollow g (Terminal a ∷ rest) look b ↔ (b ≡ Some a)
 follows_rule g a rest look b =
-    (⊎_elim (λ x. subst (λ n. b ≡ Some n) (begins_rule g x.0 a (Terminal a ∷ rest) rest refl x.2) x.1) (λ x. absurd (vanishes_rule g a (Terminal a ∷ rest) rest refl x.0)), λ e. inl (a, e, At_once))
+    (⊎_elim (λ x. subst (λ n. b ≡ Some n) (begins_rule g x.0 a (Terminal a ∷ rest) rest refl x.2) x.1) (λ x. absurd (not_nullable_rule g a (Terminal a ∷ rest) rest refl x.0)), λ e. inl (a, e, At_once))
 
 -- after a token rule, only that rule
 pub follows_first : (g : Grammar) (a : ℕ) (d : Symbol) (ss : List Symbol) (look b : Option ℕ) → 0 < length ss → slice_index_or ss 0 d ≡ Terminal a → MayFollow g ss look b ↔ (b ≡ Some a)

@@ -1,4 +1,4 @@
--- Which nonterminals can vanish, and with which token rules they can begin, as marks.
+-- Which nonterminals are nullable, and with which token rules they can begin, as marks.
 use Rattle.std.specs.Prelude.{◌≡◌, ◌<◌, ℕ, Bool, true, false, ◌&&◌, ◌||◌, length, List, [], ◌∷◌, Option, Some, None, ◌==◌}
 use Rattle.std.specs.List.{slice_index_or, sum_by}
 use Rattle.definitions.specs.declared.Symbol.{Symbol}
@@ -13,14 +13,14 @@ nullable_by marks [] = true
 nullable_by marks (Terminal a ∷ ss) = false
 nullable_by marks (Nonterminal n ∷ ss) = slice_index_or marks n false && nullable_by marks ss
 
--- `begin_by a nullable marks symbols`: whether the symbols begin with the rule `a`, or with a marked nonterminal, after what can vanish
+-- `begin_by a nullable marks symbols`: whether the symbols begin with the rule `a`, or with a marked nonterminal, after nullable ones
 abbrev pub begin_by : ℕ → List Bool → List Bool → List Symbol → Bool
 begin_by a nullable marks [] = false
 begin_by a nullable marks (Terminal b ∷ ss) = a == b
 begin_by a nullable marks (Nonterminal n ∷ ss) = slice_index_or marks n false
     || (slice_index_or nullable n false && begin_by a nullable marks ss)
 
--- `holds_by look nullable marks symbols`: with no rule that the symbols vanish, with a rule that they begin with it
+-- `holds_by look nullable marks symbols`: with no rule that the symbols are nullable, with a rule that they begin with it
 abbrev pub holds_by : Option ℕ → List Bool → List Bool → List Symbol → Bool
 holds_by None nullable marks ss = nullable_by marks ss
 holds_by (Some a) nullable marks ss = begin_by a nullable marks ss

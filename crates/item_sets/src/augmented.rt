@@ -248,7 +248,7 @@ impl AugmentedGrammar {
         }
     }
 
-    /// Whether `a` can follow: it begins the symbols, or they can vanish and `look` is `a`.
+    /// Whether `a` can follow: it begins the symbols, or they are nullable and `look` is `a`.
     pub fn may_follow(&self, symbols: &[Symbol], look: Option<usize>, a: Option<usize>) -> bool
         requires known { All (IsKnown self.now) symbols.now }
         requires rule { IfSome a (λ b. b < self.now.grammar.rules) }

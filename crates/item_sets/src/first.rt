@@ -1,4 +1,4 @@
-//! Which nonterminals can vanish, and with which token rules they can begin.
+//! Which nonterminals are nullable, and with which token rules they can begin.
 ghost use Rattle.std.specs.Prelude.{◌≡◌, ◌<◌, ◌≤◌, ◌↔◌, ℕ, Bool, true, false, List, [], Option, Some, None, length, All, IsTrue, IfOk, IfSome, slice_index_or, slice_set};
 ghost use Rattle.definitions.specs.declared.Symbol.{Symbol};
 ghost use Rattle.definitions.specs.Trees.{HasProduction};
@@ -62,7 +62,7 @@ fn begin(
     false
 }
 
-/// Whether the symbols can vanish, or begin with the rule `look`.
+/// Whether the symbols are nullable, or begin with the rule `look`.
 fn holds(
     productions: &Productions,
     look: Option<usize>,
@@ -109,7 +109,7 @@ fn pass(productions: &Productions, look: Option<usize>, nullable: &Marks, marks:
     changed
 }
 
-/// The nonterminals that can vanish, or begin with the rule `look`.
+/// The nonterminals that are nullable, or begin with the rule `look`.
 fn fixpoint(
     alloc: Global,
     productions: &Productions,
@@ -131,10 +131,10 @@ fn fixpoint(
     Ok(marks)
 }
 
-/// Which nonterminals can vanish, and for each token rule, which can begin with it.
+/// Which nonterminals are nullable, and for each token rule, which can begin with it.
 #[derive(Drop)]
 pub struct First {
-    /// The nonterminals that can vanish.
+    /// The nullable nonterminals.
     nullable: Marks,
     /// For each token rule the nonterminals that can begin with it.
     beginning: Vec<Marks>,
@@ -166,7 +166,7 @@ impl First {
         })
     }
 
-    /// The nonterminals that can vanish.
+    /// The nullable nonterminals.
     fn nullable(&self) -> &Marks
         ensures { result.now ≡ self.now.nullable }
     {
@@ -181,7 +181,7 @@ impl First {
         &self.beginning[a]
     }
 
-    /// Whether the symbols can vanish.
+    /// Whether the symbols are nullable.
     fn is_nullable(&self, productions: &Productions, symbols: &[Symbol]) -> bool
         requires first { AreFirst productions.now self.now }
         requires known { All (IsKnown productions.now) symbols.now }
@@ -200,7 +200,7 @@ impl First {
         begin(productions, a, self.nullable(), self.beginning(a), symbols)
     }
 
-    /// Whether `a` can follow: it begins the symbols, or they can vanish and `look` is `a`.
+    /// Whether `a` can follow: it begins the symbols, or they are nullable and `look` is `a`.
     pub fn sees(
         &self,
         productions: &Productions,

@@ -194,7 +194,7 @@ fn a_request_for_selections_is_read(rt: HostRuntime) {
 }
 
 /// What a text of a document between these quotes is read as, where the content is a message.
-fn heard_text(rt: &impl Abort, alloc: Global, quoted: &str) -> Option<String> {
+fn text_of_quoted(rt: &impl Abort, alloc: Global, quoted: &str) -> Option<String> {
     let content = format!(in alloc;
         r#"{{"jsonrpc":"2.0","method":"textDocument/didOpen","params":{{"textDocument":{{"uri":"a:x","version":1,"text":{quoted}}}}}}}"#
     );
@@ -209,7 +209,7 @@ fn heard_text(rt: &impl Abort, alloc: Global, quoted: &str) -> Option<String> {
 #[test]
 fn surrogates_stand_in_pairs(rt: HostRuntime) {
     let alloc = rt.alloc();
-    let pair = heard_text(&rt, alloc, r#""\ud83d\ude00""#);
+    let pair = text_of_quoted(&rt, alloc, r#""\ud83d\ude00""#);
     assert!(rt; pair.as_ref().map(String::as_str) == Some("\u{1f600}"));
     for quoted in [
         r#""\ud83d""#,
@@ -217,7 +217,7 @@ fn surrogates_stand_in_pairs(rt: HostRuntime) {
         r#""\ude00\ud83d""#,
         r#""\ud83dx""#,
     ] {
-        assert!(rt; heard_text(&rt, alloc, quoted).is_none(), "at {quoted}");
+        assert!(rt; text_of_quoted(&rt, alloc, quoted).is_none(), "at {quoted}");
     }
 }
 

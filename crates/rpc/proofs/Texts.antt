@@ -207,9 +207,9 @@ value_spelled : (content : List ℕ) (b : Bool) → b ≡ is_utf8 content → If
 value_spelled content true e = read_spelled content (IsUtf8-from_is_utf8 content (sym e))
 value_spelled content false e = tt
 
-heard_spelled : (o : Option Data) → IfSome o IsSpelledData → AreSpelled (received_as o)
-heard_spelled None h = All-nil IsSpelled
-heard_spelled (Some d) h = message_spelled d h
+received_spelled : (o : Option Data) → IfSome o IsSpelledData → AreSpelled (received_as o)
+received_spelled None h = All-nil IsSpelled
+received_spelled (Some d) h = message_spelled d h
 
 pub each_text_is_spelled : (content : List ℕ) (received : Received) → Receives content received → All IsSpelled (texts_of received)
-each_text_is_spelled content received e = subst AreSpelled (sym e) (heard_spelled (value_of content) (value_spelled content (is_utf8 content) refl))
+each_text_is_spelled content received e = subst AreSpelled (sym e) (received_spelled (value_of content) (value_spelled content (is_utf8 content) refl))

@@ -82,7 +82,7 @@ abbrev pub id_view : Id → Ident
 id_view (Text s) = named (string_bytes s)
 id_view (Number z) = numbered z
 
--- `call_view call`: a call of the code as an `Request`
+-- `call_view call`: a call of the code as a `Request`
 abbrev pub call_view : Call → Request
 call_view (call.Initialize unit) = initialize unit
 call_view call.Shutdown = shutdown

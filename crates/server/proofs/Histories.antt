@@ -68,12 +68,12 @@ other_events : (e f : Event) (events more : List Event) → e ∷ events ≡ f �
 other_events e f events more same = let is : events ≡ more = cc in is
 
 -- a history, whatever the whole run answers and leaves
-abbrev ATale : List ℕ → State → List (List ℕ) → List Event → List Answer → Type 0
-ATale uri old contents events sent = (answers : List Answer) × (stop : Option ℕ) × (new : State) × History uri old contents answers stop new events sent
+abbrev HasHistory : List ℕ → State → List (List ℕ) → List Event → List Answer → Type 0
+HasHistory uri old contents events sent = (answers : List Answer) × (stop : Option ℕ) × (new : State) × History uri old contents answers stop new events sent
 
 -- what of it comes after one message
 abbrev Follows : List ℕ → State → List (List ℕ) → List Event → List Answer → Option ℕ → Type 0
-Follows uri mid contents more rest halt = MatchOption halt (ATale uri mid contents more rest) (λ status. (more ≡ []) × (rest ≡ []))
+Follows uri mid contents more rest halt = MatchOption halt (HasHistory uri mid contents more rest) (λ status. (more ≡ []) × (rest ≡ []))
 
 follows : (uri : List ℕ) (contents : List (List ℕ)) (answers first : List Answer) (stop : Option ℕ) (new mid : State) (more : List Event) (rest : List Answer) (halt : Option ℕ) → GoesOnAs uri contents answers first stop new mid more rest halt → Follows uri mid contents more rest halt
 follows uri contents answers first stop new mid more rest None m = (m.0, stop, new, m.2)
@@ -124,7 +124,7 @@ module _ (file : FileGrammar) (alone : EachDocumentIsAlone file) (uri : List ℕ
 
   -- what comes after one message that both receive
   abbrev GoesOn : List (List ℕ) → List Event → List Answer → State → Type 0
-  GoesOn contents more rest mid = (others : List (List ℕ)) (two : State) (other_rest : List Answer) → HoldAlike mid two → ATale uri two others more other_rest → SendTheSame rest other_rest
+  GoesOn contents more rest mid = (others : List (List ℕ)) (two : State) (other_rest : List Answer) → HoldAlike mid two → HasHistory uri two others more other_rest → SendTheSame rest other_rest
 
   record Step1 (one mid : State) (received : Received) (first : List Answer) (halt : Option ℕ) : Type 0 where
     name : named received ≡ Some uri
@@ -146,10 +146,10 @@ module _ (file : FileGrammar) (alone : EachDocumentIsAlone file) (uri : List ℕ
       (alone uri received one first halt mid both.one_file mine.step).1 mine.name two other_first other_halt other look here (sym (ap (λ (e : Event). e.refused) alike))
 
   -- the second session comes to the message that the first one receives
-  next_heard : (one mid : State) (received : Received) (first : List Answer) (halt : Option ℕ) (contents : List (List ℕ)) (more : List Event) (rest : List Answer) → Step1 one mid received first halt → MatchOption halt (GoesOn contents more rest mid) (λ status. (more ≡ []) × (rest ≡ []))
+  next_received : (one mid : State) (received : Received) (first : List Answer) (halt : Option ℕ) (contents : List (List ℕ)) (more : List Event) (rest : List Answer) → Step1 one mid received first halt → MatchOption halt (GoesOn contents more rest mid) (λ status. (more ≡ []) × (rest ≡ []))
       → (others : List (List ℕ)) (two : State) (answers : List Answer) (stop : Option ℕ) (new : State) (events : List Event) (sent : List Answer) → HoldAlike one two → events ≡ event_in uri one received mid ∷ more → History uri two others answers stop new events sent → SendTheSame (first ++ rest) sent
-  next_heard one mid received first halt contents more rest mine go [] two answers stop new events sent both is t = absurd (no_event _ _ (sym t.1 ∙ is))
-  next_heard one mid received first halt contents more rest mine go (content ∷ others) two answers stop new events sent both is t = by t.6 (λ now same later m. next_heard one mid received first halt contents more rest mine go others t.2 later stop new t.3 t.4 now same m)
+  next_received one mid received first halt contents more rest mine go [] two answers stop new events sent both is t = absurd (no_event _ _ (sym t.1 ∙ is))
+  next_received one mid received first halt contents more rest mine go (content ∷ others) two answers stop new events sent both is t = by t.6 (λ now same later m. next_received one mid received first halt contents more rest mine go others t.2 later stop new t.3 t.4 now same m)
     where
       passed : (yours : Option ℕ) → named (received_in content) ≢ Some uri → t.3 ≡ event_in uri one received mid ∷ more → GoesOnAs uri others answers t.0 stop new t.2 t.3 t.4 yours → (HoldAlike one t.2 → (later : List Answer) → History uri t.2 others later stop new t.3 t.4 → SendTheSame (first ++ rest) t.4) → SendTheSame (first ++ rest) t.4
       passed None apart same m again = again (passed_second one two t.2 (received_in content) t.0 t.1 both t.5 apart) m.0 m.2
@@ -160,23 +160,23 @@ module _ (file : FileGrammar) (alone : EachDocumentIsAlone file) (uri : List ℕ
         one_file = still_file one mid received first _ both.one_file mine.step;
         two_file = still_file two t.2 (received_in content) t.0 t.1 both.two_file t.5;
         held = held;
-      }) (subst (λ (es : List Event). ATale uri t.2 others es t.4) same m)
+      }) (subst (λ (es : List Event). HasHistory uri t.2 others es t.4) same m)
       after (Some a) (Some b) e held same on m = ap (map but_nodes) (m.1 ∙ sym on.1)
       after None (Some b) e held same on m = absurd (let f : ⊥ = cc in f)
       after (Some a) None e held same on m = absurd (let f : ⊥ = cc in f)
 
-      heard_both : named (received_in content) ≡ Some uri → events ≡ event_in uri two (received_in content) t.2 ∷ t.3 → sent ≡ t.0 ++ t.4 → SendTheSame (first ++ rest) sent
-      heard_both name noted_so so_alike =
+      received_both : named (received_in content) ≡ Some uri → events ≡ event_in uri two (received_in content) t.2 ∷ t.3 → sent ≡ t.0 ++ t.4 → SendTheSame (first ++ rest) sent
+      received_both name noted_so so_alike =
           let lists = sym is ∙ noted_so in
           let same : SameFor uri first t.0 halt t.1 mid t.2 = both_hear one two mid t.2 received (received_in content) first t.0 halt t.1 both mine (first_event _ _ _ _ lists) t.5 in
           let last : SendTheSame rest t.4 = after halt t.1 same.stops same.held (sym (other_events _ _ _ _ lists)) go (follows uri others answers t.0 stop new t.2 t.3 t.4 t.1 t.7) in
           ap (map but_nodes) so_alike ∙ say_both first rest t.0 t.4 same.sent last
 
       by : Notes uri two (received_in content) t.0 t.2 events sent t.3 t.4 → (HoldAlike one t.2 → t.3 ≡ event_in uri one received mid ∷ more → (later : List Answer) → History uri t.2 others later stop new t.3 t.4 → SendTheSame (first ++ rest) t.4) → SendTheSame (first ++ rest) sent
-      by (inl n) again = heard_both n.0 n.1 n.2
+      by (inl n) again = received_both n.0 n.1 n.2
       by (inr n) again = ap (map but_nodes) n.2 ∙ passed t.1 n.0 (sym n.1 ∙ is) t.7 (λ now later m. again now (sym n.1 ∙ is) later m)
 
-  histories_alike : (contents : List (List ℕ)) (one : State) (answers : List Answer) (stop : Option ℕ) (new : State) (events : List Event) (sent : List Answer) → History uri one contents answers stop new events sent → (others : List (List ℕ)) (two : State) (other_sent : List Answer) → HoldAlike one two → ATale uri two others events other_sent → SendTheSame sent other_sent
+  histories_alike : (contents : List (List ℕ)) (one : State) (answers : List Answer) (stop : Option ℕ) (new : State) (events : List Event) (sent : List Answer) → History uri one contents answers stop new events sent → (others : List (List ℕ)) (two : State) (other_sent : List Answer) → HoldAlike one two → HasHistory uri two others events other_sent → SendTheSame sent other_sent
   histories_alike [] one answers stop new events sent t others two other_sent both u = ap (map but_nodes) (silent_history uri others two u.0 u.1 u.2 events other_sent t.1 u.3 ∙ sym t.2)
   histories_alike (content ∷ contents) one answers stop new events sent t others two other_sent both u = by t.6 (λ later m. histories_alike contents t.2 later stop new t.3 t.4 m)
     where
@@ -185,11 +185,11 @@ module _ (file : FileGrammar) (alone : EachDocumentIsAlone file) (uri : List ℕ
       on (Some status) m go = (m.3, m.4)
 
       skipped : (halt : Option ℕ) → named (received_in content) ≢ Some uri → MatchOption halt (GoesOn contents t.3 t.4 t.2) (λ status. (t.3 ≡ []) × (t.4 ≡ [])) → events ≡ t.3 → SendTheSame t.4 other_sent
-      skipped None apart go same = go others two other_sent (passed_first one two t.2 (received_in content) t.0 t.1 both t.5 apart) (subst (λ (es : List Event). ATale uri two others es other_sent) same u)
+      skipped None apart go same = go others two other_sent (passed_first one two t.2 (received_in content) t.0 t.1 both t.5 apart) (subst (λ (es : List Event). HasHistory uri two others es other_sent) same u)
       skipped (Some status) apart go same = ap (map but_nodes) (silent_history uri others two u.0 u.1 u.2 events other_sent (same ∙ go.0) u.3 ∙ sym go.1)
 
       by : Notes uri one (received_in content) t.0 t.2 events sent t.3 t.4 → ((later : List Answer) → History uri t.2 contents later stop new t.3 t.4 → GoesOn contents t.3 t.4 t.2) → SendTheSame sent other_sent
-      by (inl n) go = next_heard one t.2 (received_in content) t.0 t.1 contents t.3 t.4 (record { name = n.0; step = t.5 }) (on t.1 t.7 go) others two u.0 u.1 u.2 events other_sent both n.1 u.3 ∙ ap (map but_nodes) (sym n.2)
+      by (inl n) go = next_received one t.2 (received_in content) t.0 t.1 contents t.3 t.4 (record { name = n.0; step = t.5 }) (on t.1 t.7 go) others two u.0 u.1 u.2 events other_sent both n.1 u.3 ∙ ap (map but_nodes) (sym n.2)
       by (inr n) go = skipped t.1 n.0 (on t.1 t.7 go) n.1 ∙ ap (map but_nodes) (sym n.2)
 
 pub histories_decide : (file : FileGrammar) → EachDocumentIsAlone file → HistoriesDecide file

@@ -52,9 +52,9 @@ run_on a c can cs ds xs None r =
 run_on a c can cs ds xs (Some status) r = ([], Some status, c, subst (λ zs. Run a (cs ++ ds) zs (Some status) c) (sym (append-nil xs)) (run_stops a c cs ds xs status r))
 
 -- a step on what a content is read as
-pub step_heard : (o : Option Received) (received : Received) (old : State) (answers : List Answer) (stop : Option ℕ) (new : State) → IfSome o (λ h. h ≡ received) → StepOn o old answers stop new → Step old received answers stop new
-step_heard None received old answers stop new is step = absurd step
-step_heard (Some h) received old answers stop new is step = subst (λ (x : Received). Step old x answers stop new) is step
+pub step_of_received : (o : Option Received) (received : Received) (old : State) (answers : List Answer) (stop : Option ℕ) (new : State) → IfSome o (λ h. h ≡ received) → StepOn o old answers stop new → Step old received answers stop new
+step_of_received None received old answers stop new is step = absurd step
+step_of_received (Some h) received old answers stop new is step = subst (λ (x : Received). Step old x answers stop new) is step
 
 pub one_run : (content : List ℕ) (old : State) (answers : List Answer) (stop : Option ℕ) (new : State) → Step old (received_in content) answers stop new → Run old (content ∷ []) answers stop new
 one_run content old answers None new step = (answers, None, new, step, ([], sym (append-nil answers), (refl, refl, refl)))

@@ -6,7 +6,7 @@ use Rattle.rpc.specs.Replies.{reply_view}
 use Rattle.frames.specs.declared.fault.RunFault.{RunFault}
 use Rattle.server.specs.Steps.{state_view}
 use Rattle.server.specs.Loop.{ServedInPart, IsCutShort}
-use Rattle.server.proofs.Runs.{step_heard, one_run}
+use Rattle.server.proofs.Runs.{step_of_received, one_run}
 use Rattle.server.proofs.CutSessions.{cut_off, part_nothing}
 use Rattle.server.proofs.serve.serve.Goals as goal
 
@@ -15,7 +15,7 @@ returns g c =
     let answers = map reply_view c.in_ok-out.out.replies.items in
     let before = state_view c.args.server.now in
     let after = state_view c.handle.new.self in
-    let step = step_heard (received_of c.read-message.result) (received_in c.args.content.now) before answers c.in_ok-out.out.stop after c.read-message.ensures c.in_ok-out.ensures.step in
+    let step = step_of_received (received_of c.read-message.result) (received_in c.args.content.now) before answers c.in_ok-out.out.stop after c.read-message.ensures c.in_ok-out.ensures.step in
     record {
       written = record {
         answers = answers;
@@ -45,7 +45,7 @@ returns-in_err-write_replies g c =
     let after = state_view c.handle.new.self in
     let p = err_from_is_err_and c.from_residual-in_err-write_replies.result c.from_residual-in_err-write_replies.ensures.1 in
     let cut : IsCutShort p.0 failures = subst (λ (e : RunFault). IsCutShort e failures) (sym p.2) c.in_err-write_replies.ensures.fault in
-    let step = step_heard (received_of c.read-message.result) (received_in c.args.content.now) before answers c.in_ok-out.out.stop after c.read-message.ensures c.in_ok-out.ensures.step in
+    let step = step_of_received (received_of c.read-message.result) (received_in c.args.content.now) before answers c.in_ok-out.out.stop after c.read-message.ensures c.in_ok-out.ensures.step in
     let part : ServedInPart old new before (c.args.content.now ∷ []) = record {
       answers = answers;
       stop = c.in_ok-out.out.stop;

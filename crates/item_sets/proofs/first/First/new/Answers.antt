@@ -1,7 +1,7 @@
 use Rattle.std.proofs.Common.{rules, ◌≡◌, ◌∷◌, ◌++◌, [], Some, length, subst, sym}
 use Rattle.item_sets.specs.First.{AreExact}
 use Rattle.item_sets.proofs.Numbers.{each_more}
-use Rattle.item_sets.proofs.Fixpoint.{exact_vanish, exact_begin}
+use Rattle.item_sets.proofs.Fixpoint.{exact_nullable, exact_begin}
 use Rattle.item_sets.proofs.first.First.new.Goals as goal
 
 pub loop-a-preserved : goal.loop-a-preserved
@@ -11,7 +11,7 @@ loop-a-preserved c =
     let e : c.push.new.self.items ≡ c.loop-a.rows.items ++ c.in_ok-fixpoint.field-0 ∷ [] = search rules in
     let v = c.in_ok-nullable.ensures in
     let r = c.in_ok-fixpoint.ensures in
-    let x = exact_begin g c.loop-a.a c.in_ok-nullable.nullable c.in_ok-fixpoint.field-0 (exact_vanish g c.in_ok-blank.blank c.in_ok-nullable.nullable v.held v.closed) r.held r.closed in
+    let x = exact_begin g c.loop-a.a c.in_ok-nullable.nullable c.in_ok-fixpoint.field-0 (exact_nullable g c.in_ok-blank.blank c.in_ok-nullable.nullable v.held v.closed) r.held r.closed in
     rw e (record {
       count = search rules;
       wide = each_more (λ a m. length m ≡ c.args.productions.now.nonterminals) c.loop-a.rows.items c.in_ok-fixpoint.field-0 [] i.wide r.marks;
@@ -27,6 +27,6 @@ returns c =
       wide = v.marks;
       rows = search rules;
       each_wide = i.wide;
-      are_nullable = exact_vanish g c.in_ok-blank.blank c.in_ok-nullable.nullable v.held v.closed;
+      are_nullable = exact_nullable g c.in_ok-blank.blank c.in_ok-nullable.nullable v.held v.closed;
       begin = i.exact;
     }
