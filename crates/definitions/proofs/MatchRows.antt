@@ -10,12 +10,12 @@ use Rattle.definitions.specs.declared.expression.Expression.TheVariants.{Class, 
 use Rattle.definitions.specs.declared.expression.PatternCause.TheVariants.{MatchesEmpty}
 use Rattle.definitions.specs.Patterns.{Matches}
 use Rattle.definitions.specs.PatternText.{Plain}
-use Rattle.definitions.specs.Spelling.{Place, Spells, SpellsAt, IsPattern, Atom, class, plus, star, one_seq, one_rep}
+use Rattle.definitions.specs.Spelling.{Address, Spells, SpellsAt, IsPattern, Atom, class, plus, star, one_seq, one_rep}
 use Rattle.definitions.specs.PatternFaults.{first_fault, IsFault}
 use Rattle.definitions.specs.Tokens.{IsPiece, IsDead, Token, AreTokens}
 
 -- wherever its parts lie in memory
-module _ (p : Place) (v : Vec Interval Global) (digits : v.items ≡ record { first = 48; last = 57 } ∷ []) where
+module _ (p : Address) (v : Vec Interval Global) (digits : v.items ≡ record { first = 48; last = 57 } ∷ []) where
   abbrev digit : Expression
   digit = Class false v
 

@@ -26,7 +26,7 @@ abbrev pub is_significant : Token → Bool
 is_significant x = not x.skipped
 
 -- tokens, each with its kind, length, reach, mark and stamp, and how many the last change made
-pub record Stored : Type 0 where
+pub record TokenList : Type 0 where
   pub items : List Token
   pub scanned : ℕ
 

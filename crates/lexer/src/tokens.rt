@@ -31,9 +31,9 @@ pub struct Tokens {
 }
 
 impl Model for Tokens {
-    ghost use Rattle.lexer.specs.Tokens.{Stored, Fits};
+    ghost use Rattle.lexer.specs.Tokens.{TokenList, Fits};
 
-    ghost Value = { Stored };
+    ghost Value = { TokenList };
 
     ghost view = { λ a. record { items = a.items; scanned = a.scanned } };
 

@@ -16,7 +16,7 @@ use Rattle.parser.specs.Machine.{plain_of}
 use Rattle.parser.specs.Input.{AreParts}
 use Rattle.parser.specs.Run.{ComeFrom}
 use Rattle.parser.specs.Stamps.{AreOlder}
-use Rattle.parser.specs.Cuts.{kinds_in, AreChildren, Cut, Here, Used_up, Whole, Opened}
+use Rattle.parser.specs.Cuts.{kinds_in, AreChildren, IsSplitAt, Here, Used_up, Whole, Opened}
 use Rattle.parser.proofs.LeftEdge.{open_parts, weight}
 use Rattle.parser.proofs.Reductions.{below-append, plain-append, plain-children, kids_of}
 use Rattle.parser.proofs.WhereBranchesComeFrom.{come_all, come_older, come_on, come_past, opened_came}
@@ -117,40 +117,40 @@ module _ (cells : List Cell) where
     opened_keeps cs two n some less = over (λ l m. FindsAside n l two → FindsAside n m two) cs (opened_aside of_id.production us (plain_of cells cs) two n some (subst (λ t. n < length (yield t)) (sym is_branch) less))
 
   -- the two sides together have the kinds of the list
-  pub cut_kinds : {n : ℕ} {cs start back : List Child} → Cut cells n cs start back → all_kinds (plain_of cells cs) ≡ all_kinds (plain_of cells start) ++ all_kinds (plain_of cells back)
+  pub cut_kinds : {n : ℕ} {cs start back : List Child} → IsSplitAt cells n cs start back → all_kinds (plain_of cells cs) ≡ all_kinds (plain_of cells start) ++ all_kinds (plain_of cells back)
   cut_kinds Here = refl
   cut_kinds Used_up = refl
   cut_kinds (Whole {c = c} {start = start} {back = back} e d) = ap (λ l. yield (plain (tree cells c)) ++ l) (cut_kinds d) ∙ sym (append_assoc (yield (plain (tree cells c))) (all_kinds (plain_of cells start)) (all_kinds (plain_of cells back)))
   cut_kinds (Opened {cs = cs} some less of_id d) = sym (opened_kinds of_id cs) ∙ cut_kinds d
 
   -- and no more branches than it
-  pub cut_branches : {n : ℕ} {cs start back : List Child} → Cut cells n cs start back → all_branches (plain_of cells start) + all_branches (plain_of cells back) ≤ all_branches (plain_of cells cs)
+  pub cut_branches : {n : ℕ} {cs start back : List Child} → IsSplitAt cells n cs start back → all_branches (plain_of cells start) + all_branches (plain_of cells back) ≤ all_branches (plain_of cells cs)
   cut_branches Here = omega arith
   cut_branches Used_up = omega arith
   cut_branches (Whole e d) = omega (arith, cut_branches d)
   cut_branches (Opened {cs = cs} some less of_id d) = omega (arith, cut_branches d, opened_branches of_id cs)
 
-  pub cut_below : (m : ℕ) {n : ℕ} {cs start back : List Child} → Cut cells n cs start back → AreBelow m cs → AreBelow m start × AreBelow m back
+  pub cut_below : (m : ℕ) {n : ℕ} {cs start back : List Child} → IsSplitAt cells n cs start back → AreBelow m cs → AreBelow m start × AreBelow m back
   cut_below m Here h = (tt, h)
   cut_below m Used_up h = (tt, tt)
   cut_below m (Whole e d) h = let r = cut_below m d h.1 in ((h.0, r.0), r.1)
   cut_below m (Opened {cs = cs} some less of_id d) h = cut_below m d (opened_below of_id m cs h)
 
-  pub cut_parts : (g : Grammar) {n : ℕ} {cs start back : List Child} → Cut cells n cs start back → AreParts g (plain_of cells cs) → AreParts g (plain_of cells start) × AreParts g (plain_of cells back)
+  pub cut_parts : (g : Grammar) {n : ℕ} {cs start back : List Child} → IsSplitAt cells n cs start back → AreParts g (plain_of cells cs) → AreParts g (plain_of cells start) × AreParts g (plain_of cells back)
   cut_parts g Here h = (tt, h)
   cut_parts g Used_up h = (tt, tt)
   cut_parts g (Whole e d) h = let r = cut_parts g d h.1 in ((h.0, r.0), r.1)
   cut_parts g (Opened {cs = cs} some less of_id d) h = cut_parts g d (opened_parts of_id g cs h)
 
   -- each stamped branch of the parts was one of the list
-  pub cut_came : {n : ℕ} {cs start back : List Child} → Cut cells n cs start back → ComeFrom (all_trees cells cs) 0 (all_trees cells start ++ all_trees cells back)
+  pub cut_came : {n : ℕ} {cs start back : List Child} → IsSplitAt cells n cs start back → ComeFrom (all_trees cells cs) 0 (all_trees cells start ++ all_trees cells back)
   cut_came (Here {cs = cs}) = come_all (all_trees cells cs)
   cut_came Used_up = come_all []
   cut_came (Whole {c = c} {cs = cs} {start = start} {back = back} e d) = come_past (tree cells c) (all_trees cells cs) (all_trees cells start ++ all_trees cells back) (cut_came d)
   cut_came (Opened {id = id} {kids = kids} {cs = cs} {start = start} {back = back} some less of_id d) =
       come_on 0 0 (all_trees cells (Node id ∷ cs)) (all_trees cells (kids ++ cs)) (all_trees cells start ++ all_trees cells back) (opened_came cells kids cs id of_id.production of_id.born of_id.is) (cut_came d)
 
-  pub cut_older : (number : ℕ) {n : ℕ} {cs start back : List Child} → Cut cells n cs start back → AreOlder number (all_trees cells cs) → AreOlder number (all_trees cells start) × AreOlder number (all_trees cells back)
+  pub cut_older : (number : ℕ) {n : ℕ} {cs start back : List Child} → IsSplitAt cells n cs start back → AreOlder number (all_trees cells cs) → AreOlder number (all_trees cells start) × AreOlder number (all_trees cells back)
   cut_older number {cs = cs} {start = start} {back = back} cut h =
       let prefixes = all_trees cells start in
       let backs = all_trees cells back in
@@ -160,22 +160,22 @@ module _ (cells : List Cell) where
       )
 
   -- each node of the parts stood in the list
-  pub cut_from : {n : ℕ} {cs start back : List Child} → Cut cells n cs start back → FindsAll (plain_of cells start ++ plain_of cells back) (plain_of cells cs)
+  pub cut_from : {n : ℕ} {cs start back : List Child} → IsSplitAt cells n cs start back → FindsAll (plain_of cells start ++ plain_of cells back) (plain_of cells cs)
   cut_from Here = λ lefts t w. (lefts, w, refl)
   cut_from Used_up = λ lefts t w. (lefts, w, refl)
   cut_from (Whole {c = c} {cs = cs} {start = start} {back = back} e d) = past_all (plain (tree cells c)) (plain_of cells start ++ plain_of cells back) (plain_of cells cs) (cut_from d)
   cut_from (Opened {cs = cs} {start = start} {back = back} some less of_id d) = opened_from of_id cs (plain_of cells start ++ plain_of cells back) (cut_from d)
 
   -- each node that is not cut stands in a part
-  pub cut_keeps : {n : ℕ} {cs start back : List Child} → Cut cells n cs start back → FindsAside n (plain_of cells cs) (plain_of cells start ++ plain_of cells back)
+  pub cut_keeps : {n : ℕ} {cs start back : List Child} → IsSplitAt cells n cs start back → FindsAside n (plain_of cells cs) (plain_of cells start ++ plain_of cells back)
   cut_keeps (Here {cs = cs}) = same_nodes 0 (plain_of cells cs) (plain_of cells cs) refl
   cut_keeps (Used_up {n = n}) = same_nodes n [] [] refl
   cut_keeps (Whole {m = m} {n = n} {c = c} {cs = cs} {start = start} {back = back} e d) = past_aside (plain (tree cells c)) (plain_of cells cs) (plain_of cells start ++ plain_of cells back) m n e (cut_keeps d)
   cut_keeps (Opened {n = n} {cs = cs} {start = start} {back = back} some less of_id d) = opened_keeps of_id cs (plain_of cells start ++ plain_of cells back) n some less (cut_keeps d)
 
   -- trees that fit stay whole, before what is cut
-  pub cut_after : (xs : List Child) (m n : ℕ) {ys start back : List Child} → place_of (plain_of cells xs) + m ≡ n → Cut cells m ys start back → Cut cells n (xs ++ ys) (xs ++ start) back
-  cut_after [] m n {ys} {start} {back} e d = let same : m ≡ n = omega (arith, e) in subst (λ k. Cut cells k ys start back) same d
+  pub cut_after : (xs : List Child) (m n : ℕ) {ys start back : List Child} → place_of (plain_of cells xs) + m ≡ n → IsSplitAt cells m ys start back → IsSplitAt cells n (xs ++ ys) (xs ++ start) back
+  cut_after [] m n {ys} {start} {back} e d = let same : m ≡ n = omega (arith, e) in subst (λ k. IsSplitAt cells k ys start back) same d
   cut_after (x ∷ xs) m n e d =
       Whole {m = place_of (plain_of cells xs) + m} (omega (arith, e, length-append (yield (plain (tree cells x))) (all_kinds (plain_of cells xs)))) (cut_after xs m (place_of (plain_of cells xs) + m) refl d)
 

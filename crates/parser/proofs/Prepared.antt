@@ -17,7 +17,7 @@ use Rattle.trees.specs.declared.store.Child.{Child}
 use Rattle.trees.specs.Cells.{Cell}
 use Rattle.parser.specs.Machine.{plain_of}
 use Rattle.parser.specs.Input.{leaves}
-use Rattle.parser.specs.Cuts.{Cut}
+use Rattle.parser.specs.Cuts.{IsSplitAt}
 use Rattle.parser.proofs.Running.{kinds_leaves}
 use Rattle.parser.proofs.Cuts.{cut_from, cut_keeps, cut_kinds}
 
@@ -84,7 +84,7 @@ module _ (s : Splice) where
     );
   }
 
-  module _ (cells : List Cell) (ordered : s.from ≤ s.to) (changes : s.from ≡ s.to → length s.kinds ≢ 0) {old prefix back : List Child} (first : Cut cells s.from old prefix back) where
+  module _ (cells : List Cell) (ordered : s.from ≤ s.to) (changes : s.from ≡ s.to → length s.kinds ≢ 0) {old prefix back : List Child} (first : IsSplitAt cells s.from old prefix back) where
     abbrev olds : List Tree
     olds = plain_of cells old
 
@@ -133,7 +133,7 @@ module _ (s : Splice) where
     }
 
     -- where they reach it, the new kinds stand between what is before the splice and what is after it
-    module _ (reached : place_of prefixes ≡ s.from) {gone rest : List Child} (second : Cut cells (s.to - s.from) back gone rest) (fits : place_of (plain_of cells gone) ≤ s.to - s.from) (filled : (place_of (plain_of cells gone) ≡ s.to - s.from) ⊎ (plain_of cells rest ≡ [])) where
+    module _ (reached : place_of prefixes ≡ s.from) {gone rest : List Child} (second : IsSplitAt cells (s.to - s.from) back gone rest) (fits : place_of (plain_of cells gone) ≤ s.to - s.from) (filled : (place_of (plain_of cells gone) ≡ s.to - s.from) ⊎ (plain_of cells rest ≡ [])) where
       abbrev gones : List Tree
       gones = plain_of cells gone
 

@@ -19,7 +19,7 @@ use Rattle.parser.specs.Machine.{plain_of}
 use Rattle.parser.specs.Input.{AreParts, IsInput, before_leaves, input_of, leaves}
 use Rattle.parser.specs.Run.{MoveFrom}
 use Rattle.parser.specs.Stamps.{AreOlder}
-use Rattle.parser.specs.Cuts.{Cut}
+use Rattle.parser.specs.Cuts.{IsSplitAt}
 use Rattle.parser.proofs.Fits.{no_branches}
 use Rattle.parser.proofs.Running.{kinds_leaves}
 use Rattle.parser.proofs.LeftEdge.{parts-append}
@@ -31,8 +31,8 @@ use Rattle.parser.proofs.Prepared.{no_branch, place-append, prepared_short, prep
 -- new has the new kinds in the place of what the splice takes away of the old trees, or what there is of these where they end
 -- before the splice
 pub data IsReplaced (cells : List Cell) (s : Splice) (old : List Child) : List Child → Type 0 where
-  Within : {prefix back gone rest : List Child} → Cut cells s.from old prefix back → place_of (plain_of cells prefix) ≡ s.from → Cut cells (s.to - s.from) back gone rest → place_of (plain_of cells gone) ≤ s.to - s.from → (place_of (plain_of cells gone) ≡ s.to - s.from) ⊎ (rest ≡ []) → IsReplaced cells s old (prefix ++ (map Token s.kinds ++ rest))
-  Short : {prefix : List Child} → Cut cells s.from old prefix [] → place_of (plain_of cells prefix) < s.from → IsReplaced cells s old prefix
+  Within : {prefix back gone rest : List Child} → IsSplitAt cells s.from old prefix back → place_of (plain_of cells prefix) ≡ s.from → IsSplitAt cells (s.to - s.from) back gone rest → place_of (plain_of cells gone) ≤ s.to - s.from → (place_of (plain_of cells gone) ≡ s.to - s.from) ⊎ (rest ≡ []) → IsReplaced cells s old (prefix ++ (map Token s.kinds ++ rest))
+  Short : {prefix : List Child} → IsSplitAt cells s.from old prefix [] → place_of (plain_of cells prefix) < s.from → IsReplaced cells s old prefix
 
 -- kinds as children
 plain-tokens : (cells : List Cell) (ks : List Kind) → plain_of cells (map Token ks) ≡ leaves ks
@@ -96,13 +96,13 @@ module _ (cells : List Cell) (s : Splice) (ordered : s.from ≤ s.to) where
   replaced_fits (Short first short) = omega (arith, cut_branches cells first)
 
   -- what stands before the splice stays where it is
-  prefix_moved : {old prefix back : List Child} → Cut cells s.from old prefix back → place_of (plain_of cells prefix) ≤ s.from → MoveFrom s (all_trees cells old) (all_trees cells prefix)
+  prefix_moved : {old prefix back : List Child} → IsSplitAt cells s.from old prefix back → place_of (plain_of cells prefix) ≤ s.from → MoveFrom s (all_trees cells old) (all_trees cells prefix)
   prefix_moved {back = back} first fits lefts p born us w some =
       let one = cut_came cells first lefts p born us (stamped_before (all_trees cells back) w) in
       (one.0, one.1, inl (omega (arith, one.2, stands_length (stamped_stands w), some, fits), omega (arith, one.2)))
 
   -- and what stands after it goes with the kinds
-  back_moved : {old prefix back gone rest : List Child} → Cut cells s.from old prefix back → place_of (plain_of cells prefix) ≡ s.from → Cut cells (s.to - s.from) back gone rest → (place_of (plain_of cells gone) ≡ s.to - s.from) ⊎ (rest ≡ [])
+  back_moved : {old prefix back gone rest : List Child} → IsSplitAt cells s.from old prefix back → place_of (plain_of cells prefix) ≡ s.from → IsSplitAt cells (s.to - s.from) back gone rest → (place_of (plain_of cells gone) ≡ s.to - s.from) ⊎ (rest ≡ [])
       → (lefts : List Tree) (p born : ℕ) (us : StampedForest) → StampedIn (all_trees cells rest) lefts p born us → (at : List Tree) × StampedIn (all_trees cells old) at p born us × (place_of at ≡ s.to + place_of lefts)
   back_moved {prefix = prefix} {gone = gone} {rest = rest} first reached second filled lefts p born us w =
       let prefixes = all_trees cells prefix in
@@ -180,14 +180,14 @@ module _ (cells : List Cell) (s : Splice) (ordered : s.from ≤ s.to) where
       }
 
 -- the trees that stay whole at the start, and what the first cut after them leaves
-module _ (cells : List Cell) (s : Splice) (old : List Child) (whole left missing : ℕ) (start prefix back : List Child) (at : place_of (plain_of cells (take whole old)) + left ≡ s.from) (start_is : start ≡ drop whole old) (cut : Cut cells left start prefix back) (left_is : place_of (plain_of cells prefix) + missing ≡ left) where
-  first_cut : Cut cells s.from old (take whole old ++ prefix) back
-  first_cut = subst (λ l. Cut cells s.from l (take whole old ++ prefix) back) (take-append-drop whole old) (cut_after cells (take whole old) left s.from at (subst (λ l. Cut cells left l prefix back) start_is cut))
+module _ (cells : List Cell) (s : Splice) (old : List Child) (whole left missing : ℕ) (start prefix back : List Child) (at : place_of (plain_of cells (take whole old)) + left ≡ s.from) (start_is : start ≡ drop whole old) (cut : IsSplitAt cells left start prefix back) (left_is : place_of (plain_of cells prefix) + missing ≡ left) where
+  first_cut : IsSplitAt cells s.from old (take whole old ++ prefix) back
+  first_cut = subst (λ l. IsSplitAt cells s.from l (take whole old ++ prefix) back) (take-append-drop whole old) (cut_after cells (take whole old) left s.from at (subst (λ l. IsSplitAt cells left l prefix back) start_is cut))
 
   first_place : place_of (plain_of cells (take whole old ++ prefix)) + missing ≡ s.from
   first_place = omega (arith, at, left_is, ap place_of (plain-append cells (take whole old) prefix), place-append (plain_of cells (take whole old)) (plain_of cells prefix))
 
-  pub within : missing ≡ 0 → (gone rest new : List Child) (wanting : ℕ) → Cut cells (s.to - s.from) back gone rest → place_of (plain_of cells gone) + wanting ≡ s.to - s.from → (0 < wanting → rest ≡ []) → new ≡ take whole old ++ (prefix ++ (map Token s.kinds ++ rest)) → IsReplaced cells s old new
+  pub within : missing ≡ 0 → (gone rest new : List Child) (wanting : ℕ) → IsSplitAt cells (s.to - s.from) back gone rest → place_of (plain_of cells gone) + wanting ≡ s.to - s.from → (0 < wanting → rest ≡ []) → new ≡ take whole old ++ (prefix ++ (map Token s.kinds ++ rest)) → IsReplaced cells s old new
   within none gone rest new wanting second rest_is used_up e =
       let filled : (place_of (plain_of cells gone) ≡ s.to - s.from) ⊎ (rest ≡ []) = ⊎_elim (λ some. inr (used_up some)) (λ all. inl (omega (arith, rest_is, all))) (cases_lt 0 wanting) in
       subst (IsReplaced cells s old) (append_assoc (take whole old) prefix (map Token s.kinds ++ rest) ∙ sym e) (Within first_cut (omega (arith, first_place, none)) second (omega (arith, rest_is)) filled)
@@ -195,4 +195,4 @@ module _ (cells : List Cell) (s : Splice) (old : List Child) (whole left missing
   pub short : 0 < missing → back ≡ [] → (new : List Child) → new ≡ take whole old ++ (prefix ++ back) → IsReplaced cells s old new
   short some none new e =
       let same : take whole old ++ prefix ≡ new = ap (λ l. take whole old ++ l) (sym (append-nil prefix) ∙ ap (λ l. prefix ++ l) (sym none)) ∙ sym e in
-      subst (IsReplaced cells s old) same (Short (subst (Cut cells s.from old (take whole old ++ prefix)) none first_cut) (omega (arith, first_place, some)))
+      subst (IsReplaced cells s old) same (Short (subst (IsSplitAt cells s.from old (take whole old ++ prefix)) none first_cut) (omega (arith, first_place, some)))

@@ -18,12 +18,12 @@ pub record AreChildren (cells : List Cell) (id : NodeId) (children : List Child)
   pub born : ℕ
   pub is : tree cells (Node id) ≡ StampedBranch production born (forest_of (trees_from [] cells) children)
 
--- `Cut cells n cs start back`: `start` has the trees of `cs` among the first `n` kinds, and `back` those after them; a tree with kinds on
--- both sides is opened, and no other one
-pub data Cut (cells : List Cell) : ℕ → List Child → List Child → List Child → Type 0 where
-  Here : {cs : List Child} → Cut cells 0 cs [] cs
-  Used_up : {n : ℕ} → Cut cells n [] [] []
-  Whole : {m n : ℕ} {c : Child} {cs start back : List Child} → kinds_in cells c + m ≡ n → Cut cells m cs start back
-      → Cut cells n (c ∷ cs) (c ∷ start) back
+-- `IsSplitAt cells n cs start back`: `start` has the trees of `cs` among the first `n` kinds, and `back` those after them; a tree with
+-- kinds on both sides is opened, and no other one
+pub data IsSplitAt (cells : List Cell) : ℕ → List Child → List Child → List Child → Type 0 where
+  Here : {cs : List Child} → IsSplitAt cells 0 cs [] cs
+  Used_up : {n : ℕ} → IsSplitAt cells n [] [] []
+  Whole : {m n : ℕ} {c : Child} {cs start back : List Child} → kinds_in cells c + m ≡ n → IsSplitAt cells m cs start back
+      → IsSplitAt cells n (c ∷ cs) (c ∷ start) back
   Opened : {n : ℕ} {id : NodeId} {kids cs start back : List Child} → 0 < n → n < kinds_in cells (Node id) → AreChildren cells id kids
-      → Cut cells n (kids ++ cs) start back → Cut cells n (Node id ∷ cs) start back
+      → IsSplitAt cells n (kids ++ cs) start back → IsSplitAt cells n (Node id ∷ cs) start back

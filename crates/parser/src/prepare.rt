@@ -8,7 +8,7 @@ ghost use Rattle.definitions.specs.TokenEdits.{plain_splice, spliced};
 ghost use Rattle.trees.specs.declared.store.Child.TheVariants.{Token};
 ghost use Rattle.trees.specs.Cells.{AreBelow, all_trees, most};
 ghost use Rattle.theory.specs.Reuse.{IsPrepared};
-ghost use Rattle.parser.specs.Cuts.{Cut, kinds_in};
+ghost use Rattle.parser.specs.Cuts.{IsSplitAt, kinds_in};
 ghost use Rattle.parser.specs.Machine.{plain_of};
 ghost use Rattle.parser.specs.Input.{input_of, IsInput};
 ghost use Rattle.parser.specs.Run.{MoveFrom};
@@ -51,7 +51,7 @@ fn take_prefix(
 ) -> Result<(Vec<Child>, u64), AllocError>
     requires below { AreBelow (length store.now) trees.old }
     requires countable { place_of (plain_of store.now trees.old) ≤ most }
-    ensures cut { IfOk result (λ r. Cut store.now n trees.old r.0.items trees.new) }
+    ensures cut { IfOk result (λ r. IsSplitAt store.now n trees.old r.0.items trees.new) }
     ensures left { IfOk result (λ r. place_of (plain_of store.now r.0.items) + r.1 ≡ n) }
     ensures used_up { IfOk result (λ r. 0 < r.1 → trees.new ≡ []) }
 {

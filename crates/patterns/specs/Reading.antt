@@ -7,7 +7,7 @@ use Rattle.definitions.specs.declared.expression.Expression.TheVariants.{Sequenc
 use Rattle.definitions.specs.declared.expression.PatternCause.{PatternCause}
 use Rattle.definitions.specs.declared.expression.PatternFault.{PatternFault}
 use Rattle.definitions.specs.PatternText.{Written, Plain, Escaped, BadEscape}
-use Rattle.definitions.specs.Spelling.{Level, Rep, Atom, SpellsAt, Place, IsBlank, IsSign, IsClassChar, IsLiteralChar, IsLiteralRest}
+use Rattle.definitions.specs.Spelling.{Level, Rep, Atom, SpellsAt, Address, IsBlank, IsSign, IsClassChar, IsLiteralChar, IsLiteralRest}
 use Rattle.definitions.specs.Spelling.{IsItem, IsClassRest}
 use Rattle.patterns.specs.declared.characters.Character.{Character}
 use Rattle.patterns.specs.declared.characters.Character.TheVariants.{Sign, Escape, Broken}
@@ -79,19 +79,19 @@ abbrev pub IsRepeated : Expression → Expression → List Written → List Writ
 IsRepeated a e ws vs = (d : ℕ) (prefix : List Written) → SpellsAt Atom d a prefix → IsPart Rep d e (prefix ++ ws) vs
 
 abbrev pub IsSequence : Expression → Expression → Expression → Type 0
-IsSequence a b e = (p q : Place) × (e ≡ Sequence' p a q b)
+IsSequence a b e = (p q : Address) × (e ≡ Sequence' p a q b)
 
 abbrev pub IsChoice : Expression → Expression → Expression → Type 0
-IsChoice a b e = (p q : Place) × (e ≡ Choice' p a q b)
+IsChoice a b e = (p q : Address) × (e ≡ Choice' p a q b)
 
 abbrev pub IsStar : Expression → Expression → Type 0
-IsStar a e = (p : Place) × (e ≡ Star' p a)
+IsStar a e = (p : Address) × (e ≡ Star' p a)
 
 abbrev pub IsPlus : Expression → Expression → Type 0
-IsPlus a e = (p : Place) × (e ≡ Plus' p a)
+IsPlus a e = (p : Address) × (e ≡ Plus' p a)
 
 abbrev pub IsOptional : Expression → Expression → Type 0
-IsOptional a e = (p : Place) × (e ≡ Optional' p a)
+IsOptional a e = (p : Address) × (e ≡ Optional' p a)
 
 abbrev pub IsLiteralPrefix : List ℕ → List Written → List Written → Type 0
 IsLiteralPrefix v ws vs = (us : List Written) × (ws ≡ us ++ vs) × IsLiteralRest v us

@@ -36,16 +36,16 @@ abbrev pub unit_code : Coded Encoding
 unit_code = code_by ℕ coded_ℕ stored_unit of_stored_unit of_stored_unit_back
 
 -- what a document is stored as: a number for its state, and its unit, version, text and last edit where it is open
-abbrev pub Stored : Type 0
-Stored = ℕ × (Encoding × (ℤ × (List ℕ × Option LastEdit)))
+abbrev pub StoredDocument : Type 0
+StoredDocument = ℕ × (Encoding × (ℤ × (List ℕ × Option LastEdit)))
 
-abbrev pub stored : DocumentState → Stored
+abbrev pub stored : DocumentState → StoredDocument
 stored (is_open d) = (0, (d.unit, (d.version, (d.text, d.last))))
 stored (is_lost TooLarge) = (1, (Utf8, (pos 0, ([], None))))
 stored (is_lost MalformedChange) = (2, (Utf8, (pos 0, ([], None))))
 stored (is_lost NoMemory) = (3, (Utf8, (pos 0, ([], None))))
 
-abbrev pub of_stored : Stored → DocumentState
+abbrev pub of_stored : StoredDocument → DocumentState
 of_stored (zero, p) = is_open (record { unit = p.0; version = p.1.0; text = p.1.1.0; last = p.1.1.1 })
 of_stored (suc zero, p) = is_lost TooLarge
 of_stored (suc (suc zero), p) = is_lost MalformedChange
@@ -61,7 +61,7 @@ of_stored_back (is_lost NoMemory) = refl
 abbrev pub document_code : Coded DocumentState
 document_code =
     let code = coded× coded_ℕ (coded× unit_code (coded× coded_ℤ (coded× (coded_list coded_ℕ) (coded_option edit_code)))) in
-    code_by Stored code stored of_stored of_stored_back
+    code_by StoredDocument code stored of_stored of_stored_back
 
 -- the code of all documents that are held
 abbrev pub held_code : Coded Held

@@ -6,7 +6,7 @@ use Rattle.definitions.specs.TreeEdits.{plain}
 use Rattle.trees.specs.declared.store.Child.{Child}
 use Rattle.trees.specs.declared.store.Child.TheVariants.{Node}
 use Rattle.trees.specs.Cells.{AreBelow, most, tree}
-use Rattle.parser.specs.Cuts.{kinds_in, AreChildren, Cut, Here, Used_up, Whole, Opened}
+use Rattle.parser.specs.Cuts.{kinds_in, AreChildren, IsSplitAt, Here, Used_up, Whole, Opened}
 use Rattle.parser.specs.Machine.{plain_of}
 use Rattle.parser.proofs.LeftEdge.{weight}
 use Rattle.parser.proofs.Cuts.{counted, not_counted, opened_below, opened_kinds, opened_lighter, place_push, taken_lighter}
@@ -25,7 +25,7 @@ kinds-preserved-in-Continue-1 c =
     record {
       below = (subst (AreBelow (length cells)) old c.kinds.invariant.below).1;
       countable = omega (arith, shorter);
-      cut = λ prefix back d. subst (λ l. Cut cells c.args.n c.args.trees.now l back) (sym (ap (λ l. l ++ prefix) new ∙ append_assoc c.kinds.taken.items (child ∷ []) prefix)) (c.kinds.invariant.cut (child ∷ prefix) back (subst (λ l. Cut cells c.kinds.left l (child ∷ prefix) back) (sym old) (Whole (omega (arith, count, c.if-count-left.true)) d)));
+      cut = λ prefix back d. subst (λ l. IsSplitAt cells c.args.n c.args.trees.now l back) (sym (ap (λ l. l ++ prefix) new ∙ append_assoc c.kinds.taken.items (child ∷ []) prefix)) (c.kinds.invariant.cut (child ∷ prefix) back (subst (λ l. IsSplitAt cells c.kinds.left l (child ∷ prefix) back) (sym old) (Whole (omega (arith, count, c.if-count-left.true)) d)));
       left = omega (arith, ap (λ l. place_of (plain_of cells l)) new, place_push cells c.kinds.taken.items child, count, c.kinds.invariant.left, c.if-count-left.true);
     }
 
@@ -56,19 +56,19 @@ kinds-preserved-in-Continue-branch-2 c =
     record {
       below = subst (AreBelow (length cells)) (sym new) (opened_below cells of_id (length cells) rest (subst (AreBelow (length cells)) old c.kinds.invariant.below));
       countable = omega (arith, c.kinds.invariant.countable, ap (λ l. place_of (plain_of cells l)) old, ap length (opened_kinds cells of_id rest), ap (λ l. place_of (plain_of cells l)) new);
-      cut = λ prefix back d. c.kinds.invariant.cut prefix back (subst (λ l. Cut cells c.kinds.left l prefix back) (sym old) (Opened c.kinds-test.true less of_id (subst (λ l. Cut cells c.kinds.left l prefix back) new d)));
+      cut = λ prefix back d. c.kinds.invariant.cut prefix back (subst (λ l. IsSplitAt cells c.kinds.left l prefix back) (sym old) (Opened c.kinds-test.true less of_id (subst (λ l. IsSplitAt cells c.kinds.left l prefix back) new d)));
       left = c.kinds.invariant.left;
     }
 
 pub returns-clause-cut : goal.returns-clause-cut
 returns-clause-cut c =
     let cells = c.args.store.now in
-    let all : (back : List Child) → Cut cells c.kinds.left c.kinds.trees [] back → Cut cells c.args.n c.args.trees.now c.kinds.taken.items back = λ back d. subst (λ l. Cut cells c.args.n c.args.trees.now l back) (append-nil c.kinds.taken.items) (c.kinds.invariant.cut [] back d) in
+    let all : (back : List Child) → IsSplitAt cells c.kinds.left c.kinds.trees [] back → IsSplitAt cells c.args.n c.args.trees.now c.kinds.taken.items back = λ back d. subst (λ l. IsSplitAt cells c.args.n c.args.trees.now l back) (append-nil c.kinds.taken.items) (c.kinds.invariant.cut [] back d) in
     elim c.kinds-test.branch [
       | else-kinds-test w ↦
           let none : 0 ≡ c.kinds.left = omega (arith, w.kinds-test.false) in
-          subst (Cut cells c.args.n c.args.trees.now c.kinds.taken.items) (sym w.trees-is) (all c.kinds.trees (subst (λ n. Cut cells n c.kinds.trees [] c.kinds.trees) none Here))
+          subst (IsSplitAt cells c.args.n c.args.trees.now c.kinds.taken.items) (sym w.trees-is) (all c.kinds.trees (subst (λ n. IsSplitAt cells n c.kinds.trees [] c.kinds.trees) none Here))
       | then-kinds-test+in_default w ↦
           let gone = w.in_default.ensures in
-          all c.kinds-test.trees (subst (λ l. Cut cells c.kinds.left l [] c.kinds-test.trees) (sym gone.0) (subst (Cut cells c.kinds.left [] []) (sym (w.trees-is ∙ gone.1)) Used_up))
+          all c.kinds-test.trees (subst (λ l. IsSplitAt cells c.kinds.left l [] c.kinds-test.trees) (sym gone.0) (subst (IsSplitAt cells c.kinds.left [] []) (sym (w.trees-is ∙ gone.1)) Used_up))
     ]

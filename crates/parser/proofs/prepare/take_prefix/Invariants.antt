@@ -2,7 +2,7 @@ use Rattle.std.proofs.Common.{◌≡◌, ◌+◌, ◌≤◌, ◌++◌, List, len
 use Rattle.definitions.specs.Nodes.{place_of}
 use Rattle.trees.specs.declared.store.Child.{Child}
 use Rattle.trees.specs.Cells.{AreBelow, most}
-use Rattle.parser.specs.Cuts.{Cut}
+use Rattle.parser.specs.Cuts.{IsSplitAt}
 use Rattle.parser.specs.Machine.{plain_of}
 use Rattle.parser.proofs.LeftEdge.{weight}
 use Rattle.parser.proofs.prepare.take_prefix.Given as goal
@@ -12,7 +12,7 @@ abbrev pub invariant-kinds : goal.invariant-kinds
 invariant-kinds l = record {
   below : AreBelow (length l.store) l.trees;
   countable : place_of (plain_of l.store l.trees) ≤ most;
-  cut : (prefix back : List Child) → Cut l.store l.left l.trees prefix back → Cut l.store l.n l.fn.trees (l.taken.items ++ prefix) back;
+  cut : (prefix back : List Child) → IsSplitAt l.store l.left l.trees prefix back → IsSplitAt l.store l.n l.fn.trees (l.taken.items ++ prefix) back;
   left : place_of (plain_of l.store l.taken.items) + l.left ≡ l.n;
 }
 
