@@ -13,7 +13,7 @@
 //! ```
 //! let grammar = Grammar::read(alloc, SUMS).ok()?;
 //! let name = grammar.kind_name(Kind::Rule(1));
-//! println!(rt; "rule 1 is {name}").ok()?;
+//! println!(rt; "rule 1 is {name}").ok()
 //! // rule 1 is PLUS
 //! ```
 #![tactic(auto)]

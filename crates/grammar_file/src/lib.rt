@@ -15,7 +15,7 @@
 //! let file = read_file(alloc, SUMS).ok()?;
 //! let lines = file.statements.len();
 //! let atom = file.names.nonterminals.number("Atom");
-//! println!(rt; "{lines} statements; Atom is {atom}").ok()?;
+//! println!(rt; "{lines} statements; Atom is {atom}").ok()
 //! // 11 statements; Atom is 1
 //! ```
 #![tactic(auto)]
