@@ -104,7 +104,7 @@ fn faults_of_words_and_files_have_their_texts(rt: HostRuntime) {
 #[test]
 fn faults_of_devices_have_their_texts(rt: HostRuntime) {
     let alloc = rt.alloc();
-    prints(&rt, alloc, Fault::NoMemory, "lrls: no memory", 1);
+    prints(&rt, alloc, Fault::Memory, "lrls: no memory", 1);
     let frame = Fault::Frame(FrameFault::SecondLength);
     prints(&rt, alloc, frame, "lrls: frame fault F3", 1);
     prints(&rt, alloc, Fault::Read, "lrls: read fault", 1);

@@ -58,7 +58,7 @@ Reports load.TooManyStates printed = PrintsFault TooManyStates printed
 Reports load.TooManySets printed = PrintsFault TooManySets printed
 Reports (load.Conflict file conflict) printed =
     (printed.out.items ≡ []) × (printed.err.items ≡ conflict_text file conflict) × (printed.status ≡ 2)
-Reports load.NoMemory printed = ⊥
+Reports load.Memory printed = ⊥
 
 -- what is printed where a grammar file of these bytes defines no language: that it isn't UTF-8, whatever its size, or what its first fault
 -- `Reports`

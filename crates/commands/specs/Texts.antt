@@ -5,7 +5,7 @@ use Rattle.frames.specs.declared.fault.FrameFault.TheVariants as frame
 use Rattle.grammar.specs.Texts.{fault_text}
 use Rattle.commands.specs.declared.fault.Fault.{Fault}
 use Rattle.commands.specs.declared.fault.Fault.TheVariants.{CommandLine, Grammar, TooManyStates, TooManySets, NotUtf8, TextNotUtf8}
-use Rattle.commands.specs.declared.fault.Fault.TheVariants.{TextTooLarge, CannotRead, NoMemory, Frame, Read, Write}
+use Rattle.commands.specs.declared.fault.Fault.TheVariants.{TextTooLarge, CannotRead, Memory, Frame, Read, Write}
 use Rattle.commands.specs.declared.printed.Printed.{Printed}
 use Rattle.commands.specs.Status.{status_of}
 
@@ -30,7 +30,7 @@ text_of NotUtf8 = codes "lrls: grammar is not UTF-8"
 text_of TextNotUtf8 = codes "lrls: text is not UTF-8"
 text_of TextTooLarge = codes "lrls: text too large"
 text_of (CannotRead path) = codes "lrls: cannot read " ++ string_bytes path
-text_of NoMemory = codes "lrls: no memory"
+text_of Memory = codes "lrls: no memory"
 text_of (Frame fault) = codes "lrls: frame fault " ++ frame_code fault
 text_of Read = codes "lrls: read fault"
 text_of Write = codes "lrls: write fault"

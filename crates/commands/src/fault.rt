@@ -3,7 +3,7 @@
 ghost use Rattle.std.specs.Prelude.{◌≡◌, Some};
 ghost use Rattle.commands.specs.Status.{status_of, fault_of};
 ghost use Rattle.commands.specs.Texts.{text_of};
-ghost use Rattle.commands.specs.declared.fault.Fault.TheVariants.{NoMemory};
+ghost use Rattle.commands.specs.declared.fault.Fault.TheVariants.{Memory};
 
 use crate::texts::frame_code;
 use frames::{FrameFault, RunFault};
@@ -26,7 +26,7 @@ pub enum Fault {
     TextTooLarge,
     /// The file of this path can't be read.
     CannotRead(String),
-    NoMemory,
+    Memory,
     Frame(FrameFault),
     Read,
     Write,
@@ -50,7 +50,7 @@ impl fmt::Display for Fault {
             Fault::TextNotUtf8 => write!(f, "lrls: text is not UTF-8"),
             Fault::TextTooLarge => write!(f, "lrls: text too large"),
             Fault::CannotRead(path) => write!(f, "lrls: cannot read {path}"),
-            Fault::NoMemory => write!(f, "lrls: no memory"),
+            Fault::Memory => write!(f, "lrls: no memory"),
             Fault::Frame(fault) => write!(f, "lrls: frame fault {}", frame_code(*fault)),
             Fault::Read => write!(f, "lrls: read fault"),
             Fault::Write => write!(f, "lrls: write fault"),
@@ -72,7 +72,7 @@ impl Fault {
             Fault::TextNotUtf8
             | Fault::TextTooLarge
             | Fault::CannotRead(_)
-            | Fault::NoMemory
+            | Fault::Memory
             | Fault::Frame(_)
             | Fault::Read
             | Fault::Write => 1,
@@ -81,10 +81,10 @@ impl Fault {
 }
 
 impl From<AllocError> for Fault {
-    ghost from_gives = { λ _ e. e ≡ NoMemory };
+    ghost from_gives = { λ _ e. e ≡ Memory };
 
     fn from(_: AllocError) -> Fault {
-        Fault::NoMemory
+        Fault::Memory
     }
 }
 
@@ -96,7 +96,7 @@ impl From<RunFault> for Fault {
             RunFault::Frame(fault) => Fault::Frame(fault),
             RunFault::Read => Fault::Read,
             RunFault::Write => Fault::Write,
-            RunFault::Memory => Fault::NoMemory,
+            RunFault::Memory => Fault::Memory,
         }
     }
 }

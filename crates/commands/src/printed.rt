@@ -82,7 +82,7 @@ impl Printed {
             LoadFault::TooManyStates => Printed::fault(alloc, &Fault::TooManyStates),
             LoadFault::TooManySets => Printed::fault(alloc, &Fault::TooManySets),
             LoadFault::Conflict(grammar, conflict) => Printed::conflict(alloc, &grammar, &conflict),
-            LoadFault::NoMemory => Err(AllocError),
+            LoadFault::Memory => Err(AllocError),
         }
     }
 
@@ -179,6 +179,6 @@ pub fn parse(alloc: Global, language: &Language, bytes: &[u8]) -> Result<Printed
     match Doc::open(alloc, language, Unit::Utf16, 0, text) {
         Ok(doc) => Printed::document(alloc, language, &doc),
         Err(DocFault::TooLarge) => Printed::fault(alloc, &Fault::TextTooLarge),
-        Err(DocFault::NoMemory) => Err(AllocError),
+        Err(DocFault::Memory) => Err(AllocError),
     }
 }

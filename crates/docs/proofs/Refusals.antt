@@ -10,7 +10,7 @@ use Rattle.definitions.proofs.Characters.{IsText-chars, IsText-edit}
 use Rattle.text.specs.declared.document.TextFault.{TextFault}
 use Rattle.text.specs.declared.document.TextFault.TheVariants as text
 use Rattle.docs.specs.declared.doc.DocFault.{DocFault}
-use Rattle.docs.specs.declared.doc.DocFault.TheVariants.{TooLarge, NoMemory}
+use Rattle.docs.specs.declared.doc.DocFault.TheVariants.{TooLarge, Memory}
 use Rattle.docs.specs.Faults.{doc_fault}
 use Rattle.docs.specs.Texts.{fits}
 use Rattle.docs.proofs.Texts.{fits_from, too_long, spelled_large, large_from}
@@ -33,7 +33,7 @@ spelled_or_not bs utf8 = (large_from bs utf8, spelled_large bs utf8)
 
 from_text : (fault : TextFault) → doc_fault fault ≡ TooLarge → fault ≡ text.TooLarge
 from_text text.TooLarge e = refl
-from_text text.NoMemory e = absurd (let f : ⊥ = cc in f)
+from_text text.Memory e = absurd (let f : ⊥ = cc in f)
 
 -- a changed text is one of characters
 pub IsText-changed : (encoding : Encoding) (t : List ℕ) (range : Option Range) (bs : List ℕ) → IsText t → IsUtf8 bs → IsText (changed encoding t range (chars bs))
@@ -65,7 +65,7 @@ module _ {S : Type 0} (made : Result S TextFault) (large over : Type 0) (by : (m
     )
 
     -- memory was refused after it
-    pub after_text : (x : S) (e : DocFault) → made ≡ Ok x → result ≡ Err e → e ≡ NoMemory → (result ≡ Err TooLarge) ↔ over
+    pub after_text : (x : S) (e : DocFault) → made ≡ Ok x → result ≡ Err e → e ≡ Memory → (result ≡ Err TooLarge) ↔ over
     after_text x e was is memory = (
       λ r. absurd (let errs : Err e ≡ Err TooLarge = sym is ∙ r in let f : ⊥ = cc in f),
       λ o. absurd (text_made x was o),

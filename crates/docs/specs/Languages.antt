@@ -30,7 +30,7 @@ IsLoadFault text load.TooManyStates = (file : FileGrammar) × IsGrammarOf text f
 IsLoadFault text load.TooManySets = (file : FileGrammar) × HasAutomaton text file × HasMoreSetsThan file.grammar 8192
 IsLoadFault text (load.Conflict file conflict) = HasAutomaton text file × (HasMoreSetsThan file.grammar 8192 → ⊥)
     × IsReport file.grammar conflict
-IsLoadFault text load.NoMemory = Unit {0}
+IsLoadFault text load.Memory = Unit {0}
 
 -- what callers see of a language: what its file defines, and its tables
 pub record LanguageData : Type 0 where

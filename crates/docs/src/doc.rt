@@ -15,7 +15,7 @@ ghost use Rattle.docs.specs.Edits.{AreStats, IsNext};
 ghost use Rattle.docs.specs.Languages.{LanguageData};
 ghost use Rattle.docs.specs.Stamps.{AreStamped, next_edit};
 ghost use Rattle.docs.specs.Texts.{LastEdit, fits};
-ghost use Rattle.docs.specs.declared.doc.DocFault.TheVariants.{NoMemory};
+ghost use Rattle.docs.specs.declared.doc.DocFault.TheVariants.{Memory};
 ghost use Rattle.docs.specs.Faults.{doc_fault};
 
 use crate::language::Language;
@@ -34,14 +34,14 @@ pub enum DocFault {
     /// Its text would have more than 1,048,576 bytes in UTF-8.
     TooLarge,
     /// Memory was refused.
-    NoMemory,
+    Memory,
 }
 
 impl From<AllocError> for DocFault {
-    ghost from_gives = { λ _ e. e ≡ NoMemory };
+    ghost from_gives = { λ _ e. e ≡ Memory };
 
     fn from(_: AllocError) -> DocFault {
-        DocFault::NoMemory
+        DocFault::Memory
     }
 }
 
@@ -51,7 +51,7 @@ impl From<TextFault> for DocFault {
     fn from(fault: TextFault) -> DocFault {
         match fault {
             TextFault::TooLarge => DocFault::TooLarge,
-            TextFault::NoMemory => DocFault::NoMemory,
+            TextFault::Memory => DocFault::Memory,
         }
     }
 }

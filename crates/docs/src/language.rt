@@ -66,7 +66,7 @@ pub enum LoadFault {
     TooManySets,
     /// The grammar is not LR(1). The numbers of the conflict are those of the grammar.
     Conflict(Grammar, Conflict),
-    NoMemory,
+    Memory,
 }
 
 impl Language {
@@ -85,13 +85,13 @@ impl Language {
                     cause: GrammarCause::Memory,
                     ..
                 },
-            ) => return Err(LoadFault::NoMemory),
+            ) => return Err(LoadFault::Memory),
             Err(fault) => return Err(LoadFault::Grammar(fault)),
         };
         let automaton = match Automaton::build(alloc, grammar.patterns()) {
             Ok(automaton) => automaton,
             Err(DfaFault::TooManyStates) => return Err(LoadFault::TooManyStates),
-            Err(DfaFault::Memory) => return Err(LoadFault::NoMemory),
+            Err(DfaFault::Memory) => return Err(LoadFault::Memory),
         };
         match Tables::build(alloc, &grammar) {
             Ok(tables) => Ok(Language {
@@ -101,7 +101,7 @@ impl Language {
             }),
             Err(TableFault::TooManySets) => Err(LoadFault::TooManySets),
             Err(TableFault::Conflict(conflict)) => Err(LoadFault::Conflict(grammar, conflict)),
-            Err(TableFault::Memory) => Err(LoadFault::NoMemory),
+            Err(TableFault::Memory) => Err(LoadFault::Memory),
         }
     }
 

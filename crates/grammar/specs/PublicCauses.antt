@@ -2,7 +2,7 @@
 use Rattle.std.specs.Prelude.{◌≡◌, ℕ, List, Option, Some, None, codes, string_bytes}
 use Rattle.definitions.specs.declared.expression.PatternCause.{PatternCause}
 use Rattle.definitions.specs.declared.expression.PatternCause.TheVariants.{Syntax, EmptyClass, ReversedRange, EmptyLiteral}
-use Rattle.definitions.specs.declared.expression.PatternCause.TheVariants.{MatchesEmpty, Memory as NoMemory}
+use Rattle.definitions.specs.declared.expression.PatternCause.TheVariants.{MatchesEmpty, Memory as PatternMemory}
 use Rattle.grammar_file.specs.declared.fault.Refusal.{Refusal}
 use Rattle.grammar_file.specs.declared.fault.Refusal.TheVariants.{Fault, Memory}
 use Rattle.grammar_file.specs.Faults.{Cause, FirstLine, BadLine, NoStart, SecondStart, DefinedTwice, Undefined, Reserved}
@@ -34,7 +34,7 @@ pattern_code EmptyClass = codes "P2"
 pattern_code ReversedRange = codes "P3"
 pattern_code EmptyLiteral = codes "P4"
 pattern_code MatchesEmpty = codes "P5"
-pattern_code NoMemory = codes "P6"
+pattern_code PatternMemory = codes "P6"
 
 -- `ReportsCause cause P`: where there is a cause, `P` holds of it; where there is none, nothing is said
 abbrev pub ReportsCause : Option Cause → (Cause → Type 0) → Type 0

@@ -24,7 +24,7 @@ fn given_words(rt: &HostRuntime) -> Result<Vec<String>, Fault> {
     let mut given = match std::env::args(rt) {
         Ok(given) => given,
         Err(error) if error.kind() == ErrorKind::OutOfMemory => {
-            return Err(Fault::NoMemory);
+            return Err(Fault::Memory);
         }
         Err(_) => return Err(Fault::CommandLine),
     };
@@ -36,7 +36,7 @@ fn given_words(rt: &HostRuntime) -> Result<Vec<String>, Fault> {
 fn bytes_of(rt: &HostRuntime, path: &str) -> Result<Vec<u8>, Fault> {
     match std::fs::read(rt, path) {
         Ok(bytes) => Ok(bytes),
-        Err(error) if error.kind() == ErrorKind::OutOfMemory => Err(Fault::NoMemory),
+        Err(error) if error.kind() == ErrorKind::OutOfMemory => Err(Fault::Memory),
         Err(_) => Err(Fault::CannotRead(String::from_str(rt.alloc(), path)?)),
     }
 }

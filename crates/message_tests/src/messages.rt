@@ -49,7 +49,7 @@ fn no_memory(rt: &impl Abort, alloc: Global) -> Reply {
     let id = String::from_str(alloc, r#"a""#).expect(rt, "memory");
     Reply::Error {
         id: Some(Id::Text(id)),
-        refusal: Refusal::DocumentLost(Loss::NoMemory),
+        refusal: Refusal::DocumentLost(Loss::Memory),
     }
 }
 
@@ -73,7 +73,7 @@ fn replies_have_their_bytes(rt: HostRuntime) {
     let content =
         r#"{"error":{"code":-32803,"message":"document lost: no memory"},"id":"a\"","jsonrpc":"2.0"}"#;
     has_bytes(&rt, alloc, no_memory(&rt, alloc), content);
-    let log = Log::Lost(Loss::NoMemory);
+    let log = Log::Lost(Loss::Memory);
     let content =
         r#"{"jsonrpc":"2.0","method":"window/logMessage","params":{"message":"document lost: no memory","type":1}}"#;
     has_bytes(&rt, alloc, Reply::Log { log }, content);

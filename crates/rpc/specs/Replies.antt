@@ -4,7 +4,7 @@ use Rattle.serde_json.specs.Data.{Data, null, boolean, number, unsigned, string,
 use Rattle.serde_json.specs.View.{items_of}
 use Rattle.serde_json.specs.Find.{of_integer}
 use Rattle.rpc.specs.declared.reply.Loss.{Loss}
-use Rattle.rpc.specs.declared.reply.Loss.TheVariants.{TooLarge, MalformedChange, NoMemory}
+use Rattle.rpc.specs.declared.reply.Loss.TheVariants.{TooLarge, MalformedChange, Memory}
 use Rattle.rpc.specs.declared.reply.Log.{Log as Event}
 use Rattle.rpc.specs.declared.reply.Log.TheVariants as event
 use Rattle.rpc.specs.declared.reply.Refusal.{Refusal}
@@ -83,7 +83,7 @@ code_of NotInitialized = negsuc 32001
 abbrev pub loss_text : Loss → List ℕ
 loss_text TooLarge = codes "document lost: too large"
 loss_text MalformedChange = codes "document lost: malformed change"
-loss_text NoMemory = codes "document lost: no memory"
+loss_text Memory = codes "document lost: no memory"
 
 -- `log_text event`: the text of what is logged
 abbrev pub log_text : Event → List ℕ

@@ -14,7 +14,7 @@ pub enum Loss {
     /// A change didn't fit its method.
     MalformedChange,
     /// Memory was refused within a change.
-    NoMemory,
+    Memory,
 }
 
 /// What is logged of a notification (LSP 3.17, "LogMessage Notification").
@@ -135,7 +135,7 @@ pub(crate) fn loss_text(loss: Loss) -> &'static str
     match loss {
         Loss::TooLarge => "document lost: too large",
         Loss::MalformedChange => "document lost: malformed change",
-        Loss::NoMemory => "document lost: no memory",
+        Loss::Memory => "document lost: no memory",
     }
 }
 

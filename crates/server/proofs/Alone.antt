@@ -13,7 +13,7 @@ use Rattle.docs.specs.Grammars.{FileGrammar}
 use Rattle.rpc.specs.Messages.{Ident, Request, initialize, shutdown, about, stats, Question, Notification, initialized, exit, open_text, change_text, close, malformed, unfit_open, unfit_change, unfit_close, request, notification, ignored, Received, unread, refused, accepted, TextChange}
 use Rattle.rpc.specs.Replies.{Answer, published_diagnostics, log_message, stats_reply}
 use Rattle.rpc.specs.declared.reply.Log.TheVariants.{Lost}
-use Rattle.rpc.specs.declared.reply.Loss.TheVariants.{TooLarge, MalformedChange, NoMemory}
+use Rattle.rpc.specs.declared.reply.Loss.TheVariants.{TooLarge, MalformedChange, Memory}
 use Rattle.server.specs.Alone.{named, AreAlikeFor, loses, loses_memory, SameFor, EachDocumentIsAlone}
 use Rattle.server.specs.Answers.{IsAnswer, IsCount, IsPublished, but_nodes}
 use Rattle.server.specs.Documents.{DocumentState, is_open, is_lost, Becomes, IsLastAfter, has_room}
@@ -78,11 +78,11 @@ one_becomes file counts version now changes (is_open d) (is_open e) alike a b =
 one_becomes file counts version now changes (is_open d) (is_lost TooLarge) alike a b = absurd (let e : Some d.text ≡ None = sym a.0 ∙ b in let f : ⊥ = cc in f)
 one_becomes file counts version now changes (is_lost TooLarge) (is_open e) alike a b = absurd (let g : Some e.text ≡ None = sym b.0 ∙ a in let f : ⊥ = cc in f)
 one_becomes file counts version now changes (is_lost TooLarge) (is_lost TooLarge) alike a b = refl
-one_becomes file counts version now changes (is_lost NoMemory) (is_lost NoMemory) alike a b = refl
-one_becomes file counts version now changes (is_open d) (is_lost NoMemory) alike a b = absurd (let f : ⊥ = cc in f)
-one_becomes file counts version now changes (is_lost TooLarge) (is_lost NoMemory) alike a b = absurd (let f : ⊥ = cc in f)
-one_becomes file counts version now changes (is_lost NoMemory) (is_open e) alike a b = absurd (let f : ⊥ = cc in f)
-one_becomes file counts version now changes (is_lost NoMemory) (is_lost TooLarge) alike a b = absurd (let f : ⊥ = cc in f)
+one_becomes file counts version now changes (is_lost Memory) (is_lost Memory) alike a b = refl
+one_becomes file counts version now changes (is_open d) (is_lost Memory) alike a b = absurd (let f : ⊥ = cc in f)
+one_becomes file counts version now changes (is_lost TooLarge) (is_lost Memory) alike a b = absurd (let f : ⊥ = cc in f)
+one_becomes file counts version now changes (is_lost Memory) (is_open e) alike a b = absurd (let f : ⊥ = cc in f)
+one_becomes file counts version now changes (is_lost Memory) (is_lost TooLarge) alike a b = absurd (let f : ⊥ = cc in f)
 one_becomes file counts version now changes s (is_lost MalformedChange) alike a b = absurd b
 one_becomes file counts version now changes (is_lost MalformedChange) t alike a b = absurd a
 

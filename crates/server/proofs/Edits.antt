@@ -10,7 +10,7 @@ use Rattle.docs.specs.Texts.{LastEdit, OpenDocument, fits}
 use Rattle.docs.specs.Grammars.{FileGrammar}
 use Rattle.rpc.specs.Messages.{TextChange, change_view}
 use Rattle.rpc.specs.declared.message.Change.{Change}
-use Rattle.rpc.specs.declared.reply.Loss.TheVariants.{TooLarge, NoMemory}
+use Rattle.rpc.specs.declared.reply.Loss.TheVariants.{TooLarge, Memory}
 use Rattle.server.specs.Documents.{DocumentState, is_open, is_lost, edited, Becomes, IsLastAfter}
 
 module _ (encoding : Encoding) where
@@ -60,7 +60,7 @@ some_becomes file version d [] = (is_open (record { unit = d.unit; version = ver
 some_becomes file version d (c ∷ cs) = by (fits (after d.unit d.text c)) refl
   where
     by : (b : Bool) → fits (after d.unit d.text c) ≡ b → (state : DocumentState) × Becomes file version d (c ∷ cs) state
-    by true e = (is_lost NoMemory, ([], cs, c, refl, (after d.unit d.text c, edited_fitting d.unit d.text c [] e)))
+    by true e = (is_lost Memory, ([], cs, c, refl, (after d.unit d.text c, edited_fitting d.unit d.text c [] e)))
     by false e = (is_lost TooLarge, edited_never d.unit d.text c cs e)
 
 -- one edit more
@@ -109,5 +109,5 @@ module _ (changes : List Change) (i : ℕ) (c : Change) (within : i < length cha
     pub last_goes_on : (now : Option LastEdit) (next : LastEdit) → IsLastAfter d.unit file d.text before d.last now → IsNext d.unit file mid c.range (chars (change_view c).text) now next → IsLastAfter d.unit file d.text (map change_view (take (i + 1) changes)) d.last (Some next)
     last_goes_on now next is one = subst (λ cs. IsLastAfter d.unit file d.text cs d.last (Some next)) (sym one_more) (last_more d.unit file d.text before (change_view c) mid d.last now next edits is one)
 
-    pub may_lose : (version : ℤ) → fits (after d.unit mid (change_view c)) ≡ true → Becomes file version d (map change_view changes) (is_lost NoMemory)
+    pub may_lose : (version : ℤ) → fits (after d.unit mid (change_view c)) ≡ true → Becomes file version d (map change_view changes) (is_lost Memory)
     may_lose version fit = (before, following, change_view c, all_changes, (after d.unit mid (change_view c), edited_more d.unit d.text before (change_view c) mid edits fit))

@@ -15,7 +15,7 @@ use Rattle.rpc.specs.Messages.{Ident, numbered, Question, its_text, its_tokens, 
 use Rattle.rpc.specs.Reading.{received_in}
 use Rattle.rpc.specs.Replies.{Answer, tokens_reply, folds_reply, selections_reply, published_diagnostics, log_message}
 use Rattle.rpc.specs.declared.reply.Log.TheVariants.{Lost}
-use Rattle.rpc.specs.declared.reply.Loss.TheVariants.{TooLarge, MalformedChange, NoMemory}
+use Rattle.rpc.specs.declared.reply.Loss.TheVariants.{TooLarge, MalformedChange, Memory}
 use Rattle.docs.specs.Contents.{AreFoldsOf, IsDiagnosis}
 use Rattle.server.specs.declared.state.Phase.{Phase}
 use Rattle.server.specs.declared.state.Phase.TheVariants.{Ready}
@@ -284,7 +284,7 @@ every_answer_is_fresh file always once contents answers state unit uri document 
 
 -- the document has the text, or is lost because memory was refused
 edits_or_lost : (file : FileGrammar) (version : ℤ) (old : OpenDocument) (text : List ℕ) (changes : List TextChange) (state : DocumentState) → edited old.unit old.text changes ≡ Some text → Becomes file version old changes state
-    → ((last : Option LastEdit) × (state ≡ is_open (record { unit = old.unit; version = version; text = text; last = last }))) ⊎ (state ≡ is_lost NoMemory)
+    → ((last : Option LastEdit) × (state ≡ is_open (record { unit = old.unit; version = version; text = text; last = last }))) ⊎ (state ≡ is_lost Memory)
 edits_or_lost file version old text changes (is_open d) edits b =
     let here : Some d.text ≡ Some text = sym b.0 ∙ edits in
     let same : d.text ≡ text = cc in
@@ -296,7 +296,7 @@ edits_or_lost file version old text changes (is_open d) edits b =
     )
 edits_or_lost file version old text changes (is_lost TooLarge) edits b = absurd (let here : Some text ≡ None = sym edits ∙ b in let f : ⊥ = cc in f)
 edits_or_lost file version old text changes (is_lost MalformedChange) edits b = absurd b
-edits_or_lost file version old text changes (is_lost NoMemory) edits b = inr refl
+edits_or_lost file version old text changes (is_lost Memory) edits b = inr refl
 
 -- what is held after a document came to stand so
 holds_documents : (old : State) (uri : List ℕ) (state : DocumentState) (answers : List Answer) (stop : Option ℕ) (new : State) → Holds old uri state answers stop new → new.documents ≡ insert old.documents uri state

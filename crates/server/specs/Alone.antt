@@ -2,7 +2,7 @@
 use Rattle.std.specs.Prelude.{◌≡◌, ◌≢◌, ◌⊎◌, ℕ, Bool, true, false, List, [], ◌∷◌, ◌++◌, map, All, Option, Some, None, MatchOption}
 use Rattle.std.specs.FinMap.{get}
 use Rattle.docs.specs.Grammars.{FileGrammar}
-use Rattle.rpc.specs.declared.reply.Loss.TheVariants.{NoMemory}
+use Rattle.rpc.specs.declared.reply.Loss.TheVariants.{Memory}
 use Rattle.rpc.specs.Messages.{request, about, stats, notification, open_text, change_text, close, malformed, unfit_change, Received}
 use Rattle.rpc.specs.Messages.{accepted}
 use Rattle.rpc.specs.Reading.{received_in}
@@ -32,7 +32,7 @@ finds_room uri state _ = true
 
 -- `loses old new`: what is held was an open document, and is lost because memory was refused
 abbrev pub loses : Option DocumentState → Option DocumentState → Bool
-loses (Some (is_open d)) (Some (is_lost NoMemory)) = true
+loses (Some (is_open d)) (Some (is_lost Memory)) = true
 loses _ _ = false
 
 -- between two states, the document under the URI is lost because memory was refused

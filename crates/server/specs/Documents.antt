@@ -11,7 +11,7 @@ use Rattle.docs.specs.Texts.{LastEdit, OpenDocument, fits}
 use Rattle.docs.specs.Grammars.{FileGrammar}
 use Rattle.rpc.specs.Messages.{TextChange}
 use Rattle.rpc.specs.declared.reply.Loss.{Loss}
-use Rattle.rpc.specs.declared.reply.Loss.TheVariants.{TooLarge, MalformedChange, NoMemory}
+use Rattle.rpc.specs.declared.reply.Loss.TheVariants.{TooLarge, MalformedChange, Memory}
 
 -- a document is open, with its unit, version, text and last edit, or lost, with the cause
 pub data DocumentState : Type 0 where
@@ -48,7 +48,7 @@ Becomes file version d changes (is_open e) =
     × IsLastAfter d.unit file d.text changes d.last e.last
 Becomes file version d changes (is_lost TooLarge) = edited d.unit d.text changes ≡ None
 Becomes file version d changes (is_lost MalformedChange) = ⊥
-Becomes file version d changes (is_lost NoMemory) =
+Becomes file version d changes (is_lost Memory) =
     (prefix rest : List TextChange) × (c : TextChange) × (changes ≡ prefix ++ c ∷ rest)
     × ((mid : List ℕ) × (edited d.unit d.text (prefix ++ c ∷ []) ≡ Some mid))
 

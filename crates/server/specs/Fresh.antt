@@ -8,7 +8,7 @@ use Rattle.rpc.specs.Messages.{Ident, initialize, Question, about, open_text, ch
 use Rattle.rpc.specs.Messages.{Received}
 use Rattle.rpc.specs.Replies.{Answer, capabilities_reply, published_diagnostics}
 use Rattle.docs.specs.Texts.{LastEdit, OpenDocument}
-use Rattle.rpc.specs.declared.reply.Loss.TheVariants.{NoMemory}
+use Rattle.rpc.specs.declared.reply.Loss.TheVariants.{Memory}
 use Rattle.server.specs.Documents.{is_open, is_lost, edited}
 use Rattle.server.specs.declared.state.Phase.TheVariants.{Ready}
 use Rattle.server.specs.Steps.{State, first_state, Replies, Step}
@@ -68,5 +68,5 @@ EachTextIsItsEdits =
     → Step old (accepted (notification (change_text uri version changes))) answers stop new
     → (((last : Option LastEdit)
     × (get new.documents uri ≡ Some (is_open (record { unit = document.unit; version = version; text = text; last = last }))))
-    ⊎ (get new.documents uri ≡ Some (is_lost NoMemory)))
+    ⊎ (get new.documents uri ≡ Some (is_lost Memory)))
     × ((other : List ℕ) → other ≢ uri → get new.documents other ≡ get old.documents other)

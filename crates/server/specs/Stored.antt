@@ -5,7 +5,7 @@ use Rattle.std.specs.FinMap.{code}
 use Rattle.rpc.specs.Unit.{Unit as Encoding}
 use Rattle.rpc.specs.Unit.TheVariants.{Utf8, Utf16, Utf32}
 use Rattle.docs.specs.Texts.{LastEdit}
-use Rattle.rpc.specs.declared.reply.Loss.TheVariants.{TooLarge, MalformedChange, NoMemory}
+use Rattle.rpc.specs.declared.reply.Loss.TheVariants.{TooLarge, MalformedChange, Memory}
 use Rattle.server.specs.Documents.{DocumentState, is_open, is_lost, Held}
 
 abbrev pub stored_edit : LastEdit → ℕ × (ℕ × ℕ)
@@ -43,19 +43,19 @@ abbrev pub stored : DocumentState → StoredDocument
 stored (is_open d) = (0, (d.unit, (d.version, (d.text, d.last))))
 stored (is_lost TooLarge) = (1, (Utf8, (pos 0, ([], None))))
 stored (is_lost MalformedChange) = (2, (Utf8, (pos 0, ([], None))))
-stored (is_lost NoMemory) = (3, (Utf8, (pos 0, ([], None))))
+stored (is_lost Memory) = (3, (Utf8, (pos 0, ([], None))))
 
 abbrev pub of_stored : StoredDocument → DocumentState
 of_stored (zero, p) = is_open (record { unit = p.0; version = p.1.0; text = p.1.1.0; last = p.1.1.1 })
 of_stored (suc zero, p) = is_lost TooLarge
 of_stored (suc (suc zero), p) = is_lost MalformedChange
-of_stored (suc (suc (suc n)), p) = is_lost NoMemory
+of_stored (suc (suc (suc n)), p) = is_lost Memory
 
 pub of_stored_back : (s : DocumentState) → of_stored (stored s) ≡ s
 of_stored_back (is_open d) = refl
 of_stored_back (is_lost TooLarge) = refl
 of_stored_back (is_lost MalformedChange) = refl
-of_stored_back (is_lost NoMemory) = refl
+of_stored_back (is_lost Memory) = refl
 
 -- the code of a document
 abbrev pub document_code : Coded DocumentState

@@ -41,7 +41,7 @@ fn new_document(
     match Doc::open(alloc, language, unit, version, text) {
         Ok(doc) => Ok(Entry::Open(doc)),
         Err(DocFault::TooLarge) => Ok(Entry::Lost(Loss::TooLarge)),
-        Err(DocFault::NoMemory) => Err(AllocError),
+        Err(DocFault::Memory) => Err(AllocError),
     }
 }
 
@@ -62,7 +62,7 @@ fn apply_changes(
         match doc.change(alloc, language, change.range, change.text.as_str()) {
             Ok(next) => doc = next,
             Err(DocFault::TooLarge) => return Entry::Lost(Loss::TooLarge),
-            Err(DocFault::NoMemory) => return Entry::Lost(Loss::NoMemory),
+            Err(DocFault::Memory) => return Entry::Lost(Loss::Memory),
         }
     }
     doc.set_version(version);
@@ -150,7 +150,7 @@ impl Server {
             Some(Entry::Open(_)) => {}
         }
         // what is held stays under its URI, so that no memory is needed for the document that comes back
-        let lost = Entry::Lost(Loss::NoMemory);
+        let lost = Entry::Lost(Loss::Memory);
         let Ok(Entry::Open(doc)) = self.documents.replace(uri.as_str(), lost) else {
             unreachable!();
         };

@@ -24,16 +24,16 @@ pub enum TextFault {
     /// The text would have more than [`LONGEST_TEXT`] bytes.
     TooLarge,
     /// Memory was refused.
-    NoMemory,
+    Memory,
 }
 
 impl From<AllocError> for TextFault {
-    ghost use Rattle.text.specs.declared.document.TextFault.TheVariants.{NoMemory};
+    ghost use Rattle.text.specs.declared.document.TextFault.TheVariants.{Memory};
 
-    ghost from_gives = { λ _ e. e ≡ NoMemory };
+    ghost from_gives = { λ _ e. e ≡ Memory };
 
     fn from(_: AllocError) -> TextFault {
-        TextFault::NoMemory
+        TextFault::Memory
     }
 }
 

@@ -7,7 +7,7 @@ use Rattle.docs.specs.Docs.{last_edit, open_document}
 use Rattle.docs.specs.Edits.{IsNext}
 use Rattle.docs.specs.Texts.{LastEdit, OpenDocument, fits}
 use Rattle.docs.specs.declared.doc.DocFault.{DocFault}
-use Rattle.docs.specs.declared.doc.DocFault.TheVariants.{TooLarge, NoMemory}
+use Rattle.docs.specs.declared.doc.DocFault.TheVariants.{TooLarge, Memory}
 use Rattle.rpc.specs.Messages.{change_view}
 use Rattle.server.specs.Documents.{IsLastAfter}
 use Rattle.server.proofs.Edits.{after, ends_there, goes_on, last_goes_on, may_lose}
@@ -31,13 +31,13 @@ returns-in-Err-TooLarge-clause-becomes c =
     let over : fits (after c.args.doc.unit doc.text (change_view change)) ≡ false = subst (λ t. fits t ≡ false) same (c.change.ensures.too_large.0 refused) in
     ends_there c.args.changes.now c.loop-change.change-index change c.loop-change-test.true c.change-item.is c.args.language.now.file (open_document c.args.doc) doc.text c.loop-change.invariant.edits over
 
-pub returns-in-Err-NoMemory-clause-becomes : goal.returns-in-Err-NoMemory-clause-becomes
-returns-in-Err-NoMemory-clause-becomes c =
+pub returns-in-Err-Memory-clause-becomes : goal.returns-in-Err-Memory-clause-becomes
+returns-in-Err-Memory-clause-becomes c =
     let doc = c.loop-change.doc in
     let change = c.change-item.result in
     let same = ap (λ (e : Encoding). changed e doc.text change.range (chars c.as_str.result.now)) c.loop-change.invariant.unit ∙ ap (λ b. changed c.args.doc.unit doc.text change.range (chars b)) c.as_str.ensures.value in
-    let refused : c.change.result ≡ Err NoMemory = c.in-Err-NoMemory.is ∙ ap (λ (e : DocFault). Err e) c.in-Err-NoMemory.field-0-is in
-    let fit = fits_then c.change.result _ (after c.args.doc.unit doc.text (change_view change)) same c.change.ensures.too_large (λ wrong. let both : Err TooLarge ≡ Err NoMemory = sym wrong ∙ refused in let f : ⊥ = cc in f) in
+    let refused : c.change.result ≡ Err Memory = c.in-Err-Memory.is ∙ ap (λ (e : DocFault). Err e) c.in-Err-Memory.field-0-is in
+    let fit = fits_then c.change.result _ (after c.args.doc.unit doc.text (change_view change)) same c.change.ensures.too_large (λ wrong. let both : Err TooLarge ≡ Err Memory = sym wrong ∙ refused in let f : ⊥ = cc in f) in
     may_lose c.args.changes.now c.loop-change.change-index change c.loop-change-test.true c.change-item.is c.args.language.now.file (open_document c.args.doc) doc.text c.loop-change.invariant.edits c.args.version fit
 
 pub loop-change-preserved : goal.loop-change-preserved
