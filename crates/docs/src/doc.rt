@@ -25,15 +25,18 @@ use parser::laws::stack_has_the_nodes_of_the_document;
 use parser::{Parse, Verdict};
 use std::alloc::{AllocError, Global};
 use text::{Text, TextFault};
+use thiserror::Error;
 use trees::Store;
 use views::{Row, diagnostic, folds, selection, token_rows, tree_text};
 
 /// Why a document was not opened, or is lost by a change.
-#[derive(Clone, Copy, Debug, PartialEq, Eq)]
+#[derive(Clone, Copy, Debug, PartialEq, Eq, Error)]
 pub enum DocFault {
     /// Its text would have more than 1,048,576 bytes in UTF-8.
+    #[error("the text would have more than 1,048,576 bytes in UTF-8")]
     TooLarge,
     /// Memory was refused.
+    #[error("memory was refused")]
     Memory,
 }
 

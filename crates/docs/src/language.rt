@@ -12,6 +12,7 @@ ghost use Rattle.parser.specs.Parses.{IsParseOf};
 ghost use Rattle.parser.specs.Stamps.{AreOlder, KeepStamps};
 ghost use Rattle.trees.specs.Cells.{all_trees, forest_in};
 ghost use Rattle.docs.specs.Languages.{IsLanguageOf, IsLoadFault};
+ghost use Rattle.docs.specs.declared.language.LoadFault.TheVariants.{Memory};
 ghost use Rattle.docs.specs.Answers.{AlwaysAnswers, AnswersOnce};
 ghost use Rattle.docs.specs.Edits.{AlwaysCounts, CountsOnce};
 
@@ -24,10 +25,12 @@ use lexer::{Characters, Tokens, Whole, each_text_has_tokens};
 use parser::Parse;
 use parser::laws::{each_list_has_a_verdict, each_viable_list_has_expected};
 use std::alloc::{AllocError, Global};
+use std::fmt;
 use std::marker::Model;
 use tables::{Conflict, TableFault, Tables};
 use text::Text;
 use theory::laws::{document_trees_unique, settled_unique, verdict_unique};
+use thiserror::Error;
 use trees::Store;
 use views::{each_offset_has_a_selection, trees_have_folds};
 
@@ -56,17 +59,44 @@ impl Model for Language {
 }
 
 /// Why a grammar file defines no language.
-#[derive(Drop)]
+#[derive(Drop, Error)]
 pub enum LoadFault {
     /// The text is no grammar file.
+    #[error(transparent)]
     Grammar(GrammarFault),
     /// The automaton of its token rules would have more than 4,096 states.
+    #[error("the automaton would have more than 4,096 states")]
     TooManyStates,
     /// The canonical collection has more than 8,192 sets.
+    #[error("the canonical collection has more than 8,192 sets")]
     TooManySets,
     /// The grammar is not LR(1). The numbers of the conflict are those of the grammar.
+    #[error("the grammar isn't LR(1)")]
     Conflict(Grammar, Conflict),
+    /// Memory was refused.
+    #[error("memory was refused")]
     Memory,
+}
+
+impl fmt::Debug for LoadFault {
+    /// Writes the variant and its fault or conflict, without the grammar.
+    fn fmt<W: fmt::Write>(&self, f: &mut fmt::Formatter<W>) -> fmt::Result {
+        match self {
+            LoadFault::Grammar(fault) => f.debug_tuple("Grammar").field(fault).finish(),
+            LoadFault::TooManyStates => f.write_str("TooManyStates"),
+            LoadFault::TooManySets => f.write_str("TooManySets"),
+            LoadFault::Conflict(_, conflict) => f.debug_tuple("Conflict").field(conflict).finish(),
+            LoadFault::Memory => f.write_str("Memory"),
+        }
+    }
+}
+
+impl From<AllocError> for LoadFault {
+    ghost from_gives = { λ _ e. e ≡ Memory };
+
+    fn from(_: AllocError) -> LoadFault {
+        LoadFault::Memory
+    }
 }
 
 impl Language {

@@ -44,15 +44,19 @@ pub enum FrameFault {
 pub struct DeviceFault;
 
 /// Why a session over two devices ended without a status.
-#[derive(Clone, Copy, Debug, PartialEq, Eq)]
+#[derive(Clone, Copy, Debug, PartialEq, Eq, Error)]
 pub enum RunFault {
     /// The stream is no sequence of frames, or ends within one.
+    #[error(transparent)]
     Frame(FrameFault),
     /// The input failed.
+    #[error("the input failed")]
     Read,
     /// The output failed.
+    #[error("the output failed")]
     Write,
     /// Memory was refused.
+    #[error("memory was refused")]
     Memory,
 }
 

@@ -5,6 +5,7 @@ ghost use Rattle.rpc.specs.declared.message.RpcFault.TheVariants.{Memory};
 
 use definitions::{Position, Range, Unit};
 use std::alloc::{AllocError, AllocFailed};
+use thiserror::Error;
 
 /// What a request is named by, and its reply with it (JSON-RPC 2.0, "Request object").
 #[derive(Debug, Drop)]
@@ -104,17 +105,22 @@ pub enum Message {
 }
 
 /// Why a content is no message.
-#[derive(Debug, Drop)]
+#[derive(Debug, Drop, Error)]
 pub enum RpcFault {
     /// It is no JSON value.
+    #[error("the content is no JSON value")]
     Parse,
     /// The value is no request, notification or reply. Its id is given where it can be read.
+    #[error("the content is no request, notification or reply")]
     Invalid { id: Option<Id> },
     /// A request of an unknown method.
+    #[error("the request has an unknown method")]
     Unknown { id: Id },
     /// A request whose parameters don't fit. `initialize` says whether that is its method.
+    #[error("the parameters of the request don't fit its method")]
     Params { id: Id, initialize: bool },
     /// There was no memory to read it.
+    #[error("memory was refused")]
     Memory,
 }
 

@@ -14,16 +14,19 @@ use pieces::{Piece, SHORTEST_OF_SEVERAL, cut_at, pieces_of};
 use seqtree::{Seq, Slots};
 use std::alloc::{AllocError, Global};
 use std::marker::Model;
+use thiserror::Error;
 
 /// The most bytes that a text may have in UTF-8.
 pub const LONGEST_TEXT: usize = 1_048_576;
 
 /// Why a text was not taken.
-#[derive(Clone, Copy, Debug, PartialEq, Eq)]
+#[derive(Clone, Copy, Debug, PartialEq, Eq, Error)]
 pub enum TextFault {
     /// The text would have more than [`LONGEST_TEXT`] bytes.
+    #[error("the text would have more than 1,048,576 bytes in UTF-8")]
     TooLarge,
     /// Memory was refused.
+    #[error("memory was refused")]
     Memory,
 }
 
