@@ -15,13 +15,16 @@ use crate::positions::blank;
 use crate::states::{States, part_holders};
 use patterns::Pattern;
 use std::alloc::{AllocError, AllocFailed, Global};
+use thiserror::Error;
 
 /// Why an automaton was not built.
-#[derive(Clone, Copy, Debug, PartialEq, Eq)]
+#[derive(Clone, Copy, Debug, PartialEq, Eq, Error)]
 pub enum DfaFault {
     /// It would have more than 4,096 states.
+    #[error("the automaton would have more than 4,096 states")]
     TooManyStates,
     /// Memory was refused.
+    #[error("memory was refused")]
     Memory,
 }
 

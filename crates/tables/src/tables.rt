@@ -16,6 +16,7 @@ ghost use Rattle.tables.specs.Expected.{AreExpected};
 ghost use Rattle.tables.specs.Faults.{IsConflictOf, IsRight, RefutesLr1};
 ghost use Rattle.tables.specs.Tables.{IsStateOf, IsAction, IsAccepted};
 ghost use Rattle.tables.specs.Decidable.{AreMovesDecided};
+ghost use Rattle.tables.specs.declared.tables.TableFault.TheVariants.{Memory};
 
 use crate::conflict::{Conflict, conflict_of};
 use crate::decisions::{Move, Moves};
@@ -25,21 +26,33 @@ use crate::rows::Row;
 use definitions::Kind;
 use grammar::Grammar;
 use item_sets::{AugmentedGrammar, ProductionNumber, Productions, States};
-use std::alloc::Global;
+use std::alloc::{AllocError, Global};
 use std::marker::Model;
+use thiserror::Error;
 
 /// The most sets that a canonical collection may have.
 pub const MOST_SETS: usize = 8192;
 
 /// Why there are no tables.
-#[derive(Debug, Drop)]
+#[derive(Debug, Drop, Error)]
 pub enum TableFault {
     /// The canonical collection has more than 8,192 sets.
+    #[error("the canonical collection has more than 8,192 sets")]
     TooManySets,
     /// Two items of a set call for different moves.
+    #[error("the grammar isn't LR(1)")]
     Conflict(Conflict),
     /// Memory was refused.
+    #[error("memory was refused")]
     Memory,
+}
+
+impl From<AllocError> for TableFault {
+    ghost from_gives = { λ _ e. e ≡ Memory };
+
+    fn from(_: AllocError) -> TableFault {
+        TableFault::Memory
+    }
 }
 
 /// Canonical LR(1) tables of a grammar (Knuth 1965).
@@ -85,9 +98,7 @@ fn complete(
         if states.len() > MOST_SETS {
             return Err(TableFault::TooManySets);
         }
-        if advance(alloc, grammar, states, made).is_err() {
-            return Err(TableFault::Memory);
-        }
+        advance(alloc, grammar, states, made)?;
     }
     if let Some(at) = made.clash {
         return Err(conflict_fault(alloc, grammar, states, at));
@@ -135,9 +146,7 @@ fn tables_of(alloc: Global, grammar: AugmentedGrammar) -> Result<Tables, TableFa
     ensures few { IfOk result (λ _. HasMoreSetsThan grammar.grammar 8192 → ⊥) }
     ensures refused { IfErr result (IsRight grammar.grammar 8192) }
 {
-    let Ok(mut states) = States::new(alloc, &grammar) else {
-        return Err(TableFault::Memory);
-    };
+    let mut states = States::new(alloc, &grammar)?;
     let mut made = Progress::new(alloc);
     complete(alloc, &grammar, &mut states, &mut made)?;
     Ok(finish(grammar, &states, made))
@@ -155,9 +164,7 @@ impl Tables {
         ensures refused { IfErr result (IsRight grammar.now.grammar 8192) }
         ensures refuted { IfErr result (RefutesLr1 grammar.now.grammar) }
     {
-        let Ok(augmented) = AugmentedGrammar::of(alloc, grammar) else {
-            return Err(TableFault::Memory);
-        };
+        let augmented = AugmentedGrammar::of(alloc, grammar)?;
         tables_of(alloc, augmented)
     }
 

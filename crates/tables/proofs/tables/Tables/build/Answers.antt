@@ -10,8 +10,8 @@ use Rattle.tables.proofs.tables.Tables.build.Goals as goal
 
 pub returns : goal.returns
 returns c =
-    let g = c.in-Ok.augmented.grammar in
-    let e = c.in-Ok.ensures in
+    let g = c.in_ok-augmented.augmented.grammar in
+    let e = c.in_ok-augmented.ensures in
     let t = c.tables_of.ensures in
     let r = c.tables_of.result in
     rw (← e.grammar) (record {
