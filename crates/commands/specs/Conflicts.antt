@@ -6,7 +6,8 @@ use Rattle.definitions.specs.declared.Symbol.TheVariants.{Rule as Terminal, Nont
 use Rattle.docs.specs.Languages.{IsLoadFault}
 use Rattle.docs.specs.declared.language.LoadFault.{LoadFault}
 use Rattle.docs.specs.declared.language.LoadFault.TheVariants as load
-use Rattle.grammar.specs.Grammars.{FileGrammar, left_of}
+use Rattle.definitions.specs.Trees.{left_of}
+use Rattle.grammar.specs.Grammars.{FileGrammar}
 use Rattle.grammar.specs.Notes.{symbol_name}
 use Rattle.tables.specs.Sets.{side}
 use Rattle.tables.specs.declared.conflict.Conflict.{Conflict}
@@ -33,13 +34,13 @@ abbrev pub left_name : FileGrammar → Option ℕ → List ℕ
 left_name file None = codes "(start)"
 left_name file (Some p) = name_bytes file (Nonterminal (left_of file.grammar p))
 
--- `line file left right item`: the line of an item with these sides, with a dot at its place
+-- `line file left right item`: the line of an item with these sides and its dot
 abbrev pub line : FileGrammar → List ℕ → List Symbol → Item → List ℕ
 line file left right i =
-    codes "item: " ++ (left ++ (codes " =" ++ (names_with_spaces file (take i.at right)
-    ++ (codes " ." ++ (names_with_spaces file (drop i.at right) ++ (codes ", " ++ (look_name file i.look ++ codes "\n")))))))
+    codes "item: " ++ (left ++ (codes " =" ++ (names_with_spaces file (take i.dot right)
+    ++ (codes " ." ++ (names_with_spaces file (drop i.dot right) ++ (codes ", " ++ (look_name file i.look ++ codes "\n")))))))
 
--- `item_line file item`: the line of an item, with a dot at its place
+-- `item_line file item`: the line of an item, with its dot
 abbrev pub item_line : FileGrammar → Item → List ℕ
 item_line file i = line file (left_name file i.production) (side file.grammar i.production) i
 

@@ -55,12 +55,12 @@ fn line(
     right: &[Symbol],
     item: Item,
 ) -> Result<String, AllocError>
-    requires { item.at ≤ length right.now }
+    requires { item.dot ≤ length right.now }
     ensures { IfOk result (λ text.
         string_bytes text ≡ line grammar.now left.now right.now item) }
 {
-    let before = names_with_spaces(alloc, grammar, &right[..item.at])?;
-    let after = names_with_spaces(alloc, grammar, &right[item.at..])?;
+    let before = names_with_spaces(alloc, grammar, &right[..item.dot])?;
+    let after = names_with_spaces(alloc, grammar, &right[item.dot..])?;
     let look = look_name(grammar, item.look);
     format!(in alloc; "item: {left} ={before} .{after}, {look}\n")
 }
@@ -69,7 +69,7 @@ fn line(
 fn item_line(alloc: Global, grammar: &Grammar, item: Item) -> Result<String, AllocError>
     requires production { let productions = grammar.now.grammar.productions in
         IfSome item.production (λ p. p < length productions) }
-    requires place { item.at ≤ length (side grammar.now.grammar item.production) }
+    requires dot { item.dot ≤ length (side grammar.now.grammar item.production) }
     ensures { IfOk result (λ line. string_bytes line ≡ item_line grammar.now item) }
 {
     match item.production {

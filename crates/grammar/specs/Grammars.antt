@@ -3,7 +3,7 @@ use Rattle.std.specs.Prelude.{◌≡◌, ℕ, ◌<◌, ◌≤◌, Bool, false, L
 use Rattle.definitions.specs.declared.Symbol.{Symbol}
 use Rattle.definitions.specs.declared.Symbol.TheVariants.{Rule as Terminal, Nonterminal}
 use Rattle.definitions.specs.declared.expression.Expression.{Expression}
-use Rattle.definitions.specs.Trees.{Grammar, Production, HasProduction, HasDistinctProductions}
+use Rattle.definitions.specs.Trees.{Grammar, HasProduction, HasDistinctProductions}
 use Rattle.definitions.specs.Sentences.{IsProductive}
 
 -- what a file defines: the token and skip rules, numbered in file order, with their names, their patterns and whether they are skipped; the
@@ -45,18 +45,6 @@ pub record IsGrammar (f : FileGrammar) : Type 0 where
   pub distinct : HasDistinctProductions f.grammar
   pub productive : (n : ℕ) → n < length f.nonterminals → IsProductive f.grammar (Nonterminal n)
   pub defined : All (IsKnown f) f.defined
-
--- production `p` of the grammar
-abbrev pub production_of : Grammar → ℕ → Production
-production_of g p = slice_index_or g.productions p (record { left = 0; right = [] })
-
--- the left side of production `p`
-abbrev pub left_of : Grammar → ℕ → ℕ
-left_of g p = (production_of g p).left
-
--- the right side of production `p`
-abbrev pub right_of : Grammar → ℕ → List Symbol
-right_of g p = (production_of g p).right
 
 -- the left sides of the productions, in file order
 abbrev pub lefts : FileGrammar → List ℕ

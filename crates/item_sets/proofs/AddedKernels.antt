@@ -15,7 +15,7 @@ use Rattle.item_sets.specs.declared.collection.Origin.{Origin}
 use Rattle.item_sets.specs.declared.item.Item.{Item}
 use Rattle.item_sets.specs.Order.{IsOrdered}
 use Rattle.item_sets.specs.Collection.{kernel_at, origin_at, IsAbsent, Found, IsReached, IsLed, AreStates, Placed, GoesOn}
-use Rattle.item_sets.specs.Productions.{Shape, IsSound}
+use Rattle.first_sets.specs.Productions.{Shape, IsSound}
 use Rattle.item_sets.specs.Order.{IsInside}
 use Rattle.item_sets.specs.Sets.{IsItem, item_of}
 use Rattle.item_sets.specs.States.{HasKernel}
@@ -27,7 +27,7 @@ none = record { from = 0; symbol = Terminal 0 }
 module _ (g : Shape) where
   start_ordered : IsOrdered g (start_item ∷ [])
   start_ordered = record {
-    known = All-cons (IsItem g) start_item [] (record { production = tt; at = omega arith; look = tt }) (λ k d l. absurd (omega (arith, l)));
+    known = All-cons (IsItem g) start_item [] (record { production = tt; dot = omega arith; look = tt }) (λ k d l. absurd (omega (arith, l)));
     inside = All-cons IsInside start_item [] (inl refl) (λ k d l. absurd (omega (arith, l)));
     rising = λ i j d l m. absurd (omega (arith, l, m));
   }

@@ -13,7 +13,7 @@ use Rattle.item_sets.specs.Sets.{item_of}
 use Rattle.item_sets.specs.States.{HasKernel}
 
 abbrev pub start_item : Item
-start_item = record { production = None; at = 0; look = None }
+start_item = record { production = None; dot = 0; look = None }
 
 module _ (g : Grammar) where
   only_start : {full : List Symbol} {k : LrItem} → ByRules g full k → IsKernel k → full ≡ [] → item_of g start_item ≡ k

@@ -5,8 +5,8 @@ use Rattle.definitions.specs.Trees.{Grammar}
 use Rattle.item_sets.specs.declared.item.Item.{Item}
 use Rattle.item_sets.specs.Collection.{GoesOn, IsStep}
 use Rattle.item_sets.specs.States.{HasKernel}
-use Rattle.item_sets.specs.Symbols.{symbol_of}
-use Rattle.item_sets.proofs.Numbers.{each_more}
+use Rattle.first_sets.specs.Symbols.{symbol_of}
+use Rattle.first_sets.proofs.EachMore.{each_more}
 
 pub goes_on_trans : (a b c : List (List Item)) → GoesOn a b → GoesOn b c → GoesOn a c
 goes_on_trans a b c h k = record {

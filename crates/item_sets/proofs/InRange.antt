@@ -3,53 +3,54 @@ use Rattle.std.proofs.Common.{◌≡◌, ◌+◌, ◌<◌, ◌⊎◌, ℕ, Bool,
 use Rattle.std.specs.Prelude.{IfSome}
 use Rattle.std.proofs.lemmas.List.Elements.{All-cons, All-head, All-tail, All-drop}
 use Rattle.definitions.specs.declared.Symbol.{Symbol}
-use Rattle.definitions.specs.declared.Symbol.TheVariants.{Rule as Terminal, Nonterminal}
-use Rattle.theory.specs.First.{InFirst, At_once, Within, After}
+use Rattle.definitions.specs.declared.Symbol.TheVariants.{Nonterminal}
+use Rattle.definitions.specs.Derivations.{first}
 use Rattle.item_sets.specs.declared.item.Item.{Item}
-use Rattle.grammar.specs.Grammars.{left_of, right_of}
-use Rattle.item_sets.specs.Productions.{Shape, IsSound, IsKnown}
+use Rattle.definitions.specs.Trees.{left_of, right_of}
+use Rattle.first_sets.specs.Productions.{Shape, IsSound, IsKnown}
 use Rattle.theory.specs.First.{MayFollow}
 use Rattle.item_sets.specs.Sets.{side, after_dot, IsItem, IsIn, Kernel, Closed}
 use Rattle.item_sets.specs.Worklist.{marked, AreListed, Expands, beginning_of, IsBeginning, AreCalledFor}
-use Rattle.item_sets.proofs.Numbers.{has_production}
+use Rattle.first_sets.proofs.Numbers.{has_production}
 use Rattle.item_sets.proofs.WorklistIsRight.{begins_in}
-use Rattle.item_sets.proofs.Columns.{column_there}
+use Rattle.first_sets.proofs.Columns.{column_there}
+use Rattle.first_sets.proofs.FollowsInRange.{may_known}
+
+first_known : (g : Shape) (s : Symbol) (ss : List Symbol) → All (IsKnown g) ss → first ss ≡ Some s → IsKnown g s
+first_known g s [] h e = absurd (cc e)
+first_known g s (x ∷ ss) h e = let k : x ≡ s = cc e in subst (IsKnown g) k (All-head (IsKnown g) x ss h)
 
 module _ (g : Shape) (sound : IsSound g) where
-  pub begins_known : (a : ℕ) {ss : List Symbol} → InFirst g.grammar a ss → All (IsKnown g) ss → a < g.grammar.rules
-  begins_known a (At_once {rest = rest}) h = All-head (IsKnown g) (Terminal a) rest h
-  begins_known a (Within p {n = n} {right = right} {rest = rest} x b) h = begins_known a b (sound.right p n right x)
-  begins_known a (After {n = n} {rest = rest} v b) h = begins_known a b (All-tail (IsKnown g) (Nonterminal n) rest h)
-
-  pub may_known : (ss : List Symbol) (look a : Option ℕ) → MayFollow g.grammar ss look a → All (IsKnown g) ss → IfSome look (λ b. b < g.grammar.rules) → IfSome a (λ b. b < g.grammar.rules)
-  may_known ss look a m h l = ⊎_elim (λ b. subst (λ x. IfSome x (λ b. b < g.grammar.rules)) (sym b.1) (begins_known b.0 b.2 h)) (λ v. subst (λ x. IfSome x (λ b. b < g.grammar.rules)) (sym v.1) l) m
-
   pub side_known : (q : Option ℕ) → IfSome q (λ p. p < length g.grammar.productions) → All (IsKnown g) (side g.grammar q)
   side_known None h = All-cons (IsKnown g) (Nonterminal g.grammar.start) [] sound.start (λ k d l. absurd (omega (arith, l)))
   side_known (Some p) h = sound.right p (left_of g.grammar p) (right_of g.grammar p) (has_production g.grammar p h)
 
   pub after_known : (i : Item) → IsItem g i → All (IsKnown g) (after_dot g.grammar i)
-  after_known i h = All-drop (IsKnown g) i.at (side g.grammar i.production) (side_known i.production h.production)
+  after_known i h = All-drop (IsKnown g) i.dot (side g.grammar i.production) (side_known i.production h.production)
 
   pub rest_known : (i : Item) → IsItem g i → (n : ℕ) (rest : List Symbol) → after_dot g.grammar i ≡ Nonterminal n ∷ rest → All (IsKnown g) rest
   rest_known i h n rest e = All-tail (IsKnown g) (Nonterminal n) rest (subst (All (IsKnown g)) e (after_known i h))
+
+  -- a symbol after an item's dot is one of the grammar's
+  pub after_first_known : (i : Item) → IsItem g i → (s : Symbol) → first (after_dot g.grammar i) ≡ Some s → IsKnown g s
+  after_first_known i h s = first_known g s (after_dot g.grammar i) (after_known i h)
 
   module _ (kernel : List Item) (items : All (IsItem g) kernel) where
     pub in_known : {i : Item} → IsIn g.grammar kernel i → IsItem g i
     in_known (Kernel {i = i} c) = subst (IsItem g) c.2 (items c.0 i c.1)
     in_known (Closed {i = i} n rest p a h e l s m) =
         let x = in_known h in
-        record { production = l; at = omega arith; look = may_known rest i.look a m (rest_known i x n rest e) x.look }
+        record { production = l; dot = omega arith; look = may_known g sound rest i.look a m (rest_known i x n rest e) x.look }
 
     -- what has the kernel, and the beginnings of what is called for, has the set
     pub has_all : (rows : List (List Bool)) (has : Item → Type 0) → All (λ i. AreListed g rows (after_dot g.grammar i) i.look) kernel → ((n k : ℕ) → marked rows n k ≡ true → Expands g rows n k) → ((i : Item) → Contains kernel i → has i) → ((p k : ℕ) → p < length g.grammar.productions → k < g.grammar.rules + 1 → marked rows (left_of g.grammar p) k ≡ true → has (beginning_of p k)) → ((i : Item) → has i → Contains kernel i ⊎ ((p : ℕ) × (p < length g.grammar.productions) × IsBeginning rows (left_of g.grammar p) p i)) → {i : Item} → IsIn g.grammar kernel i → has i
     has_all rows has entered closed kept added only (Kernel {i = i} c) = kept i c
     has_all rows has entered closed kept added only (Closed {i = i} n rest p a h e l s m) =
         let x = in_known h in
-        let k = column_there g.grammar.rules a (may_known rest i.look a m (rest_known i x n rest e) x.look) in
+        let k = column_there g.grammar.rules a (may_known g sound rest i.look a m (rest_known i x n rest e) x.look) in
         let asks : AreListed g rows (after_dot g.grammar i) i.look = ⊎_elim (λ c. subst (λ j. AreListed g rows (after_dot g.grammar j) j.look) c.2 (entered c.0 i c.1)) (λ b. subst (λ j. AreListed g rows (after_dot g.grammar j) j.look) b.2.2 (closed (left_of g.grammar b.0) b.2.0 b.2.1 b.0 b.1 refl)) (only i (has_all rows has entered closed kept added only h)) in
         let on : marked rows n k.0 ≡ true = asks n k.0 rest e k.1 (subst (λ y. MayFollow g.grammar rest i.look y) (sym k.2) m) in
-        subst (λ y. has (record { production = Some p; at = 0; look = y })) k.2 (added p k.0 l k.1 (subst (λ y. marked rows y k.0 ≡ true) (sym s) on))
+        subst (λ y. has (record { production = Some p; dot = 0; look = y })) k.2 (added p k.0 l k.1 (subst (λ y. marked rows y k.0 ≡ true) (sym s) on))
 
     pub only_in : (rows : List (List Bool)) → AreCalledFor g.grammar kernel rows → (i : Item) → Contains kernel i ⊎ ((p : ℕ) × (p < length g.grammar.productions) × IsBeginning rows (left_of g.grammar p) p i) → IsIn g.grammar kernel i
     only_in rows w i h = ⊎_elim (λ c. Kernel c) (λ b. subst (IsIn g.grammar kernel) b.2.2 (begins_in g.grammar kernel rows w (left_of g.grammar b.0) b.2.0 b.2.1 b.0 b.1 refl)) h

@@ -8,12 +8,12 @@ use Rattle.definitions.specs.Trees.{Grammar}
 use Rattle.definitions.specs.Derivations.{first}
 use Rattle.item_sets.specs.declared.item.Item.{Item}
 use Rattle.item_sets.specs.Order.{IsRising, IsInside}
-use Rattle.item_sets.specs.Productions.{Shape, IsKnown}
+use Rattle.first_sets.specs.Productions.{Shape, IsKnown}
 use Rattle.item_sets.specs.Sets.{IsItem, after_dot}
 use Rattle.item_sets.specs.States.{step, ShiftsUpTo, IsKernelAfter}
-use Rattle.item_sets.specs.Symbols.{number, symbol_of}
+use Rattle.first_sets.specs.Symbols.{number, symbol_of}
 use Rattle.item_sets.proofs.AfterDot.{step_known, moved}
-use Rattle.item_sets.proofs.Numbered.{number-symbol_of, symbol_of-number}
+use Rattle.first_sets.proofs.SymbolNumbers.{number-symbol_of, symbol_of-number}
 use Rattle.item_sets.proofs.Ordered.{rising_step}
 
 module _ (g : Grammar) (items : List Item) (at : ℕ) (z : Item) (below : at < length items) where

@@ -1,6 +1,3 @@
-pub mod Fixpoint
-pub mod Numbers
-pub mod Columns
 pub mod WorklistGrows
 pub mod WorklistIsRight
 pub mod FirstKernel
@@ -10,9 +7,5 @@ pub mod AfterDot
 pub mod Ordered
 pub mod VectorSets
 pub mod AddedKernels
-pub mod FromFile
-pub mod Follows
-pub mod Lefts
-pub mod Numbered
 pub mod GotosGrow
 pub mod KernelsAfter

@@ -1,4 +1,4 @@
--- The order of items, which the closure and a move of the places keep.
+-- The order of items, which the closure and a step of the dots keep.
 use Rattle.std.proofs.Common.{◌≡◌, ◌<◌, ◌+◌, ℕ, zero, suc, List, [], ◌∷◌, ◌++◌, All, Contains, length, slice_index_or, refl, sym, ap, ◌∙◌, subst, inl, inr, ⊎_elim, arith}
 use Rattle.std.proofs.lemmas.List.Elements.{All-push, Contains-get_or}
 use Rattle.std.proofs.lemmas.List.Quantifiers.{all_pairs_push}
@@ -6,14 +6,14 @@ use Rattle.definitions.proofs.Ordered.{Contains-cases}
 use Rattle.item_sets.specs.declared.item.Item.{Item}
 use Rattle.item_sets.specs.Worklist.{beginning_of}
 use Rattle.item_sets.specs.States.{step}
-use Rattle.item_sets.specs.Lookaheads.{rank}
+use Rattle.first_sets.specs.Lookaheads.{rank}
 use Rattle.item_sets.specs.Order.{Below, IsRising, IsBefore}
-use Rattle.item_sets.proofs.Columns.{rank-lookahead_at}
+use Rattle.first_sets.proofs.Columns.{rank-lookahead_at}
 
 before_below : (p k : ℕ) (i : Item) → IsBefore p k i → Below i (beginning_of p k)
-before_below p k i (inl (inl e)) = at_start (i.at) refl
+before_below p k i (inl (inl e)) = at_start (i.dot) refl
   where
-    at_start : (n : ℕ) → i.at ≡ n → Below i (beginning_of p k)
+    at_start : (n : ℕ) → i.dot ≡ n → Below i (beginning_of p k)
     at_start zero f = inr (f, inl (let r = ap rank e in omega (arith, r)))
     at_start (suc n) f = inl (omega (arith, f))
 before_below p k i (inl (inr l)) = inl l

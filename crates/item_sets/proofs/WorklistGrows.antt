@@ -4,10 +4,10 @@ use Rattle.std.proofs.lemmas.Bool.{cases_eq}
 use Rattle.std.proofs.lemmas.List.{get_or_append_left}
 use Rattle.std.proofs.lemmas.List.Sums.{sum_by-set}
 use Rattle.std.proofs.lemmas.List.Elements.{Contains-push, Contains-append_left, All-push, All-weaker}
-use Rattle.item_sets.specs.Productions.{Shape}
-use Rattle.item_sets.specs.First.{unmarked}
+use Rattle.first_sets.specs.Productions.{Shape}
+use Rattle.first_sets.specs.First.{unmarked}
 use Rattle.item_sets.specs.Worklist.{Entries, marked, AreEntries, Grows, unmarked_in}
-use Rattle.item_sets.proofs.Fixpoint.{unmarked_one}
+use Rattle.first_sets.proofs.Fixpoint.{unmarked_one}
 
 module _ (rows : List (List Bool)) (n k : ℕ) (nl : n < length rows) (kl : k < length (slice_index_or rows n [])) where
   abbrev pub after : List (List Bool)

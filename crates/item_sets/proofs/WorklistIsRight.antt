@@ -1,12 +1,11 @@
 -- What the worklist has is rightly there, and stays.
 use Rattle.std.proofs.Common.{◌≡◌, ◌<◌, ℕ, Bool, true, List, Option, length}
 use Rattle.definitions.specs.declared.Symbol.{Symbol}
-use Rattle.definitions.specs.Trees.{Grammar}
+use Rattle.definitions.specs.Trees.{Grammar, left_of}
 use Rattle.item_sets.specs.declared.item.Item.{Item}
-use Rattle.grammar.specs.Grammars.{left_of}
-use Rattle.item_sets.specs.Productions.{Shape}
+use Rattle.first_sets.specs.Productions.{Shape}
 use Rattle.item_sets.specs.Sets.{after_dot, IsIn, Closed}
-use Rattle.item_sets.specs.Lookaheads.{lookahead_at}
+use Rattle.first_sets.specs.Lookaheads.{lookahead_at}
 use Rattle.item_sets.specs.Worklist.{marked, IsCalledFor, AreCalledFor, CallFor, IsExpanded, AreListed, Expands, beginning_of}
 
 pub asked_wanted : (g : Grammar) (kernel : List Item) (i : Item) (n k : ℕ) → IsIn g kernel i → CallFor g (after_dot g i) i.look n k → IsCalledFor g kernel n (lookahead_at k)

@@ -1,8 +1,4 @@
-pub mod First
-pub mod Productions
-pub mod Lookaheads
 pub mod Sets
-pub mod Symbols
 pub mod Worklist
 pub mod States
 pub mod Order

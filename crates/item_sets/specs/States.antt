@@ -7,7 +7,7 @@ use Rattle.definitions.specs.Items.{Item as LrItem, IsValid}
 use Rattle.theory.specs.Closure.{IsKernel}
 use Rattle.item_sets.specs.declared.item.Item.{Item}
 use Rattle.item_sets.specs.Order.{IsRising, IsOrdered}
-use Rattle.item_sets.specs.Productions.{Shape}
+use Rattle.first_sets.specs.Productions.{Shape}
 use Rattle.item_sets.specs.Sets.{item_of, after_dot, IsItem}
 
 -- these are the items valid for the prefix
@@ -21,14 +21,14 @@ pub record HasKernel (g : Grammar) (kernel : List Item) (prefix : List Symbol) :
   pub complete : (k : LrItem) → IsKernel k → IsValid g prefix k → (i : Item) × Contains kernel i × (item_of g i ≡ k)
 
 abbrev pub step : Item → Item
-step i = record { production = i.production; at = i.at + 1; look = i.look }
+step i = record { production = i.production; dot = i.dot + 1; look = i.look }
 
--- the items that stand before the symbol s, with their places after it
+-- the items with the symbol s after their dots, with their dots after it
 pub record Shifted (g : Grammar) (items : List Item) (s : Symbol) (kernel : List Item) : Type 0 where
   pub each : (i : Item) → Contains kernel i → (j : Item) × Contains items j × (first (after_dot g j) ≡ Some s) × (step j ≡ i)
   pub all : (j : Item) → Contains items j → first (after_dot g j) ≡ Some s → Contains kernel (step j)
 
--- of the items before a place, those that stand before the symbol `s`, with their places after it, in order
+-- of the items before a place of the list, those with the symbol `s` after their dots, with their dots after it, in order
 pub record ShiftsUpTo (g : Grammar) (items : List Item) (at : ℕ) (s : Symbol) (kernel : List Item) : Type 0 where
   pub rising : IsRising kernel
   pub each : (i : Item) → Contains kernel i

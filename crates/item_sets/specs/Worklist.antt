@@ -3,14 +3,13 @@ use Rattle.std.specs.Prelude.{◌≡◌, ◌<◌, ◌≤◌, ◌+◌, ◌⊎◌,
 use Rattle.std.specs.List.{slice_index_or, sum_by}
 use Rattle.definitions.specs.declared.Symbol.{Symbol}
 use Rattle.definitions.specs.declared.Symbol.TheVariants.{Nonterminal}
-use Rattle.definitions.specs.Trees.{Grammar}
+use Rattle.definitions.specs.Trees.{Grammar, left_of, right_of}
 use Rattle.item_sets.specs.declared.item.Item.{Item}
 use Rattle.item_sets.specs.declared.worklist.Entry.{Entry}
-use Rattle.grammar.specs.Grammars.{left_of, right_of}
-use Rattle.item_sets.specs.First.{unmarked}
-use Rattle.item_sets.specs.Lookaheads.{lookahead_at}
+use Rattle.first_sets.specs.First.{unmarked}
+use Rattle.first_sets.specs.Lookaheads.{lookahead_at}
 use Rattle.item_sets.specs.Order.{IsRising}
-use Rattle.item_sets.specs.Productions.{Shape}
+use Rattle.first_sets.specs.Productions.{Shape}
 use Rattle.item_sets.specs.Sets.{after_dot, IsIn}
 use Rattle.theory.specs.First.{MayFollow}
 
@@ -54,7 +53,7 @@ AreListed g rows symbols look = (n k : ℕ) (rest : List Symbol) → symbols ≡
     → MayFollow g.grammar rest look (lookahead_at k) → marked rows n k ≡ true
 
 abbrev pub beginning_of : ℕ → ℕ → Item
-beginning_of p k = record { production = Some p; at = 0; look = lookahead_at k }
+beginning_of p k = record { production = Some p; dot = 0; look = lookahead_at k }
 
 -- what the productions of a nonterminal in the worklist call for is marked
 abbrev pub Expands : Shape → List (List Bool) → ℕ → ℕ → Type 0

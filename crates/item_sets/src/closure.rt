@@ -1,22 +1,19 @@
 //! The closure of a set of items.
 ghost use Rattle.std.specs.Prelude.{◌≡◌, ◌<◌, ◌≤◌, ◌+◌, ◌↔◌, ℕ, true, false, ◌⊎◌, Option, Some, length, All, Contains, IfOk, OnOk, IfSome};
-ghost use Rattle.definitions.specs.Trees.{Grammar};
-ghost use Rattle.grammar.specs.Grammars.{left_of};
+ghost use Rattle.definitions.specs.Trees.{Grammar, left_of};
 ghost use Rattle.item_sets.specs.declared.item.Item.{Item};
-ghost use Rattle.item_sets.specs.Lookaheads.{lookahead_at};
+ghost use Rattle.first_sets.specs.Lookaheads.{lookahead_at};
 ghost use Rattle.item_sets.specs.Order.{IsRising, IsBefore, IsOrdered};
-ghost use Rattle.item_sets.specs.Productions.{IsKnown};
+ghost use Rattle.first_sets.specs.Productions.{IsKnown};
 ghost use Rattle.item_sets.specs.Sets.{after_dot, IsItem};
 ghost use Rattle.item_sets.specs.States.{IsSetOf};
 ghost use Rattle.item_sets.specs.Worklist.{marked, AreEntries, Grows, AreCalledFor, AreListed, Expands, beginning_of, CallFor, IsExpanded, IsBeginning, HaveBeginnings};
 ghost use Rattle.theory.specs.First.{MayFollow};
 
-use crate::augmented::AugmentedGrammar;
-use crate::indices::ProductionNumber;
 use crate::item::Item;
-use crate::lookahead::lookahead_at;
 use crate::worklist::{Entry, Worklist};
 use definitions::Symbol;
+use first_sets::{AugmentedGrammar, ProductionNumber, lookahead_at};
 use std::alloc::{AllocError, Global};
 
 /// The column of a lookahead, where it is one of the grammar's.
@@ -194,12 +191,12 @@ impl Worklist {
             None => {
                 let start = [Symbol::Nonterminal(grammar.start())];
                 let side: &[Symbol] = &start;
-                self.insert_first(grammar, side.split_at(item.at).1, item.look)?;
+                self.insert_first(grammar, side.split_at(item.dot).1, item.look)?;
                 Ok(())
             }
             Some(p) => {
                 let right = grammar.right(ProductionNumber::new(p));
-                self.insert_first(grammar, right.split_at(item.at).1, item.look)?;
+                self.insert_first(grammar, right.split_at(item.dot).1, item.look)?;
                 Ok(())
             }
         }
@@ -260,7 +257,7 @@ fn add_items(
         if worklist.has(grammar, left, column) {
             items.push(Item {
                 production: Some(p.index()),
-                at: 0,
+                dot: 0,
                 look: lookahead_at(column),
             })?;
         }

@@ -5,13 +5,12 @@ ghost use Rattle.item_sets.specs.Collection.{kernel_at, AreStates, Placed, GoesO
 ghost use Rattle.item_sets.specs.Order.{IsOrdered};
 ghost use Rattle.item_sets.specs.States.{HasKernel, IsSetOf};
 
-use crate::augmented::AugmentedGrammar;
 use crate::goto::kernels_after;
-use crate::indices::StateNumber;
 use crate::item::Item;
 use crate::kernels::Kernels;
-use crate::symbols::symbol_at;
+use crate::state_number::StateNumber;
 use definitions::Symbol;
+use first_sets::{AugmentedGrammar, symbol_at};
 use std::alloc::{AllocError, Global};
 use std::marker::Model;
 
@@ -50,7 +49,7 @@ impl States {
         let mut kernel = Vec::new(alloc);
         kernel.push(Item {
             production: None,
-            at: 0,
+            dot: 0,
             look: None,
         })?;
         kernels.place(alloc, &kernel)?;

@@ -3,11 +3,10 @@ ghost use Rattle.std.specs.Prelude.{◌≡◌, ◌<◌, ◌+◌, ◌∷◌, ◌+
 ghost use Rattle.item_sets.specs.Order.{IsRising};
 ghost use Rattle.item_sets.specs.Sets.{IsItem};
 ghost use Rattle.item_sets.specs.States.{IsKernelAfter};
-ghost use Rattle.item_sets.specs.Symbols.{symbol_of};
+ghost use Rattle.first_sets.specs.Symbols.{symbol_of};
 
-use crate::augmented::AugmentedGrammar;
 use crate::item::Item;
-use crate::symbols::number_of;
+use first_sets::{AugmentedGrammar, number_of};
 use std::alloc::{AllocError, Global};
 use std::marker::Model;
 
@@ -81,11 +80,11 @@ pub fn kernels_after(
 {
     let mut kernels = empty_kernels(alloc, grammar.symbols())?;
     for item in items {
-        if let Some(symbol) = grammar.next(*item) {
+        if let Some(symbol) = item.next(grammar) {
             let kernel = &mut kernels[number_of(grammar, symbol)];
             kernel.add(Item {
                 production: item.production,
-                at: item.at + 1,
+                dot: item.dot + 1,
                 look: item.look,
             })?;
         }

@@ -1,15 +1,50 @@
 //! The items of sets.
+ghost use Rattle.std.specs.Prelude.{◌≡◌, ◌<◌, ◌+◌, ◌^◌, IfSome};
+ghost use Rattle.definitions.specs.Derivations.{first};
+ghost use Rattle.first_sets.specs.Productions.{IsKnown};
+ghost use Rattle.item_sets.specs.Sets.{IsItem, after_dot};
 
-/// A place in the right side of a production: how many of its symbols stand before it.
-pub type Place = usize;
+use definitions::Symbol;
+use first_sets::{AugmentedGrammar, ProductionNumber};
 
-/// An item: its production, the place in the right side, and its lookahead. None is the added start production, and the end.
+/// How many symbols of a production's right side are before an item's dot.
+pub type Dot = usize;
+
+/// An item: its production, its dot, and its lookahead. None is the added start production, and the end.
 #[derive(Clone, Copy, Debug, PartialEq, Eq, Hash)]
 pub struct Item {
     /// The number of the production in file order, from 0.
     pub production: Option<usize>,
-    /// How many symbols of the right side stand before the place.
-    pub at: Place,
+    /// How many symbols of the right side are before the dot.
+    pub dot: Dot,
     /// The token rule that may follow.
     pub look: Option<usize>,
+}
+
+impl Item {
+    /// The symbol after the dot, or none where the dot is at the end.
+    pub fn next(self, grammar: &AugmentedGrammar) -> Option<Symbol>
+        requires { IsItem grammar.now self }
+        ensures next { result ≡ first (after_dot grammar.now.grammar self) }
+        ensures known { IfSome result (IsKnown grammar.now) }
+        ensures fits { IfSome result (λ s. self.dot + 1 < 2 ^ 64) }
+    {
+        match self.production {
+            None => {
+                if self.dot == 0 {
+                    Some(Symbol::Nonterminal(grammar.start()))
+                } else {
+                    None
+                }
+            }
+            Some(p) => {
+                let right = grammar.right(ProductionNumber::new(p));
+                if self.dot < right.len() {
+                    Some(right[self.dot])
+                } else {
+                    None
+                }
+            }
+        }
+    }
 }

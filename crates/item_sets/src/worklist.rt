@@ -2,8 +2,7 @@
 ghost use Rattle.std.specs.Prelude.{◌≡◌, ◌<◌, ◌+◌, ◌⊎◌, ◌∷◌, ◌++◌, ℕ, true, false, [], length, slice_index_or, slice_set, IfOk, OnOk};
 ghost use Rattle.item_sets.specs.Worklist.{marked, AreEntries, Grows};
 
-use crate::augmented::AugmentedGrammar;
-use crate::marks::Marks;
+use first_sets::{AugmentedGrammar, Marks};
 use std::alloc::{AllocError, Global};
 use std::marker::Model;
 

@@ -15,14 +15,14 @@ use Rattle.tables.specs.declared.decisions.Move.{Move as TableMove}
 use Rattle.tables.specs.Actions.{IsMoveAt, AreMoves}
 use Rattle.item_sets.specs.Collection.{kernel_at, IsStep}
 use Rattle.tables.specs.Gotos.{HasSteps}
-use Rattle.item_sets.specs.Productions.{Shape, IsSound, IsKnown}
-use Rattle.item_sets.specs.Lookaheads.{lookahead_at}
+use Rattle.first_sets.specs.Productions.{Shape, IsSound, IsKnown}
+use Rattle.first_sets.specs.Lookaheads.{lookahead_at}
 use Rattle.item_sets.specs.Sets.{IsItem, item_of}
 use Rattle.item_sets.specs.States.{HasKernel}
 use Rattle.item_sets.proofs.FirstKernel.{start_item, start_kernel}
 use Rattle.item_sets.proofs.InRange.{in_known}
-use Rattle.item_sets.proofs.Columns.{lookahead_at-rule, lookahead_small, column_there}
-use Rattle.item_sets.proofs.Numbered.{after_first_known}
+use Rattle.first_sets.proofs.Columns.{lookahead_at-rule, lookahead_small, column_there}
+use Rattle.item_sets.proofs.InRange.{after_first_known}
 use Rattle.item_sets.proofs.Valid.{set_complete}
 
 module _ (g : Shape) (sound : IsSound g) (productive : AllProductive g.grammar) (kernels : List (List Item)) (known : (s : ℕ) → s < length kernels → All (IsItem g) (kernel_at kernels s)) where

@@ -4,7 +4,7 @@ use Rattle.definitions.specs.declared.Symbol.{Symbol}
 use Rattle.definitions.specs.Trees.{Grammar}
 use Rattle.definitions.specs.Items.{Move, HasMove, IsConflict, CallsFor, kind_of}
 use Rattle.item_sets.specs.declared.item.Item.{Item}
-use Rattle.item_sets.specs.Lookaheads.{lookahead_at}
+use Rattle.first_sets.specs.Lookaheads.{lookahead_at}
 use Rattle.item_sets.specs.Sets.{item_of}
 use Rattle.item_sets.specs.States.{HasSet}
 use Rattle.tables.specs.declared.moves.Call.{Call}

@@ -3,7 +3,7 @@ use Rattle.std.proofs.Common.{◌≡◌, ◌<◌, ◌≤◌, ℕ, [], None, Matc
 use Rattle.definitions.specs.Sentences.{AllProductive}
 use Rattle.tables.specs.Actions.{AreMoves, AreAllMoves, IsClashAt, Made, AreMade}
 use Rattle.item_sets.specs.Collection.{Found, AreStates}
-use Rattle.item_sets.specs.Productions.{Shape}
+use Rattle.first_sets.specs.Productions.{Shape}
 use Rattle.tables.specs.Tables.{seen, AreTables}
 use Rattle.theory.proofs.Knuth.{lr1_no_conflict}
 use Rattle.tables.proofs.AllSets.{no_conflict}

@@ -1,3 +1,4 @@
+pub mod FromFile
 pub mod OneMoreItem
 pub mod DecisionOfPrefix
 pub mod LookaheadMarks

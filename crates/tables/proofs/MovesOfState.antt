@@ -21,17 +21,17 @@ use Rattle.tables.specs.declared.progress.ClashAt.{ClashAt}
 use Rattle.tables.specs.Actions.{IsOnlyMove, IsMoveAt, AreMoves, IsClashAt, Made, AddsMoves, AreAllMoves, AreMade}
 use Rattle.item_sets.specs.Collection.{kernel_at, GoesOn, IsStep, IsRow}
 use Rattle.tables.specs.Gotos.{AreGotos, HasSteps}
-use Rattle.item_sets.specs.Lookaheads.{lookahead_at}
-use Rattle.item_sets.specs.Productions.{Shape, IsKnown}
+use Rattle.first_sets.specs.Lookaheads.{lookahead_at}
+use Rattle.first_sets.specs.Productions.{Shape, IsKnown}
 use Rattle.tables.specs.Moves.{move_of}
 use Rattle.tables.specs.Rows.{chosen, AreChosen, IsClash, IsDecided}
 use Rattle.item_sets.specs.Sets.{IsItem}
 use Rattle.item_sets.specs.States.{HasKernel, HasSet}
-use Rattle.item_sets.specs.Symbols.{number}
-use Rattle.item_sets.proofs.Columns.{lookahead_small}
+use Rattle.first_sets.specs.Symbols.{number}
+use Rattle.first_sets.proofs.Columns.{lookahead_small}
 use Rattle.tables.proofs.DecisionOfPrefix.{no_move, the_move, is_conflict}
-use Rattle.item_sets.proofs.Numbered.{symbol_of-number}
-use Rattle.item_sets.proofs.Numbers.{each_more}
+use Rattle.first_sets.proofs.SymbolNumbers.{symbol_of-number}
+use Rattle.first_sets.proofs.EachMore.{each_more}
 use Rattle.item_sets.proofs.GotosGrow.{step_goes_on}
 
 module _ (g : Grammar) where

@@ -10,9 +10,9 @@ use Rattle.definitions.specs.declared.Symbol.TheVariants.{Rule as Terminal, Nont
 use Rattle.definitions.specs.Items.{HasItem, kind_of}
 use Rattle.item_sets.proofs.FirstKernel.{start_item, start_kernel}
 use Rattle.item_sets.proofs.AddedKernels.{no_item}
-use Rattle.item_sets.proofs.Columns.{lookahead_at-rule}
+use Rattle.first_sets.proofs.Columns.{lookahead_at-rule}
 use Rattle.item_sets.specs.Collection.{kernel_at, Found, AreStates, IsStep}
-use Rattle.item_sets.specs.Productions.{Shape}
+use Rattle.first_sets.specs.Productions.{Shape}
 use Rattle.item_sets.specs.Sets.{item_of}
 use Rattle.item_sets.specs.States.{HasKernel}
 use Rattle.tables.proofs.AllSets.{Stands, no_far_move, next_known}

@@ -18,7 +18,7 @@ use Rattle.item_sets.specs.declared.item.Item.{Item}
 use Rattle.item_sets.specs.Collection.{kernel_at, IsReached, Found, AreStates}
 use Rattle.item_sets.specs.Order.{IsOrdered}
 use Rattle.tables.specs.Gotos.{HasSteps}
-use Rattle.item_sets.specs.Productions.{Shape, IsSound}
+use Rattle.first_sets.specs.Productions.{Shape, IsSound}
 use Rattle.item_sets.specs.Order.{IsInside}
 use Rattle.item_sets.specs.Sets.{side, item_of, IsItem}
 use Rattle.item_sets.specs.States.{HasKernel}
@@ -27,13 +27,13 @@ use Rattle.tables.proofs.AllSets.{all_stand}
 use Rattle.item_sets.proofs.Ordered.{rising_same}
 
 module _ (g : Shape) where
-  before_long : (i : Item) → IsItem g i → length (item_of g.grammar i).before ≡ i.at
-  before_long i h = length-take-le i.at (side g.grammar i.production) h.at
+  before_long : (i : Item) → IsItem g i → length (item_of g.grammar i).before ≡ i.dot
+  before_long i h = length-take-le i.dot (side g.grammar i.production) h.dot
 
   item_back : (i j : Item) → IsItem g i → IsItem g j → item_of g.grammar i ≡ item_of g.grammar j → i ≡ j
   item_back i j h k e =
-      let at : i.at ≡ j.at = sym (before_long i h) ∙ ap (λ x. length x.before) e ∙ before_long j k in
-      λ n. record { production = (ap (λ x. x.production) e) n; at = at n; look = (ap (λ x. x.look) e) n }
+      let dot : i.dot ≡ j.dot = sym (before_long i h) ∙ ap (λ x. length x.before) e ∙ before_long j k in
+      λ n. record { production = (ap (λ x. x.production) e) n; dot = dot n; look = (ap (λ x. x.look) e) n }
 
   inside_kernel : (i : Item) → IsItem g i → IsInside i → IsKernel (item_of g.grammar i)
   inside_kernel i h (inl e) = inl e

@@ -8,10 +8,11 @@ ghost use Rattle.item_sets.specs.Sets.{IsItem, item_of};
 use crate::decisions::Clash;
 use crate::progress::ClashAt;
 use definitions::Symbol;
-use item_sets::{AugmentedGrammar, Item, States};
+use first_sets::AugmentedGrammar;
+use item_sets::{Item, States};
 use std::alloc::{AllocError, Global};
 
-/// Two items that are valid for a prefix and call for different moves at a lookahead. None is the end. The place of `first`
+/// Two items that are valid for a prefix and call for different moves at a lookahead. None is the end. The dot of `first`
 /// is at the end of its right side; where both are, its production is the earlier one, the added start production before all.
 #[derive(Debug, Drop)]
 pub struct Conflict {
@@ -53,10 +54,10 @@ fn is_in_order(grammar: &AugmentedGrammar, clash: Clash) -> bool
         → IsInOrder (item_of grammar.now.grammar clash.two)
         (item_of grammar.now.grammar clash.one) }
 {
-    if grammar.next(clash.one).is_some() {
+    if clash.one.next(grammar).is_some() {
         return false;
     }
-    if grammar.next(clash.two).is_some() {
+    if clash.two.next(grammar).is_some() {
         return true;
     }
     is_earlier(clash.one.production, clash.two.production)

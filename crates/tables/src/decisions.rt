@@ -3,15 +3,16 @@ ghost use Rattle.std.specs.Prelude.{◌≡◌, ◌<◌, ◌+◌, Some, None, Opt
 ghost use Rattle.definitions.specs.Items.{Move as LrMove, CallsFor, kind_of};
 ghost use Rattle.item_sets.specs.declared.item.Item.{Item};
 ghost use Rattle.tables.specs.Expected.{in_file_order, rules_with_move};
-ghost use Rattle.item_sets.specs.Lookaheads.{rank};
+ghost use Rattle.first_sets.specs.Lookaheads.{rank};
 ghost use Rattle.tables.specs.Rows.{chosen, IsDecided};
 ghost use Rattle.item_sets.specs.Sets.{IsItem, item_of};
 
 use crate::expected::Expected;
 use crate::moves::{Call, Decision, call_of, decide};
-use crate::rows::Row;
+use crate::rows::GotoRow;
 use definitions::Symbol;
-use item_sets::{AugmentedGrammar, Item, Marks, lookahead_at};
+use first_sets::{AugmentedGrammar, Marks, lookahead_at};
+use item_sets::Item;
 use std::alloc::{AllocError, Global};
 use std::marker::Model;
 
@@ -70,7 +71,7 @@ fn column_of_call(grammar: &AugmentedGrammar, item: Item) -> Option<usize>
         → CallsFor (item_of grammar.now.grammar item) (kind_of look) move
         → result ≡ Some (rank look) }
 {
-    match grammar.next(item) {
+    match item.next(grammar) {
         Some(Symbol::Rule(a)) => Some(grammar.column_of(Some(a))),
         Some(Symbol::Nonterminal(_)) => None,
         None => Some(grammar.column_of(item.look)),
@@ -122,7 +123,7 @@ fn columns_of_calls(
 }
 
 /// The move that all items call for at a lookahead.
-fn move_at(row: &Row, look: Option<usize>, call: Call) -> Option<Move>
+fn move_at(row: &GotoRow, look: Option<usize>, call: Call) -> Option<Move>
     requires { IfSome look (λ a. a < length row.now) }
     ensures { result ≡ chosen row.now look call }
 {
@@ -144,7 +145,7 @@ fn moves_of_callers(
     alloc: Global,
     grammar: &AugmentedGrammar,
     items: &[Item],
-    row: &Row,
+    row: &GotoRow,
 ) -> Result<Decided, AllocError>
     requires known { All (IsItem grammar.now) items.now }
     requires row { length row.now ≡ grammar.now.grammar.rules + grammar.now.nonterminals }
@@ -174,7 +175,7 @@ pub fn moves_of(
     alloc: Global,
     grammar: &AugmentedGrammar,
     items: &[Item],
-    row: &Row,
+    row: &GotoRow,
 ) -> Result<Decided, AllocError>
     requires known { All (IsItem grammar.now) items.now }
     requires row { length row.now ≡ grammar.now.grammar.rules + grammar.now.nonterminals }

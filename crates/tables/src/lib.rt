@@ -21,6 +21,7 @@
 //! ```
 #![tactic(auto)]
 
+mod augmented;
 mod conflict;
 mod decisions;
 mod expected;
@@ -33,5 +34,5 @@ mod tables;
 pub use conflict::Conflict;
 pub use decisions::Move;
 pub use expected::Expected;
-pub use item_sets::{Item, Place};
+pub use item_sets::{Dot, Item};
 pub use tables::{MOST_SETS, TableFault, Tables};

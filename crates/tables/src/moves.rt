@@ -5,7 +5,8 @@ ghost use Rattle.item_sets.specs.Sets.{IsItem};
 ghost use Rattle.tables.specs.Moves.{IsCall, IsDecision};
 
 use definitions::Symbol;
-use item_sets::{AugmentedGrammar, Item};
+use first_sets::AugmentedGrammar;
+use item_sets::Item;
 
 /// What an item calls for.
 #[derive(Clone, Copy, Debug, PartialEq, Eq)]
@@ -34,7 +35,7 @@ pub fn call_of(grammar: &AugmentedGrammar, item: Item, look: Option<usize>) -> O
     requires { IsItem grammar.now item }
     ensures { IsCall grammar.now.grammar item look result }
 {
-    match grammar.next(item) {
+    match item.next(grammar) {
         Some(Symbol::Rule(a)) => {
             if look == Some(a) {
                 Some(Call::Shift)
@@ -64,7 +65,7 @@ pub fn decide(grammar: &AugmentedGrammar, items: &[Item], look: Option<usize>) -
     let mut agreed: Option<Call> = None;
     let mut one = Item {
         production: None,
-        at: 0,
+        dot: 0,
         look: None,
     };
     for item in items {

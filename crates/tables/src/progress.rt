@@ -4,8 +4,9 @@ ghost use Rattle.tables.specs.Actions.{AddsMoves, AreMade};
 ghost use Rattle.item_sets.specs.Collection.{AreStates};
 
 use crate::decisions::{Clash, Decided, Moves, moves_of};
-use crate::rows::Row;
-use item_sets::{AugmentedGrammar, StateNumber, States, close};
+use crate::rows::GotoRow;
+use first_sets::AugmentedGrammar;
+use item_sets::{StateNumber, States, close};
 use std::alloc::{AllocError, Global};
 use std::marker::Model;
 
@@ -22,7 +23,7 @@ pub struct ClashAt {
 #[derive(Drop)]
 pub struct Progress {
     /// Where the nonterminals lead from each of the states.
-    pub gotos: Vec<Row>,
+    pub gotos: Vec<GotoRow>,
     /// The moves of the states.
     pub moves: Vec<Moves>,
     /// The first conflict, if there was one.
@@ -57,7 +58,7 @@ impl Progress {
     }
 
     /// Adds the gotos of the next state, and its moves or its conflict.
-    fn add(&mut self, gotos: Row, decided: Decided) -> Result<(), AllocError>
+    fn add(&mut self, gotos: GotoRow, decided: Decided) -> Result<(), AllocError>
         ensures gotos { OnOk result (self.new.gotos ≡ self.old.gotos ++ gotos ∷ []) }
         ensures moves { OnOk result (AddsMoves self.old self.new decided) }
     {
@@ -92,7 +93,7 @@ pub fn advance(
     let state = StateNumber::new(made.len());
     let items = close(alloc, grammar, states.kernel(state))?;
     let to = states.gotos(alloc, grammar, &items, state)?;
-    let row = Row::new(to);
+    let row = GotoRow::new(to);
     let decided = moves_of(alloc, grammar, &items, &row)?;
     let gotos = row.gotos(alloc, grammar.rules())?;
     made.add(gotos, decided)?;

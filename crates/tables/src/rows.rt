@@ -7,12 +7,12 @@ use std::marker::Model;
 
 /// The states that one state leads to, by the number of the symbol, or of the nonterminal.
 #[derive(Drop)]
-pub struct Row {
+pub struct GotoRow {
     /// For each number of a symbol the state, if there is one.
     to: Vec<Option<StateNumber>>,
 }
 
-impl Model for Row {
+impl Model for GotoRow {
     ghost use Rattle.std.specs.Prelude.{List, Option, ℕ};
 
     ghost Value = { List (Option ℕ) };
@@ -20,12 +20,12 @@ impl Model for Row {
     ghost view = { λ a. a.to.items };
 }
 
-impl Row {
+impl GotoRow {
     /// The row with these entries.
-    pub fn new(to: Vec<Option<StateNumber>>) -> Row
+    pub fn new(to: Vec<Option<StateNumber>>) -> GotoRow
         ensures { result ≡ to.items }
     {
-        Row { to }
+        GotoRow { to }
     }
 
     /// The number of the state that the symbol with this number leads to.
@@ -40,11 +40,11 @@ impl Row {
     }
 
     /// Where the nonterminals lead: the entries after those of so many token rules.
-    pub fn gotos(&self, alloc: Global, rules: usize) -> Result<Row, AllocError>
+    pub fn gotos(&self, alloc: Global, rules: usize) -> Result<GotoRow, AllocError>
         requires { rules ≤ length self.now }
         ensures { IfOk result (λ gotos. gotos ≡ drop rules self.now) }
     {
-        Ok(Row {
+        Ok(GotoRow {
             to: Vec::from_slice(alloc, &self.to[rules..])?,
         })
     }

@@ -18,14 +18,16 @@ ghost use Rattle.tables.specs.Tables.{IsStateOf, IsAction, IsAccepted};
 ghost use Rattle.tables.specs.Decidable.{AreMovesDecided};
 ghost use Rattle.tables.specs.declared.tables.TableFault.TheVariants.{Memory};
 
+use crate::augmented::augmented;
 use crate::conflict::{Conflict, conflict_of};
 use crate::decisions::{Move, Moves};
 use crate::expected::Expected;
 use crate::progress::{ClashAt, Progress, advance};
-use crate::rows::Row;
+use crate::rows::GotoRow;
 use definitions::Kind;
+use first_sets::{AugmentedGrammar, ProductionNumber, Productions};
 use grammar::Grammar;
-use item_sets::{AugmentedGrammar, ProductionNumber, Productions, States};
+use item_sets::States;
 use std::alloc::{AllocError, Global};
 use std::marker::Model;
 use thiserror::Error;
@@ -61,7 +63,7 @@ pub struct Tables {
     /// The productions of the grammar.
     productions: Productions,
     /// Where the nonterminals lead from each state, the first of which is that of the empty prefix.
-    gotos: Vec<Row>,
+    gotos: Vec<GotoRow>,
     /// What each state does at each kind that may come next.
     moves: Vec<Moves>,
 }
@@ -164,7 +166,7 @@ impl Tables {
         ensures refused { IfErr result (IsRight grammar.now.grammar 8192) }
         ensures refuted { IfErr result (RefutesLr1 grammar.now.grammar) }
     {
-        let augmented = AugmentedGrammar::of(alloc, grammar)?;
+        let augmented = augmented(alloc, grammar)?;
         tables_of(alloc, augmented)
     }
 

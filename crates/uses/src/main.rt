@@ -8,6 +8,7 @@ mod lists;
 mod parses;
 mod plain;
 mod programs;
+mod sets;
 mod texts;
 
 ghost use Rattle.dfa.specs.Table.{IsAutomaton};
@@ -38,6 +39,13 @@ fn of_values(rt: &HostRuntime, alloc: Global) -> Option<()> {
     grammars::use_grammar(rt, alloc)
 }
 
+/// The examples of what tables are made of.
+fn of_sets(rt: &HostRuntime, alloc: Global) -> Option<()> {
+    sets::use_first_sets(rt, alloc)?;
+    let augmented = sets::lists(alloc).ok()?;
+    sets::use_item_sets(rt, alloc, &augmented)
+}
+
 /// The examples of a grammar file.
 fn of_file(rt: &HostRuntime, alloc: Global) -> Option<()> {
     let grammar = Grammar::read(alloc, SUMS).ok()?;
@@ -47,7 +55,6 @@ fn of_file(rt: &HostRuntime, alloc: Global) -> Option<()> {
 /// The examples that take a grammar, or what is built of one.
 fn by_grammar(rt: &HostRuntime, alloc: Global, grammar: &Grammar) -> Option<()> {
     texts::use_dfa(rt, alloc, grammar)?;
-    parses::use_item_sets(rt, alloc, grammar)?;
     parses::use_tables(rt, alloc, grammar)?;
     with_tables(rt, alloc, grammar)?;
     with_automaton(rt, alloc, grammar)
@@ -106,6 +113,7 @@ fn of_language(rt: &HostRuntime, alloc: Global) -> Option<()> {
 fn main(rt: HostRuntime) -> ExitCode {
     let alloc = rt.alloc();
     if of_values(&rt, alloc).is_some()
+        && of_sets(&rt, alloc).is_some()
         && of_file(&rt, alloc).is_some()
         && of_language(&rt, alloc).is_some()
     {

@@ -4,7 +4,6 @@ ghost use Rattle.std.specs.Prelude.{⊤};
 
 use definitions::Kind;
 use grammar::Grammar;
-use item_sets::{AugmentedGrammar, States};
 use parser::{Parse, Verdict};
 use std::alloc::Global;
 use tables::{Move, Tables};
@@ -34,14 +33,6 @@ impl<'a> Kinds for Listed<'a> {
     fn next(&self, _ahead: &mut (), k: usize) -> Option<Kind> {
         self.kind(k)
     }
-}
-
-/// The example of `item_sets`.
-pub fn use_item_sets(rt: &HostRuntime, alloc: Global, grammar: &Grammar) -> Option<()> {
-    let augmented = AugmentedGrammar::of(alloc, grammar).ok()?;
-    let states = States::new(alloc, &augmented).ok()?;
-    println!(rt; "{} state to begin with", states.len()).ok()
-    // 1 state to begin with
 }
 
 /// The example of `tables`.

@@ -7,9 +7,9 @@ use Rattle.std.proofs.lemmas.List.Elements.{All-nil, All-push}
 use Rattle.std.proofs.lemmas.Option.{get_or_from_slice_get, slice_get_within}
 use Rattle.definitions.specs.declared.Kind.{Kind}
 use Rattle.definitions.specs.declared.Symbol.{Symbol}
-use Rattle.definitions.specs.Trees.{Forest, Branch, HaveRoots, HasProduction, trees, yield, yields, all_kinds}
+use Rattle.definitions.specs.Trees.{Forest, Branch, HaveRoots, HasProduction, trees, yield, yields, all_kinds, left_of}
 use Rattle.definitions.specs.TreeEdits.{Stamped, StampedBranch, StampedForest, plain, plain_all, plain_trees}
-use Rattle.grammar.specs.Grammars.{FileGrammar, left_of}
+use Rattle.grammar.specs.Grammars.{FileGrammar}
 use Rattle.trees.specs.declared.store.NodeId.{NodeId}
 use Rattle.trees.specs.declared.store.Child.{Child}
 use Rattle.trees.specs.declared.store.Child.TheVariants.{Token, Node}

@@ -3,8 +3,7 @@
 ghost use Rattle.std.specs.Prelude.{◌≡◌, ℕ, ◌<◌, ◌≤◌, Bool, false, List, length, map, slice_index_or, IfOk, OnOk, MatchOption, All};
 ghost use Rattle.definitions.specs.declared.Symbol.{Symbol};
 ghost use Rattle.definitions.specs.Tokens.{is_skipped, placed, significant};
-ghost use Rattle.definitions.specs.Trees.{HaveRoots, all_kinds};
-ghost use Rattle.grammar.specs.Grammars.{left_of};
+ghost use Rattle.definitions.specs.Trees.{HaveRoots, all_kinds, left_of};
 ghost use Rattle.lexer.specs.Tokens.{kind_in, plain, AreTokensOf};
 ghost use Rattle.trees.specs.Cells.{AreBelow};
 ghost use Rattle.views.specs.Folds.{lines_of, SpanLines, AreAscending, AreSpanned, with_own};

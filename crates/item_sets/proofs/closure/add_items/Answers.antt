@@ -1,7 +1,7 @@
 use Rattle.std.proofs.Common.{◌≡◌, ◌∷◌, ◌++◌, [], true, false, Some, Contains, ap, sym, subst, inr, ⊎_elim, arith, ◌∙◌}
 use Rattle.std.proofs.lemmas.Bool.{cases_eq}
 use Rattle.std.proofs.lemmas.List.Elements.{Contains-push, Contains-push_cases, Contains-append_left}
-use Rattle.grammar.specs.Grammars.{left_of}
+use Rattle.definitions.specs.Trees.{left_of}
 use Rattle.item_sets.specs.Worklist.{marked, beginning_of}
 use Rattle.item_sets.proofs.Ordered.{rising_more, all_before_more, all_before_same, all_before_next}
 use Rattle.item_sets.proofs.closure.add_items.Goals as goal
@@ -19,7 +19,7 @@ loop-column-preserved c =
     elim c.if-has.branch [
       | then-has+in_ok-push w ↦
           let on : marked rows (left_of g p) at ≡ true = sym has ∙ w.if-has.true in
-          let new : c.if-has.items.items ≡ old ++ beginning_of p at ∷ [] = ap (λ v. v.items) w.items-is ∙ w.in_ok-push.ensures.items ∙ ap (λ n. old ++ record { production = Some n; at = 0; look = w.lookahead_at.result } ∷ []) w.index.ensures ∙ ap (λ a. old ++ record { production = Some p; at = 0; look = a } ∷ []) w.lookahead_at.ensures in
+          let new : c.if-has.items.items ≡ old ++ beginning_of p at ∷ [] = ap (λ v. v.items) w.items-is ∙ w.in_ok-push.ensures.items ∙ ap (λ n. old ++ record { production = Some n; dot = 0; look = w.lookahead_at.result } ∷ []) w.index.ensures ∙ ap (λ a. old ++ record { production = Some p; dot = 0; look = a } ∷ []) w.lookahead_at.ensures in
           rw new (record {
             rising = rising_more p at old i.rising i.before;
             before = all_before_more p at old i.rising i.before;

@@ -1,7 +1,7 @@
 use Rattle.std.proofs.Common.{◌≡◌, ◌<◌, ◌⊎◌, ℕ, Contains, true, All}
 use Rattle.item_sets.specs.declared.item.Item.{Item}
 use Rattle.item_sets.specs.Order.{IsRising, IsBefore}
-use Rattle.grammar.specs.Grammars.{left_of}
+use Rattle.definitions.specs.Trees.{left_of}
 use Rattle.item_sets.specs.Worklist.{marked, beginning_of, IsBeginning}
 use Rattle.item_sets.proofs.closure.add_items.Given as goal
 

@@ -1,6 +1,6 @@
 use Rattle.std.proofs.Common.{rules, ◌≡◌, ◌<◌, ◌+◌, true, All, length, Contains, sym, ◌∙◌, subst, inr, ⊎_elim, arith}
 use Rattle.std.proofs.lemmas.Bool.{cases_eq}
-use Rattle.grammar.specs.Grammars.{left_of}
+use Rattle.definitions.specs.Trees.{left_of}
 use Rattle.item_sets.specs.Order.{IsBefore}
 use Rattle.item_sets.specs.Worklist.{marked, beginning_of}
 use Rattle.item_sets.proofs.closure.items_of.Goals as goal

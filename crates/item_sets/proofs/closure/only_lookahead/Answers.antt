@@ -1,7 +1,7 @@
 use Rattle.std.proofs.Common.{◌<◌, length, arith, sym, ◌∙◌}
 use Rattle.std.proofs.lemmas.Bool.{eqb-true, eqb-false}
 use Rattle.definitions.specs.declared.Symbol.TheVariants.{Rule}
-use Rattle.item_sets.proofs.Follows.{follows_nothing, follows_first}
+use Rattle.first_sets.proofs.Follows.{follows_nothing, follows_first}
 use Rattle.item_sets.proofs.closure.only_lookahead.Goals as goal
 
 pub returns-then-is_empty : goal.returns-then-is_empty

@@ -3,10 +3,10 @@ use Rattle.std.specs.Prelude.{IfSome}
 use Rattle.std.proofs.lemmas.List.{get_or_default}
 use Rattle.definitions.specs.Derivations.{first}
 use Rattle.item_sets.specs.declared.item.Item.{Item}
-use Rattle.item_sets.specs.Productions.{IsKnown}
+use Rattle.first_sets.specs.Productions.{IsKnown}
 use Rattle.item_sets.specs.Sets.{after_dot}
 use Rattle.item_sets.specs.States.{step, ShiftsUpTo}
-use Rattle.item_sets.specs.Symbols.{number, symbol_of}
+use Rattle.first_sets.specs.Symbols.{number, symbol_of}
 use Rattle.item_sets.proofs.KernelsAfter.{kernels_more, kernels_same, shifts_none, kernel_after}
 use Rattle.item_sets.proofs.goto.kernels_after.Goals as goal
 use Rattle.item_sets.proofs.goto.kernels_after.Goals.{in-Some+in_ok-add, in_default}
@@ -29,7 +29,7 @@ loop-item-preserved c =
     let at = c.loop-item.item-index in
     let old = c.loop-item.kernels.items in
     let i = c.loop-item.invariant in
-    let zero : Item = record { production = None; at = 0; look = None } in
+    let zero : Item = record { production = None; dot = 0; look = None } in
     let item = slice_index_or items at zero in
     let below : at < length items = search rules in
     elim c.match-next.branch [

@@ -3,7 +3,7 @@ use Rattle.std.proofs.lemmas.Bool.{cases_eq}
 use Rattle.std.proofs.lemmas.List.{get_or_default}
 use Rattle.std.proofs.lemmas.List.Elements.{Contains-get_or, Contains-push, Contains-push_cases, Contains-append_left, All-push}
 use Rattle.std.specs.Prelude.{is_some}
-use Rattle.item_sets.specs.Lookaheads.{rank}
+use Rattle.first_sets.specs.Lookaheads.{rank}
 use Rattle.definitions.specs.Items.{CallsFor, kind_of}
 use Rattle.item_sets.specs.declared.item.Item.{Item}
 use Rattle.item_sets.specs.Sets.{IsItem, item_of}
@@ -20,7 +20,7 @@ loop-item-preserved c =
     let i = c.loop-item.invariant in
     let at = c.loop-item.item-index in
     let old = c.loop-item.called.items in
-    let zero : Item = record { production = None; at = 0; look = None } in
+    let zero : Item = record { production = None; dot = 0; look = None } in
     let item = slice_index_or items at zero in
     let below : at < length items = search rules in
     let default : (d : Item) → slice_index_or items at d ≡ item = λ d. get_or_default items at d zero below in

@@ -3,7 +3,7 @@ use Rattle.std.proofs.lemmas.List.{length-set}
 use Rattle.definitions.specs.Items.{Move, CallsFor, kind_of}
 use Rattle.std.specs.Prelude.{IfSome}
 use Rattle.item_sets.specs.declared.item.Item.{Item}
-use Rattle.item_sets.specs.Lookaheads.{rank}
+use Rattle.first_sets.specs.Lookaheads.{rank}
 use Rattle.item_sets.specs.Sets.{item_of}
 use Rattle.tables.proofs.LookaheadMarks.{mark_more, mark_none}
 use Rattle.tables.proofs.decisions.columns_of_calls.Goals as goal
@@ -14,7 +14,7 @@ loop-item-preserved c =
     let g = c.args.grammar.now.grammar in
     let items = c.args.items.now in
     let at = c.loop-item.item-index in
-    let zero : Item = record { production = None; at = 0; look = None } in
+    let zero : Item = record { production = None; dot = 0; look = None } in
     let Asks : Item → Option ℕ → Type 0 = λ i look. (m : Move) × CallsFor (item_of g i) (kind_of look) m in
     let place = c.column_of_call.ensures.column in
     let long = c.loop-item.invariant.long in

@@ -2,7 +2,7 @@ use Rattle.std.proofs.Common.{◌≡◌, ◌<◌, ◌+◌, Option, true, false, 
 use Rattle.definitions.specs.Items.{Move, CallsFor, kind_of}
 use Rattle.item_sets.specs.declared.item.Item.{Item}
 use Rattle.item_sets.specs.Sets.{item_of}
-use Rattle.item_sets.specs.Lookaheads.{rank}
+use Rattle.first_sets.specs.Lookaheads.{rank}
 use Rattle.tables.proofs.decisions.columns_of_calls.Given as goal
 
 abbrev pub invariant-loop-item : goal.invariant-loop-item

@@ -2,10 +2,10 @@ use Rattle.std.proofs.Common.{◌≡◌, ◌<◌, ◌+◌, ◌∷◌, ◌++◌, 
 use Rattle.tables.specs.declared.decisions.Move.{Move}
 use Rattle.tables.specs.declared.moves.Decision.TheVariants.{Nothing, Agreed}
 use Rattle.tables.specs.Moves.{IsDecision}
-use Rattle.item_sets.specs.Lookaheads.{lookahead_at, rank}
+use Rattle.first_sets.specs.Lookaheads.{lookahead_at, rank}
 use Rattle.tables.specs.Rows.{IsChosen, chosen}
-use Rattle.item_sets.proofs.Columns.{rank-lookahead_at}
-use Rattle.item_sets.proofs.Numbers.{each_more}
+use Rattle.first_sets.proofs.Columns.{rank-lookahead_at}
+use Rattle.first_sets.proofs.EachMore.{each_more}
 use Rattle.tables.proofs.decisions.moves_of_callers.Goals as goal
 use Rattle.tables.proofs.decisions.moves_of_callers.Goals.{then-has+in-Nothing+in_ok-push-in-Nothing, then-has+in-Agreed+in_ok-push-in-Agreed, else-has+in_ok-push}
 

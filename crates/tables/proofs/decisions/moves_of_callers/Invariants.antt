@@ -1,5 +1,5 @@
 use Rattle.std.proofs.Common.{◌≡◌, ◌<◌, ℕ, None, length, slice_index_or}
-use Rattle.item_sets.specs.Lookaheads.{lookahead_at}
+use Rattle.first_sets.specs.Lookaheads.{lookahead_at}
 use Rattle.tables.specs.Rows.{IsChosen}
 use Rattle.tables.proofs.decisions.moves_of_callers.Given as goal
 

@@ -3,7 +3,7 @@ use Rattle.std.proofs.lemmas.List.{get_or_default}
 use Rattle.item_sets.specs.Collection.{IsStep}
 use Rattle.item_sets.specs.Order.{IsOrdered}
 use Rattle.item_sets.specs.States.{HasKernel}
-use Rattle.item_sets.specs.Symbols.{symbol_of}
+use Rattle.first_sets.specs.Symbols.{symbol_of}
 use Rattle.item_sets.proofs.GotosGrow.{goes_on_trans, steps_more}
 use Rattle.item_sets.proofs.collection.States.gotos.Goals as goal
 

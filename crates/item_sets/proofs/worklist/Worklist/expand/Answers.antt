@@ -1,8 +1,8 @@
 use Rattle.std.proofs.Common.{rules, ◌≡◌, ◌<◌, ◌≤◌, length, slice_index_or, ap, sym, subst, inr, ⊎_elim, arith, ◌∙◌}
 use Rattle.std.proofs.lemmas.Bool.{cases_eq}
 use Rattle.std.proofs.lemmas.List.{get_or_default}
-use Rattle.grammar.specs.Grammars.{right_of}
-use Rattle.item_sets.specs.Lookaheads.{lookahead_at}
+use Rattle.definitions.specs.Trees.{right_of}
+use Rattle.first_sets.specs.Lookaheads.{lookahead_at}
 use Rattle.item_sets.specs.Worklist.{AreListed, CallFor}
 use Rattle.item_sets.proofs.WorklistIsRight.{asks_keep}
 use Rattle.item_sets.proofs.WorklistGrows.{grows_trans}

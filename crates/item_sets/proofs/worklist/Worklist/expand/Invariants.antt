@@ -1,6 +1,6 @@
 use Rattle.std.proofs.Common.{◌≡◌, ◌<◌, ◌⊎◌, ℕ, true, slice_index_or}
-use Rattle.grammar.specs.Grammars.{right_of}
-use Rattle.item_sets.specs.Lookaheads.{lookahead_at}
+use Rattle.definitions.specs.Trees.{right_of}
+use Rattle.first_sets.specs.Lookaheads.{lookahead_at}
 use Rattle.item_sets.specs.Worklist.{AreEntries, Grows, marked, AreListed, IsExpanded}
 use Rattle.item_sets.proofs.worklist.Worklist.expand.Given as goal
 

@@ -17,7 +17,7 @@ loop-item-preserved c =
     let old = c.loop-item.self in
     let new = c.insert_at_dot.new.self in
     let at = c.loop-item.item-index in
-    let zero : Item = record { production = None; at = 0; look = None } in
+    let zero : Item = record { production = None; dot = 0; look = None } in
     let item = slice_index_or c.args.kernel.now at zero in
     let below : at < length c.args.kernel.now = search rules in
     let has : Contains c.args.kernel.now item = Contains-get_or c.args.kernel.now at zero below in

@@ -1,5 +1,5 @@
 use Rattle.std.proofs.Common.{inl, inr, ⊎_elim}
-use Rattle.item_sets.specs.Lookaheads.{lookahead_at}
+use Rattle.first_sets.specs.Lookaheads.{lookahead_at}
 use Rattle.item_sets.proofs.worklist.Worklist.insert_before.Goals as goal
 
 pub returns-in_ok-insert_with-in-Some-clause-entered : goal.returns-in_ok-insert_with-in-Some-clause-entered

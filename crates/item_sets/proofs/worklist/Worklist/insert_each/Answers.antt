@@ -1,7 +1,7 @@
 use Rattle.std.proofs.Common.{◌≡◌, true, sym, subst, inr, ⊎_elim, arith}
 use Rattle.std.proofs.lemmas.Bool.{cases_eq}
 use Rattle.theory.specs.First.{MayFollow}
-use Rattle.item_sets.specs.Lookaheads.{lookahead_at}
+use Rattle.first_sets.specs.Lookaheads.{lookahead_at}
 use Rattle.item_sets.specs.Worklist.{marked}
 use Rattle.item_sets.proofs.WorklistGrows.{grows_trans}
 use Rattle.item_sets.proofs.worklist.Worklist.insert_each.Goals as goal

@@ -1,6 +1,6 @@
 use Rattle.std.proofs.Common.{◌≡◌, ◌<◌, ◌⊎◌, ℕ, true}
 use Rattle.theory.specs.First.{MayFollow}
-use Rattle.item_sets.specs.Lookaheads.{lookahead_at}
+use Rattle.first_sets.specs.Lookaheads.{lookahead_at}
 use Rattle.item_sets.specs.Worklist.{AreEntries, Grows, marked}
 use Rattle.item_sets.proofs.worklist.Worklist.insert_each.Given as goal
 

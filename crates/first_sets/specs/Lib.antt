@@ -1,0 +1,4 @@
+pub mod First
+pub mod Productions
+pub mod Lookaheads
+pub mod Symbols
