@@ -7,3 +7,4 @@ mod EachReadingIsUnique
 mod Edits
 mod Countable
 mod Stamps
+mod JoinedEdits

@@ -1,10 +1,12 @@
 pub mod Languages
+pub mod Pending
 pub mod Texts
 pub mod Faults
 pub mod Answers
 pub mod Docs
 pub mod Edits
 pub mod Stamps
+pub mod Changes
 pub use Rattle.views.specs.Diagnostics
 pub use Rattle.views.specs.Contents
 pub use Rattle.views.specs.Views

@@ -10,11 +10,11 @@ ghost use Rattle.trees.specs.declared.store.NodeId.{NodeId};
 ghost use Rattle.views.specs.Contents.{AreFoldsOf, IsDiagnosis, IsSelectionOf, trees_of_roots};
 ghost use Rattle.views.specs.Views.{row_bytes};
 ghost use Rattle.docs.specs.Answers.{AreSelections, IsOutcome, IsReported, Reads, rows, written_tree};
+ghost use Rattle.docs.specs.Changes.{IsChanged};
 ghost use Rattle.docs.specs.Docs.{last_edit, open_document, IsCurrent};
-ghost use Rattle.docs.specs.Edits.{AreStats, IsNext};
+ghost use Rattle.docs.specs.Edits.{AreStats};
 ghost use Rattle.docs.specs.Languages.{LanguageData};
-ghost use Rattle.docs.specs.Stamps.{AreStamped, next_edit};
-ghost use Rattle.docs.specs.Texts.{LastEdit, fits};
+ghost use Rattle.docs.specs.Texts.{fits};
 ghost use Rattle.docs.specs.declared.doc.DocFault.TheVariants.{Memory};
 ghost use Rattle.docs.specs.Faults.{doc_fault};
 
@@ -73,13 +73,13 @@ pub enum Outcome {
 /// A language that is handed in is always the one by which the document was opened.
 #[derive(Drop)]
 pub struct Doc {
-    unit: Unit,
+    pub(crate) unit: Unit,
     version: i32,
-    text: Text,
-    tokens: Tokens,
+    pub(crate) text: Text,
+    pub(crate) tokens: Tokens,
     /// The nodes of the parse.
-    store: Store,
-    parse: Parse,
+    pub(crate) store: Store,
+    pub(crate) parse: Parse,
 }
 
 impl Doc {
@@ -114,24 +114,14 @@ impl Doc {
         new: &str,
     ) -> Result<Doc, DocFault>
         requires { IsCurrent language.now self }
-        ensures is { let text = changed self.unit self.text range (chars new.now) in
-            IfOk result (λ d.
-            let last = last_edit d in
-            open_document d
-            ≡ record { unit = self.unit; version = self.version; text = text; last = last }) }
-        ensures last { let last = last_edit self in
-            IfOk result (λ d. (next : LastEdit) × (last_edit d ≡ Some next)
-            × IsNext self.unit language.now.file self.text range (chars new.now) last next) }
-        ensures stamps { let edit = next_edit self range (chars new.now) in
-            IfOk result (AreStamped language.now.file edit self) }
-        ensures current { IfOk result (IsCurrent language.now) }
+        ensures changed { IfOk result (IsChanged language.now range (chars new.now) self) }
         ensures too_large { let text = changed self.unit self.text range (chars new.now) in
             (result ≡ Err DocFault.TooLarge) ↔ (fits text ≡ false) }
     {
         self.edit(alloc, language, range, new).and(Ok(self))
     }
 
-    /// The same of a document where it stands. Where it is refused, the parts of the document don't belong together any more.
+    /// Makes the change in place. Where it is refused, the parts of the document don't belong together any more.
     fn edit(
         &mut self,
         alloc: Global,
@@ -140,18 +130,8 @@ impl Doc {
         new: &str,
     ) -> Result<(), DocFault>
         requires { IsCurrent language.now self.old }
-        ensures is { let old = self.old in
-            let text = changed old.unit old.text range (chars new.now) in
-            let last = last_edit self.new in
-            OnOk result (open_document self.new
-            ≡ record { unit = old.unit; version = old.version; text = text; last = last }) }
-        ensures last { let old = self.old in
-            OnOk result ((next : LastEdit) × (last_edit self.new ≡ Some next)
-            × IsNext old.unit language.now.file old.text range (chars new.now) (last_edit old)
-            next) }
-        ensures stamps { let edit = next_edit self.old range (chars new.now) in
-            OnOk result (AreStamped language.now.file edit self.old self.new) }
-        ensures current { OnOk result (IsCurrent language.now self.new) }
+        ensures changed { OnOk result
+            (IsChanged language.now range (chars new.now) self.old self.new) }
         ensures too_large { let text = changed self.old.unit self.old.text range (chars new.now) in
             (result ≡ Err DocFault.TooLarge) ↔ (fits text ≡ false) }
     {

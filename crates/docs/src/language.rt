@@ -3,14 +3,10 @@
 ghost use Rattle.std.specs.Prelude.{◌≡◌, ◌≤◌, ◌+◌, List, length, All, IfOk, IfErr};
 ghost use Rattle.definitions.specs.declared.Kind.{Kind};
 ghost use Rattle.definitions.specs.TokenEdits.{IsSpliced, made, plain_splice, splice};
-ghost use Rattle.definitions.specs.TreeEdits.{AreStampedExactly, Built};
 ghost use Rattle.lexer.specs.Rescans.{AreRescanned, IsEdited, plain_all, significant_kinds};
 ghost use Rattle.lexer.specs.Tokens.{AreTokensOf};
-ghost use Rattle.parser.specs.Compact.{bound};
-ghost use Rattle.parser.specs.Machine.{AreMadeBy, plain_of};
+ghost use Rattle.parser.specs.Changes.{IsParseAfter};
 ghost use Rattle.parser.specs.Parses.{IsParseOf};
-ghost use Rattle.parser.specs.Stamps.{AreOlder, KeepStamps};
-ghost use Rattle.trees.specs.Cells.{all_trees, forest_in};
 ghost use Rattle.docs.specs.Languages.{IsLanguageOf, IsLoadFault};
 ghost use Rattle.docs.specs.declared.language.LoadFault.TheVariants.{Memory};
 ghost use Rattle.docs.specs.Answers.{AlwaysAnswers, AnswersOnce};
@@ -225,23 +221,11 @@ impl Language {
     ) -> Result<(), AllocError>
         requires { (old : List Kind) × IsParseOf self.now.tables old store.old parse.old
             × IsSpliced (plain_splice splice) old (significant_kinds tokens.now.items) }
-        ensures parse { let kinds = significant_kinds tokens.now.items in
-            IfOk result (λ _. IsParseOf self.now.tables kinds store.new parse.new) }
-        ensures number { IfOk result (λ _. parse.new.number ≡ number) }
-        ensures stamps { let change = plain_splice splice in
-            AreOlder number (all_trees store.old parse.old.stack) → IfOk result
-            (λ _. AreStampedExactly number change (plain_of store.old parse.old.stack)
-            (all_trees store.new parse.new.stack)) }
-        ensures older { let change = plain_splice splice in IfOk result
-            (λ _. KeepStamps number change (all_trees store.old parse.old.stack)
-            (all_trees store.new parse.new.stack)) }
-        ensures built { let change = plain_splice splice in
-            AreOlder number (all_trees store.old parse.old.stack) → IfOk result
-            (λ _. Built change (plain_of store.old parse.old.stack) 0
-            (plain_of store.new parse.new.stack) parse.new.built) }
-        ensures anew { ¬ AreOlder number (all_trees store.old parse.old.stack) → IfOk result
-            (λ _. AreMadeBy number (forest_in store.new parse.new.stack)) }
-        ensures bound { IfOk result (λ _. length store.new ≤ bound parse.new.branches) }
+        ensures changed { let t = self.now.tables in
+            let kinds = significant_kinds tokens.now.items in
+            let change = plain_splice splice in
+            IfOk result
+            (λ _. IsParseAfter t kinds change number store.old parse.old store.new parse.new) }
     {
         parse.change(
             alloc,

@@ -3,7 +3,8 @@
 //! `Language::load` makes a language from a grammar file's text, or returns the first fault; `Doc::open` opens a
 //! document of it, with a unit of positions, a version and a text. `change` consumes the document and returns it with
 //! one change applied, and `set_version` gives it a version. `text`, `rows`, `tree`, `diagnostic`, `outcome`, `folds`,
-//! `selections` and `stats` report on the document.
+//! `selections` and `stats` report on the document. `Pending` takes many changes of a document and scans and parses as
+//! few edits as can be.
 //!
 //! Words: a document is *current* for the language that it was opened with; the calls that take a language require that
 //! one.
@@ -26,9 +27,11 @@
 
 mod doc;
 mod language;
+mod pending;
 mod significant;
 
 pub use definitions::{Diagnostic, Position, Range, Stats};
 pub use doc::{Doc, DocFault, Outcome};
 pub use language::{Language, LoadFault};
+pub use pending::Pending;
 pub use views::Row;

@@ -6,3 +6,4 @@ pub mod Parses
 pub mod Stamps
 pub mod Run
 pub mod Compact
+pub mod Changes

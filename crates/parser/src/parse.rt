@@ -4,7 +4,6 @@ ghost use Rattle.std.specs.Prelude.{◌≡◌, ℕ, ◌+◌, ◌≤◌, List, []
 ghost use Rattle.definitions.specs.declared.Kind.{Kind};
 ghost use Rattle.definitions.specs.Nodes.{all_branches};
 ghost use Rattle.definitions.specs.TokenEdits.{IsSpliced, plain_splice};
-ghost use Rattle.definitions.specs.TreeEdits.{AreStampedExactly, Built};
 ghost use Rattle.trees.specs.declared.store.Child.{Child as PlainChild};
 ghost use Rattle.trees.specs.Cells.{AreBelow, Cell, KeepsTrees, all_trees, forest_in, most};
 ghost use Rattle.tables.specs.Tables.{IsAccepted, Sets};
@@ -12,8 +11,9 @@ ghost use Rattle.theory.specs.Reuse.{IsPrepared};
 ghost use Rattle.parser.specs.Machine.{plain_of, AreMadeBy};
 ghost use Rattle.parser.specs.Input.{input_of, IsInput};
 ghost use Rattle.parser.specs.Run.{CameFrom, IsMadeByRun, MoveFrom};
-ghost use Rattle.parser.specs.Stamps.{AddsNumbered, AreOlder, KeepStamps};
-ghost use Rattle.parser.specs.Compact.{IsLonger, IsSameParse, bound};
+ghost use Rattle.parser.specs.Stamps.{AddsNumbered, AreOlder};
+ghost use Rattle.parser.specs.Changes.{IsParseAfter};
+ghost use Rattle.parser.specs.Compact.{IsSameParse, bound};
 ghost use Rattle.parser.specs.Parses.{AreExpectedAt, IsParseOf, verdict_in};
 
 use crate::compact::compact;
@@ -182,27 +182,11 @@ impl Parse {
     ) -> Result<(), AllocError>
         requires { (old : List Kind) × IsParseOf tables.now old store.old self.old
             × IsSpliced (plain_splice splice) old (K.kinds kinds.now) }
-        ensures parse { IfOk result
-            (λ _. IsParseOf tables.now (K.kinds kinds.now) store.new self.new) }
-        ensures number { IfOk result (λ _. self.new.number ≡ number) }
-        ensures stamps { let change = plain_splice splice in
-            AreOlder number (all_trees store.old self.old.stack) → IfOk result
-            (λ _. AreStampedExactly number change (plain_of store.old self.old.stack)
-            (all_trees store.new self.new.stack)) }
-        ensures older { let change = plain_splice splice in IfOk result
-            (λ _. KeepStamps number change (all_trees store.old self.old.stack)
-            (all_trees store.new self.new.stack)) }
-        ensures built { let change = plain_splice splice in
-            AreOlder number (all_trees store.old self.old.stack) → IfOk result
-            (λ _. Built change (plain_of store.old self.old.stack) 0
-            (plain_of store.new self.new.stack) self.new.built) }
-        ensures anew { ¬ AreOlder number (all_trees store.old self.old.stack) → IfOk result
-            (λ _. AreMadeBy number (forest_in store.new self.new.stack)) }
-        ensures bound { IfOk result (λ _. length store.new ≤ bound self.new.branches) }
-        ensures kept { IfOk result (λ _.
-            length store.old + self.new.built ≤ bound self.new.branches
-            → IsLonger store.old self.new.built store.new
-            × AddsNumbered number store.old store.new (all_trees store.new self.new.stack)) }
+        ensures changed { let change = plain_splice splice in
+            let kinds = K.kinds kinds.now in
+            let old = self.old in
+            IfOk result
+            (λ _. IsParseAfter tables.now kinds change number store.old old store.new self.new) }
         ensures refused { OnErr result ((self.new ≡ self.old) × (store.new ≡ store.old)) }
     {
         let before = store.len();
@@ -218,7 +202,7 @@ impl Parse {
         }
     }
 
-    /// The same as another parse. Where memory is refused, some nodes may stay.
+    /// The parse after the splice, beside this one. Where memory is refused, some nodes may stay.
     fn parse_after<K: Kinds>(
         &self,
         alloc: Global,
@@ -230,25 +214,10 @@ impl Parse {
     ) -> Result<Parse, AllocError>
         requires { (old : List Kind) × IsParseOf tables.now old store.old self.now
             × IsSpliced (plain_splice splice.now) old (K.kinds kinds.now) }
-        ensures parse { IfOk result (λ p. IsParseOf tables.now (K.kinds kinds.now) store.new p) }
-        ensures number { IfOk result (λ p. p.number ≡ number) }
-        ensures stamps { let change = plain_splice splice.now in
-            AreOlder number (all_trees store.old self.now.stack) → IfOk result
-            (λ p. AreStampedExactly number change (plain_of store.old self.now.stack)
-            (all_trees store.new p.stack)) }
-        ensures older { let change = plain_splice splice.now in IfOk result
-            (λ p. KeepStamps number change (all_trees store.old self.now.stack)
-            (all_trees store.new p.stack)) }
-        ensures built { let change = plain_splice splice.now in
-            AreOlder number (all_trees store.old self.now.stack) → IfOk result
-            (λ p. Built change (plain_of store.old self.now.stack) 0
-            (plain_of store.new p.stack) p.built) }
-        ensures anew { ¬ AreOlder number (all_trees store.old self.now.stack) → IfOk result
-            (λ p. AreMadeBy number (forest_in store.new p.stack)) }
-        ensures bound { IfOk result (λ p. length store.new ≤ bound p.branches) }
-        ensures kept { IfOk result (λ p. length store.old + p.built ≤ bound p.branches
-            → IsLonger store.old p.built store.new
-            × AddsNumbered number store.old store.new (all_trees store.new p.stack)) }
+        ensures changed { let change = plain_splice splice.now in
+            let kinds = K.kinds kinds.now in
+            let old = self.now in
+            IfOk result (IsParseAfter tables.now kinds change number store.old old store.new) }
         ensures refused { OnErr result (take (length store.old) store.new ≡ store.old) }
     {
         let input = self.remaining_input(alloc, store, splice, number)?;

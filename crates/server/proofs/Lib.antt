@@ -1,6 +1,7 @@
 mod MapEntries
 mod LookUps
 mod Edits
+mod UncountedChanges
 mod Effects
 mod Fits
 mod Totals

@@ -1,4 +1,5 @@
 pub mod Documents
+pub mod Changes
 pub mod Stored
 pub mod Holding
 pub mod Answers

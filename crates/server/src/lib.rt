@@ -21,6 +21,7 @@
 #![tactic(auto)]
 
 mod answers;
+mod changes;
 mod documents;
 mod laws;
 mod notifications;

@@ -3,7 +3,7 @@
 ghost use Rattle.std.specs.Prelude.{◌≡◌, map, IfOk, string_bytes};
 ghost use Rattle.std.specs.Str.{chars};
 ghost use Rattle.std.specs.FinMap.{get, insert};
-ghost use Rattle.docs.specs.Docs.{open_document, IsCurrent};
+ghost use Rattle.docs.specs.Docs.{open_document};
 ghost use Rattle.rpc.specs.Messages.{note_view, malformed_view, change_view};
 ghost use Rattle.server.specs.Documents.{has_room, Becomes};
 ghost use Rattle.server.specs.Holding.{entry_view, IsEntryOf};
@@ -11,6 +11,7 @@ ghost use Rattle.server.specs.Sent.{sent};
 ghost use Rattle.server.specs.Steps.{State, state_view, new_document, exit_status, Changes, Closes, Holds, OnMalformed, Opens, Spoils, OnNotification};
 
 use crate::answers::{no_diagnostics, publish};
+use crate::changes::apply_changes;
 use crate::documents::Entry;
 use crate::out::{Out, logged, nothing, one_reply, reply_and_log};
 use crate::state::{Phase, Server};
@@ -43,30 +44,6 @@ fn new_document(
         Err(DocFault::TooLarge) => Ok(Entry::Lost(Loss::TooLarge)),
         Err(DocFault::Memory) => Err(AllocError),
     }
-}
-
-/// The document after the changes in turn, or how it is lost by the first of them that is refused.
-fn apply_changes(
-    alloc: Global,
-    language: &Language,
-    mut doc: Doc,
-    version: i32,
-    changes: &[Change],
-) -> Entry
-    requires { IsCurrent language.now doc }
-    ensures becomes { let changes = map change_view changes.now in
-        Becomes language.now.file version (open_document doc) changes (entry_view result) }
-    ensures current { IsEntryOf language.now result }
-{
-    for change in changes {
-        match doc.change(alloc, language, change.range, change.text.as_str()) {
-            Ok(next) => doc = next,
-            Err(DocFault::TooLarge) => return Entry::Lost(Loss::TooLarge),
-            Err(DocFault::Memory) => return Entry::Lost(Loss::Memory),
-        }
-    }
-    doc.set_version(version);
-    Entry::Open(doc)
 }
 
 impl Server {

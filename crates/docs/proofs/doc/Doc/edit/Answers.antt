@@ -7,7 +7,7 @@ use Rattle.definitions.proofs.TokensKept.{length-edit}
 use Rattle.parser.specs.Machine.{AreMadeBy}
 use Rattle.parser.specs.Stamps.{AreOlder}
 use Rattle.trees.specs.Cells.{all_trees, forest_in}
-use Rattle.docs.specs.Docs.{last_edit}
+use Rattle.docs.specs.Docs.{last_edit, IsCurrent}
 use Rattle.docs.specs.Texts.{OpenDocument}
 use Rattle.docs.specs.declared.doc.Doc.{Doc}
 use Rattle.docs.specs.Edits.{edit_of}
@@ -33,53 +33,36 @@ rescan-requires c =
       new_text = is ∙ ap (λ e. edit c.args.self.now.text a e s) end;
     }
 
-pub returns-clause-is : goal.returns-clause-is
-returns-clause-is c =
-    let old = c.args.self.now in
-    let next : Doc = record { unit = old.unit; version = old.version; text = c.replace.new.self; tokens = c.rescan.new.tokens; store = c.reparse.new.store; parse = c.reparse.new.parse } in
-    let reported : List ℕ → OpenDocument = λ t. record { unit = old.unit; version = old.version; text = t; last = last_edit next } in
-    ap reported (c.in_ok-replace.ensures.edited ∙ sym (c.span-from.ensures.edits (chars c.args.new.now)))
-
-pub returns-clause-current : goal.returns-clause-current
-returns-clause-current c =
-    let old = c.args.self.now in
-    let number = c.in_ok-reparse.ensures.number ∙ (c.saturating_add.ensures ∙ ap (λ n. min (n + 1) 18_446_744_073_709_551_615) c.number.ensures) in
-    let some = next_positive old.parse.number c.reparse.new.parse.number number in
-    let later = next_later old.parse.number c.reparse.new.parse.number number (omega (arith, c.number.type_inv, c.number.ensures)) in
-    let born = born_on _ old.tokens.items c.rescan.new.tokens.items old.parse.number c.in_ok-splice.ensures.kept (subst (λ n. old.parse.number ≤ n) c.in_ok-reparse.ensures.number later) c.requires.born in
-    record {
-      tokens = c.in_ok-splice.ensures.tokens;
-      parse = c.in_ok-reparse.ensures.parse;
-      grammar = c.requires.grammar;
-      born = subst (λ n. All (λ x. x.born ≤ n) c.rescan.new.tokens.items) (sym c.in_ok-reparse.ensures.number) born;
-      scanned = λ none. absurd (omega (arith, some, none));
-      built = λ none. absurd (omega (arith, some, none));
-      bounded = c.in_ok-reparse.ensures.bound;
-    }
-
-pub returns-clause-last : goal.returns-clause-last
-returns-clause-last c =
+pub returns-clause-changed : goal.returns-clause-changed
+returns-clause-changed c =
     let l = c.args.language.now in
     let s = chars c.args.new.now in
     let old = c.args.self.now in
-    let number = c.in_ok-reparse.ensures.number ∙ (c.saturating_add.ensures ∙ ap (λ n. min (n + 1) 18_446_744_073_709_551_615) c.number.ensures) in
     let next : Doc = record { unit = old.unit; version = old.version; text = c.replace.new.self; tokens = c.rescan.new.tokens; store = c.reparse.new.store; parse = c.reparse.new.parse } in
     let text = c.in_ok-replace.ensures.edited ∙ sym (c.span-from.ensures.edits s) in
+    let reported : List ℕ → OpenDocument = λ t. record { unit = old.unit; version = old.version; text = t; last = last_edit next } in
+    let number = c.in_ok-reparse.ensures.changed.number ∙ (c.saturating_add.ensures ∙ ap (λ n. min (n + 1) 18_446_744_073_709_551_615) c.number.ensures) in
+    let some = next_positive old.parse.number next.parse.number number in
+    let later = next_later old.parse.number next.parse.number number (omega (arith, c.number.type_inv, c.number.ensures)) in
+    let born = born_on _ old.tokens.items next.tokens.items old.parse.number c.in_ok-splice.ensures.kept (subst (λ n. old.parse.number ≤ n) c.in_ok-reparse.ensures.changed.number later) c.requires.born in
+    let current : IsCurrent l next = record {
+      tokens = c.in_ok-splice.ensures.tokens;
+      parse = c.in_ok-reparse.ensures.changed.parse;
+      grammar = c.requires.grammar;
+      born = subst (λ n. All (λ x. x.born ≤ n) next.tokens.items) (sym c.in_ok-reparse.ensures.changed.number) born;
+      scanned = λ none. absurd (omega (arith, some, none));
+      built = λ none. absurd (omega (arith, some, none));
+      bounded = c.in_ok-reparse.ensures.changed.bounded;
+    } in
     let long = length-edit old.text s c.span-from.result.0 c.span-from.result.1 c.span-from.ensures.ordered c.span-from.ensures.in_range in
     let inserted : c.len.result - (c.len-before.result - (c.span-from.result.1 - c.span-from.result.0)) ≡ length s = omega (arith, long, c.len.ensures.count, ap length c.in_ok-replace.ensures.edited, c.len-before.ensures.count, c.span-from.ensures.ordered, c.span-from.ensures.in_range) in
-    let edit = same_edit old.unit old.text c.args.range s c.span-from.result _ c.saturating_add.result c.reparse.new.parse.number c.span-from.ensures.is inserted (sym c.in_ok-reparse.ensures.number) in
-    next_is l old next c.requires (returns-clause-current c) old.unit c.args.range s _ _ (omega (arith, c.number.type_inv, c.number.ensures)) text number edit c.in_ok-splice.ensures.splice c.in_ok-splice.ensures.scanned (λ older. c.in_ok-reparse.ensures.built (subst (λ n. AreOlder n (all_trees old.store old.parse.stack)) c.in_ok-reparse.ensures.number older)) (λ younger. subst (λ n. AreMadeBy n (forest_in next.store next.parse.stack)) (sym c.in_ok-reparse.ensures.number) (c.in_ok-reparse.ensures.anew (λ older. younger (subst (λ n. AreOlder n (all_trees old.store old.parse.stack)) (sym c.in_ok-reparse.ensures.number) older))))
-
-pub returns-clause-stamps : goal.returns-clause-stamps
-returns-clause-stamps c =
-    let s = chars c.args.new.now in
-    let old = c.args.self.now in
-    let next : Doc = record { unit = old.unit; version = old.version; text = c.replace.new.self; tokens = c.rescan.new.tokens; store = c.reparse.new.store; parse = c.reparse.new.parse } in
-    let number = c.in_ok-reparse.ensures.number ∙ (c.saturating_add.ensures ∙ ap (λ n. min (n + 1) 18_446_744_073_709_551_615) c.number.ensures) in
-    let long = length-edit old.text s c.span-from.result.0 c.span-from.result.1 c.span-from.ensures.ordered c.span-from.ensures.in_range in
-    let inserted : c.len.result - (c.len-before.result - (c.span-from.result.1 - c.span-from.result.0)) ≡ length s = omega (arith, long, c.len.ensures.count, ap length c.in_ok-replace.ensures.edited, c.len-before.ensures.count, c.span-from.ensures.ordered, c.span-from.ensures.in_range) in
-    let edit = same_edit old.unit old.text c.args.range s c.span-from.result _ c.saturating_add.result c.reparse.new.parse.number c.span-from.ensures.is inserted (sym c.in_ok-reparse.ensures.number) ∙ ap (edit_of old.unit old.text c.args.range s) (number_after_edit old next number) in
-    stamped_so c.args.language.now.file _ _ old next c.in_ok-splice.ensures.splice c.in_ok-splice.ensures.kept c.in_ok-reparse.ensures.stamps c.in_ok-reparse.ensures.older c.in_ok-reparse.ensures.anew _ edit
+    let edit = same_edit old.unit old.text c.args.range s c.span-from.result _ c.saturating_add.result next.parse.number c.span-from.ensures.is inserted (sym c.in_ok-reparse.ensures.changed.number) in
+    record {
+      is = ap reported text;
+      last = next_is l old next c.requires current old.unit c.args.range s _ _ (omega (arith, c.number.type_inv, c.number.ensures)) text number edit c.in_ok-splice.ensures.splice c.in_ok-splice.ensures.scanned (λ older. c.in_ok-reparse.ensures.changed.built (subst (λ n. AreOlder n (all_trees old.store old.parse.stack)) c.in_ok-reparse.ensures.changed.number older)) (λ younger. subst (λ n. AreMadeBy n (forest_in next.store next.parse.stack)) (sym c.in_ok-reparse.ensures.changed.number) (c.in_ok-reparse.ensures.changed.anew (λ older. younger (subst (λ n. AreOlder n (all_trees old.store old.parse.stack)) (sym c.in_ok-reparse.ensures.changed.number) older))));
+      stamps = stamped_so l.file _ _ old next c.in_ok-splice.ensures.splice c.in_ok-splice.ensures.kept c.in_ok-reparse.ensures.changed.stamps c.in_ok-reparse.ensures.changed.older c.in_ok-reparse.ensures.changed.anew _ (edit ∙ ap (edit_of old.unit old.text c.args.range s) (number_after_edit old next number));
+      current = current;
+    }
 
 pub returns-in_err-replace-clause-too_large : goal.returns-in_err-replace-clause-too_large
 returns-in_err-replace-clause-too_large c =

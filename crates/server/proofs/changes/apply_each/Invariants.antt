@@ -3,7 +3,7 @@ use Rattle.std.specs.Prelude.{Some}
 use Rattle.docs.specs.Docs.{last_edit, IsCurrent}
 use Rattle.rpc.specs.Messages.{change_view}
 use Rattle.server.specs.Documents.{edited, IsLastAfter}
-use Rattle.server.proofs.notifications.apply_changes.Given as goal
+use Rattle.server.proofs.changes.apply_each.Given as goal
 
 abbrev pub invariant-loop-change : goal.invariant-loop-change
 invariant-loop-change l =

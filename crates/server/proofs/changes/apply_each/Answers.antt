@@ -11,7 +11,7 @@ use Rattle.docs.specs.declared.doc.DocFault.TheVariants.{TooLarge, Memory}
 use Rattle.rpc.specs.Messages.{change_view}
 use Rattle.server.specs.Documents.{IsLastAfter}
 use Rattle.server.proofs.Edits.{after, ends_there, goes_on, last_goes_on, may_lose}
-use Rattle.server.proofs.notifications.apply_changes.Goals as goal
+use Rattle.server.proofs.changes.apply_each.Goals as goal
 
 -- a test that doesn't fail holds
 unless : (b : Bool) → (b ≡ false → ⊥) → b ≡ true
@@ -46,13 +46,13 @@ loop-change-preserved c =
     let change = c.change-item.result in
     let same = ap (λ (e : Encoding). changed e doc.text change.range (chars c.as_str.result.now)) c.loop-change.invariant.unit ∙ ap (λ b. changed c.args.doc.unit doc.text change.range (chars b)) c.as_str.ensures.value in
     let fit = fits_then c.change.result _ (after c.args.doc.unit doc.text (change_view change)) same c.change.ensures.too_large (λ wrong. let both : Err TooLarge ≡ Ok c.in-Ok.next = sym wrong ∙ c.in-Ok.is in let f : ⊥ = cc in f) in
-    let text : c.in-Ok.next.text ≡ after c.args.doc.unit doc.text (change_view change) = ap (λ (d : OpenDocument). d.text) c.in-Ok.ensures.is ∙ same in
-    let next = c.in-Ok.ensures.last in
+    let text : c.in-Ok.next.text ≡ after c.args.doc.unit doc.text (change_view change) = ap (λ (d : OpenDocument). d.text) c.in-Ok.ensures.changed.is ∙ same in
+    let next = c.in-Ok.ensures.changed.last in
     let there : IsNext c.args.doc.unit c.args.language.now.file doc.text change.range (chars c.as_str.result.now) (last_edit doc) next.0 = subst (λ (e : Encoding). IsNext e c.args.language.now.file doc.text change.range (chars c.as_str.result.now) (last_edit doc) next.0) c.loop-change.invariant.unit next.2 in
     let one : IsNext c.args.doc.unit c.args.language.now.file doc.text change.range (chars (change_view change).text) (last_edit doc) next.0 = subst (λ b. IsNext c.args.doc.unit c.args.language.now.file doc.text change.range (chars b) (last_edit doc) next.0) c.as_str.ensures.value there in
     record {
-      current = c.in-Ok.ensures.current;
-      unit = ap (λ (d : OpenDocument). d.unit) c.in-Ok.ensures.is ∙ c.loop-change.invariant.unit;
+      current = c.in-Ok.ensures.changed.current;
+      unit = ap (λ (d : OpenDocument). d.unit) c.in-Ok.ensures.changed.is ∙ c.loop-change.invariant.unit;
       last = subst (λ (l : Option LastEdit). IsLastAfter c.args.doc.unit c.args.language.now.file c.args.doc.text (map change_view (take (c.loop-change.change-index + 1) c.args.changes.now)) (last_edit c.args.doc) l) (sym next.1) (last_goes_on c.args.changes.now c.loop-change.change-index change c.loop-change-test.true c.change-item.is c.args.language.now.file (open_document c.args.doc) doc.text c.loop-change.invariant.edits (last_edit doc) next.0 c.loop-change.invariant.last one);
       edits = goes_on c.args.changes.now c.loop-change.change-index change c.loop-change-test.true c.change-item.is c.args.language.now.file (open_document c.args.doc) doc.text c.loop-change.invariant.edits fit ∙ ap (λ t. Some t) (sym text);
     }

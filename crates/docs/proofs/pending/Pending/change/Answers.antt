@@ -1,0 +1,70 @@
+use Rattle.std.proofs.Common.{◌≡◌, ◌↔◌, ◌<◌, ◌≤◌, ◌+◌, ◌-◌, ◌∙◌, ℕ, List, true, false, length, sym, ap, subst, arith}
+use Rattle.std.specs.Prelude.{Option, Some, None, Err, MatchOption, encode_utf8_all}
+use Rattle.std.specs.Str.{chars}
+use Rattle.std.proofs.lemmas.Result.{err_from_is_err_and}
+use Rattle.definitions.specs.declared.Edit.{Edit}
+use Rattle.definitions.specs.Text.{IsText, changed, edit}
+use Rattle.definitions.proofs.TokensKept.{length-edit}
+use Rattle.text.specs.declared.document.TextFault.TheVariants as text
+use Rattle.docs.specs.declared.doc.DocFault.TheVariants.{TooLarge, Memory}
+use Rattle.docs.specs.Pending.{LeadsTo, number_or}
+use Rattle.docs.specs.Texts.{fits}
+use Rattle.docs.proofs.JoinedEdits.{small_edit}
+use Rattle.docs.proofs.Refusals.{IsText-changed, large_edit, large_or_not, passed_on, text_made, unless}
+use Rattle.docs.proofs.pending.Pending.change.Goals as goal
+
+-- of the pending edit, how it leads, and that its number is no earlier one
+leads_alone : (o : Option Edit) (none : Type 0) (leads later positive : Edit → Type 0) → MatchOption o none (λ e. leads e × later e × positive e) → MatchOption o none leads
+leads_alone None none leads later positive h = h
+leads_alone (Some e) none leads later positive h = h.0
+
+later_number : (n : ℕ) (o : Option Edit) (none : Type 0) (leads positive : Edit → Type 0) → MatchOption o none (λ e. leads e × (n ≤ e.number) × positive e) → n ≤ number_or n o
+later_number n None none leads positive h = omega arith
+later_number n (Some e) none leads positive h = h.1
+
+pub edit_with-requires-clause-small : goal.edit_with-requires-clause-small
+edit_with-requires-clause-small c e is =
+    let p = c.in_ok-settle_apart.ensures.pending in
+    let mid = c.settle_apart.new.self.doc.text in
+    let leads = subst (λ (o : Option Edit). MatchOption o (mid ≡ p.was) (λ x. LeadsTo p.was x mid)) is (leads_alone c.settle_apart.new.self.edit _ _ _ _ p.leads) in
+    let small = small_edit p.was mid e leads p.short (omega (arith, c.len-before.ensures.count, c.len-before.ensures.few)) in
+    omega (arith, small, c.len.ensures.few, c.span-from.ensures.in_range, ap length c.in_ok-settle_apart.ensures.text, c.len-before.ensures.count, c.len-before.ensures.few)
+
+pub returns-in_err-replace-clause-memory : goal.returns-in_err-replace-clause-memory
+returns-in_err-replace-clause-memory c refused none =
+    let s = chars c.args.new.now in
+    let old = c.args.self.now.doc in
+    let same = ap (λ t. edit t c.span-from.result.0 c.span-from.result.1 s) c.in_ok-settle_apart.ensures.text ∙ sym (c.span-from.ensures.edits s) in
+    let over = large_or_not _ (IsText-changed old.unit old.text c.args.range c.args.new.now (subst IsText c.in_ok-settle_apart.ensures.text c.len-before.ensures.characters) c.utf8.new) in
+    let by = large_edit c.replace.result (sym same) c.replace.ensures.too_large in
+    let p = err_from_is_err_and c.from_residual-in_err-replace.result c.from_residual-in_err-replace.ensures.1 in
+    let large = passed_on c.replace.result _ _ by over c.from_residual-in_err-replace.result c.in_err-replace.field-0.0 p.0 c.in_err-replace.was p.1 p.2 in
+    unless _ (λ f. let both : Err TooLarge ≡ Err Memory = sym (large.1 f) ∙ refused in let g : ⊥ = cc in g)
+
+pub returns-clause-text : goal.returns-clause-text
+returns-clause-text c =
+    let s = chars c.args.new.now in
+    let old = c.args.self.now.doc in
+    let same = ap (λ t. edit t c.span-from.result.0 c.span-from.result.1 s) c.in_ok-settle_apart.ensures.text ∙ sym (c.span-from.ensures.edits s) in
+    let over = large_or_not _ (IsText-changed old.unit old.text c.args.range c.args.new.now (subst IsText c.in_ok-settle_apart.ensures.text c.len-before.ensures.characters) c.utf8.new) in
+    let by = large_edit c.replace.result (sym same) c.replace.ensures.too_large in
+    (c.in_ok-replace.ensures.edited ∙ same, unless _ (text_made c.replace.result _ _ by over c.in_ok-replace.field-0 c.in_ok-replace.was))
+
+pub returns-clause-pending : goal.returns-clause-pending
+returns-clause-pending c =
+    let s = chars c.args.new.now in
+    let a = c.span-from.result.0 in
+    let b = c.span-from.result.1 in
+    let mid = c.settle_apart.new.self in
+    let p = c.in_ok-settle_apart.ensures.pending in
+    let within : b ≤ length mid.doc.text = omega (arith, c.span-from.ensures.in_range, ap length c.in_ok-settle_apart.ensures.text) in
+    let long = length-edit mid.doc.text s a b c.span-from.ensures.ordered within in
+    let inserted : c.len.result - (c.len-before.result - (b - a)) ≡ length s = omega (arith, long, c.len.ensures.count, ap length c.in_ok-replace.ensures.edited, c.len-before.ensures.count, c.span-from.ensures.ordered, within) in
+    let leads = c.edit_with.ensures.leads p.was mid.doc.text s within inserted (leads_alone mid.edit _ _ _ _ p.leads) in
+    let later = later_number mid.doc.parse.number mid.edit _ _ _ p.leads in
+    record {
+      was = p.was;
+      short = p.short;
+      current = p.current;
+      leads = (subst (LeadsTo p.was c.edit_with.result) (sym c.in_ok-replace.ensures.edited) leads, omega (arith, later, c.next_number-number.ensures.later, c.edit_with.ensures.number), omega (arith, c.next_number-number.ensures.positive, c.edit_with.ensures.number));
+    }

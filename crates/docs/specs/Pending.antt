@@ -1,0 +1,48 @@
+-- A document with pending changes: its text is ahead of its tokens and of its parse.
+use Rattle.std.specs.Prelude.{◌≡◌, ℕ, ◌+◌, ◌≤◌, List, length, Option, Some, None, MatchOption}
+use Rattle.definitions.specs.declared.Edit.{Edit}
+use Rattle.definitions.specs.declared.Unit.{Unit as Encoding}
+use Rattle.definitions.specs.Text.{edit}
+use Rattle.docs.specs.Docs.{IsCurrent}
+use Rattle.docs.specs.Languages.{LanguageData}
+use Rattle.docs.specs.declared.doc.Doc.{Doc}
+use Rattle.docs.specs.declared.pending.Pending.{Pending}
+
+-- `LeadsTo was e now`: the edit `e` of the text `was` makes the text `now`
+abbrev pub LeadsTo : List ℕ → Edit → List ℕ → Type 0
+LeadsTo was e now = (piece : List ℕ) × (e.at + e.removed ≤ length was) × (e.inserted ≡ length piece)
+    × (now ≡ edit was e.at (e.at + e.removed) piece)
+
+-- the document with this text in place of its own
+abbrev pub with_text : Doc → List ℕ → Doc
+with_text d text =
+    record { unit = d.unit; version = d.version; text = text; tokens = d.tokens; store = d.store; parse = d.parse }
+
+-- the text after all changes
+abbrev pub pending_text : Pending → List ℕ
+pending_text p = p.doc.text
+
+-- the unit of the document's positions
+abbrev pub pending_unit : Pending → Encoding
+pending_unit p = p.doc.unit
+
+-- `number_or n o`: the number of the edit, or `n` where there is none
+abbrev pub number_or : ℕ → Option Edit → ℕ
+number_or n None = n
+number_or n (Some e) = e.number
+
+-- the number of the last change that was made
+abbrev pub pending_number : Pending → ℕ
+pending_number p = number_or p.doc.parse.number p.edit
+
+-- no change is pending
+abbrev pub HasNone : Pending → Type 0
+HasNone p = p.edit ≡ None
+
+-- the tokens and the parse are those of some text, by this language; and the pending edit leads from it to the document's text
+pub record IsPending (language : LanguageData) (p : Pending) : Type 0 where
+  pub was : List ℕ
+  pub short : length was ≤ 1_048_576
+  pub current : IsCurrent language (with_text p.doc was)
+  pub leads : MatchOption p.edit (p.doc.text ≡ was)
+      (λ e. LeadsTo was e p.doc.text × (p.doc.parse.number ≤ e.number) × (1 ≤ e.number))

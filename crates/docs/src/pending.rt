@@ -1,0 +1,222 @@
+//! A document with pending changes: its text is ahead of its tokens and of its parse, so that many changes cost one scan.
+
+ghost use Rattle.std.specs.Prelude.{◌≡◌, ◌+◌, ◌<◌, ◌≤◌, ◌^◌, ℕ, List, Err, Some, true, false, IfOk, IfErr, OnOk, OnErr, MatchOption, length, min};
+ghost use Rattle.std.specs.Str.{chars};
+ghost use Rattle.definitions.specs.Text.{changed, edit};
+ghost use Rattle.docs.specs.Docs.{last_edit, open_document, IsCurrent};
+ghost use Rattle.docs.specs.Edits.{number_of};
+ghost use Rattle.docs.specs.Languages.{LanguageData};
+ghost use Rattle.docs.specs.Pending.{HasNone, IsPending, LeadsTo, pending_number, pending_text, pending_unit};
+ghost use Rattle.docs.specs.Texts.{fits};
+ghost use Rattle.docs.specs.declared.doc.DocFault.TheVariants.{Memory};
+
+use crate::doc::{Doc, DocFault};
+use crate::language::Language;
+use definitions::{Edit, Range};
+use std::alloc::{AllocError, Global};
+
+/// The most places that are scanned and parsed each by itself. Changes at more places than these are rare, and opening the
+/// text costs less than very many of them.
+const MOST_PLACES: usize = 256;
+
+/// A document with pending changes. Changes that touch each other are scanned and parsed as one.
+#[derive(Drop)]
+pub struct Pending {
+    doc: Doc,
+    /// What the pending changes come to, with the number of the last of them.
+    edit: Option<Edit>,
+    /// How many edits were scanned and parsed so far.
+    places: usize,
+}
+
+/// An edit, and after it one that puts so many characters in the place of those from `from` up to `to`, as one edit of this
+/// number.
+fn joined(first: Edit, from: usize, to: usize, inserted: usize, number: u64) -> Edit
+    requires ordered { from ≤ to }
+    requires small { first.at + first.removed + first.inserted + to + inserted < 2 ^ 63 }
+    ensures number { result.number ≡ number }
+    ensures leads { (was now s : List ℕ) → to ≤ length now → inserted ≡ length s
+        → LeadsTo was first now → LeadsTo was result (edit now from to s) }
+{
+    let at = first.at.min(from);
+    let end = to.max(first.at + first.inserted);
+    Edit {
+        at,
+        removed: end - first.inserted + first.removed - at,
+        inserted: end - at - (to - from) + inserted,
+        number,
+    }
+}
+
+impl Pending {
+    /// The document, with no change yet.
+    pub fn new(doc: Doc) -> Pending
+        ensures text { pending_text result ≡ doc.text }
+        ensures unit { pending_unit result ≡ doc.unit }
+        ensures number { pending_number result ≡ number_of (last_edit doc) }
+        ensures none { HasNone result }
+        ensures fits { fits doc.text ≡ true }
+        ensures pending { (language : LanguageData)
+            → IsCurrent language doc → IsPending language result }
+    {
+        // The reads open the invariant of the text.
+        let _length = doc.text.len();
+        let _bytes = doc.text.bytes();
+        Pending {
+            doc,
+            edit: None,
+            places: 0,
+        }
+    }
+
+    /// The number of the last change.
+    fn number(&self) -> u64
+        ensures { result ≡ pending_number self.now }
+    {
+        match self.edit {
+            Some(edit) => edit.number,
+            None => self.doc.parse.number(),
+        }
+    }
+
+    /// Whether a change of the characters from `from` up to `to` is scanned apart from the pending ones: it doesn't touch them.
+    fn is_apart(&self, from: usize, to: usize) -> bool
+        ensures { HasNone self.now → result ≡ false }
+    {
+        match self.edit {
+            Some(edit) => {
+                let after = from > edit.at && from - edit.at > edit.inserted;
+                self.places < MOST_PLACES && (to < edit.at || after)
+            }
+            None => false,
+        }
+    }
+
+    /// Scans and parses the text after the pending changes. Refuses for memory alone.
+    fn settle(&mut self, alloc: Global, language: &Language) -> Result<(), AllocError>
+        requires { IsPending language.now self.old }
+        ensures text { OnOk result (pending_text self.new ≡ pending_text self.old) }
+        ensures unit { OnOk result (pending_unit self.new ≡ pending_unit self.old) }
+        ensures number { OnOk result (pending_number self.new ≡ pending_number self.old) }
+        ensures none { OnOk result (HasNone self.new) }
+        ensures pending { OnOk result (IsPending language.now self.new) }
+        ensures refused { OnErr result (¬ HasNone self.old) }
+    {
+        let Some(edit) = self.edit else {
+            return Ok(());
+        };
+        let doc = &mut self.doc;
+        // The read opens the invariant of the text.
+        let _length = doc.text.len();
+        let splice = language.rescan(alloc, &mut doc.tokens, &doc.text, edit)?;
+        language.reparse(
+            alloc,
+            &mut doc.parse,
+            &mut doc.store,
+            &doc.tokens,
+            splice,
+            edit.number,
+        )?;
+        self.edit = None;
+        self.places = self.places.saturating_add(1);
+        Ok(())
+    }
+
+    /// The same where a change of these characters is scanned apart.
+    fn settle_apart(
+        &mut self,
+        alloc: Global,
+        language: &Language,
+        from: usize,
+        to: usize,
+    ) -> Result<(), AllocError>
+        requires { IsPending language.now self.old }
+        ensures text { OnOk result (pending_text self.new ≡ pending_text self.old) }
+        ensures unit { OnOk result (pending_unit self.new ≡ pending_unit self.old) }
+        ensures number { OnOk result (pending_number self.new ≡ pending_number self.old) }
+        ensures pending { OnOk result (IsPending language.now self.new) }
+        ensures refused { OnErr result (¬ HasNone self.old) }
+    {
+        if self.is_apart(from, to) {
+            return self.settle(alloc, language);
+        }
+        Ok(())
+    }
+
+    /// The number of the next change.
+    fn next_number(&self) -> u64
+        ensures is { result ≡ min (pending_number self.now + 1) 18446744073709551615 }
+        ensures later { pending_number self.now ≤ result }
+        ensures positive { 1 ≤ result }
+    {
+        self.number().saturating_add(1)
+    }
+
+    /// The pending changes, and after them one that puts so many characters in the place of those from `from` up to `to`, as
+    /// one edit of this number.
+    fn edit_with(&self, from: usize, to: usize, inserted: usize, number: u64) -> Edit
+        requires ordered { from ≤ to }
+        requires small { (e : Edit) → self.now.edit ≡ Some e
+            → e.at + e.removed + e.inserted + to + inserted < 2 ^ 63 }
+        ensures number { result.number ≡ number }
+        ensures leads { (was now s : List ℕ) → to ≤ length now → inserted ≡ length s
+            → MatchOption self.now.edit (now ≡ was) (λ e. LeadsTo was e now)
+            → LeadsTo was result (edit now from to s) }
+    {
+        match self.edit {
+            Some(edit) => joined(edit, from, to, inserted, number),
+            None => Edit {
+                at: from,
+                removed: to - from,
+                inserted,
+                number,
+            },
+        }
+    }
+
+    /// Makes one change, as `Doc::change` does. Memory may be refused for the pending changes too.
+    pub fn change(
+        &mut self,
+        alloc: Global,
+        language: &Language,
+        range: Option<Range>,
+        new: &str,
+    ) -> Result<(), DocFault>
+        requires { IsPending language.now self.old }
+        ensures text { let old = self.old in
+            let text = changed (pending_unit old) (pending_text old) range (chars new.now) in
+            OnOk result ((pending_text self.new ≡ text) × (fits text ≡ true)) }
+        ensures unit { OnOk result (pending_unit self.new ≡ pending_unit self.old) }
+        ensures number { OnOk result
+            (pending_number self.new ≡ min (pending_number self.old + 1) 18446744073709551615) }
+        ensures pending { OnOk result (IsPending language.now self.new) }
+        ensures too_large { let old = self.old in
+            let text = changed (pending_unit old) (pending_text old) range (chars new.now) in
+            result ≡ Err DocFault.TooLarge → fits text ≡ false }
+        ensures memory { let old = self.old in
+            let text = changed (pending_unit old) (pending_text old) range (chars new.now) in
+            result ≡ Err DocFault.Memory → HasNone old → fits text ≡ true }
+    {
+        let (from, to) = self.doc.text.span(self.doc.unit, range);
+        self.settle_apart(alloc, language, from, to)?;
+        let before = self.doc.text.len();
+        self.doc.text.replace(alloc, from, to, new)?;
+        let inserted = self.doc.text.len() - (before - (to - from));
+        let number = self.next_number();
+        self.edit = Some(self.edit_with(from, to, inserted, number));
+        Ok(())
+    }
+
+    /// The document after the changes, scanned and parsed. Refuses for memory alone, and not where nothing is pending.
+    pub fn finish(mut self, alloc: Global, language: &Language) -> Result<Doc, AllocError>
+        requires { IsPending language.now self }
+        ensures text { IfOk result (λ d. d.text ≡ pending_text self) }
+        ensures unit { IfOk result (λ d. d.unit ≡ pending_unit self) }
+        ensures number { IfOk result (λ d. number_of (last_edit d) ≡ pending_number self) }
+        ensures current { IfOk result (IsCurrent language.now) }
+        ensures refused { IfErr result (λ _. ¬ HasNone self) }
+    {
+        self.settle(alloc, language)?;
+        Ok(self.doc)
+    }
+}
