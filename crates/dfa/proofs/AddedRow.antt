@@ -1,26 +1,27 @@
 -- One more row of the table.
-use Rattle.std.proofs.Common.{◌≡◌, ℕ, zero, suc, ◌+◌, ◌-◌, ◌*◌, ◌<◌, ◌≤◌, Bool, true, false, List, [], ◌∷◌, ◌++◌, length, slice_index_or, get_or, Option, None, refl, sym, ap, ◌∙◌, subst, inl, inr, arith}
+use Rattle.std.proofs.Common.{◌≡◌, ℕ, zero, suc, ◌+◌, ◌-◌, ◌*◌, ◌^◌, ◌<◌, ◌≤◌, Bool, true, List, [], ◌∷◌, ◌++◌, length, slice_index_or, get_or, Option, None, refl, sym, ap, ◌∙◌, subst, inl, inr, arith}
 use Rattle.std.specs.Prelude.{All, Contains, nat_le}
 use native.Mathlib.Numerals.{unary_clauses}
 use Rattle.std.proofs.lemmas.List.Elements.{All-push}
 use Rattle.std.proofs.lemmas.Bool.{cases_lt}
-use Rattle.std.proofs.lemmas.List.{length-append, get_or_append_left, get_or-append_right}
+use Rattle.std.proofs.lemmas.List.{length-append, get_or_default, get_or_append_left, get_or-append_right}
 use Rattle.std.proofs.lemmas.List.Sums.{prefix_len-le-length}
 use Rattle.std.proofs.lemmas.Nat.{mul-add-lt}
 use Rattle.std.proofs.Math.Nat.{mul_comm}
 use Rattle.definitions.specs.declared.expression.Expression.{Expression}
 use Rattle.definitions.specs.Text.{IsText, IsCharacter}
 use Rattle.dfa.specs.Alphabet.{representative, all_cuts}
-use Rattle.dfa.specs.Positions.{positions, StandsAt}
-use Rattle.dfa.specs.Marks.{mark, unmarked, next, all_next, all_holders, all_positions, first_end, successor}
-use Rattle.dfa.specs.Sets.{IsSetOf, AreMarksOf}
+use Rattle.dfa.specs.Positions.{positions}
+use Rattle.dfa.specs.Marks.{next, all_next, all_holders, all_positions, first_end, successor}
+use Rattle.dfa.specs.Sets.{IsSetOf, AreMarksOf, Rises}
 use Rattle.dfa.specs.Table.{part, IsAscending, IsFirst, IsTable}
 use Rattle.dfa.specs.Stored.{table_of}
-use Rattle.dfa.specs.Built.{IsReached, AreStates, Grows, IsNumber, kept, IsStateOf, LeadsTo, AreRows, ArePartsOf, AreEntries}
+use Rattle.dfa.specs.Built.{IsReached, AreStates, Grows, IsNumber, kept, IsStateOf, LeadsTo, AreRows, ArePartsOf, AreEntries, AreRules}
+use Rattle.dfa.specs.declared.tree.Tree.{Tree}
+use Rattle.dfa.specs.Trees.{AreTrees, all_counts}
 use Rattle.dfa.proofs.SameClass.{stands_for}
-use Rattle.dfa.proofs.HolderLists.{all_below}
+use Rattle.dfa.proofs.HolderLists.{all_below, all_rise}
 use Rattle.dfa.proofs.Sets.{among_from_at}
-use Rattle.dfa.proofs.LastPositions.{below}
 use Rattle.dfa.proofs.Steps.{length-next}
 use Rattle.dfa.proofs.Successors.{successor_set, empty_set}
 use Rattle.dfa.proofs.RuleLists.{accepts_first}
@@ -30,38 +31,29 @@ one_row s w =
     let e : w * (s + 1) ≡ w * s + w = simp unary_clauses refl in
     mul_comm (s + 1) w ∙ e ∙ ap (λ y. y + w) (mul_comm w s)
 
-pub no_mark : (n p : ℕ) → mark (unmarked n) p ≡ false
-no_mark zero p = refl
-no_mark (suc n) zero = refl
-no_mark (suc n) (suc p) = no_mark n p
+-- the positions of a state rise
+pub states_rise : (rules : List Expression) (sets : List (List ℕ)) (s : ℕ) → AreStates rules sets → s < length sets → Rises 0 (slice_index_or sets s [])
+states_rise rules sets zero a lt = subst (Rises 0) (sym a.start) tt
+states_rise rules sets (suc s) a lt = (a.reached (suc s) (omega arith) lt).is.rises
 
-pub length-unmarked : (n : ℕ) → length (unmarked n) ≡ n
-length-unmarked zero = refl
-length-unmarked (suc n) = ap suc (length-unmarked n)
+-- and so do those that hold the characters of a part
+pub parts_rise : (rules : List Expression) (starts : List ℕ) (parts : List (List ℕ)) → ArePartsOf rules starts parts → All (Rises 0) parts
+parts_rise rules starts parts a k d lt =
+    let e = a.each k (omega (arith, lt, a.many)) in
+    subst (Rises 0) (sym (get_or_default parts k d [] lt ∙ e)) (all_rise rules (representative starts k) 0)
+
+-- they are positions of the rules
+pub within_parts : (rules : List Expression) (starts : List ℕ) (parts : List (List ℕ)) (n : ℕ) → ArePartsOf rules starts parts → n ≡ all_positions rules → (k i : ℕ) → k < length parts → i < length (slice_index_or parts k []) → slice_index_or (slice_index_or parts k []) i 0 < n
+within_parts rules starts parts n a many k i lt l =
+    let e = a.each k (omega (arith, lt, a.many)) in
+    let c = representative starts k in
+    let w : i < length (all_holders c 0 rules) = subst (λ (x : List ℕ). i < length x) e l in
+    let inside : slice_index_or (slice_index_or parts k []) i 0 < all_positions rules = subst (λ (x : List ℕ). slice_index_or x i 0 < all_positions rules) (sym e) (all_below rules c (slice_index_or (all_holders c 0 rules) i 0) (among_from_at (all_holders c 0 rules) i w)) in
+    omega (arith, many, inside)
 
 pub length-all_next : (rules : List Expression) (marks : List Bool) (o : ℕ) (start : Bool) → length (all_next marks o start rules) ≡ all_positions rules
 length-all_next [] marks o start = refl
 length-all_next (e ∷ es) marks o start = omega (arith, length-append (next marks o start e) (all_next marks (o + positions e) start es), length-next e marks o start, length-all_next es marks (o + positions e) start)
-
-pub stands_below : (rules : List Expression) (p : ℕ) (u : List ℕ) → StandsAt rules p u → p < all_positions rules
-stands_below [] p u h = elim h [ ]
-stands_below (e ∷ es) p u (inl h) = omega (arith, below e p u h)
-stands_below (e ∷ es) p u (inr h) = omega (arith, h.0, stands_below es (p - positions e) u h.1)
-
--- the positions of a state are positions of the rules
-pub within_rules : (rules : List Expression) (sets : List (List ℕ)) (s : ℕ) → AreStates rules sets → s < length sets → (i : ℕ) → i < length (slice_index_or sets s []) → slice_index_or (slice_index_or sets s []) i 0 < all_positions rules
-within_rules rules sets zero a lt i l = let n : length (slice_index_or sets 0 []) ≡ 0 = ap length a.start in absurd (omega (arith, n, l))
-within_rules rules sets (suc s) a lt i l =
-    let r = a.reached (suc s) (omega arith) lt in
-    let p = slice_index_or (slice_index_or sets (suc s) []) i 0 in
-    stands_below rules p r.text (r.is.only p (among_from_at (slice_index_or sets (suc s) []) i l))
-
-pub within_parts : (rules : List Expression) (starts : List ℕ) (parts : List (List ℕ)) → ArePartsOf rules starts parts → (k i : ℕ) → k < length parts → i < length (slice_index_or parts k []) → slice_index_or (slice_index_or parts k []) i 0 < all_positions rules
-within_parts rules starts parts a k i lt l =
-    let e = a.each k (omega (arith, lt, a.many)) in
-    let c = representative starts k in
-    let w : i < length (all_holders c 0 rules) = subst (λ (x : List ℕ). i < length x) e l in
-    subst (λ (x : List ℕ). slice_index_or x i 0 < all_positions rules) (sym e) (all_below rules c (slice_index_or (all_holders c 0 rules) i 0) (among_from_at (all_holders c 0 rules) i w))
 
 zero_is : IsCharacter 0
 zero_is = inl (omega arith)
@@ -140,15 +132,22 @@ module _ (rules : List Expression) (starts : List ℕ) (parts : List (List ℕ))
       }
 
 -- where each part leads from a state is the set of a text
-pub reached_parts : (rules : List Expression) (starts : List ℕ) (parts sets : List (List ℕ)) (s : ℕ) (set : List ℕ) (marks follow : List Bool) (start : Bool) → ArePartsOf rules starts parts → AreStates rules sets → s < length sets → slice_index_or sets s [] ≡ set → AreMarksOf set marks → (start ≡ true → s ≡ 0) → (s ≡ 0 → start ≡ true) → follow ≡ all_next marks 0 start rules → (k : ℕ) → k < length parts → IsReached rules (kept follow (slice_index_or parts k []))
+pub reached_parts : (rules : List Expression) (starts : List ℕ) (parts sets : List (List ℕ)) (s : ℕ) (set : List ℕ) (marks follow : List Bool) (start : Bool) → ArePartsOf rules starts parts → AreStates rules sets → s < length sets → slice_index_or sets s [] ≡ set → AreMarksOf set marks → (start ≡ true → s ≡ 0) → (s ≡ 0 → start ≡ true) → kept follow ≡ kept (all_next marks 0 start rules) → (k : ℕ) → k < length parts → IsReached rules (kept follow (slice_index_or parts k []))
 reached_parts rules starts parts sets s set marks follow start a states lt same m f g is k l =
     let le : k ≤ length starts = omega (arith, l, a.many) in
-    let e : kept follow (slice_index_or parts k []) ≡ successor rules marks start (representative starts k) = ap (λ x. kept x (slice_index_or parts k [])) is ∙ ap (kept (all_next marks 0 start rules)) (a.each k le) in
+    let e : kept follow (slice_index_or parts k []) ≡ successor rules marks start (representative starts k) = (λ i. is i (a.each k le i)) in
     subst (IsReached rules) (sym e) (reached_next rules sets s marks start (representative starts k) states lt (subst (λ x. AreMarksOf x marks) (sym same) m) f g (representative_is starts k a.characters le))
 
-pub rows_made : (rules : List Expression) (starts : List ℕ) (parts sets new : List (List ℕ)) (old later : List ℕ) (accepts : List (Option ℕ)) (rule : Option ℕ) (set : List ℕ) (marks follow : List Bool) (start : Bool) → ArePartsOf rules starts parts → AreRows rules starts sets old accepts → length accepts < length sets → AreStates rules new → Grows sets new → length new ≤ 4096 → slice_index_or sets (length accepts) [] ≡ set → AreMarksOf set marks → (start ≡ true → length accepts ≡ 0) → (length accepts ≡ 0 → start ≡ true) → follow ≡ all_next marks 0 start rules → AreEntries old later new follow parts (length parts) → rule ≡ first_end marks 0 0 rules → AreRows rules starts new later (accepts ++ rule ∷ [])
+entries_same : (old later : List ℕ) (sets : List (List ℕ)) (one two : List Bool) (parts : List (List ℕ)) (n : ℕ) → kept one ≡ kept two → AreEntries old later sets one parts n → AreEntries old later sets two parts n
+entries_same old later sets one two parts n e a = record {
+  many = a.many;
+  same = a.same;
+  each = λ k lt. subst (IsNumber sets (slice_index_or later (length old + k) 0)) (λ i. e i (slice_index_or parts k [])) (a.each k lt);
+}
+
+pub rows_made : (rules : List Expression) (starts : List ℕ) (parts sets new : List (List ℕ)) (old later : List ℕ) (accepts : List (Option ℕ)) (rule : Option ℕ) (set : List ℕ) (marks follow : List Bool) (start : Bool) → ArePartsOf rules starts parts → AreRows rules starts sets old accepts → length accepts < length sets → AreStates rules new → Grows sets new → length new ≤ 4096 → slice_index_or sets (length accepts) [] ≡ set → AreMarksOf set marks → (start ≡ true → length accepts ≡ 0) → (length accepts ≡ 0 → start ≡ true) → kept follow ≡ kept (all_next marks 0 start rules) → AreEntries old later new follow parts (length parts) → rule ≡ first_end marks 0 0 rules → AreRows rules starts new later (accepts ++ rule ∷ [])
 rows_made rules starts parts sets new old later accepts rule set marks follow start a r lt states g bound same m f b is n e =
-    rows_more rules starts parts a sets new old later accepts rule marks start r lt states g bound (subst (λ x. AreMarksOf x marks) (sym same) m) f b (subst (λ x. AreEntries old later new x parts (length parts)) is n) e
+    rows_more rules starts parts a sets new old later accepts rule marks start r lt states g bound (subst (λ x. AreMarksOf x marks) (sym same) m) f b (entries_same old later new follow (all_next marks 0 start rules) parts (length parts) is n) e
 
 -- before the first row
 pub rows_none : (rules : List Expression) (starts : List ℕ) (sets : List (List ℕ)) (old : List ℕ) (accepts : List (Option ℕ)) → AreStates rules sets → length sets ≡ 1 → old ≡ [] → accepts ≡ [] → AreRows rules starts sets old accepts
@@ -174,12 +173,11 @@ table_of_rows rules starts sets old accepts up r all = record {
   ordered = up;
 }
 
-pub parts_are : (rules : List Expression) (starts view : List ℕ) (parts shown : List (List ℕ)) → view ≡ starts → shown ≡ parts → length parts ≡ length view + 1 → ((k : ℕ) → k ≤ length view → slice_index_or parts k [] ≡ all_holders (representative view k) 0 rules) → IsAscending starts → ((x : ℕ) → Contains (all_cuts rules) x → Contains starts x) → All IsCharacter starts → ArePartsOf rules starts shown
-parts_are rules starts view parts shown e f many each up cuts characters =
-    subst (λ x. ArePartsOf rules x shown) e (subst (ArePartsOf rules view) (sym f) (record {
-      many = many;
-      each = each;
-      ascending = subst IsAscending (sym e) up;
-      cuts = subst (λ (l : List ℕ). (x : ℕ) → Contains (all_cuts rules) x → Contains l x) (sym e) cuts;
-      characters = subst (All IsCharacter) (sym e) characters;
+-- the trees and the holders, as the builder makes them
+pub rules_are : (rules : List Expression) (starts : List ℕ) (trees seen : List Tree) (parts shown : List (List ℕ)) → seen ≡ trees → shown ≡ parts → AreTrees rules trees → all_counts trees < 2 ^ 64 → length parts ≡ length starts + 1 → ((k : ℕ) → k ≤ length starts → slice_index_or parts k [] ≡ all_holders (representative starts k) 0 rules) → IsAscending starts → ((x : ℕ) → Contains (all_cuts rules) x → Contains starts x) → All IsCharacter starts → AreRules rules starts seen shown
+rules_are rules starts trees seen parts shown e f are few many each up cuts characters =
+    subst (λ x. AreRules rules starts x shown) (sym e) (subst (AreRules rules starts trees) (sym f) (record {
+      trees_are = are;
+      few = few;
+      parts_are = record { many = many; each = each; ascending = up; cuts = cuts; characters = characters };
     }))

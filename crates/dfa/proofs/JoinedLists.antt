@@ -1,9 +1,9 @@
 -- Lists that are made part by part.
-use Rattle.std.proofs.Common.{◌≡◌, ℕ, zero, suc, ◌+◌, ◌-◌, ◌<◌, Bool, false, List, [], ◌∷◌, ◌++◌, length, drop, sym, ap, ◌∙◌, subst, arith, zero-add, get_or}
+use Rattle.std.proofs.Common.{◌≡◌, ℕ, zero, suc, ◌+◌, ◌<◌, false, List, [], ◌∷◌, ◌++◌, length, drop, sym, ap, ◌∙◌, subst, arith, zero-add, get_or}
 use Rattle.std.proofs.lemmas.List.{append_assoc}
 use Rattle.definitions.specs.declared.expression.Expression.{Expression}
 use Rattle.definitions.specs.Spelling.{IsWellMade}
-use Rattle.dfa.specs.Marks.{mark, literal_end, unmarked}
+use Rattle.dfa.specs.Marks.{unmarked}
 use Rattle.dfa.specs.Sets.{AllMade}
 
 pub unmarked-add : (m n : ℕ) → unmarked m ++ unmarked n ≡ unmarked (m + n)
@@ -12,13 +12,6 @@ unmarked-add (suc m) n = let e : suc (m + n) ≡ suc m + n = omega arith in ap (
 
 pub unmarked-more : (n : ℕ) → unmarked n ++ false ∷ [] ≡ unmarked (n + 1)
 unmarked-more n = unmarked-add n 1
-
-pub literal_end-is : (marks : List Bool) (o : ℕ) (start : Bool) (xs : List ℕ) → 0 < length xs → literal_end marks o start xs ≡ mark marks (o + length xs - 1)
-literal_end-is marks o start [] h = absurd (omega (arith, h))
-literal_end-is marks o start (d ∷ []) h = let e : o ≡ o + 1 - 1 = omega arith in ap (λ n. mark marks n) e
-literal_end-is marks o start (d ∷ (x ∷ xs)) h =
-    let e : o + 1 + length (x ∷ xs) - 1 ≡ o + length (d ∷ (x ∷ xs)) - 1 = omega arith in
-    literal_end-is marks (o + 1) (mark marks o) (x ∷ xs) (omega arith) ∙ ap (λ n. mark marks n) e
 
 -- a step of a loop that adds to a list what it makes of each element
 pub one_more : {A : Type 0} (new out part rest later whole : List A) → new ≡ out ++ part → rest ≡ part ++ later → out ++ rest ≡ whole → new ++ later ≡ whole

@@ -16,3 +16,6 @@ pub mod LastPositions
 pub mod Steps
 pub mod Successors
 pub mod RuleLists
+pub mod Trees
+pub mod MarkedSets
+pub mod RowOfTrees

@@ -1,11 +1,11 @@
 -- Steps of loops over the rules and over the characters of a literal.
-use Rattle.std.proofs.Common.{◌≡◌, ℕ, zero, suc, ◌+◌, ◌<◌, ◌≤◌, ◌==◌, Bool, true, false, List, [], ◌∷◌, ◌++◌, length, drop, get_or, sym, ap, ◌∙◌, arith, append-nil, append_assoc}
+use Rattle.std.proofs.Common.{◌≡◌, ℕ, zero, suc, ◌+◌, ◌<◌, ◌≤◌, ◌==◌, true, false, List, [], ◌∷◌, ◌++◌, length, drop, get_or, sym, ap, ◌∙◌, arith, append-nil, append_assoc}
 use Rattle.std.proofs.lemmas.Bool.Decides.{nat_tests}
 use Rattle.std.proofs.lemmas.List.{at_drop_all}
 use Rattle.std.specs.Prelude.{cond}
 use Rattle.definitions.specs.declared.expression.Expression.{Expression}
 use Rattle.dfa.specs.Positions.{positions}
-use Rattle.dfa.specs.Marks.{all_positions, mark, literal_end, literal_holders, literal_next}
+use Rattle.dfa.specs.Marks.{all_positions, literal_holders}
 use Rattle.dfa.proofs.JoinedLists.{one_more}
 
 -- what is left of a list at an element of it
@@ -56,15 +56,6 @@ pub other_more : (c at d : ℕ) (rest later old new whole : List ℕ) → rest �
 other_more c at d rest later old new whole here is_other is so_far =
     let after = literal_holders c (at + 1) later in
     ap (λ l. l ++ after) is ∙ ap (λ l. old ++ l) (sym (ap (literal_holders c at) here ∙ ap (λ b. cond b (at ∷ after) after) (differs d c is_other))) ∙ so_far
-
--- a character of a literal follows
-pub next_more : (marks : List Bool) (before now : Bool) (d : ℕ) (rest later : List ℕ) (old new whole : List Bool) → rest ≡ d ∷ later → now ≡ mark marks (length old) → new ≡ old ++ before ∷ [] → length new ≡ length old + 1 → old ++ literal_next marks (length old) before rest ≡ whole → new ++ literal_next marks (length new) now later ≡ whole
-next_more marks before now d rest later old new whole here marked is long so_far =
-    ap (λ k. new ++ literal_next marks k now later) long ∙ ap (λ b. new ++ literal_next marks (length old + 1) b later) marked ∙ one_more new old (before ∷ []) (literal_next marks (length old) before rest) (literal_next marks (length old + 1) (mark marks (length old)) later) whole is (ap (literal_next marks (length old) before) here) so_far
-
-pub end_more : (marks : List Bool) (before now : Bool) (d : ℕ) (rest later : List ℕ) (old new : ℕ) (whole : Bool) → rest ≡ d ∷ later → now ≡ mark marks old → new ≡ old + 1 → literal_end marks old before rest ≡ whole → literal_end marks new now later ≡ whole
-end_more marks before now d rest later old new whole here marked long so_far =
-    ap (λ k. literal_end marks k now later) long ∙ ap (λ b. literal_end marks (old + 1) b later) marked ∙ sym (ap (literal_end marks old before) here) ∙ so_far
 
 -- what two expressions make, one after another, where the positions of the first begin at n
 pub joined_at : {A : Type 0} (f : Expression → List A) (g : ℕ → Expression → List A) (a b x y : Expression) (n m : ℕ) (old middle new whole : List A) → a ≡ x → b ≡ y → m ≡ n + positions a → middle ≡ old ++ f a → new ≡ middle ++ g m b → f x ++ g (n + positions x) y ≡ whole → new ≡ old ++ whole

@@ -1,6 +1,7 @@
 -- Rising lists of numbers as sets.
 use Rattle.std.proofs.Common.{◌≡◌, ℕ, zero, suc, ◌+◌, ◌<◌, ◌≤◌, ◌⊎◌, Bool, true, false, cond, List, [], ◌∷◌, ◌++◌, length, filter, get_or, refl, sym, subst, inl, inr, arith}
 use Rattle.dfa.specs.Sets.{Among, Rises}
+use Rattle.dfa.specs.Table.{IsAscending}
 
 pub among_append : (xs ys : List ℕ) (x : ℕ) → Among (xs ++ ys) x → Among xs x ⊎ Among ys x
 among_append [] ys x h = inr h
@@ -96,3 +97,13 @@ pub among_from_at : (xs : List ℕ) (k : ℕ) → k < length xs → Among xs (ge
 among_from_at [] k lt = absurd (omega (arith, lt))
 among_from_at (y ∷ ys) zero lt = inl refl
 among_from_at (y ∷ ys) (suc k) lt = inr (among_from_at ys k (omega (arith, lt)))
+
+pub rises_ascending : (n : ℕ) (xs : List ℕ) → Rises n xs → IsAscending xs
+rises_ascending n [] r i j le lt = absurd (omega (arith, lt))
+rises_ascending n (x ∷ xs) r zero zero le lt = omega arith
+rises_ascending n (x ∷ xs) r zero (suc j) le lt =
+    let k : j < length xs = omega (arith, lt) in
+    let a = rises_least (x + 1) xs (get_or xs j 0) r.1 (among_from_at xs j k) in
+    omega (arith, a)
+rises_ascending n (x ∷ xs) r (suc i) zero le lt = absurd (omega (arith, le))
+rises_ascending n (x ∷ xs) r (suc i) (suc j) le lt = rises_ascending (x + 1) xs r.1 i j (omega (arith, le)) (omega (arith, lt))

@@ -31,7 +31,7 @@ holds_below (Star' i a) c q h = holds_below a c q h
 holds_below (Plus' i a) c q h = holds_below a c q h
 holds_below (Optional' i a) c q h = holds_below a c q h
 
-length-literal_next : (marks : List Bool) (o : ℕ) (start : Bool) (xs : List ℕ) → length (literal_next marks o start xs) ≡ length xs
+pub length-literal_next : (marks : List Bool) (o : ℕ) (start : Bool) (xs : List ℕ) → length (literal_next marks o start xs) ≡ length xs
 length-literal_next marks o start [] = refl
 length-literal_next marks o start (d ∷ ds) = ap suc (length-literal_next marks (o + 1) (mark marks o) ds)
 

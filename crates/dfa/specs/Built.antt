@@ -1,5 +1,5 @@
 -- What holds while the states of an automaton are made. A state is a set of positions, and 0 is the start.
-use Rattle.std.specs.Prelude.{◌≡◌, ◌≢◌, ℕ, ◌+◌, ◌*◌, ◌<◌, ◌≤◌, ◌⊎◌, Bool, List, [], ◌∷◌, ◌++◌, length, map, filter, slice_index_or}
+use Rattle.std.specs.Prelude.{◌≡◌, ◌≢◌, ℕ, ◌+◌, ◌*◌, ◌<◌, ◌≤◌, ◌^◌, ◌⊎◌, Bool, List, [], ◌∷◌, ◌++◌, length, map, filter, slice_index_or}
 use Rattle.std.specs.Prelude.{Option, None, Vec, All, Contains}
 use Rattle.std.specs.declared.alloc.Global.{Global}
 use Rattle.definitions.specs.declared.expression.Expression.{Expression}
@@ -8,6 +8,8 @@ use Rattle.dfa.specs.Alphabet.{all_cuts, representative}
 use Rattle.dfa.specs.Marks.{mark, all_holders}
 use Rattle.dfa.specs.Sets.{IsSetOf}
 use Rattle.dfa.specs.Table.{part, IsAscending, IsFirst}
+use Rattle.dfa.specs.declared.tree.Tree.{Tree}
+use Rattle.dfa.specs.Trees.{AreTrees, all_counts}
 
 -- the sets as lists
 abbrev pub members : List (Vec ℕ Global) → List (List ℕ)
@@ -77,6 +79,12 @@ pub record ArePartsOf (rules : List Expression) (starts : List ℕ) (parts : Lis
   pub ascending : IsAscending starts
   pub cuts : (x : ℕ) → Contains (all_cuts rules) x → Contains starts x
   pub characters : All IsCharacter starts
+
+-- the trees of the rules, whose positions can be numbered, and the holders of the parts
+pub record AreRules (rules : List Expression) (starts : List ℕ) (trees : List Tree) (parts : List (List ℕ)) : Type 0 where
+  pub trees_are : AreTrees rules trees
+  pub few : all_counts trees < 2 ^ 64
+  pub parts_are : ArePartsOf rules starts parts
 
 -- n entries are added to the old ones: the numbers of the sets of the first n parts
 pub record AreEntries (old new : List ℕ) (sets : List (List ℕ)) (marks : List Bool) (parts : List (List ℕ)) (n : ℕ) : Type 0 where

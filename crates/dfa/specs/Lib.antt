@@ -5,4 +5,5 @@ pub mod Sets
 pub mod Positions
 pub mod Stored
 pub mod Table
+pub mod Trees
 pub mod Windows

@@ -1,6 +1,6 @@
 -- How the positions after one more character are computed. Marks, one for each position of the rules, are a set of positions.
 -- The positions of an expression begin at o, and `start` says whether it can begin after what was read.
-use Rattle.std.specs.Prelude.{ℕ, zero, suc, ◌+◌, ◌==◌, Bool, false, ◌||◌, if◌then◌else◌, List, [], ◌∷◌, ◌++◌, Option, Some, None}
+use Rattle.std.specs.Prelude.{ℕ, zero, suc, ◌+◌, ◌==◌, Bool, true, false, ◌||◌, if◌then◌else◌, List, [], ◌∷◌, ◌++◌, Option, Some, None}
 use Rattle.std.specs.Prelude.{slice_index_or, filter}
 use Rattle.definitions.specs.declared.expression.Expression.{Expression}
 use Rattle.definitions.specs.declared.expression.Expression.TheVariants.{Literal, Class, Sequence', Choice', Star', Plus', Optional'}
@@ -9,6 +9,18 @@ use Rattle.dfa.specs.Positions.{positions}
 
 abbrev pub mark : List Bool → ℕ → Bool
 mark marks p = slice_index_or marks p false
+
+-- `marked p marks`: the marks with that of position p set
+abbrev pub marked : ℕ → List Bool → List Bool
+marked zero [] = true ∷ []
+marked zero (m ∷ ms) = true ∷ ms
+marked (suc p) [] = false ∷ marked p []
+marked (suc p) (m ∷ ms) = m ∷ marked p ms
+
+-- the marks of the positions of a set, and of no others
+unfoldable pub marks_of : List ℕ → List Bool
+marks_of [] = []
+marks_of (p ∷ set) = marked p (marks_of set)
 
 abbrev pub unmarked : ℕ → List Bool
 unmarked zero = []

@@ -1,5 +1,5 @@
 -- Sets of positions as rising lists, and the states of an automaton.
-use Rattle.std.specs.Prelude.{◌≡◌, ℕ, ◌+◌, ◌≤◌, ◌⊎◌, Bool, true, List, [], ◌∷◌}
+use Rattle.std.specs.Prelude.{◌≡◌, ℕ, ◌+◌, ◌≤◌, ◌⊎◌, Bool, true, false, List, [], ◌∷◌}
 use Rattle.definitions.specs.declared.expression.Expression.{Expression}
 use Rattle.definitions.specs.Spelling.{IsWellMade}
 use Rattle.dfa.specs.Positions.{StandsAt}
@@ -24,6 +24,10 @@ pub record IsSetOf (rules : List Expression) (u : List ℕ) (set : List ℕ) : T
 pub record AreMarksOf (set : List ℕ) (marks : List Bool) : Type 0 where
   pub only : (p : ℕ) → mark marks p ≡ true → Among set p
   pub every : (p : ℕ) → Among set p → mark marks p ≡ true
+
+-- no position is marked
+abbrev pub AreBlank : List Bool → Type 0
+AreBlank marks = (p : ℕ) → mark marks p ≡ false
 
 abbrev pub AllMade : List Expression → Type 0
 AllMade [] = Unit {0}

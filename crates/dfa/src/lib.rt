@@ -29,6 +29,7 @@ mod build;
 pub mod laws;
 mod positions;
 mod states;
+mod tree;
 
 pub use automaton::{Automaton, Match};
 pub use build::DfaFault;

@@ -1,15 +1,17 @@
 //! The states of an automaton: sets of positions.
-ghost use Rattle.std.specs.Prelude.{◌≡◌, ℕ, ◌+◌, ◌<◌, ◌≤◌, ◌^◌, ◌∷◌, ◌++◌, [], false, length, map, List, Option, slice_index_or, IfOk, IfErr};
+ghost use Rattle.std.specs.Prelude.{◌≡◌, ℕ, ◌+◌, ◌<◌, ◌≤◌, ◌^◌, [], false, true, length, List, slice_index_or, All, IfOk, IfErr};
 ghost use Rattle.definitions.specs.declared.expression.Expression.{Expression};
 ghost use Rattle.dfa.specs.Alphabet.{representative};
-ghost use Rattle.dfa.specs.Built.{AreEntries, ArePartsOf, AreRows, AreStates, Grows, IsNumber, IsReached, Placed, kept, members};
-ghost use Rattle.dfa.specs.Marks.{all_holders, all_next, all_positions, first_end, unmarked};
+ghost use Rattle.dfa.specs.Built.{AreEntries, AreRows, AreRules, AreStates, Grows, IsNumber, IsReached, Placed, kept, members};
+ghost use Rattle.dfa.specs.Marks.{all_holders, all_positions, marks_of, unmarked};
 ghost use Rattle.dfa.specs.Positions.{HasMoreStatesThan};
-ghost use Rattle.dfa.specs.Sets.{AreMarksOf};
+ghost use Rattle.dfa.specs.Sets.{AreBlank, AreMarksOf, Rises};
+ghost use Rattle.dfa.specs.Trees.{IsCounted, all_counts, all_tree_next, first_tree_end};
 ghost use Rattle.dfa.specs.declared.build.DfaFault.TheVariants.{Memory, TooManyStates};
 
 use crate::build::DfaFault;
-use crate::positions::{ends, follow, holders};
+use crate::positions::holders;
+use crate::tree::{Tree, has};
 use indexmap::IndexSet;
 use patterns::Pattern;
 use std::alloc::{AllocError, Global};
@@ -65,65 +67,133 @@ pub fn part_holders(
     Ok(parts)
 }
 
-/// The marks of a set of positions.
-fn marks_of(blank: &Vec<bool>, set: &[usize]) -> Result<Vec<bool>, AllocError>
-    requires within { (k : ℕ) → k < length set.now
-        → slice_index_or set.now k 0 < length blank.now.items }
-    requires blank { (p : ℕ) → slice_index_or blank.now.items p false ≡ false }
-    ensures length { IfOk result (λ marks. length marks.items ≡ length blank.now.items) }
-    ensures marks { IfOk result (λ marks. AreMarksOf set.now marks.items) }
-{
-    let mut marks = blank.clone()?;
-    for p in set {
-        marks[*p] = true;
-    }
-    Ok(marks)
-}
-
-/// The positions at which one more character can stand, whatever that character is.
+/// The positions at which one more character can stand, whatever that character is, in ascending order.
 fn followers(
     alloc: Global,
-    patterns: &[Pattern],
-    marks: &[bool],
+    trees: &[Tree],
+    set: &[usize],
     start: bool,
-) -> Result<Vec<bool>, AllocError>
-    requires { all_positions patterns.now ≤ length marks.now }
-    ensures { IfOk result (λ follow. follow.items ≡ all_next marks.now 0 start patterns.now) }
+) -> Result<Vec<usize>, AllocError>
+    requires rises { Rises 0 set.now }
+    requires counted { All IsCounted trees.now }
+    requires fits { all_counts trees.now < 2 ^ 64 }
+    ensures { IfOk result
+        (λ all. all.items ≡ all_tree_next (marks_of set.now) 0 start trees.now) }
 {
-    let mut out = Vec::with_capacity(alloc, marks.len())?;
-    for pattern in patterns {
-        follow(pattern.expression(), marks, start, &mut out)?;
+    let mut out = Vec::with_capacity(alloc, 16)?;
+    let mut at = 0;
+    for tree in trees {
+        tree.follow(set, at, start, &mut out)?;
+        at += tree.count();
     }
     Ok(out)
 }
 
-/// The first rule that can end at a marked position.
-fn first_end(patterns: &[Pattern], marks: &[bool]) -> Option<usize>
-    requires { all_positions patterns.now ≤ length marks.now }
-    ensures { result ≡ first_end marks.now 0 0 patterns.now }
+/// The first rule that can end at a position of the set.
+fn first_end(trees: &[Tree], set: &[usize]) -> Option<usize>
+    requires rises { Rises 0 set.now }
+    requires counted { All IsCounted trees.now }
+    requires fits { all_counts trees.now < 2 ^ 64 }
+    ensures { result ≡ first_tree_end (marks_of set.now) 0 0 trees.now }
 {
     let mut at = 0;
-    for (k, pattern) in patterns.iter().enumerate() {
-        if ends(pattern.expression(), marks, &mut at, false) {
+    for (k, tree) in trees.iter().enumerate() {
+        if tree.ends(set, at, false) {
             return Some(k);
         }
+        at += tree.count();
     }
     None
 }
 
+/// The positions of the first list that the second one has too. Each is looked up in the second.
+fn common(alloc: Global, few: &[usize], many: &[usize]) -> Result<Vec<usize>, AllocError>
+    requires { Rises 0 many.now }
+    ensures { IfOk result (λ set. set.items ≡ kept (marks_of many.now) few.now) }
+{
+    let mut set = Vec::new(alloc);
+    for p in few {
+        if has(many, *p) {
+            set.push(*p)?;
+        }
+    }
+    Ok(set)
+}
+
 /// The marked positions among the holders.
-fn kept(alloc: Global, marks: &[bool], holders: &Holders) -> Result<Vec<usize>, AllocError>
+fn marked(alloc: Global, marks: &[bool], holders: &[usize]) -> Result<Vec<usize>, AllocError>
     requires { (k : ℕ) → k < length holders.now
         → slice_index_or holders.now k 0 < length marks.now }
     ensures { IfOk result (λ set. set.items ≡ kept marks.now holders.now) }
 {
     let mut set = Vec::new(alloc);
-    for p in &holders.places {
+    for p in holders {
         if marks[*p] {
             set.push(*p)?;
         }
     }
     Ok(set)
+}
+
+/// The followers among the holders. The marks are those of the followers. Of many holders only those are read with which a
+/// follower is compared.
+#[tactic(auto, using(crate::proofs::MarkedSets::kept_both, crate::proofs::MarkedSets::kept_marks))]
+fn kept(
+    alloc: Global,
+    marks: &[bool],
+    followers: &[usize],
+    holders: &Holders,
+) -> Result<Vec<usize>, AllocError>
+    requires marks { AreMarksOf followers.now marks.now }
+    requires followers { Rises 0 followers.now }
+    requires holders { Rises 0 holders.now }
+    requires within { (k : ℕ) → k < length holders.now
+        → slice_index_or holders.now k 0 < length marks.now }
+    ensures { IfOk result (λ set. set.items ≡ kept (marks_of followers.now) holders.now) }
+{
+    if holders.places.len() / 8 > followers.len() {
+        common(alloc, followers, &holders.places)
+    } else {
+        marked(alloc, marks, &holders.places)
+    }
+}
+
+/// How many positions the trees have.
+fn count_all(trees: &[Tree]) -> usize
+    requires { all_counts trees.now < 2 ^ 64 }
+    ensures { result ≡ all_counts trees.now }
+{
+    let mut count = 0;
+    for tree in trees {
+        count += tree.count();
+    }
+    count
+}
+
+/// So many blank marks.
+fn blank(alloc: Global, count: usize) -> Result<Vec<bool>, AllocError>
+    ensures { IfOk result (λ marks. marks.items ≡ unmarked count) }
+{
+    let mut marks = Vec::new(alloc);
+    for _i in 0..count {
+        marks.push(false)?;
+    }
+    Ok(marks)
+}
+
+/// Writes the value at each of the positions: so blank marks become those of the positions, or blank again.
+fn write(marks: &mut Vec<bool>, positions: &[usize], value: bool)
+    requires within { (k : ℕ) → k < length positions.now
+        → slice_index_or positions.now k 0 < length marks.old.items }
+    ensures length { length marks.new.items ≡ length marks.old.items }
+    ensures marks { value ≡ true → AreBlank marks.old.items
+        → AreMarksOf positions.now marks.new.items }
+    ensures blank { value ≡ false → AreMarksOf positions.now marks.old.items
+        → AreBlank marks.new.items }
+{
+    for p in positions {
+        marks[*p] = value;
+    }
 }
 
 /// The number of a set, which is added where it is new. Only the first 4,096 sets have one.
@@ -176,32 +246,36 @@ impl States {
         })
     }
 
-    /// Adds an entry for each part: the number of the set of its holders that are marked.
+    /// Adds an entry for each part: the number of the set of its holders that are followers. The marks are the followers'.
     fn add_entries(
         &mut self,
         alloc: Global,
         marks: &[bool],
+        followers: &[usize],
         parts: &[Holders],
     ) -> Result<(), DfaFault>
+        requires marks { AreMarksOf followers.now marks.now }
+        requires followers { Rises 0 followers.now }
+        requires holders { All (Rises 0) parts.now }
         requires within { (k i : ℕ) → k < length parts.now
             → i < length (slice_index_or parts.now k [])
             → slice_index_or (slice_index_or parts.now k []) i 0 < length marks.now }
         ensures accepts { self.new.accepts ≡ self.old.accepts }
         ensures states { (rules : List Expression) → AreStates rules (members self.old.sets.keys)
             → ((k : ℕ) → k < length parts.now
-            → IsReached rules (kept marks.now (slice_index_or parts.now k [])))
+            → IsReached rules (kept (marks_of followers.now) (slice_index_or parts.now k [])))
             → AreStates rules (members self.new.sets.keys) }
         ensures grows { Grows (members self.old.sets.keys) (members self.new.sets.keys) }
         ensures bound { IfOk result (λ _. length (members self.old.sets.keys) ≤ 4096
             → length (members self.new.sets.keys) ≤ 4096) }
         ensures entries { IfOk result
             (λ _. AreEntries self.old.next.items self.new.next.items (members self.new.sets.keys)
-            marks.now parts.now (length parts.now)) }
+            (marks_of followers.now) parts.now (length parts.now)) }
         ensures many { IfErr result (λ e. e ≡ TooManyStates
             → 4096 < length (members self.new.sets.keys)) }
     {
         for holders in parts {
-            let set = kept(alloc, marks, holders)?;
+            let set = kept(alloc, marks, followers, holders)?;
             let to = match number(&mut self.sets, set) {
                 Ok(to) => to,
                 Err(e) => return Err(e),
@@ -211,24 +285,31 @@ impl States {
         Ok(())
     }
 
-    /// Adds the row of the next state.
+    /// Adds the row of the next state. The marks, one for each position, are blank before and after.
     pub fn add_row(
         &mut self,
         alloc: Global,
-        patterns: &[Pattern],
-        blank: &Vec<bool>,
+        trees: &[Tree],
         parts: &[Holders],
+        marks: &mut Vec<bool>,
     ) -> Result<(), DfaFault>
-        requires parts { (starts : List ℕ) × ArePartsOf patterns.now starts parts.now }
-        requires states { AreStates patterns.now (members self.old.sets.keys) }
-        requires blank { blank.now.items ≡ unmarked (all_positions patterns.now) }
+        requires rules { (rules : List Expression) × (starts : List ℕ)
+            × AreRules rules starts trees.now parts.now
+            × AreStates rules (members self.old.sets.keys) }
         requires more { length self.old.accepts.items < length (members self.old.sets.keys) }
-        ensures states { AreStates patterns.now (members self.new.sets.keys) }
-        ensures rows { IfOk result (λ _. (starts : List ℕ)
-            → ArePartsOf patterns.now starts parts.now
-            → AreRows patterns.now starts (members self.old.sets.keys) self.old.next.items
+        requires blank { AreBlank marks.old.items }
+        requires all { length marks.old.items ≡ all_counts trees.now }
+        ensures blank { IfOk result (λ _. AreBlank marks.new.items) }
+        ensures all { length marks.new.items ≡ length marks.old.items }
+        ensures states { (rules : List Expression) (starts : List ℕ)
+            → AreRules rules starts trees.now parts.now
+            → AreStates rules (members self.old.sets.keys)
+            → AreStates rules (members self.new.sets.keys) }
+        ensures rows { IfOk result (λ _. (rules : List Expression) (starts : List ℕ)
+            → AreRules rules starts trees.now parts.now
+            → AreRows rules starts (members self.old.sets.keys) self.old.next.items
             self.old.accepts.items
-            → AreRows patterns.now starts (members self.new.sets.keys) self.new.next.items
+            → AreRows rules starts (members self.new.sets.keys) self.new.next.items
             self.new.accepts.items) }
         ensures count { IfOk result
             (λ _. length self.new.accepts.items ≡ length self.old.accepts.items + 1) }
@@ -237,10 +318,11 @@ impl States {
     {
         let at = self.accepts.len();
         let set = &self.sets[at];
-        let marks = marks_of(blank, set)?;
-        let follow = followers(alloc, patterns, &marks, at == 0)?;
-        let rule = first_end(patterns, &marks);
-        self.add_entries(alloc, &follow, parts)?;
+        let followers = followers(alloc, trees, set, at == 0)?;
+        let rule = first_end(trees, set);
+        write(marks, &followers, true);
+        self.add_entries(alloc, marks, &followers, parts)?;
+        write(marks, &followers, false);
         self.accepts.push(rule)?;
         Ok(())
     }
@@ -249,25 +331,31 @@ impl States {
     pub fn add_rows(
         &mut self,
         alloc: Global,
-        patterns: &[Pattern],
-        blank: &Vec<bool>,
+        trees: &[Tree],
         parts: &[Holders],
     ) -> Result<(), DfaFault>
-        requires parts { (starts : List ℕ) × ArePartsOf patterns.now starts parts.now }
-        requires rows { (starts : List ℕ) → ArePartsOf patterns.now starts parts.now
-            → AreRows patterns.now starts (members self.old.sets.keys) self.old.next.items
+        requires rules { (rules : List Expression) × (starts : List ℕ)
+            × AreRules rules starts trees.now parts.now
+            × AreRows rules starts (members self.old.sets.keys) self.old.next.items
             self.old.accepts.items }
-        requires blank { blank.now.items ≡ unmarked (all_positions patterns.now) }
-        ensures rows { IfOk result (λ _. (starts : List ℕ)
-            → ArePartsOf patterns.now starts parts.now
-            → AreRows patterns.now starts (members self.new.sets.keys) self.new.next.items
+        ensures rows { IfOk result (λ _. (rules : List Expression) (starts : List ℕ)
+            → AreRules rules starts trees.now parts.now
+            → AreRows rules starts (members self.old.sets.keys) self.old.next.items
+            self.old.accepts.items
+            → AreRows rules starts (members self.new.sets.keys) self.new.next.items
             self.new.accepts.items) }
         ensures all { IfOk result
             (λ _. length (members self.new.sets.keys) ≤ length self.new.accepts.items) }
-        ensures many { IfErr result (λ e. e ≡ TooManyStates → HasMoreStatesThan patterns.now 4096) }
+        ensures many { IfErr result (λ e. e ≡ TooManyStates
+            → (rules : List Expression) (starts : List ℕ)
+            → AreRules rules starts trees.now parts.now
+            → AreRows rules starts (members self.old.sets.keys) self.old.next.items
+            self.old.accepts.items
+            → HasMoreStatesThan rules 4096) }
     {
+        let mut marks = blank(alloc, count_all(trees))?;
         'rows: while self.accepts.len() < self.sets.len() {
-            match self.add_row(alloc, patterns, blank, parts) {
+            match self.add_row(alloc, trees, parts, &mut marks) {
                 Ok(()) => {}
                 Err(e) => return Err(e),
             }

@@ -1,9 +1,10 @@
 use Rattle.std.proofs.Common.{◌≡◌, ◌+◌, drop}
-use Rattle.dfa.specs.Marks.{first_end, all_positions}
+use Rattle.dfa.specs.Marks.{marks_of}
+use Rattle.dfa.specs.Trees.{all_counts, first_tree_end}
 use Rattle.dfa.proofs.states.first_end.Given as goal
 
 abbrev pub invariant-loop-k : goal.invariant-loop-k
 invariant-loop-k l = record {
-  many : l.at + all_positions (drop l.k l.patterns) ≡ all_positions l.patterns;
-  first : first_end l.marks l.at l.k (drop l.k l.patterns) ≡ first_end l.marks 0 0 l.patterns;
+  many : l.at + all_counts (drop l.k l.trees) ≡ all_counts l.trees;
+  first : first_tree_end (marks_of l.set) l.at l.k (drop l.k l.trees) ≡ first_tree_end (marks_of l.set) 0 0 l.trees;
 }

@@ -1,9 +1,10 @@
-use Rattle.std.proofs.Common.{◌≡◌, ◌+◌, ◌++◌, length, drop}
-use Rattle.dfa.specs.Marks.{all_next, all_positions}
+use Rattle.std.proofs.Common.{◌≡◌, ◌+◌, ◌++◌, drop}
+use Rattle.dfa.specs.Marks.{marks_of}
+use Rattle.dfa.specs.Trees.{all_counts, all_tree_next}
 use Rattle.dfa.proofs.states.followers.Given as goal
 
-abbrev pub invariant-loop-pattern : goal.invariant-loop-pattern
-invariant-loop-pattern l = record {
-  many : length l.out.items + all_positions (drop l.pattern-index l.patterns) ≡ all_positions l.patterns;
-  next : l.out.items ++ all_next l.marks (length l.out.items) l.start (drop l.pattern-index l.patterns) ≡ all_next l.marks 0 l.start l.patterns;
+abbrev pub invariant-loop-tree : goal.invariant-loop-tree
+invariant-loop-tree l = record {
+  many : l.at + all_counts (drop l.tree-index l.trees) ≡ all_counts l.trees;
+  next : l.out.items ++ all_tree_next (marks_of l.set) l.at l.start (drop l.tree-index l.trees) ≡ all_tree_next (marks_of l.set) 0 l.start l.trees;
 }

@@ -1,22 +1,31 @@
 use Rattle.std.proofs.Common.{◌≡◌, ℕ, ◌<◌, List, [], length, slice_index_or, refl, sym, ap, ◌∙◌, subst, arith}
 use Rattle.std.proofs.lemmas.List.{get_or_default}
+use Rattle.dfa.specs.Marks.{marks_of}
+use Rattle.dfa.specs.Sets.{Rises}
 use Rattle.dfa.specs.Built.{AreEntries, IsNumber, IsReached, kept, members}
 use Rattle.dfa.proofs.StatesGrow.{placed_states, placed_grows, grows_none, grows_more, entries_none, entries_more}
 use Rattle.dfa.proofs.states.States.add_entries.Goals as goal
 
-pub kept-requires : goal.kept-requires
-kept-requires c =
+pub kept-requires-clause-holders : goal.kept-requires-clause-holders
+kept-requires-clause-holders c =
     let parts = c.args.parts.now in
     let i = c.loop-holders.holders-index in
     let at : c.holders-item.result ≡ slice_index_or parts i [] = c.holders-item.is ∙ get_or_default parts i c.holders-item.result [] c.loop-holders-test.true in
-    λ k lt. subst (λ (x : List ℕ). k < length x → slice_index_or x k 0 < length c.args.marks.now) (sym at) (λ l. c.requires.within i k c.loop-holders-test.true l) lt
+    subst (Rises 0) (sym at) (c.requires.holders i [] c.loop-holders-test.true)
+
+pub kept-requires-clause-within : goal.kept-requires-clause-within
+kept-requires-clause-within c =
+    let parts = c.args.parts.now in
+    let i = c.loop-holders.holders-index in
+    let at : c.holders-item.result ≡ slice_index_or parts i [] = c.holders-item.is ∙ get_or_default parts i c.holders-item.result [] c.loop-holders-test.true in
+    subst (λ (x : List ℕ). (k : ℕ) → k < length x → slice_index_or x k 0 < length c.args.marks.now) (sym at) (λ k l. c.requires.within i k c.loop-holders-test.true l)
 
 pub returns-in-Err-clause-states : goal.returns-in-Err-clause-states
 returns-in-Err-clause-states c =
     let parts = c.args.parts.now in
     let i = c.loop-holders.holders-index in
     let at : c.holders-item.result ≡ slice_index_or parts i [] = c.holders-item.is ∙ get_or_default parts i c.holders-item.result [] c.loop-holders-test.true in
-    let set : c.in_ok-set.set.items ≡ kept c.args.marks.now (slice_index_or parts i []) = c.in_ok-set.ensures ∙ ap (kept c.args.marks.now) at in
+    let set : c.in_ok-set.set.items ≡ kept (marks_of c.args.followers.now) (slice_index_or parts i []) = c.in_ok-set.ensures ∙ ap (kept (marks_of c.args.followers.now)) at in
     λ rules s r. placed_states rules (members c.loop-holders.self.sets.keys) (members c.number.new.sets.keys) c.in_ok-set.set.items (c.loop-holders.invariant.states rules s r) (subst (IsReached rules) (sym set) (r i c.loop-holders-test.true)) c.in-Err.ensures.placed
 
 pub returns-in_err-push-clause-states : goal.returns-in_err-push-clause-states
@@ -24,7 +33,7 @@ returns-in_err-push-clause-states c =
     let parts = c.args.parts.now in
     let i = c.loop-holders.holders-index in
     let at : c.holders-item.result ≡ slice_index_or parts i [] = c.holders-item.is ∙ get_or_default parts i c.holders-item.result [] c.loop-holders-test.true in
-    let set : c.in_ok-set.set.items ≡ kept c.args.marks.now (slice_index_or parts i []) = c.in_ok-set.ensures ∙ ap (kept c.args.marks.now) at in
+    let set : c.in_ok-set.set.items ≡ kept (marks_of c.args.followers.now) (slice_index_or parts i []) = c.in_ok-set.ensures ∙ ap (kept (marks_of c.args.followers.now)) at in
     λ rules s r. placed_states rules (members c.loop-holders.self.sets.keys) (members c.number.new.sets.keys) c.in_ok-set.set.items (c.loop-holders.invariant.states rules s r) (subst (IsReached rules) (sym set) (r i c.loop-holders-test.true)) c.in-Ok.ensures.placed
 
 pub loop-holders-preserved : goal.loop-holders-preserved
@@ -35,15 +44,15 @@ loop-holders-preserved c =
     let sets = members c.loop-holders.self.sets.keys in
     let new = members c.number.new.sets.keys in
     let at : c.holders-item.result ≡ slice_index_or parts i [] = c.holders-item.is ∙ get_or_default parts i c.holders-item.result [] c.loop-holders-test.true in
-    let set : c.in_ok-set.set.items ≡ kept c.args.marks.now (slice_index_or parts i []) = c.in_ok-set.ensures ∙ ap (kept c.args.marks.now) at in
+    let set : c.in_ok-set.set.items ≡ kept (marks_of c.args.followers.now) (slice_index_or parts i []) = c.in_ok-set.ensures ∙ ap (kept (marks_of c.args.followers.now)) at in
     let g = placed_grows sets new c.in_ok-set.set.items c.in-Ok.ensures.placed in
-    let n : IsNumber new c.in-Ok.to (kept c.args.marks.now (slice_index_or parts i [])) = subst (IsNumber new c.in-Ok.to) set c.in-Ok.ensures.number.0 in
+    let n : IsNumber new c.in-Ok.to (kept (marks_of c.args.followers.now) (slice_index_or parts i [])) = subst (IsNumber new c.in-Ok.to) set c.in-Ok.ensures.number.0 in
     record {
       accepts = old.accepts;
       states = λ rules s r. placed_states rules sets new c.in_ok-set.set.items (old.states rules s r) (subst (IsReached rules) (sym set) (r i c.loop-holders-test.true)) c.in-Ok.ensures.placed;
       grows = grows_more (members c.args.self.now.sets.keys) sets new old.grows g;
       bound = λ le. c.in-Ok.ensures.bound (old.bound le);
-      entries = entries_more c.args.self.now.next.items c.loop-holders.self.next.items c.push.new.self.items sets new c.args.marks.now parts i c.in-Ok.to old.entries g c.in_ok-push.ensures.items n;
+      entries = entries_more c.args.self.now.next.items c.loop-holders.self.next.items c.push.new.self.items sets new (marks_of c.args.followers.now) parts i c.in-Ok.to old.entries g c.in_ok-push.ensures.items n;
     }
 
 pub loop-holders-init : goal.loop-holders-init
@@ -54,14 +63,14 @@ loop-holders-init c =
       states = λ rules s r. s;
       grows = grows_none sets;
       bound = λ le. le;
-      entries = entries_none c.args.self.now.next.items sets c.args.marks.now c.args.parts.now;
+      entries = entries_none c.args.self.now.next.items sets (marks_of c.args.followers.now) c.args.parts.now;
     }
 
 pub returns-clause-entries : goal.returns-clause-entries
 returns-clause-entries c =
     let parts = c.args.parts.now in
     let all : c.loop-holders.holders-index ≡ length parts = omega arith in
-    subst (AreEntries c.args.self.now.next.items c.loop-holders.self.next.items (members c.loop-holders.self.sets.keys) c.args.marks.now parts) all c.loop-holders.invariant.entries
+    subst (AreEntries c.args.self.now.next.items c.loop-holders.self.next.items (members c.loop-holders.self.sets.keys) (marks_of c.args.followers.now) parts) all c.loop-holders.invariant.entries
 
 pub returns-clause-states : goal.returns-clause-states
 returns-clause-states c = c.loop-holders.invariant.states

@@ -1,24 +1,32 @@
-use Rattle.std.proofs.Common.{ℕ, ◌-◌, ◌<◌, Vec, Global, length, arith}
+use Rattle.std.proofs.Common.{ℕ, ◌-◌, ◌<◌, Bool, List, ap, ◌∙◌, Vec, Global, length, arith}
 use Rattle.std.proofs.lemmas.List.{length-map}
+use Rattle.dfa.specs.Marks.{mark}
+use Rattle.dfa.proofs.MarkedSets.{length-unmarked, no_mark}
 use Rattle.dfa.specs.Built.{members}
 use Rattle.dfa.proofs.StateCount.{many_states}
 use Rattle.dfa.proofs.states.States.add_rows.Goals as goal
 
 pub returns-in-Err-clause-many : goal.returns-in-Err-clause-many
-returns-in-Err-clause-many c = λ e. many_states c.args.patterns.now (members c.add_row.new.self.sets.keys) c.in-Err.ensures.states (c.in-Err.ensures.many e)
+returns-in-Err-clause-many c = λ e rules starts a r. many_states rules (members c.add_row.new.self.sets.keys) (c.in-Err.ensures.states rules starts a (c.rows.invariant.rows rules starts a r).states) (c.in-Err.ensures.many e)
 
 pub rows-init : goal.rows-init
-rows-init c = c.requires.rows
+rows-init c =
+    let count = c.count_all.result in
+    record {
+      rows = λ rules starts a r. r;
+      blank = λ p. ap (λ (m : List Bool). mark m p) c.in_ok-marks.ensures ∙ no_mark count p;
+      all = ap length c.in_ok-marks.ensures ∙ length-unmarked count ∙ c.count_all.ensures;
+    }
 
-pub add_row-requires-clause-parts : goal.add_row-requires-clause-parts
-add_row-requires-clause-parts c = c.requires.parts
-
-pub add_row-requires-clause-states : goal.add_row-requires-clause-states
-add_row-requires-clause-states c = (c.rows.invariant c.requires.parts.0 c.requires.parts.1).states
+pub add_row-requires-clause-rules : goal.add_row-requires-clause-rules
+add_row-requires-clause-rules c =
+    let r = c.requires.rules in
+    (r.0, r.1, r.2, (c.rows.invariant.rows r.0 r.1 r.2 r.3).states)
 
 pub rows-smaller : goal.rows-smaller
 rows-smaller c =
-    let rows = c.rows.invariant c.requires.parts.0 c.requires.parts.1 in
+    let r = c.requires.rules in
+    let rows = c.rows.invariant.rows r.0 r.1 r.2 r.3 in
     let sets = c.rows.self.sets.keys in
     let old = length c.rows.self.accepts.items in
     let more : old < length (members sets) = omega (arith, c.len-in-rows.ensures.len, length-map sets (λ (v : Vec ℕ Global). v.items)) in
@@ -26,10 +34,14 @@ rows-smaller c =
     smaller
 
 pub rows-preserved : goal.rows-preserved
-rows-preserved c starts parts = c.in-Ok.ensures.rows starts parts (c.rows.invariant starts parts)
+rows-preserved c = record {
+  rows = λ rules starts a r. c.in-Ok.ensures.rows rules starts a (c.rows.invariant.rows rules starts a r);
+  blank = c.in-Ok.ensures.blank;
+  all = c.in-Ok.ensures.all ∙ c.rows.invariant.all;
+}
 
 pub returns-clause-rows : goal.returns-clause-rows
-returns-clause-rows c = c.rows.invariant
+returns-clause-rows c = c.rows.invariant.rows
 
 pub add_row-requires-clause-more : goal.add_row-requires-clause-more
 add_row-requires-clause-more c =

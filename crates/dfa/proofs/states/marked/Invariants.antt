@@ -1,6 +1,6 @@
 use Rattle.std.proofs.Common.{◌≡◌, ◌++◌, drop}
 use Rattle.dfa.specs.Built.{kept}
-use Rattle.dfa.proofs.states.kept.Given as goal
+use Rattle.dfa.proofs.states.marked.Given as goal
 
 abbrev pub invariant-loop-p : goal.invariant-loop-p
 invariant-loop-p l = l.set.items ++ kept l.marks (drop l.p-index l.holders) ≡ kept l.marks l.holders

@@ -1,0 +1,7 @@
+use Rattle.std.proofs.Common.{◌≡◌, ◌++◌, drop}
+use Rattle.dfa.specs.Built.{kept}
+use Rattle.dfa.specs.Marks.{marks_of}
+use Rattle.dfa.proofs.states.common.Given as goal
+
+abbrev pub invariant-loop-p : goal.invariant-loop-p
+invariant-loop-p l = l.set.items ++ kept (marks_of l.many) (drop l.p-index l.few) ≡ kept (marks_of l.many) l.few
