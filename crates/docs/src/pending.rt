@@ -31,7 +31,7 @@ pub struct Pending {
 
 /// An edit, and after it one that puts so many characters in the place of those from `from` up to `to`, as one edit of this
 /// number.
-fn joined(first: Edit, from: usize, to: usize, inserted: usize, number: u64) -> Edit
+fn as_one_edit(first: Edit, from: usize, to: usize, inserted: usize, number: u64) -> Edit
     requires ordered { from ≤ to }
     requires small { first.at + first.removed + first.inserted + to + inserted < 2 ^ 63 }
     ensures number { result.number ≡ number }
@@ -164,7 +164,7 @@ impl Pending {
             → LeadsTo was result (edit now from to s) }
     {
         match self.edit {
-            Some(edit) => joined(edit, from, to, inserted, number),
+            Some(edit) => as_one_edit(edit, from, to, inserted, number),
             None => Edit {
                 at: from,
                 removed: to - from,

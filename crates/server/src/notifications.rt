@@ -13,7 +13,7 @@ ghost use Rattle.server.specs.Steps.{State, state_view, new_document, exit_statu
 use crate::answers::{no_diagnostics, publish};
 use crate::changes::apply_changes;
 use crate::documents::Entry;
-use crate::out::{Out, logged, nothing, one_reply, reply_and_log};
+use crate::out::{Out, nothing, one_log, one_reply, reply_and_log};
 use crate::state::{Phase, Server};
 use docs::{Doc, DocFault, Language};
 use rpc::{Change, Log, Loss, Malformed, Note, Unit};
@@ -99,7 +99,7 @@ impl Server {
             Opens room old (string_bytes uri) state (sent out) out.stop (state_view self.new)) }
     {
         if !self.documents.has_room(uri.as_str()) {
-            return logged(alloc, Log::TooManyDocuments);
+            return one_log(alloc, Log::TooManyDocuments);
         }
         let language = self.documents.language();
         let entry = new_document(alloc, language, unit, version, text.as_str())?;
@@ -122,7 +122,7 @@ impl Server {
             (state_view self.new)) }
     {
         match self.documents.get(uri.as_str()) {
-            None => return logged(alloc, Log::ChangeNotOpen),
+            None => return one_log(alloc, Log::ChangeNotOpen),
             Some(Entry::Lost(_)) => return Ok(nothing(alloc)),
             Some(Entry::Open(_)) => {}
         }
@@ -143,7 +143,7 @@ impl Server {
             Spoils (get old.documents uri) old uri (sent out) out.stop (state_view self.new)) }
     {
         match self.documents.get(uri.as_str()) {
-            None => logged(alloc, Log::ChangeNotOpen),
+            None => one_log(alloc, Log::ChangeNotOpen),
             Some(Entry::Lost(_)) => Ok(nothing(alloc)),
             Some(Entry::Open(_)) => self.hold(alloc, uri, Entry::Lost(Loss::MalformedChange)),
         }
@@ -157,7 +157,7 @@ impl Server {
             Closes (get old.documents uri) old uri (sent out) out.stop (state_view self.new)) }
     {
         if self.documents.remove(uri.as_str()).is_none() {
-            return logged(alloc, Log::CloseNotOpen);
+            return one_log(alloc, Log::CloseNotOpen);
         }
         one_reply(alloc, no_diagnostics(alloc, uri.as_str())?)
     }
@@ -169,10 +169,10 @@ impl Server {
             OnMalformed (state_view self.old) unfit (sent out) out.stop (state_view self.new)) }
     {
         match malformed {
-            Malformed::DidOpen => logged(alloc, Log::OpenMalformed),
-            Malformed::DidChange { uri: None } => logged(alloc, Log::ChangeMalformed),
+            Malformed::DidOpen => one_log(alloc, Log::OpenMalformed),
+            Malformed::DidChange { uri: None } => one_log(alloc, Log::ChangeMalformed),
             Malformed::DidChange { uri: Some(uri) } => self.on_malformed_change(alloc, uri),
-            Malformed::DidClose => logged(alloc, Log::CloseMalformed),
+            Malformed::DidClose => one_log(alloc, Log::CloseMalformed),
         }
     }
 

@@ -40,7 +40,7 @@ pub(crate) fn one_reply(alloc: Global, reply: Reply) -> Result<Out, AllocError>
 }
 
 /// An error reply, to the request with this id.
-pub(crate) fn refused(alloc: Global, id: Option<Id>, refusal: Refusal) -> Result<Out, AllocError>
+pub(crate) fn one_error(alloc: Global, id: Option<Id>, refusal: Refusal) -> Result<Out, AllocError>
     ensures replies { IfOk result (λ out.
         sent out ≡ error_reply (option_map id_view id) refusal ∷ []) }
     ensures stop { IfOk result (λ out. out.stop ≡ None) }
@@ -49,7 +49,7 @@ pub(crate) fn refused(alloc: Global, id: Option<Id>, refusal: Refusal) -> Result
 }
 
 /// One log message.
-pub(crate) fn logged(alloc: Global, log: Log) -> Result<Out, AllocError>
+pub(crate) fn one_log(alloc: Global, log: Log) -> Result<Out, AllocError>
     ensures replies { IfOk result (λ out. sent out ≡ log_message log ∷ []) }
     ensures stop { IfOk result (λ out. out.stop ≡ None) }
 {

@@ -12,7 +12,7 @@ ghost use Rattle.server.specs.Steps.{state_view, OnRequest};
 
 use crate::answers::{Question, answer};
 use crate::documents::Entry;
-use crate::out::{Out, one_reply, refused};
+use crate::out::{Out, one_error, one_reply};
 use crate::state::{Phase, Server};
 use docs::Doc;
 use rpc::{Call, Id, Refusal, Reply};
@@ -99,9 +99,9 @@ impl Server {
                 self.phase = Phase::Down;
                 return one_reply(alloc, Reply::Null { id });
             }
-            (Phase::New, _) => return refused(alloc, Some(id), Refusal::NotInitialized),
+            (Phase::New, _) => return one_error(alloc, Some(id), Refusal::NotInitialized),
             (Phase::Ready(_), Call::Initialize { .. }) | (Phase::Down, _) => {
-                return refused(alloc, Some(id), Refusal::InvalidRequest);
+                return one_error(alloc, Some(id), Refusal::InvalidRequest);
             }
             (Phase::Ready(_), Call::Text { uri }) => (uri, Question::Text),
             (Phase::Ready(_), Call::Tokens { uri }) => (uri, Question::Tokens),

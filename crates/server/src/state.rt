@@ -6,7 +6,7 @@ ghost use Rattle.server.specs.Sent.{sent};
 ghost use Rattle.server.specs.Steps.{state_view, first_state, unknown_in, params_in, StepOn};
 
 use crate::documents::Documents;
-use crate::out::{Out, nothing, refused};
+use crate::out::{Out, nothing, one_error};
 use docs::Language;
 use rpc::{Message, Refusal, RpcFault, Unit};
 use std::alloc::{AllocError, Global};
@@ -73,11 +73,11 @@ impl Server {
             Ok(Message::Request(id, call)) => self.on_request(alloc, id, call),
             Ok(Message::Notice(note)) => self.on_notification(alloc, note),
             Ok(Message::Ignored) => Ok(nothing(alloc)),
-            Err(RpcFault::Parse) => refused(alloc, None, Refusal::ParseError),
-            Err(RpcFault::Invalid { id }) => refused(alloc, id, Refusal::InvalidRequest),
-            Err(RpcFault::Unknown { id }) => refused(alloc, Some(id), unknown_in(self.phase)),
+            Err(RpcFault::Parse) => one_error(alloc, None, Refusal::ParseError),
+            Err(RpcFault::Invalid { id }) => one_error(alloc, id, Refusal::InvalidRequest),
+            Err(RpcFault::Unknown { id }) => one_error(alloc, Some(id), unknown_in(self.phase)),
             Err(RpcFault::Params { id, initialize }) => {
-                refused(alloc, Some(id), params_in(self.phase, initialize))
+                one_error(alloc, Some(id), params_in(self.phase, initialize))
             }
             Err(RpcFault::Memory) => Err(AllocError),
         }

@@ -16,7 +16,7 @@ returns-then-is_none c =
     let none : get old.documents.documents c.as_str.result.now ≡ None = sym c.remove.ensures.is ∙ ap (option_map entry_view) (none_is c.remove.result (c.is_none.ensures ∙ ap not c.if-is_none.true)) in
     let here : get old.documents.documents uri ≡ None = ap (get old.documents.documents) (sym c.as_str.ensures.value) ∙ none in
     let same = state_same _ _ old.phase _ _ (ap (λ (l : LanguageData). l.file) c.remove.ensures.language) (c.remove.ensures.documents ∙ removed_none old.documents.documents c.as_str.result.now none) in
-    if_ok_both c.logged.result
+    if_ok_both c.one_log.result
     (λ out replies stop. closes_none (state_view old) uri _ _ _ here replies stop same)
-    c.logged.ensures.replies
-    c.logged.ensures.stop
+    c.one_log.ensures.replies
+    c.one_log.ensures.stop
