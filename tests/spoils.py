@@ -58,7 +58,8 @@ SPOILS = [
     Spoil("no replies", ["streams", "session", "nesting"], times=0),
     Spoil("replies after the end of the input", ["nesting", "counts"], is_late=True),
     Spoil("nodes too many are counted", ["counts", "transcript_rows"], reply=replaced(rb'"built":', b'"built":1')),
-    Spoil("all is scanned again", ["nesting"], reply=replaced(rb'"scanned":\d+', b'"scanned":200001')),
+    Spoil("a character missing in each text", ["changes_together"], reply=replaced(rb'"text":".', b'"text":"')),
+    Spoil("all is scanned again", ["nesting", "changes_together"], reply=replaced(rb'"scanned":\d+', b'"scanned":200001')),
 ]
 # `devices` isn't among these groups: Python itself doesn't start on one of its inputs, which is a folder.
 NOTHING = [Spoil("nothing", sorted({group for spoil in SPOILS for group in spoil.groups} - {"devices"}))]
