@@ -11,7 +11,7 @@ use Rattle.std.proofs.Math.Nat.{mul_comm}
 use Rattle.definitions.specs.declared.expression.Expression.{Expression}
 use Rattle.definitions.specs.Text.{IsText, IsCharacter}
 use Rattle.dfa.specs.Alphabet.{representative, all_cuts}
-use Rattle.dfa.specs.Positions.{positions}
+use Rattle.dfa.specs.Positions.{positions, StandsAt}
 use Rattle.dfa.specs.Marks.{next, all_next, all_holders, all_positions, first_end, successor}
 use Rattle.dfa.specs.Sets.{IsSetOf, AreMarksOf, Rises}
 use Rattle.dfa.specs.Table.{part, IsAscending, IsFirst, IsTable}
@@ -21,6 +21,7 @@ use Rattle.dfa.specs.declared.tree.Tree.{Tree}
 use Rattle.dfa.specs.Trees.{AreTrees, all_counts}
 use Rattle.dfa.proofs.SameClass.{stands_for}
 use Rattle.dfa.proofs.HolderLists.{all_below, all_rise}
+use Rattle.dfa.proofs.LastPositions.{below}
 use Rattle.dfa.proofs.Sets.{among_from_at}
 use Rattle.dfa.proofs.Steps.{length-next}
 use Rattle.dfa.proofs.Successors.{successor_set, empty_set}
@@ -35,6 +36,19 @@ one_row s w =
 pub states_rise : (rules : List Expression) (sets : List (List ℕ)) (s : ℕ) → AreStates rules sets → s < length sets → Rises 0 (slice_index_or sets s [])
 states_rise rules sets zero a lt = subst (Rises 0) (sym a.start) tt
 states_rise rules sets (suc s) a lt = (a.reached (suc s) (omega arith) lt).is.rises
+
+-- they are positions of the rules
+stands_below : (rules : List Expression) (p : ℕ) (u : List ℕ) → StandsAt rules p u → p < all_positions rules
+stands_below [] p u h = elim h [ ]
+stands_below (e ∷ es) p u (inl h) = omega (arith, below e p u h)
+stands_below (e ∷ es) p u (inr h) = omega (arith, h.0, stands_below es (p - positions e) u h.1)
+
+pub within_rules : (rules : List Expression) (sets : List (List ℕ)) (s : ℕ) → AreStates rules sets → s < length sets → (i : ℕ) → i < length (slice_index_or sets s []) → slice_index_or (slice_index_or sets s []) i 0 < all_positions rules
+within_rules rules sets zero a lt i l = let n : length (slice_index_or sets 0 []) ≡ 0 = ap length a.start in absurd (omega (arith, n, l))
+within_rules rules sets (suc s) a lt i l =
+    let r = a.reached (suc s) (omega arith) lt in
+    let p = slice_index_or (slice_index_or sets (suc s) []) i 0 in
+    stands_below rules p r.text (r.is.only p (among_from_at (slice_index_or sets (suc s) []) i l))
 
 -- and so do those that hold the characters of a part
 pub parts_rise : (rules : List Expression) (starts : List ℕ) (parts : List (List ℕ)) → ArePartsOf rules starts parts → All (Rises 0) parts

@@ -165,10 +165,12 @@ kept_both xs ys r s =
     (λ x h. let t = among_filter f xs x h in filter_among g ys x (marks_only ys x t.1) (marks_every xs x t.0))
     (λ x h. let t = among_filter g ys x h in filter_among f xs x (marks_only xs x t.1) (marks_every ys x t.0))
 
+-- one set has the same marks, however many blank ones follow
+pub same_mark : (set : List ℕ) (marks : List Bool) → AreMarksOf set marks → (p : ℕ) → mark marks p ≡ mark (marks_of set) p
+same_mark set marks a p = same_bits (mark marks p) (mark (marks_of set) p) (λ h. marks_every set p (a.only p h)) (λ h. a.every p (marks_only set p h))
+
 pub kept_marks : (set xs : List ℕ) (marks : List Bool) → AreMarksOf set marks → kept marks xs ≡ kept (marks_of set) xs
-kept_marks set xs marks a =
-    let same : (p : ℕ) → mark marks p ≡ mark (marks_of set) p = λ p. same_bits (mark marks p) (mark (marks_of set) p) (λ h. marks_every set p (a.only p h)) (λ h. a.every p (marks_only set p h)) in
-    (λ i. filter (λ p. same p i) xs)
+kept_marks set xs marks a = (λ i. filter (λ p. same_mark set marks a p i) xs)
 
 pub no_mark : (n p : ℕ) → mark (unmarked n) p ≡ false
 no_mark zero p = refl

@@ -1,5 +1,5 @@
 -- One more row of the table, as the trees of the rules give it.
-use Rattle.std.proofs.Common.{◌≡◌, ℕ, ◌<◌, ◌≤◌, List, [], ◌∷◌, ◌++◌, Option, Some, Vec, Global, length, slice_index_or, nat_eq, sym, ap, ◌∙◌, subst}
+use Rattle.std.proofs.Common.{◌≡◌, ℕ, ◌<◌, ◌≤◌, List, [], ◌∷◌, ◌++◌, Option, Some, Vec, Global, length, slice_index_or, nat_eq, sym, ap, ◌∙◌, subst, arith}
 use Rattle.std.specs.Prelude.{slice_get}
 use Rattle.std.proofs.lemmas.Bool.{eq-eqb, eqb-true}
 use Rattle.definitions.specs.declared.expression.Expression.{Expression}
@@ -8,7 +8,7 @@ use Rattle.dfa.specs.Built.{AreEntries, AreRows, AreRules, AreStates, Grows, IsR
 use Rattle.dfa.specs.Marks.{all_next, first_end, marks_of}
 use Rattle.dfa.specs.Sets.{Rises}
 use Rattle.dfa.specs.Trees.{all_counts, all_tree_next, first_tree_end}
-use Rattle.dfa.proofs.AddedRow.{length-all_next, reached_parts, rows_made, states_rise}
+use Rattle.dfa.proofs.AddedRow.{length-all_next, reached_parts, rows_made, states_rise, within_rules}
 use Rattle.dfa.proofs.MarkedSets.{all_listed_below, all_listed_rise, kept_listed, marks_are}
 use Rattle.dfa.proofs.Numbered.{stored_at}
 use Rattle.dfa.proofs.Trees.{trees_count, trees_end, trees_next}
@@ -19,6 +19,12 @@ module _ (rules : List Expression) (starts : List ℕ) (trees : List Tree) (part
   set_rises set states is =
       let st = stored_at keys n k at in
       subst (Rises 0) (st.1 ∙ sym is) (states_rise rules (members keys) n states st.0)
+
+  -- and lies below the end of marks for all positions
+  pub set_within : (set : List ℕ) (m : ℕ) → AreStates rules (members keys) → set ≡ k.items → m ≡ all_counts trees → (j : ℕ) → j < length set → slice_index_or set j 0 < m
+  set_within set m states is many =
+      let st = stored_at keys n k at in
+      subst (λ (x : List ℕ). (j : ℕ) → j < length x → slice_index_or x j 0 < m) (st.1 ∙ sym is) (λ j l. omega (arith, many, trees_count rules trees a.trees_are, within_rules rules (members keys) n states st.0 j l))
 
   followers_are : (set followers seen : List ℕ) → followers ≡ all_tree_next (marks_of set) 0 (nat_eq n 0) trees → seen ≡ followers → kept (marks_of seen) ≡ kept (all_next (marks_of set) 0 (nat_eq n 0) rules)
   followers_are set followers seen is same = kept_listed seen (all_next (marks_of set) 0 (nat_eq n 0) rules) (same ∙ is ∙ trees_next rules trees (marks_of set) 0 (nat_eq n 0) a.trees_are)

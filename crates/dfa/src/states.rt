@@ -67,38 +67,42 @@ pub fn part_holders(
     Ok(parts)
 }
 
-/// The positions at which one more character can stand, whatever that character is, in ascending order.
+/// The positions at which one more character can stand, whatever that character is, in ascending order. The marks are those
+/// of the set.
 fn followers(
     alloc: Global,
     trees: &[Tree],
     set: &[usize],
+    marks: &[bool],
     start: bool,
 ) -> Result<Vec<usize>, AllocError>
     requires rises { Rises 0 set.now }
+    requires marks { AreMarksOf set.now marks.now }
     requires counted { All IsCounted trees.now }
-    requires fits { all_counts trees.now < 2 ^ 64 }
+    requires all { length marks.now ≡ all_counts trees.now }
     ensures { IfOk result
         (λ all. all.items ≡ all_tree_next (marks_of set.now) 0 start trees.now) }
 {
     let mut out = Vec::with_capacity(alloc, 16)?;
     let mut at = 0;
     for tree in trees {
-        tree.follow(set, at, start, &mut out)?;
+        tree.follow(set, marks, at, start, &mut out)?;
         at += tree.count();
     }
     Ok(out)
 }
 
-/// The first rule that can end at a position of the set.
-fn first_end(trees: &[Tree], set: &[usize]) -> Option<usize>
+/// The first rule that can end at a position of the set. The marks are those of the set.
+fn first_end(trees: &[Tree], set: &[usize], marks: &[bool]) -> Option<usize>
     requires rises { Rises 0 set.now }
+    requires marks { AreMarksOf set.now marks.now }
     requires counted { All IsCounted trees.now }
-    requires fits { all_counts trees.now < 2 ^ 64 }
+    requires all { length marks.now ≡ all_counts trees.now }
     ensures { result ≡ first_tree_end (marks_of set.now) 0 0 trees.now }
 {
     let mut at = 0;
     for (k, tree) in trees.iter().enumerate() {
-        if tree.ends(set, at, false) {
+        if tree.ends(set, marks, at, false) {
             return Some(k);
         }
         at += tree.count();
@@ -318,8 +322,10 @@ impl States {
     {
         let at = self.accepts.len();
         let set = &self.sets[at];
-        let followers = followers(alloc, trees, set, at == 0)?;
-        let rule = first_end(trees, set);
+        write(marks, set, true);
+        let followers = followers(alloc, trees, set, marks, at == 0)?;
+        let rule = first_end(trees, set, marks);
+        write(marks, set, false);
         write(marks, &followers, true);
         self.add_entries(alloc, marks, &followers, parts)?;
         write(marks, &followers, false);

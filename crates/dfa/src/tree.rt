@@ -2,7 +2,7 @@
 ghost use Rattle.std.specs.Prelude.{◌≡◌, ◌+◌, ◌-◌, ◌<◌, ◌≤◌, ◌^◌, ◌++◌, length, IfOk};
 ghost use Rattle.definitions.specs.Spelling.{IsWellMade};
 ghost use Rattle.dfa.specs.Marks.{mark, marks_of};
-ghost use Rattle.dfa.specs.Sets.{Rises};
+ghost use Rattle.dfa.specs.Sets.{AreMarksOf, Rises};
 ghost use Rattle.dfa.specs.Trees.{any_mark, count, IsCounted, IsJoined, IsLiteralTree, IsOptional, IsPlus, IsTreeOf, tree_ends, tree_next};
 
 use definitions::Expression;
@@ -57,32 +57,33 @@ impl Tree {
         }
     }
 
-    /// Whether what was read can end with a text of this part, whose positions begin at `at`. The set says where the last
-    /// character that was read can stand, and `start` says that the part can begin after it.
-    #[tactic(auto, using(crate::proofs::Trees::no_end))]
-    pub fn ends(&self, set: &[usize], at: usize, start: bool) -> bool
+    /// Whether what was read can end with a text of this part, whose positions begin at `at`. The set, of which the marks
+    /// are, says where the last character that was read can stand, and `start` says that the part can begin after it.
+    #[tactic(auto, using(crate::proofs::Trees::no_end, crate::proofs::MarkedSets::same_mark))]
+    pub fn ends(&self, set: &[usize], marks: &[bool], at: usize, start: bool) -> bool
         requires rises { Rises 0 set.now }
+        requires marks { AreMarksOf set.now marks.now }
         requires counted { IsCounted self.now }
-        requires fits { at + count self.now < 2 ^ 64 }
+        requires within { at + count self.now ≤ length marks.now }
         ensures { result ≡ tree_ends (marks_of set.now) at start self.now }
     {
         if !start && !meets(set, at, self.count()) {
             return false;
         }
         match self {
-            Tree::Position => has(set, at),
+            Tree::Position => marks[at],
             Tree::Pair(false, _, a, b) => {
-                let between = a.ends(set, at, start);
-                b.ends(set, at + a.count(), between)
+                let between = a.ends(set, marks, at, start);
+                b.ends(set, marks, at + a.count(), between)
             }
             Tree::Pair(true, _, a, b) => {
-                let first = a.ends(set, at, start);
-                let second = b.ends(set, at + a.count(), start);
+                let first = a.ends(set, marks, at, start);
+                let second = b.ends(set, marks, at + a.count(), start);
                 first | second
             }
-            Tree::Plus(_, a) => a.ends(set, at, start),
+            Tree::Plus(_, a) => a.ends(set, marks, at, start),
             Tree::Optional(_, a) => {
-                let once = a.ends(set, at, start);
+                let once = a.ends(set, marks, at, start);
                 once | start
             }
         }
@@ -90,17 +91,19 @@ impl Tree {
 
     /// Adds the positions of this part at which one more character can stand, whatever that character is. Returns what
     /// `ends` does.
-    #[tactic(auto, using(crate::proofs::Trees::no_end))]
+    #[tactic(auto, using(crate::proofs::Trees::no_end, crate::proofs::MarkedSets::same_mark))]
     pub fn follow(
         &self,
         set: &[usize],
+        marks: &[bool],
         at: usize,
         start: bool,
         out: &mut Vec<usize>,
     ) -> Result<bool, AllocError>
         requires rises { Rises 0 set.now }
+        requires marks { AreMarksOf set.now marks.now }
         requires counted { IsCounted self.now }
-        requires fits { at + count self.now < 2 ^ 64 }
+        requires within { at + count self.now ≤ length marks.now }
         ensures next { IfOk result (λ _. out.new.items
             ≡ out.old.items ++ tree_next (marks_of set.now) at start self.now) }
         ensures end { IfOk result (λ end. end ≡ tree_ends (marks_of set.now) at start self.now) }
@@ -113,24 +116,24 @@ impl Tree {
                 if start {
                     out.push(at)?;
                 }
-                Ok(has(set, at))
+                Ok(marks[at])
             }
             Tree::Pair(false, _, a, b) => {
-                let between = a.follow(set, at, start, out)?;
-                b.follow(set, at + a.count(), between, out)
+                let between = a.follow(set, marks, at, start, out)?;
+                b.follow(set, marks, at + a.count(), between, out)
             }
             Tree::Pair(true, _, a, b) => {
-                let first = a.follow(set, at, start, out)?;
-                let second = b.follow(set, at + a.count(), start, out)?;
+                let first = a.follow(set, marks, at, start, out)?;
+                let second = b.follow(set, marks, at + a.count(), start, out)?;
                 Ok(first | second)
             }
             Tree::Plus(_, a) => {
-                let end = a.ends(set, at, start);
-                a.follow(set, at, end | start, out)?;
+                let end = a.ends(set, marks, at, start);
+                a.follow(set, marks, at, end | start, out)?;
                 Ok(end)
             }
             Tree::Optional(_, a) => {
-                let once = a.follow(set, at, start, out)?;
+                let once = a.follow(set, marks, at, start, out)?;
                 Ok(once | start)
             }
         }
