@@ -1,5 +1,5 @@
 -- One more row of the table.
-use Rattle.std.proofs.Common.{◌≡◌, ℕ, zero, suc, ◌+◌, ◌-◌, ◌*◌, ◌^◌, ◌<◌, ◌≤◌, Bool, true, List, [], ◌∷◌, ◌++◌, length, slice_index_or, get_or, Option, None, refl, sym, ap, ◌∙◌, subst, inl, inr, arith}
+use Rattle.std.proofs.Common.{◌≡◌, ℕ, zero, suc, ◌+◌, ◌-◌, ◌*◌, ◌<◌, ◌≤◌, Bool, true, List, [], ◌∷◌, ◌++◌, length, slice_index_or, get_or, Option, None, refl, sym, ap, ◌∙◌, subst, inl, inr, arith}
 use Rattle.std.specs.Prelude.{All, Contains, nat_le}
 use native.Mathlib.Numerals.{unary_clauses}
 use Rattle.std.proofs.lemmas.List.Elements.{All-push}
@@ -18,7 +18,7 @@ use Rattle.dfa.specs.Table.{part, IsAscending, IsFirst, IsTable}
 use Rattle.dfa.specs.Stored.{table_of}
 use Rattle.dfa.specs.Built.{IsReached, AreStates, Grows, IsNumber, kept, IsStateOf, LeadsTo, AreRows, ArePartsOf, AreEntries, AreRules}
 use Rattle.dfa.specs.declared.tree.Tree.{Tree}
-use Rattle.dfa.specs.Trees.{AreTrees, all_counts}
+use Rattle.dfa.specs.Trees.{AreTreesOf}
 use Rattle.dfa.proofs.SameClass.{stands_for}
 use Rattle.dfa.proofs.HolderLists.{all_below, all_rise}
 use Rattle.dfa.proofs.LastPositions.{below}
@@ -188,10 +188,9 @@ table_of_rows rules starts sets old accepts up r all = record {
 }
 
 -- the trees and the holders, as the builder makes them
-pub rules_are : (rules : List Expression) (starts : List ℕ) (trees seen : List Tree) (parts shown : List (List ℕ)) → seen ≡ trees → shown ≡ parts → AreTrees rules trees → all_counts trees < 2 ^ 64 → length parts ≡ length starts + 1 → ((k : ℕ) → k ≤ length starts → slice_index_or parts k [] ≡ all_holders (representative starts k) 0 rules) → IsAscending starts → ((x : ℕ) → Contains (all_cuts rules) x → Contains starts x) → All IsCharacter starts → AreRules rules starts seen shown
-rules_are rules starts trees seen parts shown e f are few many each up cuts characters =
+pub rules_are : (rules : List Expression) (starts : List ℕ) (trees seen : List Tree) (parts shown : List (List ℕ)) → seen ≡ trees → shown ≡ parts → AreTreesOf rules trees → length parts ≡ length starts + 1 → ((k : ℕ) → k ≤ length starts → slice_index_or parts k [] ≡ all_holders (representative starts k) 0 rules) → IsAscending starts → ((x : ℕ) → Contains (all_cuts rules) x → Contains starts x) → All IsCharacter starts → AreRules rules starts seen shown
+rules_are rules starts trees seen parts shown e f are many each up cuts characters =
     subst (λ x. AreRules rules starts x shown) (sym e) (subst (AreRules rules starts trees) (sym f) (record {
       trees_are = are;
-      few = few;
       parts_are = record { many = many; each = each; ascending = up; cuts = cuts; characters = characters };
     }))

@@ -1,5 +1,5 @@
 -- Trees say the same as the expressions that they are made of, and a part without a mark is passed over.
-use Rattle.std.proofs.Common.{◌≡◌, ℕ, zero, suc, ◌+◌, ◌≤◌, Bool, true, false, ◌||◌, List, [], ◌∷◌, ◌++◌, length, drop, refl, sym, ap, ◌∙◌, subst, arith}
+use Rattle.std.proofs.Common.{◌≡◌, ℕ, zero, suc, ◌+◌, ◌≤◌, Bool, true, false, ◌||◌, List, [], ◌∷◌, ◌++◌, length, drop, refl, sym, ap, ◌∙◌, subst, arith, ◌<◌, get_or}
 use Rattle.std.specs.Prelude.{All, Some, if◌then◌else◌}
 use Rattle.std.proofs.lemmas.Bool.{or_parts}
 use Rattle.std.proofs.lemmas.List.{append-nil, append_assoc, drop_all, length-append}
@@ -10,7 +10,7 @@ use Rattle.dfa.specs.declared.tree.Tree.{Tree}
 use Rattle.dfa.specs.declared.tree.Tree.TheVariants.{Position, Pair', Plus', Optional'}
 use Rattle.dfa.specs.Positions.{positions}
 use Rattle.dfa.specs.Marks.{mark, literal_end, ends, literal_next, next, all_next, all_positions, first_end}
-use Rattle.dfa.specs.Trees.{AreTrees, all_counts, all_tree_next, count, first_tree_end, IsCounted, IsJoined, IsLiteralTree, IsTree, IsTreeOf, any_mark, listed, tree_ends, tree_next}
+use Rattle.dfa.specs.Trees.{AreTreesOf, all_counts, all_tree_next, count, first_tree_end, IsCounted, IsJoined, IsLiteralTree, IsTree, IsTreeOf, any_mark, listed, tree_ends, tree_next}
 use Rattle.dfa.proofs.Steps.{length-literal_next, length-next}
 
 or_assoc : (a b c : Bool) → a || (b || c) ≡ (a || b) || c
@@ -183,43 +183,41 @@ none_added t marks o n start met out s is m many k =
     sym (ap (λ x. out ++ tree_next marks o x t) s ∙ ap (λ l. out ++ l) (no_next t marks o k none) ∙ append-nil out)
 
 -- the trees of a list of rules
-pub trees_counted : (rules : List Expression) (trees : List Tree) → AreTrees rules trees → All IsCounted trees
+pub trees_counted : (rules : List Expression) (trees : List Tree) → AreTreesOf rules trees → All IsCounted trees
 trees_counted [] [] a k d lt = absurd (omega (arith, lt))
 trees_counted [] (t ∷ ts) a k d lt = elim a [ ]
 trees_counted (e ∷ es) [] a k d lt = elim a [ ]
 trees_counted (e ∷ es) (t ∷ ts) a zero d lt = a.0.counted
 trees_counted (e ∷ es) (t ∷ ts) a (suc k) d lt = trees_counted es ts a.1 k d (omega (arith, lt))
 
-pub trees_count : (rules : List Expression) (trees : List Tree) → AreTrees rules trees → all_counts trees ≡ all_positions rules
+pub trees_count : (rules : List Expression) (trees : List Tree) → AreTreesOf rules trees → all_counts trees ≡ all_positions rules
 trees_count [] [] a = refl
 trees_count [] (t ∷ ts) a = elim a [ ]
 trees_count (e ∷ es) [] a = elim a [ ]
 trees_count (e ∷ es) (t ∷ ts) a = (λ i. a.0.many i + trees_count es ts a.1 i)
 
-pub trees_next : (rules : List Expression) (trees : List Tree) (marks : List Bool) (o : ℕ) (start : Bool) → AreTrees rules trees → all_tree_next marks o start trees ≡ listed o (all_next marks o start rules)
+-- a rule has no more positions than all rules
+pub rule_within : (rules : List Expression) (i : ℕ) (d : Expression) → i < length rules → positions (get_or rules i d) ≤ all_positions rules
+rule_within [] i d lt = absurd (omega (arith, lt))
+rule_within (e ∷ es) zero d lt = omega arith
+rule_within (e ∷ es) (suc i) d lt = omega (arith, rule_within es i d (omega (arith, lt)))
+
+pub trees_next : (rules : List Expression) (trees : List Tree) (marks : List Bool) (o : ℕ) (start : Bool) → AreTreesOf rules trees → all_tree_next marks o start trees ≡ listed o (all_next marks o start rules)
 trees_next [] [] marks o start a = refl
 trees_next [] (t ∷ ts) marks o start a = elim a [ ]
 trees_next (e ∷ es) [] marks o start a = elim a [ ]
 trees_next (e ∷ es) (t ∷ ts) marks o start a = (λ i. a.0.next marks o start i ++ trees_next es ts marks (o + a.0.many i) start a.1 i) ∙ sym (listed-append o (positions e) (next marks o start e) (all_next marks (o + positions e) start es) (length-next e marks o start))
 
-pub trees_end : (rules : List Expression) (trees : List Tree) (marks : List Bool) (o k : ℕ) → AreTrees rules trees → first_tree_end marks o k trees ≡ first_end marks o k rules
+pub trees_end : (rules : List Expression) (trees : List Tree) (marks : List Bool) (o k : ℕ) → AreTreesOf rules trees → first_tree_end marks o k trees ≡ first_end marks o k rules
 trees_end [] [] marks o k a = refl
 trees_end [] (t ∷ ts) marks o k a = elim a [ ]
 trees_end (e ∷ es) [] marks o k a = elim a [ ]
 trees_end (e ∷ es) (t ∷ ts) marks o k a = (λ i. if a.0.ends marks o false i then Some k else trees_end es ts marks (o + a.0.many i) (k + 1) a.1 i)
 
-counts_append : (t : Tree) (ts : List Tree) → all_counts (ts ++ t ∷ []) ≡ all_counts ts + count t
-counts_append t [] = omega arith
-counts_append t (x ∷ ts) = omega (arith, counts_append t ts)
-
-pub one_more_count : (trees new : List Tree) (t : Tree) (m n : ℕ) → new ≡ trees ++ t ∷ [] → all_counts trees ≡ m → n ≡ m + count t → all_counts new ≡ n
-one_more_count trees new t m n e f g =
-    omega (arith, ap all_counts e, counts_append t trees, f, g)
-
-pub one_more_tree : (rules rest later : List Expression) (e : Expression) (trees new : List Tree) (t : Tree) → rest ≡ e ∷ later → new ≡ trees ++ t ∷ [] → IsTreeOf e t → ((more : List Tree) → AreTrees rest more → AreTrees rules (trees ++ more)) → (more : List Tree) → AreTrees later more → AreTrees rules (new ++ more)
+pub one_more_tree : (rules rest later : List Expression) (e : Expression) (trees new : List Tree) (t : Tree) → rest ≡ e ∷ later → new ≡ trees ++ t ∷ [] → IsTreeOf e t → ((more : List Tree) → AreTreesOf rest more → AreTreesOf rules (trees ++ more)) → (more : List Tree) → AreTreesOf later more → AreTreesOf rules (new ++ more)
 one_more_tree rules rest later e trees new t here is of h more a =
-    subst (AreTrees rules) (sym (ap (λ l. l ++ more) is ∙ append_assoc trees (t ∷ []) more)) (h (t ∷ more) (subst (λ l. AreTrees l (t ∷ more)) (sym here) (of, a)))
+    subst (AreTreesOf rules) (sym (ap (λ l. l ++ more) is ∙ append_assoc trees (t ∷ []) more)) (h (t ∷ more) (subst (λ l. AreTreesOf l (t ∷ more)) (sym here) (of, a)))
 
-pub all_trees : (rules : List Expression) (i : ℕ) (trees : List Tree) → length rules ≤ i → ((more : List Tree) → AreTrees (drop i rules) more → AreTrees rules (trees ++ more)) → AreTrees rules trees
+pub all_trees : (rules : List Expression) (i : ℕ) (trees : List Tree) → length rules ≤ i → ((more : List Tree) → AreTreesOf (drop i rules) more → AreTreesOf rules (trees ++ more)) → AreTreesOf rules trees
 all_trees rules i trees le h =
-    subst (AreTrees rules) (append-nil trees) (h [] (subst (λ l. AreTrees l []) (sym (drop_all i rules le)) tt))
+    subst (AreTreesOf rules) (append-nil trees) (h [] (subst (λ l. AreTreesOf l []) (sym (drop_all i rules le)) tt))

@@ -1,5 +1,5 @@
 -- What holds while the states of an automaton are made. A state is a set of positions, and 0 is the start.
-use Rattle.std.specs.Prelude.{◌≡◌, ◌≢◌, ℕ, ◌+◌, ◌*◌, ◌<◌, ◌≤◌, ◌^◌, ◌⊎◌, Bool, List, [], ◌∷◌, ◌++◌, length, map, filter, slice_index_or}
+use Rattle.std.specs.Prelude.{◌≡◌, ◌≢◌, ℕ, ◌+◌, ◌*◌, ◌<◌, ◌≤◌, ◌⊎◌, Bool, List, [], ◌∷◌, ◌++◌, length, map, filter, slice_index_or}
 use Rattle.std.specs.Prelude.{Option, None, Vec, All, Contains}
 use Rattle.std.specs.declared.alloc.Global.{Global}
 use Rattle.definitions.specs.declared.expression.Expression.{Expression}
@@ -9,7 +9,7 @@ use Rattle.dfa.specs.Marks.{mark, all_holders}
 use Rattle.dfa.specs.Sets.{IsSetOf}
 use Rattle.dfa.specs.Table.{part, IsAscending, IsFirst}
 use Rattle.dfa.specs.declared.tree.Tree.{Tree}
-use Rattle.dfa.specs.Trees.{AreTrees, all_counts}
+use Rattle.dfa.specs.Trees.{AreTreesOf}
 
 -- the sets as lists
 abbrev pub members : List (Vec ℕ Global) → List (List ℕ)
@@ -80,10 +80,9 @@ pub record ArePartsOf (rules : List Expression) (starts : List ℕ) (parts : Lis
   pub cuts : (x : ℕ) → Contains (all_cuts rules) x → Contains starts x
   pub characters : All IsCharacter starts
 
--- the trees of the rules, whose positions can be numbered, and the holders of the parts
+-- the trees of the rules, and the holders of the parts
 pub record AreRules (rules : List Expression) (starts : List ℕ) (trees : List Tree) (parts : List (List ℕ)) : Type 0 where
-  pub trees_are : AreTrees rules trees
-  pub few : all_counts trees < 2 ^ 64
+  pub trees_are : AreTreesOf rules trees
   pub parts_are : ArePartsOf rules starts parts
 
 -- n entries are added to the old ones: the numbers of the sets of the first n parts

@@ -80,11 +80,11 @@ abbrev pub IsOptional : Tree → Tree → Type 0
 IsOptional a t = (p : Address) × (t ≡ Optional' (count a) p a)
 
 -- the trees of a list of rules
-abbrev pub AreTrees : List Expression → List Tree → Type 0
-AreTrees [] [] = Unit {0}
-AreTrees [] (t ∷ ts) = ⊥
-AreTrees (e ∷ es) [] = ⊥
-AreTrees (e ∷ es) (t ∷ ts) = IsTreeOf e t × AreTrees es ts
+abbrev pub AreTreesOf : List Expression → List Tree → Type 0
+AreTreesOf [] [] = Unit {0}
+AreTreesOf [] (t ∷ ts) = ⊥
+AreTreesOf (e ∷ es) [] = ⊥
+AreTreesOf (e ∷ es) (t ∷ ts) = IsTreeOf e t × AreTreesOf es ts
 
 -- `all_counts trees`: how many positions they have, as it is stored
 abbrev pub all_counts : List Tree → ℕ

@@ -6,11 +6,13 @@ ghost use Rattle.dfa.specs.Built.{AreRows, members};
 ghost use Rattle.dfa.specs.Positions.{HasMoreStatesThan};
 ghost use Rattle.dfa.specs.Sets.{AllMade};
 ghost use Rattle.dfa.specs.Table.{IsAscending, IsAutomaton, part};
-ghost use Rattle.dfa.specs.Trees.{AreTrees, all_counts};
+ghost use Rattle.dfa.specs.Marks.{all_positions, unmarked};
+ghost use Rattle.dfa.specs.Trees.{AreTreesOf};
 ghost use Rattle.dfa.specs.declared.build.DfaFault.TheVariants.{TooManyStates};
 
 use crate::Automaton;
 use crate::alphabet::{part_of, starts};
+use crate::positions::blank;
 use crate::states::{States, part_holders};
 use crate::tree::{Tree, tree_of};
 use patterns::Pattern;
@@ -61,22 +63,26 @@ fn ascii_parts(alloc: Global, starts: &[char]) -> Result<Vec<usize>, AllocError>
     Ok(parts)
 }
 
-/// The tree of each rule, all of which are well made. Rules with more positions than can be numbered are refused, as no
-/// memory would hold them.
-fn trees_of(alloc: Global, patterns: &[Pattern]) -> Result<Vec<Tree>, AllocError>
-    ensures trees { IfOk result (λ trees. AreTrees patterns.now trees.items) }
-    ensures few { IfOk result (λ trees. all_counts trees.items < 2 ^ 64) }
+/// A blank mark for each position of the rules, all of which are well made.
+fn blank_marks(alloc: Global, patterns: &[Pattern]) -> Result<Vec<bool>, AllocError>
+    ensures blank { IfOk result (λ marks. marks.items ≡ unmarked (all_positions patterns.now)) }
     ensures made { IfOk result (λ _. AllMade patterns.now) }
 {
-    let mut trees = Vec::new(alloc);
-    let mut count: usize = 0;
+    let mut marks = Vec::new(alloc);
     for pattern in patterns {
-        let tree = tree_of(alloc, pattern.expression())?;
-        let Some(more) = count.checked_add(tree.count()) else {
-            return Err(AllocError);
-        };
-        count = more;
-        trees.push(tree)?;
+        blank(pattern.expression(), &mut marks)?;
+    }
+    Ok(marks)
+}
+
+/// The tree of each rule.
+fn trees_of(alloc: Global, patterns: &[Pattern]) -> Result<Vec<Tree>, AllocError>
+    requires { all_positions patterns.now < 2 ^ 64 }
+    ensures { IfOk result (λ trees. AreTreesOf patterns.now trees.items) }
+{
+    let mut trees = Vec::new(alloc);
+    for pattern in patterns {
+        trees.push(tree_of(alloc, pattern.expression())?)?;
     }
     Ok(trees)
 }
@@ -92,10 +98,11 @@ fn states_of(alloc: Global, patterns: &[Pattern], starts: &[char]) -> Result<Sta
     ensures all { IfOk result (λ s. length (members s.sets.keys) ≤ length s.accepts.items) }
     ensures many { IfErr result (λ e. e ≡ TooManyStates → HasMoreStatesThan patterns.now 4096) }
 {
+    let mut marks = blank_marks(alloc, patterns)?;
     let trees = trees_of(alloc, patterns)?;
     let parts = part_holders(alloc, patterns, starts)?;
     let mut states = States::new(alloc)?;
-    match states.add_rows(alloc, &trees, &parts) {
+    match states.add_rows(alloc, &trees, &parts, &mut marks) {
         Ok(()) => Ok(states),
         Err(e) => Err(e),
     }

@@ -2,10 +2,38 @@
 ghost use Rattle.std.specs.Prelude.{◌≡◌, ◌+◌, ◌<◌, ◌^◌, ◌++◌, length, IfOk};
 ghost use Rattle.definitions.specs.Patterns.{is_member};
 ghost use Rattle.dfa.specs.Positions.{positions};
-ghost use Rattle.dfa.specs.Marks.{holders, literal_holders};
+ghost use Rattle.dfa.specs.Marks.{unmarked, holders, literal_holders};
 
 use definitions::{Expression, Interval};
 use std::alloc::AllocError;
+
+/// Adds a blank mark for each position of the expression.
+pub fn blank(e: &Expression, out: &mut Vec<bool>) -> Result<(), AllocError>
+    ensures { IfOk result (λ _. out.new.items ≡ out.old.items ++ unmarked (positions e.now)) }
+{
+    match e {
+        Expression::Literal(characters) => blank_literal(characters, out),
+        Expression::Class { .. } => {
+            out.push(false)?;
+            Ok(())
+        }
+        Expression::Sequence(a, b) | Expression::Choice(a, b) => {
+            blank(a, out)?;
+            blank(b, out)
+        }
+        Expression::Star(a) | Expression::Plus(a) | Expression::Optional(a) => blank(a, out),
+    }
+}
+
+/// Adds a blank mark for each character of a literal.
+fn blank_literal(characters: &[char], out: &mut Vec<bool>) -> Result<(), AllocError>
+    ensures { IfOk result (λ _. out.new.items ≡ out.old.items ++ unmarked (length characters.now)) }
+{
+    for _c in characters {
+        out.push(false)?;
+    }
+    Ok(())
+}
 
 /// Whether the character lies in one of the intervals.
 fn is_member(intervals: &[Interval], c: char) -> bool

@@ -162,29 +162,6 @@ fn kept(
     }
 }
 
-/// How many positions the trees have.
-fn count_all(trees: &[Tree]) -> usize
-    requires { all_counts trees.now < 2 ^ 64 }
-    ensures { result ≡ all_counts trees.now }
-{
-    let mut count = 0;
-    for tree in trees {
-        count += tree.count();
-    }
-    count
-}
-
-/// So many blank marks.
-fn blank(alloc: Global, count: usize) -> Result<Vec<bool>, AllocError>
-    ensures { IfOk result (λ marks. marks.items ≡ unmarked count) }
-{
-    let mut marks = Vec::new(alloc);
-    for _i in 0..count {
-        marks.push(false)?;
-    }
-    Ok(marks)
-}
-
 /// Writes the value at each of the positions: so blank marks become those of the positions, or blank again.
 fn write(marks: &mut Vec<bool>, positions: &[usize], value: bool)
     requires within { (k : ℕ) → k < length positions.now
@@ -333,17 +310,20 @@ impl States {
         Ok(())
     }
 
-    /// Adds the rows of all states, and of those that come with them.
+    /// Adds the rows of all states, and of those that come with them. The marks, one for each position, are blank.
     pub fn add_rows(
         &mut self,
         alloc: Global,
         trees: &[Tree],
         parts: &[Holders],
+        marks: &mut Vec<bool>,
     ) -> Result<(), DfaFault>
         requires rules { (rules : List Expression) × (starts : List ℕ)
             × AreRules rules starts trees.now parts.now
             × AreRows rules starts (members self.old.sets.keys) self.old.next.items
             self.old.accepts.items }
+        requires blank { AreBlank marks.old.items }
+        requires all { length marks.old.items ≡ all_counts trees.now }
         ensures rows { IfOk result (λ _. (rules : List Expression) (starts : List ℕ)
             → AreRules rules starts trees.now parts.now
             → AreRows rules starts (members self.old.sets.keys) self.old.next.items
@@ -359,9 +339,8 @@ impl States {
             self.old.accepts.items
             → HasMoreStatesThan rules 4096) }
     {
-        let mut marks = blank(alloc, count_all(trees))?;
         'rows: while self.accepts.len() < self.sets.len() {
-            match self.add_row(alloc, trees, parts, &mut marks) {
+            match self.add_row(alloc, trees, parts, marks) {
                 Ok(()) => {}
                 Err(e) => return Err(e),
             }

@@ -2,6 +2,7 @@
 ghost use Rattle.std.specs.Prelude.{◌≡◌, ◌+◌, ◌-◌, ◌<◌, ◌≤◌, ◌^◌, ◌++◌, length, IfOk};
 ghost use Rattle.definitions.specs.Spelling.{IsWellMade};
 ghost use Rattle.dfa.specs.Marks.{mark, marks_of};
+ghost use Rattle.dfa.specs.Positions.{positions};
 ghost use Rattle.dfa.specs.Sets.{AreMarksOf, Rises};
 ghost use Rattle.dfa.specs.Trees.{any_mark, count, IsCounted, IsJoined, IsLiteralTree, IsOptional, IsPlus, IsTreeOf, tree_ends, tree_next};
 
@@ -179,17 +180,14 @@ fn literal_tree(alloc: Global, characters: &[char]) -> Result<Tree, AllocError>
     ))
 }
 
-/// Puts a part after the tree, as `Tree::join` does. Parts with more positions than can be numbered are refused, as no
-/// memory would hold them.
+/// Puts a part after the tree, as `Tree::join` does.
 #[inline(never)]
 fn grow(alloc: Global, tree: &mut Tree, is_choice: bool, last: &mut Tree) -> Result<(), AllocError>
+    requires fits { count tree.old + count last.old < 2 ^ 64 }
     requires counted { IsCounted tree.old }
     requires last_counted { IsCounted last.old }
     ensures { IfOk result (λ _. IsJoined is_choice tree.old last.old tree.new) }
 {
-    if tree.count().checked_add(last.count()).is_none() {
-        return Err(AllocError);
-    }
     tree.join(alloc, is_choice, mem::replace(last, Tree::Position))
 }
 
@@ -227,7 +225,8 @@ fn put_literal(alloc: Global, characters: &[char], tree: &mut Tree) -> Result<()
 ///
 /// It needs little of the stack: sequences and choices are nested to the left, as deep as they are long.
 fn put(alloc: Global, e: &Expression, tree: &mut Tree) -> Result<(), AllocError>
-    requires { IsWellMade e.now }
+    requires made { IsWellMade e.now }
+    requires few { positions e.now < 2 ^ 64 }
     ensures { IfOk result (λ _. IsTreeOf e.now tree.new) }
 {
     match e {
@@ -266,7 +265,8 @@ fn put(alloc: Global, e: &Expression, tree: &mut Tree) -> Result<(), AllocError>
 
 /// The tree of a rule.
 pub fn tree_of(alloc: Global, e: &Expression) -> Result<Tree, AllocError>
-    requires { IsWellMade e.now }
+    requires made { IsWellMade e.now }
+    requires few { positions e.now < 2 ^ 64 }
     ensures { IfOk result (IsTreeOf e.now) }
 {
     let mut tree = Tree::Position;

@@ -1,9 +1,14 @@
-use Rattle.std.proofs.Common.{◌+◌, drop, sym, subst, rules}
-use Rattle.definitions.specs.Spelling.{IsWellMade}
-use Rattle.dfa.proofs.JoinedLists.{all_made}
+use Rattle.std.proofs.Common.{◌≡◌, ◌+◌, ◌∙◌, ap, arith, drop, get_or}
+use Rattle.dfa.specs.Positions.{positions}
 use Rattle.dfa.proofs.Loops.{at_element}
-use Rattle.dfa.proofs.Trees.{all_trees, one_more_count, one_more_tree}
+use Rattle.dfa.proofs.Trees.{all_trees, one_more_tree, rule_within}
 use Rattle.dfa.proofs.build.trees_of.Goals as goal
+
+pub tree_of-requires-clause-few : goal.tree_of-requires-clause-few
+tree_of-requires-clause-few c =
+    let within = rule_within c.args.patterns.now c.loop-pattern.pattern-index c.pattern-item.result c.loop-pattern-test.true in
+    let here : positions c.expression.result.now ≡ positions (get_or c.args.patterns.now c.loop-pattern.pattern-index c.pattern-item.result) = ap positions (c.expression.ensures.value ∙ c.pattern-item.is) in
+    omega (arith, c.requires, within, here)
 
 pub loop-pattern-preserved : goal.loop-pattern-preserved
 loop-pattern-preserved c =
@@ -11,14 +16,8 @@ loop-pattern-preserved c =
     let i = c.loop-pattern.pattern-index in
     let x = c.pattern-item.result in
     let e = c.expression.result.now in
-    let trees = c.loop-pattern.trees.items in
     let here = at_element patterns i x e c.expression.ensures.value c.loop-pattern-test.true c.pattern-item.is in
-    record {
-      trees = one_more_tree patterns (drop i patterns) (drop (i + 1) patterns) e trees c.push.new.self.items c.in_ok-tree.tree here c.in_ok-push.ensures.items c.in_ok-tree.ensures c.loop-pattern.invariant.trees;
-      count = one_more_count trees c.push.new.self.items c.in_ok-tree.tree c.loop-pattern.count c.in-Some.more c.in_ok-push.ensures.items c.loop-pattern.invariant.count (search rules);
-      few = search rules;
-      made = λ h. c.loop-pattern.invariant.made (all_made patterns i x c.loop-pattern-test.true (sym c.pattern-item.is) (subst IsWellMade c.expression.ensures.value c.expression.ensures.well_made) h);
-    }
+    one_more_tree patterns (drop i patterns) (drop (i + 1) patterns) e c.loop-pattern.trees.items c.push.new.self.items c.in_ok-tree_of.field-0 here c.in_ok-push.ensures.items c.in_ok-tree_of.ensures c.loop-pattern.invariant
 
-pub returns-clause-trees : goal.returns-clause-trees
-returns-clause-trees c = all_trees c.args.patterns.now c.loop-pattern.pattern-index c.loop-pattern.trees.items c.loop-pattern-test.false c.loop-pattern.invariant.trees
+pub returns : goal.returns
+returns c = all_trees c.args.patterns.now c.loop-pattern.pattern-index c.loop-pattern.trees.items c.loop-pattern-test.false c.loop-pattern.invariant

@@ -1,22 +1,11 @@
-use Rattle.std.proofs.Common.{ℕ, ◌-◌, ◌<◌, Bool, List, ap, ◌∙◌, Vec, Global, length, arith}
+use Rattle.std.proofs.Common.{ℕ, ◌-◌, ◌<◌, ◌∙◌, Vec, Global, length, arith}
 use Rattle.std.proofs.lemmas.List.{length-map}
-use Rattle.dfa.specs.Marks.{mark}
-use Rattle.dfa.proofs.MarkedSets.{length-unmarked, no_mark}
 use Rattle.dfa.specs.Built.{members}
 use Rattle.dfa.proofs.StateCount.{many_states}
 use Rattle.dfa.proofs.states.States.add_rows.Goals as goal
 
 pub returns-in-Err-clause-many : goal.returns-in-Err-clause-many
 returns-in-Err-clause-many c = λ e rules starts a r. many_states rules (members c.add_row.new.self.sets.keys) (c.in-Err.ensures.states rules starts a (c.rows.invariant.rows rules starts a r).states) (c.in-Err.ensures.many e)
-
-pub rows-init : goal.rows-init
-rows-init c =
-    let count = c.count_all.result in
-    record {
-      rows = λ rules starts a r. r;
-      blank = λ p. ap (λ (m : List Bool). mark m p) c.in_ok-marks.ensures ∙ no_mark count p;
-      all = ap length c.in_ok-marks.ensures ∙ length-unmarked count ∙ c.count_all.ensures;
-    }
 
 pub add_row-requires-clause-rules : goal.add_row-requires-clause-rules
 add_row-requires-clause-rules c =

@@ -1,0 +1,10 @@
+use Rattle.std.proofs.Common.{◌≡◌, ◌++◌, drop}
+use Rattle.dfa.specs.Marks.{all_positions, unmarked}
+use Rattle.dfa.specs.Sets.{AllMade}
+use Rattle.dfa.proofs.build.blank_marks.Given as goal
+
+abbrev pub invariant-loop-pattern : goal.invariant-loop-pattern
+invariant-loop-pattern l = record {
+  blank : l.marks.items ++ unmarked (all_positions (drop l.pattern-index l.patterns)) ≡ unmarked (all_positions l.patterns);
+  made : AllMade (drop l.pattern-index l.patterns) → AllMade l.patterns;
+}
