@@ -271,6 +271,38 @@ fn compacting_keeps_the_trees_of_the_roots(rt: HostRuntime) {
     check_compaction(&rt, rt.alloc(), &mut store, nodes);
 }
 
+/// Compacts a store to two trees that share no node, with nodes of no tree before, between and after theirs. One of their nodes
+/// has a production that takes more than 16 bits. The nodes keep their order.
+fn check_compaction_in_place(rt: &impl Abort, alloc: Global, store: &mut Store) {
+    let _before = store.branch(alloc, 4, &[PLUS], 1).expect(rt, "memory");
+    let [_, _, _, whole] = sum(rt, alloc, store);
+    let _between = store.branch(alloc, 4, &[PLUS], 2).expect(rt, "memory");
+    assert!(rt; whole.index < store.len());
+    let wide = store
+        .branch(alloc, 70_000, &[PLUS, Child::Node(whole)], 7)
+        .expect(rt, "memory");
+    let other = store.branch(alloc, 2, &[NUMBER], 8).expect(rt, "memory");
+    let _after = store.branch(alloc, 4, &[PLUS], 9).expect(rt, "memory");
+    assert!(rt; wide.index < store.len());
+    assert!(rt; other.index < store.len());
+    let mut roots = [other, wide];
+    store.compact(alloc, &mut roots).expect(rt, "memory");
+    let [first, left, second, whole, wide, other] = [0, 1, 2, 3, 4, 5].map(|index| NodeId {
+        index,
+    });
+    assert!(rt; (store.len(), roots) == (6, [other, wide]));
+    check_nodes(rt, store, [first, left, second, whole]);
+    assert!(rt; label(rt, store, wide) == (70_000, 7, 4, 5));
+    assert!(rt; first_two(store, wide) == (Some(PLUS), Some(Child::Node(whole))));
+    assert!(rt; label(rt, store, other) == (2, 8, 1, 1));
+}
+
+#[test]
+fn compacting_in_place_keeps_the_order(rt: HostRuntime) {
+    let mut store = Store::new(rt.alloc());
+    check_compaction_in_place(&rt, rt.alloc(), &mut store);
+}
+
 /// Compacts a store to a node over nine times the same, or fails to and leaves all as it was.
 fn check_refused_compaction(rt: &impl Abort, alloc: Global, store: &mut Store, whole: NodeId) {
     assert!(rt; whole.index < store.len());

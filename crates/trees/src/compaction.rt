@@ -1,13 +1,17 @@
 //! Compaction: a store keeps the nodes of some trees alone.
 
-ghost use Rattle.std.specs.Prelude.{◌≡◌, ◌+◌, ◌<◌, ◌≤◌, length, drop, take, IfOk, OnOk, OnErr};
+ghost use Rattle.std.specs.Prelude.{◌≡◌, ◌+◌, ◌<◌, ◌≤◌, true, false, length, drop, min, take, IfOk, OnOk, OnErr};
 ghost use Rattle.definitions.specs.Nodes.{branches};
 ghost use Rattle.definitions.specs.TreeEdits.{plain};
-ghost use Rattle.trees.specs.Cells.{AreBelow, IsStore, KeepsTrees, all_trees, cell_of, tree};
-ghost use Rattle.trees.specs.Compaction.{nodes, sizes};
+ghost use Rattle.trees.specs.Cells.{AreBelow, IsStore, KeepsTrees, all_trees, cell_of, most, tree};
+ghost use Rattle.trees.specs.Compaction.{nodes, sizes, IsCompacted};
 
+use crate::slide::{marked, ranks, rename_roots, slide};
 use crate::store::{Child, NodeId, Store};
 use std::alloc::{AllocError, Global};
+
+/// The greatest length of a store that is compacted in place: its names have 32 bits.
+const GREATEST_LEN: usize = 4_294_967_295;
 
 impl Store {
     /// Keeps the nodes of the trees of these roots alone, and renames the roots. No other id means anything then. A node that
@@ -22,11 +26,47 @@ impl Store {
         ensures sizes { OnOk result (length self.new ≡ sizes self.old (nodes roots.old)) }
         ensures err { OnErr result ((self.new ≡ self.old) × (roots.new ≡ roots.old)) }
     {
-        let mut store = Store::new(alloc);
-        let names = store.copies(alloc, self, roots)?;
-        roots.copy_from_slice(&names);
-        *self = store;
+        if !self.keep_in_place(alloc, roots)? {
+            let mut store = Store::new(alloc);
+            let names = store.copies(alloc, self, roots)?;
+            roots.copy_from_slice(&names);
+            *self = store;
+        }
         Ok(())
+    }
+
+    /// Does so in place, where each node stands in one place alone, and returns whether it did.
+    fn keep_in_place(&mut self, alloc: Global, roots: &mut [NodeId]) -> Result<bool, AllocError>
+        requires { AreBelow (length self.old) (nodes roots.old) }
+        ensures done { IfOk result (λ done. done ≡ true
+            → IsCompacted self.old (nodes roots.old) self.new (nodes roots.new)) }
+        ensures kept { IfOk result (λ done. done ≡ false
+            → (self.new ≡ self.old) × (roots.new ≡ roots.old)) }
+        ensures err { OnErr result ((self.new ≡ self.old) × (roots.new ≡ roots.old)) }
+    {
+        if self.len() > GREATEST_LEN {
+            return Ok(false);
+        }
+        let marks = marked(alloc, &self.nodes, roots)?;
+        let (ranks, count) = ranks(alloc, &marks)?;
+        if count as u64 != self.branches(roots) {
+            return Ok(false);
+        }
+        slide(&mut self.nodes, &marks, &ranks);
+        rename_roots(roots, &ranks);
+        Ok(true)
+    }
+
+    /// How many branches the trees of these nodes have, or 18,446,744,073,709,551,615 where they have more.
+    fn branches(&self, roots: &[NodeId]) -> u64
+        requires { AreBelow (length self.now) (nodes roots.now) }
+        ensures { result ≡ min most (sizes self.now (nodes roots.now)) }
+    {
+        let mut branches = 0u64;
+        for root in roots {
+            branches = branches.saturating_add(self.size(*root));
+        }
+        branches
     }
 
     /// Adds the trees of these nodes of another store, and returns their names here.

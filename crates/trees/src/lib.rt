@@ -8,7 +8,7 @@
 //! Words: a `Child` is a token's kind or a `NodeId`; `born` is the number of the edit that made a node.
 //!
 //! Limits: `tokens` and `size` saturate at the greatest `u64`; otherwise memory is the only limit. `branch` costs the
-//! number of children, and `compact` the number of live nodes.
+//! number of children, and `compact` the number of nodes.
 //!
 //! ```
 //! let mut store = Store::new(alloc);
@@ -26,6 +26,7 @@ mod compaction;
 mod kinds;
 pub mod laws;
 mod node;
+mod slide;
 mod store;
 
 pub use children::Children;

@@ -1,12 +1,14 @@
 //! Nodes in little room: 16 bits for the production, and 32 for each other number and each child, where they fit.
 
-ghost use Rattle.std.specs.Prelude.{◌≡◌, ◌<◌, ◌^◌, length, map, slice_get, IfOk, IfSome, IsSome};
+ghost use Rattle.std.specs.Prelude.{◌≡◌, ◌<◌, ◌≤◌, ◌^◌, ℕ, length, map, slice_get, slice_index_or, IfOk, IfSome, IsSome};
 ghost use Rattle.std.specs.List.{All};
+ghost use Rattle.trees.specs.Cells.{AreBelow};
 ghost use Rattle.trees.specs.Forms.{cell_in, IsNarrow};
 ghost use Rattle.trees.specs.Packing.{unpack, HasNumber};
+ghost use Rattle.trees.specs.Slides.{renamed};
 
 use crate::children::{Children, pack, unpack};
-use crate::store::Child;
+use crate::store::{Child, NodeId};
 use smallvec::SmallVec;
 use std::alloc::{AllocError, Global};
 use std::marker::Model;
@@ -141,6 +143,50 @@ impl Node {
         match &self.form {
             Form::Narrow { children, .. } => children.get(k).map(|number| unpack(*number)),
             Form::Wide(wide) => wide.children.get(k).copied(),
+        }
+    }
+
+    /// Gives each child that is a node the name at its index.
+    pub fn rename(&mut self, names: &[u32])
+        requires below { AreBelow (length names.now) self.old.children }
+        requires lower { (i : ℕ) → slice_index_or names.now i 0 ≤ i }
+        ensures { self.new ≡ record {
+          production = self.old.production;
+          born = self.old.born;
+          tokens = self.old.tokens;
+          size = self.old.size;
+          children = map (renamed names.now) self.old.children;
+        } }
+    {
+        match &mut self.form {
+            Form::Narrow { children, .. } => rename_numbers(children.as_mut_slice(), names),
+            Form::Wide(wide) => rename_children(&mut wide.children, names),
+        }
+    }
+}
+
+/// Gives each of these packed children that is a node the name at its index.
+fn rename_numbers(numbers: &mut [u32], names: &[u32])
+    requires below { AreBelow (length names.now) (map unpack numbers.old) }
+    requires lower { (i : ℕ) → slice_index_or names.now i 0 ≤ i }
+    ensures { map unpack numbers.new ≡ map (renamed names.now) (map unpack numbers.old) }
+{
+    for number in numbers.iter_mut() {
+        if let Child::Node(id) = unpack(*number) {
+            *number = names[id.index];
+        }
+    }
+}
+
+/// Gives each of these children that is a node the name at its index.
+fn rename_children(children: &mut [Child], names: &[u32])
+    requires { AreBelow (length names.now) children.old }
+    ensures { children.new ≡ map (renamed names.now) children.old }
+{
+    for child in children.iter_mut() {
+        if let Child::Node(id) = *child {
+            let index = names[id.index] as usize;
+            *child = Child::Node(NodeId { index });
         }
     }
 }

@@ -34,7 +34,7 @@ pub enum Child {
 /// [`branch`](Store::branch) and [`compact`](Store::compact) take memory.
 #[derive(Drop)]
 pub struct Store {
-    nodes: Vec<Node>,
+    pub(crate) nodes: Vec<Node>,
 }
 
 impl Model for Store {

@@ -1,0 +1,15 @@
+use Rattle.std.proofs.Common.{◌≡◌, ◌≤◌, List, length}
+use Rattle.trees.specs.declared.store.Child.{Child}
+use Rattle.trees.specs.Slides.{IsClosedFrom, AreMarked}
+use Rattle.trees.proofs.slide.mark_below.Given as goal
+
+abbrev pub invariant-loop-i : goal.invariant-loop-i
+invariant-loop-i l = record {
+  within : l.i ≤ length l.fn.stored;
+  long : length l.marks ≡ length l.fn.stored;
+  kept : (children : List Child) → AreMarked l.fn.marks children → AreMarked l.marks children;
+  closed : IsClosedFrom l.i l.fn.stored l.marks;
+}
+
+abbrev pub decreases-loop-i : goal.decreases-loop-i
+decreases-loop-i l = l.i

@@ -1,0 +1,23 @@
+use Rattle.std.proofs.Common.{◌+◌, set, sym, subst}
+use Rattle.trees.proofs.Slides.{IsSlidTo, slid_skip, slid_step, swapped_below}
+use Rattle.trees.proofs.slide.slide.Goals.{then-marks-i, else-marks-i}
+use Rattle.trees.proofs.slide.slide.Goals as goal
+
+pub rename-requires-clause-below : goal.rename-requires-clause-below
+rename-requires-clause-below c = swapped_below c.args.stored.now.items c.args.marks.now c.args.ranks.now c.loop-i.i c.loop-i.stored.items c.loop-i.next c.swap.new.self.items c.index_mut.result.now c.requires.store c.requires.long c.requires.ranks c.if-marks-i.true c.loop-i.invariant.slid c.swap.ensures.by_index c.index_mut.ensures.value
+
+pub loop-i-preserved : goal.loop-i-preserved
+loop-i-preserved c =
+    let old = c.args.stored.now.items in
+    let marks = c.args.marks.now in
+    let ranks = c.args.ranks.now in
+    let i = c.loop-i.i in
+    elim c.if-marks-i.branch [
+      | then-marks-i w ↦
+          let swapped = w.swap.new.self.items in
+          let next = c.loop-i.next in
+          let step = slid_step old marks ranks i c.loop-i.stored.items next swapped w.index_mut.result.now w.rename.new.self c.requires.store c.requires.long c.requires.closed c.requires.ranks w.if-marks-i.true c.loop-i.invariant.slid w.swap.ensures.by_index w.index_mut.ensures.value w.rename.ensures in
+          record { slid = subst (λ v. IsSlidTo old marks ranks (i + 1) v.items c.if-marks-i.next) (sym w.stored-is) (subst (IsSlidTo old marks ranks (i + 1) (set swapped next w.rename.new.self)) (sym w.next-is) step) }
+      | else-marks-i w ↦
+          record { slid = subst (λ v. IsSlidTo old marks ranks (i + 1) v.items c.if-marks-i.next) (sym w.stored-is) (subst (λ n. IsSlidTo old marks ranks (i + 1) c.loop-i.stored.items n) (sym w.next-is) (slid_skip old marks ranks i c.loop-i.stored.items c.loop-i.next c.loop-i-test.true w.if-marks-i.false c.loop-i.invariant.slid)) }
+    ]
