@@ -1,12 +1,13 @@
 -- Tests on numbers, and numbers as lists give them.
-use Rattle.std.proofs.Common.{◌≡◌, ℕ, zero, suc, ◌+◌, ◌*◌, ◌<◌, ◌≤◌, true, nat_le, List, length, slice_index_or, Option, Some, IfSome, arith, ap, ◌∙◌, refl}
+use Rattle.std.proofs.Common.{◌≡◌, ℕ, zero, suc, ◌+◌, ◌*◌, ◌<◌, ◌≤◌, true, nat_le, List, length, slice_index_or, Option, Some, IfSome, arith, sym, refl}
 use Rattle.std.proofs.lemmas.List.{get_or_default}
 use Rattle.std.proofs.lemmas.Bool.Decides.{nat_tests}
 use Rattle.std.proofs.lemmas.List.Sums.{prefix_len-le-length}
 use Rattle.std.proofs.lemmas.Nat.{mul-add-lt}
 use Rattle.std.proofs.Math.Nat.{mul_comm}
-use Rattle.dfa.specs.Stored.{table_of}
-use Rattle.dfa.specs.Table.{IsAscending, IsTable, numbered, part}
+use Rattle.dfa.specs.declared.automaton.State.{State}
+use Rattle.dfa.specs.Stored.{table_of, IsState}
+use Rattle.dfa.specs.Table.{IsAscending, IsTable, follower, numbered, part}
 
 -- what is at or below c comes before what is not
 pub le_trans_test : (xs : List ℕ) (c : ℕ) → IsAscending xs → (i j : ℕ) (d : ℕ) → i ≤ j → j < length xs → nat_le (slice_index_or xs j d) c ≡ true → nat_le (slice_index_or xs i d) c ≡ true
@@ -26,9 +27,16 @@ numbered_some zero h = absurd (omega arith)
 numbered_some (suc n) h = refl
 
 -- the place of an entry lies in the table
-pub entry_within : (starts next : List ℕ) (accepts : List (Option ℕ)) → IsTable (table_of starts next accepts) → (s n p c : ℕ) → s < length accepts → n ≡ length starts → p ≡ part starts c → s * (n + 1) + p < length next
-entry_within starts next accepts t s n p c lt e f =
+pub entry_within : (starts next : List ℕ) (accepts : List (Option ℕ)) → IsTable (table_of starts next accepts) → (s : State) (p c : ℕ) → IsState (table_of starts next accepts) s → p ≡ part starts c → s.row + p < length next
+entry_within starts next accepts t s p c h f =
     let b = prefix_len-le-length (λ x. nat_le x c) starts in
-    let w : length starts + 1 ≡ n + 1 = omega (arith, e) in
-    let many : length next ≡ length accepts * (n + 1) = t.filled ∙ ap (λ x. length accepts * x) w in
-    omega (arith, mul-add-lt s (n + 1) p (length accepts) lt (omega (arith, b, e, f)), mul_comm (n + 1) (length accepts), many)
+    omega (arith, mul-add-lt s.number (length starts + 1) p (length accepts) h.inside (omega (arith, b, f)), mul_comm (length starts + 1) (length accepts), t.filled, h.row)
+
+-- what is read of a state's row
+pub entry_is : (starts next : List ℕ) (accepts : List (Option ℕ)) (s : State) (p c : ℕ) → IsState (table_of starts next accepts) s → p ≡ part starts c → follower (table_of starts next accepts) s.number c ≡ numbered (slice_index_or next (s.row + p) 0)
+entry_is starts next accepts s p c h f = λ i. numbered (slice_index_or next (sym h.row i + sym f i) 0)
+
+-- where a row begins
+pub row_within : (starts next : List ℕ) (accepts : List (Option ℕ)) → IsTable (table_of starts next accepts) → (n : ℕ) → n < length accepts → n * (length starts + 1) ≤ length next
+row_within starts next accepts t n l =
+    omega (arith, mul-add-lt n (length starts + 1) 0 (length accepts) l (omega arith), mul_comm (length starts + 1) (length accepts), t.filled)

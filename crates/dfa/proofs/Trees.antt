@@ -177,10 +177,9 @@ choice_tree p q e x y d f a b t is k l g h j =
     subst (λ z. IsTreeOf z t) (sym is) (record { many = r.many; counted = r.counted; ends = r.ends; next = r.next })
 
 -- nothing is added for a part that is passed over
-pub none_added : (t : Tree) (marks : List Bool) (o n : ℕ) (start met : Bool) (out : List ℕ) → start ≡ false → met ≡ any_mark marks o n → met ≡ false → n ≡ count t → IsCounted t → out ≡ out ++ tree_next marks o start t
-none_added t marks o n start met out s is m many k =
-    let none : any_mark marks o (count t) ≡ false = ap (any_mark marks o) (sym many) ∙ sym is ∙ m in
-    sym (ap (λ x. out ++ tree_next marks o x t) s ∙ ap (λ l. out ++ l) (no_next t marks o k none) ∙ append-nil out)
+pub none_added : (t : Tree) (marks : List Bool) (o : ℕ) (start : Bool) (out : List ℕ) → (start ≡ false) × (any_mark marks o (count t) ≡ false) → IsCounted t → out ≡ out ++ tree_next marks o start t
+none_added t marks o start out apart k =
+    sym (ap (λ x. out ++ tree_next marks o x t) apart.0 ∙ ap (λ l. out ++ l) (no_next t marks o k apart.1) ∙ append-nil out)
 
 -- the trees of a list of rules
 pub trees_counted : (rules : List Expression) (trees : List Tree) → AreTreesOf rules trees → All IsCounted trees

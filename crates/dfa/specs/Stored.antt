@@ -1,6 +1,7 @@
 -- How an automaton is stored.
-use Rattle.std.specs.Prelude.{◌≡◌, ℕ, ◌<◌, List, length, slice_index_or, Option}
-use Rattle.dfa.specs.Table.{Table, IsTable, part}
+use Rattle.std.specs.Prelude.{◌≡◌, ℕ, ◌*◌, ◌<◌, List, length, slice_index_or, Option, None}
+use Rattle.dfa.specs.Table.{Table, IsTable, part, width}
+use Rattle.dfa.specs.declared.automaton.State.{State}
 
 abbrev pub table_of : List ℕ → List ℕ → List (Option ℕ) → Table
 table_of starts next accepts = record { starts = starts; next = next; accepts = accepts }
@@ -10,3 +11,9 @@ pub record IsStored (starts ascii next : List ℕ) (accepts : List (Option ℕ))
   pub table : IsTable (table_of starts next accepts)
   pub full : length ascii ≡ 128
   pub parts : (c : ℕ) → c < 128 → slice_index_or ascii c 0 ≡ part starts c
+
+-- a state of the table, with the place of its row and its rule
+pub record IsState (table : Table) (s : State) : Type 0 where
+  pub inside : s.number < length table.accepts
+  pub row : s.row ≡ s.number * width table
+  pub rule : s.rule ≡ slice_index_or table.accepts s.number None

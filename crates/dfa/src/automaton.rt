@@ -3,7 +3,7 @@ ghost use Rattle.std.specs.Prelude.{◌≡◌, ℕ, ◌+◌, ◌-◌, ◌^◌, �
 ghost use Rattle.definitions.specs.declared.expression.Expression.{Expression};
 ghost use Rattle.definitions.specs.Tokens.{IsPiece, IsReach};
 ghost use Rattle.dfa.specs.Table.{part, follower, kind_of, IsAutomaton};
-ghost use Rattle.dfa.specs.Stored.{table_of, IsStored};
+ghost use Rattle.dfa.specs.Stored.{table_of, IsState, IsStored};
 ghost use Rattle.dfa.specs.Windows.{IsWithinReach};
 
 use crate::Source;
@@ -32,6 +32,16 @@ impl Model for Automaton {
     ghost view = { λ a. table_of a.starts.items a.next.items a.accepts.items };
 
     ghost invariant = { λ a. IsStored a.starts.items a.ascii.items a.next.items a.accepts.items };
+}
+
+/// A state, with what is looked up of it where it is entered.
+#[derive(Clone, Copy)]
+struct State {
+    number: usize,
+    /// Where its row begins.
+    row: usize,
+    /// The first rule that has its texts, if one does.
+    rule: Option<usize>,
 }
 
 /// The first token from an offset on.
@@ -76,13 +86,36 @@ impl Automaton {
         }
     }
 
-    /// The next state at the character, if there is one.
-    fn next(&self, state: usize, c: char) -> Option<usize>
-        requires { state < length self.now.accepts }
-        ensures is { result ≡ follower self.now state c }
+    /// The state of this number.
+    fn state(&self, number: usize) -> State
+        requires { number < length self.now.accepts }
+        ensures number { result.number ≡ number }
+        ensures is { IsState self.now result }
+    {
+        State {
+            number,
+            row: number * (self.starts.len() + 1),
+            rule: self.accepts[number],
+        }
+    }
+
+    /// The state before the first character.
+    fn start(&self) -> State
+        ensures number { result.number ≡ 0 }
+        ensures is { IsState self.now result }
+    {
+        // The read opens the invariant.
+        let _accepts = &self.accepts;
+        self.state(0)
+    }
+
+    /// The number of the next state at the character, if there is one.
+    fn next(&self, state: State, c: char) -> Option<usize>
+        requires { IsState self.now state }
+        ensures is { result ≡ follower self.now state.number c }
         ensures inside { IfSome result (λ t. t < length self.now.accepts) }
     {
-        let next = self.next[state * (self.starts.len() + 1) + self.part(c)];
+        let next = self.next[state.row + self.part(c)];
         if next == 0 {
             None
         } else {
@@ -90,22 +123,18 @@ impl Automaton {
         }
     }
 
-    /// The state before the first character.
-    fn start(&self) -> usize
-        ensures is { result ≡ 0 }
-        ensures inside { result < length self.now.accepts }
+    /// The state of this number, where it comes after `state`. Within a long token most characters keep the state. Then nothing
+    /// is looked up, and the processor need not wait for the row of the next state.
+    fn enter(&self, state: State, number: usize) -> State
+        requires inside { number < length self.now.accepts }
+        requires is { IsState self.now state }
+        ensures number { result.number ≡ number }
+        ensures is { IsState self.now result }
     {
-        // The read opens the invariant.
-        let _accepts = &self.accepts;
-        0
-    }
-
-    /// The first rule that has the texts of the state, if one does.
-    fn accepted_rule(&self, state: usize) -> Option<usize>
-        requires { state < length self.now.accepts }
-        ensures { result ≡ slice_index_or self.now.accepts state None }
-    {
-        self.accepts[state]
+        if number == state.number {
+            return state;
+        }
+        self.state(number)
     }
 
     /// The token that starts at the offset `from`: the longest match, of equal lengths the earlier rule. Where nothing
@@ -143,9 +172,9 @@ impl Automaton {
             let Some(next) = self.next(state, c) else {
                 break;
             };
-            state = next;
+            state = self.enter(state, next);
             read += 1;
-            if let Some(k) = self.accepted_rule(state) {
+            if let Some(k) = state.rule {
                 best.rule = Some(k);
                 best.length = read;
             }

@@ -1,5 +1,5 @@
 //! The positions of a rule as a tree of little depth, in which what lies apart from a set of positions is passed over.
-ghost use Rattle.std.specs.Prelude.{◌≡◌, ◌+◌, ◌-◌, ◌<◌, ◌≤◌, ◌^◌, ◌++◌, length, IfOk};
+ghost use Rattle.std.specs.Prelude.{◌≡◌, ◌+◌, ◌-◌, ◌<◌, ◌≤◌, ◌^◌, ◌++◌, true, false, length, IfOk};
 ghost use Rattle.definitions.specs.Spelling.{IsWellMade};
 ghost use Rattle.dfa.specs.Marks.{mark, marks_of};
 ghost use Rattle.dfa.specs.Positions.{positions};
@@ -9,6 +9,10 @@ ghost use Rattle.dfa.specs.Trees.{any_mark, count, IsCounted, IsJoined, IsLitera
 use definitions::Expression;
 use std::alloc::{AllocError, Global};
 use std::mem;
+
+/// The greatest count of positions of a part that is walked through where it might be passed over: looking for one of its
+/// positions in the set takes longer.
+const SMALL: usize = 8;
 
 /// A rule, or a part of one. What it says of characters is left out, and a literal is a sequence of its characters.
 #[derive(Drop)]
@@ -58,6 +62,17 @@ impl Tree {
         }
     }
 
+    /// Whether the part is passed over: nothing begins in it, and the set has none of its positions, which begin at `at`. A
+    /// small part is rather walked through.
+    fn is_apart(&self, set: &[usize], at: usize, start: bool) -> bool
+        requires rises { Rises 0 set.now }
+        requires within { at + count self.now < 2 ^ 64 }
+        ensures { result ≡ true
+            → (start ≡ false) × (any_mark (marks_of set.now) at (count self.now) ≡ false) }
+    {
+        !start && self.count() > SMALL && !meets(set, at, self.count())
+    }
+
     /// Whether what was read can end with a text of this part, whose positions begin at `at`. The set, of which the marks
     /// are, says where the last character that was read can stand, and `start` says that the part can begin after it.
     #[tactic(auto, using(crate::proofs::Trees::no_end, crate::proofs::MarkedSets::same_mark))]
@@ -68,7 +83,7 @@ impl Tree {
         requires within { at + count self.now ≤ length marks.now }
         ensures { result ≡ tree_ends (marks_of set.now) at start self.now }
     {
-        if !start && !meets(set, at, self.count()) {
+        if self.is_apart(set, at, start) {
             return false;
         }
         match self {
@@ -109,7 +124,7 @@ impl Tree {
             ≡ out.old.items ++ tree_next (marks_of set.now) at start self.now) }
         ensures end { IfOk result (λ end. end ≡ tree_ends (marks_of set.now) at start self.now) }
     {
-        if !start && !meets(set, at, self.count()) {
+        if self.is_apart(set, at, start) {
             return Ok(false);
         }
         match self {

@@ -1,4 +1,4 @@
-use Rattle.std.proofs.Common.{arith, rules, ◌≡◌, ◌+◌, ◌-◌, ◌<◌, Some, None, drop, length, length-drop, slice_index_or, subst, sym, ◌∙◌, inl, inr, refl, ap}
+use Rattle.std.proofs.Common.{arith, ◌≡◌, ◌+◌, ◌-◌, ◌<◌, Some, None, drop, length, length-drop, slice_index_or, subst, sym, ◌∙◌, inl, inr, refl, ap}
 use Rattle.std.proofs.lemmas.List.{get_or-drop}
 use Rattle.std.proofs.lemmas.List.Elements.{All-nil}
 use Rattle.definitions.specs.Text.{IsCharacter}
@@ -14,12 +14,12 @@ loop-read-init g c =
     let many : length t ≡ c.len.result - c.args.from = length-drop c.args.from (g.S.Source.text c.args.source.now) ∙ omega arith in
     record {
       in_text = omega arith;
-      in_rows = c.start-state.ensures.inside;
+      state_is = c.start-state.ensures.is;
       before = subst (λ i. g.S.Source.is_before c.args.source.now i c.ahead-ahead.result) (let h : c.args.from ≡ c.args.from + 0 = omega arith in h) c.ahead-ahead.ensures;
       length_in = omega arith;
       nonempty = λ h. omega arith;
       none_at_end = λ h. (refl, omega arith);
-      stands = state_after-none c.args.self.now ∙ ap (λ n. Some n) (sym c.start-state.ensures.is);
+      stands = state_after-none c.args.self.now ∙ ap (λ n. Some n) (sym c.start-state.ensures.number);
       text = All-nil IsCharacter;
       so_far = λ ps a. (λ m p q. absurd (omega arith), best_none ps t c.min.result (omega arith));
     }
@@ -39,48 +39,48 @@ loop-read-preserved g c =
     let lt : c.loop-read.read < length t = omega arith in
     let read : c.next-c.result ≡ slice_index_or t c.loop-read.read 0 = c.next-c.ensures.is ∙ sym (get_or-drop c.args.from (g.S.Source.text c.args.source.now) c.loop-read.read 0) in
     let character : IsCharacter c.next-c.result = IsCharacter-from_scalar c.next-c.result c.next-c.type_inv.1.1 in
-    let next : follower c.args.self.now c.loop-read.state c.next-c.result ≡ Some c.in-Some.next = cc in
-    let accepted_rule : slice_index_or c.args.self.now.accepts c.in-Some.next None ≡ None = cc (c.in_default-accepted_rule.is) in
+    let next : follower c.args.self.now c.loop-read.state.number c.next-c.result ≡ Some c.in-Some.next = cc in
+    let accepted_rule : slice_index_or c.args.self.now.accepts c.in-Some.next None ≡ None = ap (λ n. slice_index_or c.args.self.now.accepts n None) (sym c.enter-state.ensures.number) ∙ sym c.enter-state.ensures.is.rule ∙ c.in_default-rule.is in
     record {
       in_text = omega arith;
-      in_rows = search rules;
+      state_is = c.enter-state.ensures.is;
       before = subst (λ i. g.S.Source.is_before c.args.source.now i c.next-c.new.ahead) (let h : c.args.from + c.loop-read.read + 1 ≡ c.args.from + (c.loop-read.read + 1) = omega arith in h) c.next-c.ensures.moved;
       length_in = c.loop-read.invariant.length_in;
       nonempty = c.loop-read.invariant.nonempty;
       none_at_end = c.loop-read.invariant.none_at_end;
-      stands = more_state c.requires.window.0 _ c.requires.window.1 t c.loop-read.read c.loop-read.state c.next-c.result c.loop-read.invariant.text character lt read c.loop-read.invariant.stands (Some c.in-Some.next) next;
-      text = more_text c.requires.window.0 _ c.requires.window.1 t c.loop-read.read c.loop-read.state c.next-c.result c.loop-read.invariant.text character lt read c.loop-read.invariant.stands;
+      stands = more_state c.requires.window.0 _ c.requires.window.1 t c.loop-read.read c.loop-read.state.number c.next-c.result c.loop-read.invariant.text character lt read c.loop-read.invariant.stands (Some c.in-Some.next) next ∙ ap (λ n. Some n) (sym c.enter-state.ensures.number);
+      text = more_text c.requires.window.0 _ c.requires.window.1 t c.loop-read.read c.loop-read.state.number c.next-c.result c.loop-read.invariant.text character lt read c.loop-read.invariant.stands;
       so_far = λ ps a.
           let old = c.loop-read.invariant.so_far ps a in
           let is = c.loop-read.invariant.stands in (
-            prefixes_more ps t c.loop-read.read old.0 (more_prefix ps _ a t c.loop-read.read c.loop-read.state c.next-c.result c.loop-read.invariant.text character lt read is c.in-Some.next next),
-            best_more_none ps t c.loop-read.read _ _ old.1 (more_first ps _ a t c.loop-read.read c.loop-read.state c.next-c.result c.loop-read.invariant.text character lt read is c.in-Some.next None next accepted_rule),
+            prefixes_more ps t c.loop-read.read old.0 (more_prefix ps _ a t c.loop-read.read c.loop-read.state.number c.next-c.result c.loop-read.invariant.text character lt read is c.in-Some.next next),
+            best_more_none ps t c.loop-read.read _ _ old.1 (more_first ps _ a t c.loop-read.read c.loop-read.state.number c.next-c.result c.loop-read.invariant.text character lt read is c.in-Some.next None next accepted_rule),
           );
     }
 
-pub loop-read-preserved-in-Some-accepted_rule : goal.loop-read-preserved-in-Some-accepted_rule
-loop-read-preserved-in-Some-accepted_rule g c =
+pub loop-read-preserved-in-Some-rule : goal.loop-read-preserved-in-Some-rule
+loop-read-preserved-in-Some-rule g c =
     let t = drop c.args.from (g.S.Source.text c.args.source.now) in
     let many : length t ≡ c.len.result - c.args.from = length-drop c.args.from (g.S.Source.text c.args.source.now) ∙ omega arith in
     let lt : c.loop-read.read < length t = omega arith in
     let read : c.next-c.result ≡ slice_index_or t c.loop-read.read 0 = c.next-c.ensures.is ∙ sym (get_or-drop c.args.from (g.S.Source.text c.args.source.now) c.loop-read.read 0) in
     let character : IsCharacter c.next-c.result = IsCharacter-from_scalar c.next-c.result c.next-c.type_inv.1.1 in
-    let next : follower c.args.self.now c.loop-read.state c.next-c.result ≡ Some c.in-Some.next = cc in
-    let accepted_rule : slice_index_or c.args.self.now.accepts c.in-Some.next None ≡ Some c.in-Some-accepted_rule.k = cc in
+    let next : follower c.args.self.now c.loop-read.state.number c.next-c.result ≡ Some c.in-Some.next = cc in
+    let accepted_rule : slice_index_or c.args.self.now.accepts c.in-Some.next None ≡ Some c.in-Some-rule.k = ap (λ n. slice_index_or c.args.self.now.accepts n None) (sym c.enter-state.ensures.number) ∙ sym c.enter-state.ensures.is.rule ∙ c.in-Some-rule.is in
     record {
       in_text = omega arith;
-      in_rows = search rules;
+      state_is = c.enter-state.ensures.is;
       before = subst (λ i. g.S.Source.is_before c.args.source.now i c.next-c.new.ahead) (let h : c.args.from + c.loop-read.read + 1 ≡ c.args.from + (c.loop-read.read + 1) = omega arith in h) c.next-c.ensures.moved;
       length_in = omega arith;
       nonempty = λ h. omega arith;
       none_at_end = λ h. absurd (omega arith);
-      stands = more_state c.requires.window.0 _ c.requires.window.1 t c.loop-read.read c.loop-read.state c.next-c.result c.loop-read.invariant.text character lt read c.loop-read.invariant.stands (Some c.in-Some.next) next;
-      text = more_text c.requires.window.0 _ c.requires.window.1 t c.loop-read.read c.loop-read.state c.next-c.result c.loop-read.invariant.text character lt read c.loop-read.invariant.stands;
+      stands = more_state c.requires.window.0 _ c.requires.window.1 t c.loop-read.read c.loop-read.state.number c.next-c.result c.loop-read.invariant.text character lt read c.loop-read.invariant.stands (Some c.in-Some.next) next ∙ ap (λ n. Some n) (sym c.enter-state.ensures.number);
+      text = more_text c.requires.window.0 _ c.requires.window.1 t c.loop-read.read c.loop-read.state.number c.next-c.result c.loop-read.invariant.text character lt read c.loop-read.invariant.stands;
       so_far = λ ps a.
           let old = c.loop-read.invariant.so_far ps a in
           let is = c.loop-read.invariant.stands in (
-            prefixes_more ps t c.loop-read.read old.0 (more_prefix ps _ a t c.loop-read.read c.loop-read.state c.next-c.result c.loop-read.invariant.text character lt read is c.in-Some.next next),
-            best_more_some ps t c.loop-read.read c.in-Some-accepted_rule.k (more_first ps _ a t c.loop-read.read c.loop-read.state c.next-c.result c.loop-read.invariant.text character lt read is c.in-Some.next (Some c.in-Some-accepted_rule.k) next accepted_rule),
+            prefixes_more ps t c.loop-read.read old.0 (more_prefix ps _ a t c.loop-read.read c.loop-read.state.number c.next-c.result c.loop-read.invariant.text character lt read is c.in-Some.next next),
+            best_more_some ps t c.loop-read.read c.in-Some-rule.k (more_first ps _ a t c.loop-read.read c.loop-read.state.number c.next-c.result c.loop-read.invariant.text character lt read is c.in-Some.next (Some c.in-Some-rule.k) next accepted_rule),
           );
     }
 
@@ -95,8 +95,8 @@ returns-clause-piece g c = λ ps a some.
           let lt : c.loop-read.read < length t = omega (arith, w.loop-read-test.true) in
           let read : w.next-c.result ≡ slice_index_or t c.loop-read.read 0 = w.next-c.ensures.is ∙ sym (get_or-drop c.args.from (g.S.Source.text c.args.source.now) c.loop-read.read 0) in
           let character : IsCharacter w.next-c.result = IsCharacter-from_scalar w.next-c.result w.next-c.type_inv.1.1 in
-          let next : follower c.args.self.now c.loop-read.state w.next-c.result ≡ None = cc (w.next.ensures.is, w.in_default.is) in
-          inr (lt, more_dead ps _ a t c.loop-read.read c.loop-read.state w.next-c.result c.loop-read.invariant.text character lt read c.loop-read.invariant.stands next)
+          let next : follower c.args.self.now c.loop-read.state.number w.next-c.result ≡ None = cc (w.next.ensures.is, w.in_default.is) in
+          inr (lt, more_dead ps _ a t c.loop-read.read c.loop-read.state.number w.next-c.result c.loop-read.invariant.text character lt read c.loop-read.invariant.stands next)
     ] in
     piece_of ps t c.loop-read.read _ _ old.1 ends (omega arith) (omega arith)
 
@@ -111,7 +111,7 @@ returns-clause-reach g c = λ ps a.
           let lt : c.loop-read.read < length t = omega (arith, w.loop-read-test.true) in
           let read : w.next-c.result ≡ slice_index_or t c.loop-read.read 0 = w.next-c.ensures.is ∙ sym (get_or-drop c.args.from (g.S.Source.text c.args.source.now) c.loop-read.read 0) in
           let character : IsCharacter w.next-c.result = IsCharacter-from_scalar w.next-c.result w.next-c.type_inv.1.1 in
-          let next : follower c.args.self.now c.loop-read.state w.next-c.result ≡ None = cc (w.next.ensures.is, w.in_default.is) in
-          inr (lt, more_dead ps _ a t c.loop-read.read c.loop-read.state w.next-c.result c.loop-read.invariant.text character lt read c.loop-read.invariant.stands next)
+          let next : follower c.args.self.now c.loop-read.state.number w.next-c.result ≡ None = cc (w.next.ensures.is, w.in_default.is) in
+          inr (lt, more_dead ps _ a t c.loop-read.read c.loop-read.state.number w.next-c.result c.loop-read.invariant.text character lt read c.loop-read.invariant.stands next)
     ] in
     reach_of ps t c.loop-read.read old.0 ends
