@@ -1,5 +1,5 @@
 -- A document with pending changes: its text is ahead of its tokens and of its parse.
-use Rattle.std.specs.Prelude.{◌≡◌, ℕ, ◌+◌, ◌≤◌, List, length, Option, Some, None, MatchOption}
+use Rattle.std.specs.Prelude.{◌≡◌, ℕ, ℤ, ◌+◌, ◌≤◌, List, length, Option, Some, None, MatchOption}
 use Rattle.definitions.specs.declared.Edit.{Edit}
 use Rattle.definitions.specs.declared.Unit.{Unit as Encoding}
 use Rattle.definitions.specs.Text.{edit}
@@ -25,6 +25,10 @@ pending_text p = p.doc.text
 -- the unit of the document's positions
 abbrev pub pending_unit : Pending → Encoding
 pending_unit p = p.doc.unit
+
+-- the version that the document has
+abbrev pub pending_version : Pending → ℤ
+pending_version p = p.doc.version
 
 -- `number_or n o`: the number of the edit, or `n` where there is none
 abbrev pub number_or : ℕ → Option Edit → ℕ

@@ -6,7 +6,7 @@ ghost use Rattle.definitions.specs.Text.{changed, edit};
 ghost use Rattle.docs.specs.Docs.{last_edit, open_document, IsCurrent};
 ghost use Rattle.docs.specs.Edits.{number_of};
 ghost use Rattle.docs.specs.Languages.{LanguageData};
-ghost use Rattle.docs.specs.Pending.{HasNone, IsPending, LeadsTo, pending_number, pending_text, pending_unit};
+ghost use Rattle.docs.specs.Pending.{HasNone, IsPending, LeadsTo, pending_number, pending_text, pending_unit, pending_version};
 ghost use Rattle.docs.specs.Texts.{fits};
 ghost use Rattle.docs.specs.declared.doc.DocFault.TheVariants.{Memory};
 
@@ -53,6 +53,7 @@ impl Pending {
     pub fn new(doc: Doc) -> Pending
         ensures text { pending_text result ≡ doc.text }
         ensures unit { pending_unit result ≡ doc.unit }
+        ensures version { pending_version result ≡ doc.version }
         ensures number { pending_number result ≡ number_of (last_edit doc) }
         ensures none { HasNone result }
         ensures fits { fits doc.text ≡ true }
@@ -97,6 +98,7 @@ impl Pending {
         requires { IsPending language.now self.old }
         ensures text { OnOk result (pending_text self.new ≡ pending_text self.old) }
         ensures unit { OnOk result (pending_unit self.new ≡ pending_unit self.old) }
+        ensures version { OnOk result (pending_version self.new ≡ pending_version self.old) }
         ensures number { OnOk result (pending_number self.new ≡ pending_number self.old) }
         ensures none { OnOk result (HasNone self.new) }
         ensures pending { OnOk result (IsPending language.now self.new) }
@@ -133,6 +135,7 @@ impl Pending {
         requires { IsPending language.now self.old }
         ensures text { OnOk result (pending_text self.new ≡ pending_text self.old) }
         ensures unit { OnOk result (pending_unit self.new ≡ pending_unit self.old) }
+        ensures version { OnOk result (pending_version self.new ≡ pending_version self.old) }
         ensures number { OnOk result (pending_number self.new ≡ pending_number self.old) }
         ensures pending { OnOk result (IsPending language.now self.new) }
         ensures refused { OnErr result (¬ HasNone self.old) }
@@ -187,6 +190,7 @@ impl Pending {
             let text = changed (pending_unit old) (pending_text old) range (chars new.now) in
             OnOk result ((pending_text self.new ≡ text) × (fits text ≡ true)) }
         ensures unit { OnOk result (pending_unit self.new ≡ pending_unit self.old) }
+        ensures version { OnOk result (pending_version self.new ≡ pending_version self.old) }
         ensures number { OnOk result
             (pending_number self.new ≡ min (pending_number self.old + 1) 18446744073709551615) }
         ensures pending { OnOk result (IsPending language.now self.new) }
@@ -212,6 +216,7 @@ impl Pending {
         requires { IsPending language.now self }
         ensures text { IfOk result (λ d. d.text ≡ pending_text self) }
         ensures unit { IfOk result (λ d. d.unit ≡ pending_unit self) }
+        ensures version { IfOk result (λ d. d.version ≡ pending_version self) }
         ensures number { IfOk result (λ d. number_of (last_edit d) ≡ pending_number self) }
         ensures current { IfOk result (IsCurrent language.now) }
         ensures refused { IfErr result (λ _. ¬ HasNone self) }
