@@ -40,10 +40,20 @@ def repeated(block):
     return lambda size: block * max(1, size // len(block))
 
 
-def json_text(size):
-    record = '{"name": "Ada", "born": 1815, "tags": ["first", "second", null], "ok": true},\n'.replace("\\\n", "\n")
-    count = max(1, (size - 4) // len(record))
-    return "[\n" + (record * count)[:-2] + "\n]"
+RECORD = '{"name": "Ada", "born": 1815, "tags": ["first", "second", null], "ok": true},\n'
+# Some 4,000 of these make 1 MiB.
+PARTS = ", ".join(f'{{"number": {number}, "of": "parts"}}' for number in range(6))
+WIDE_RECORD = RECORD.replace("Ada", "Ada, Countess of Lovelace").replace("null", PARTS)
+
+
+def json_of(record):
+    """Makes a list of a record as often as it fits."""
+
+    def make(size):
+        count = max(1, (size - 4) // len(record))
+        return "[\n" + (record * count)[:-2] + "\n]"
+
+    return make
 
 
 def one_token(size):
@@ -56,9 +66,10 @@ Text = namedtuple("Text", "grammar make character item mark")
 
 TEXTS = {
     "flat sum": Text("grammars/g0.lr", flat_sum, "1", "1+", "+"),
-    "nested": Text("grammars/g0.lr", nested, " ", None, None),
+    "nested": Text("grammars/g0.lr", nested, " ", "1+", None),
     "lines": Text("bench/lines.lr", repeated("12+34+5+678;\n"), "1", "9;\n", "\n"),
-    "JSON": Text("grammars/json.lr", json_text, " ", "null,\n", "\n"),
+    "JSON": Text("grammars/json.lr", json_of(RECORD), " ", "null,\n", "\n"),
+    "wide JSON": Text("grammars/json.lr", json_of(WIDE_RECORD), " ", "null,\n", "\n"),
     "Lua": Text("grammars/lua.lr", repeated(LUA), " ", None, "\n"),
     "script": Text("grammars/script.lr", repeated(SCRIPT), " ", None, "\n"),
     "one token": Text("grammars/json.lr", one_token, "a", None, None),
@@ -84,6 +95,8 @@ def items(kind, text):
     if kind.item is None:
         return []
     first = 2 if text.startswith("[") else 0
+    if kind.make is nested:
+        return [(place_of(text, 0), "1+"), (place_of(text, len(text) // 2), "1+"), (place_of(text, len(text)), "+1")]
     if kind.item.endswith("\n"):
         last = text.rstrip("\n]").rindex("\n") + 1 if "\n" in text[2:] else first
         offsets = [first, text.index("\n", len(text) // 2) + 1, last]
