@@ -1,5 +1,5 @@
 -- All numbers of the items of a set are in range.
-use Rattle.std.proofs.Common.{◌≡◌, ◌+◌, ◌<◌, ◌⊎◌, ℕ, Bool, true, List, [], ◌∷◌, Option, Some, None, refl, sym, subst, length, All, Contains, ⊎_elim, arith}
+use Rattle.std.proofs.Common.{◌≡◌, ◌<◌, ℕ, Bool, true, List, [], ◌∷◌, Option, Some, None, refl, sym, subst, length, All, Contains, ⊎_elim, arith}
 use Rattle.std.specs.Prelude.{IfSome}
 use Rattle.std.proofs.lemmas.List.Elements.{All-cons, All-head, All-tail, All-drop}
 use Rattle.definitions.specs.declared.Symbol.{Symbol}
@@ -10,7 +10,7 @@ use Rattle.definitions.specs.Trees.{left_of, right_of}
 use Rattle.first_sets.specs.Productions.{Shape, IsSound, IsKnown}
 use Rattle.theory.specs.First.{MayFollow}
 use Rattle.item_sets.specs.Sets.{side, after_dot, IsItem, IsIn, Kernel, Closed}
-use Rattle.item_sets.specs.Worklist.{marked, AreListed, Expands, beginning_of, IsBeginning, AreCalledFor}
+use Rattle.item_sets.specs.Worklist.{marked, AreMarked, CallFor, AreCalledFor, HaveBeginnings}
 use Rattle.first_sets.proofs.Numbers.{has_production}
 use Rattle.item_sets.proofs.WorklistIsRight.{begins_in}
 use Rattle.first_sets.proofs.Columns.{column_there}
@@ -42,15 +42,19 @@ module _ (g : Shape) (sound : IsSound g) where
         let x = in_known h in
         record { production = l; dot = omega arith; look = may_known g sound rest i.look a m (rest_known i x n rest e) x.look }
 
-    -- what has the kernel, and the beginnings of what is called for, has the set
-    pub has_all : (rows : List (List Bool)) (has : Item → Type 0) → All (λ i. AreListed g rows (after_dot g.grammar i) i.look) kernel → ((n k : ℕ) → marked rows n k ≡ true → Expands g rows n k) → ((i : Item) → Contains kernel i → has i) → ((p k : ℕ) → p < length g.grammar.productions → k < g.grammar.rules + 1 → marked rows (left_of g.grammar p) k ≡ true → has (beginning_of p k)) → ((i : Item) → has i → Contains kernel i ⊎ ((p : ℕ) × (p < length g.grammar.productions) × IsBeginning rows (left_of g.grammar p) p i)) → {i : Item} → IsIn g.grammar kernel i → has i
-    has_all rows has entered closed kept added only (Kernel {i = i} c) = kept i c
-    has_all rows has entered closed kept added only (Closed {i = i} n rest p a h e l s m) =
-        let x = in_known h in
-        let k = column_there g.grammar.rules a (may_known g sound rest i.look a m (rest_known i x n rest e) x.look) in
-        let asks : AreListed g rows (after_dot g.grammar i) i.look = ⊎_elim (λ c. subst (λ j. AreListed g rows (after_dot g.grammar j) j.look) c.2 (entered c.0 i c.1)) (λ b. subst (λ j. AreListed g rows (after_dot g.grammar j) j.look) b.2.2 (closed (left_of g.grammar b.0) b.2.0 b.2.1 b.0 b.1 refl)) (only i (has_all rows has entered closed kept added only h)) in
-        let on : marked rows n k.0 ≡ true = asks n k.0 rest e k.1 (subst (λ y. MayFollow g.grammar rest i.look y) (sym k.2) m) in
-        subst (λ y. has (record { production = Some p; dot = 0; look = y })) k.2 (added p k.0 l k.1 (subst (λ y. marked rows y k.0 ≡ true) (sym s) on))
+    module _ (rows : List (List Bool)) (called : AreCalledFor g kernel rows) (all : List Item) (h : HaveBeginnings g kernel rows all) where
+      -- each item is in the closure
+      pub only_in : (i : Item) → Contains all i → IsIn g.grammar kernel i
+      only_in i c = ⊎_elim (λ k. Kernel k) (λ b. subst (IsIn g.grammar kernel) b.2.2 (begins_in g.grammar kernel rows called.only (left_of g.grammar b.0) b.2.0 b.2.1 b.0 b.1 refl)) (h.only i c)
 
-    pub only_in : (rows : List (List Bool)) → AreCalledFor g.grammar kernel rows → (i : Item) → Contains kernel i ⊎ ((p : ℕ) × (p < length g.grammar.productions) × IsBeginning rows (left_of g.grammar p) p i) → IsIn g.grammar kernel i
-    only_in rows w i h = ⊎_elim (λ c. Kernel c) (λ b. subst (IsIn g.grammar kernel) b.2.2 (begins_in g.grammar kernel rows w (left_of g.grammar b.0) b.2.0 b.2.1 b.0 b.1 refl)) h
+      calls_marked : (i : Item) → Contains all i → AreMarked g rows (CallFor g.grammar (after_dot g.grammar i) i.look)
+      calls_marked i c = ⊎_elim (λ k. subst (λ j. AreMarked g rows (CallFor g.grammar (after_dot g.grammar j) j.look)) k.2 (called.begun k.0 i k.1)) (λ b. subst (λ j. AreMarked g rows (CallFor g.grammar (after_dot g.grammar j) j.look)) b.2.2 (λ n k l x. called.closed (left_of g.grammar b.0) b.2.0 b.2.1 n k l (b.0, b.1, refl, x))) (h.only i c)
+
+      -- and each item of the closure is there
+      pub has_all : {i : Item} → IsIn g.grammar kernel i → Contains all i
+      has_all (Kernel {i = i} c) = h.kept i c
+      has_all (Closed {i = i} n rest p a x e l s m) =
+          let is = in_known x in
+          let k = column_there g.grammar.rules a (may_known g sound rest i.look a m (rest_known i is n rest e) is.look) in
+          let on : marked rows n k.0 ≡ true = calls_marked i (has_all x) n k.0 k.1 (rest, e, subst (λ y. MayFollow g.grammar rest i.look y) (sym k.2) m) in
+          subst (λ y. Contains all (record { production = Some p; dot = 0; look = y })) k.2 (h.added p k.0 l k.1 (subst (λ y. marked rows y k.0 ≡ true) (sym s) on))

@@ -1,4 +1,3 @@
-pub mod WorklistGrows
 pub mod WorklistIsRight
 pub mod FirstKernel
 pub mod InRange

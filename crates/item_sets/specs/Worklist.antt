@@ -13,8 +13,9 @@ use Rattle.first_sets.specs.Productions.{Shape}
 use Rattle.item_sets.specs.Sets.{after_dot, IsIn}
 use Rattle.theory.specs.First.{MayFollow}
 
--- the worklist of a closure: nonterminals with what may follow them, in the order in which they came up, and as marks
+-- the worklist of a closure: nonterminals of the grammar with what may follow them, in the order in which they came up, and as marks
 pub record Entries : Type 0 where
+  pub grammar : Shape
   pub list : List Entry
   pub rows : List (List Bool)
 
@@ -22,19 +23,26 @@ abbrev pub marked : List (List Bool) → ℕ → ℕ → Bool
 marked rows n k = slice_index_or (slice_index_or rows n []) k false
 
 -- list and marks have the same
-pub record AreEntries (g : Shape) (w : Entries) : Type 0 where
-  pub rows : length w.rows ≡ g.nonterminals
-  pub wide : (n : ℕ) → n < length w.rows → length (slice_index_or w.rows n []) ≡ g.grammar.rules + 1
-  pub known : All (λ x. (x.nonterminal < g.nonterminals) × (x.column < g.grammar.rules + 1)) w.list
-  pub marks : All (λ x. marked w.rows x.nonterminal x.column ≡ true) w.list
-  pub listed : (n k : ℕ) → marked w.rows n k ≡ true → Contains w.list (record { nonterminal = n; column = k })
+pub record AreEntries (g : Shape) (list : List Entry) (rows : List (List Bool)) : Type 0 where
+  pub long : length rows ≡ g.nonterminals
+  pub wide : (n : ℕ) → n < length rows → length (slice_index_or rows n []) ≡ g.grammar.rules + 1
+  pub known : All (λ x. (x.nonterminal < g.nonterminals) × (x.column < g.grammar.rules + 1)) list
+  pub marks : All (λ x. marked rows x.nonterminal x.column ≡ true) list
+  pub listed : (n k : ℕ) → marked rows n k ≡ true → Contains list (record { nonterminal = n; column = k })
 
 abbrev pub unmarked_in : List (List Bool) → ℕ
 unmarked_in rows = sum_by unmarked rows
 
--- what was in the worklist stays, in its place
-pub record Grows (old new : Entries) : Type 0 where
+-- `AreMarked g rows calls`: each nonterminal and lookahead of which it is true is marked
+abbrev pub AreMarked : Shape → List (List Bool) → (ℕ → ℕ → Type 0) → Type 0
+AreMarked g rows calls = (n k : ℕ) → k < g.grammar.rules + 1 → calls n k → marked rows n k ≡ true
+
+-- what was in the worklist stays, in its place, and what is called for is added, and nothing else
+pub record IsGrownBy (calls : ℕ → ℕ → Type 0) (old new : Entries) : Type 0 where
+  pub grammar : new.grammar ≡ old.grammar
   pub keeps : (n k : ℕ) → marked old.rows n k ≡ true → marked new.rows n k ≡ true
+  pub added : AreMarked old.grammar new.rows calls
+  pub only : (n k : ℕ) → marked new.rows n k ≡ true → (marked old.rows n k ≡ true) ⊎ calls n k
   pub longer : length old.list ≤ length new.list
   pub same : (i : ℕ) (d : Entry) → i < length old.list → slice_index_or new.list i d ≡ slice_index_or old.list i d
   pub count : length new.list + unmarked_in new.rows ≡ length old.list + unmarked_in old.rows
@@ -44,22 +52,6 @@ abbrev pub IsCalledFor : Grammar → List Item → ℕ → Option ℕ → Type 0
 IsCalledFor g kernel n a = (i : Item) × (rest : List Symbol) × IsIn g kernel i × (after_dot g i ≡ Nonterminal n ∷ rest)
     × MayFollow g rest i.look a
 
-abbrev pub AreCalledFor : Grammar → List Item → List (List Bool) → Type 0
-AreCalledFor g kernel rows = (n k : ℕ) → marked rows n k ≡ true → IsCalledFor g kernel n (lookahead_at k)
-
--- what these symbols call for is marked
-abbrev pub AreListed : Shape → List (List Bool) → List Symbol → Option ℕ → Type 0
-AreListed g rows symbols look = (n k : ℕ) (rest : List Symbol) → symbols ≡ Nonterminal n ∷ rest → k < g.grammar.rules + 1
-    → MayFollow g.grammar rest look (lookahead_at k) → marked rows n k ≡ true
-
-abbrev pub beginning_of : ℕ → ℕ → Item
-beginning_of p k = record { production = Some p; dot = 0; look = lookahead_at k }
-
--- what the productions of a nonterminal in the worklist call for is marked
-abbrev pub Expands : Shape → List (List Bool) → ℕ → ℕ → Type 0
-Expands g rows n k = (p : ℕ) → p < length g.grammar.productions → left_of g.grammar p ≡ n
-    → AreListed g rows (right_of g.grammar p) (lookahead_at k)
-
 -- these symbols call for n, with the lookahead at k after it
 abbrev pub CallFor : Grammar → List Symbol → Option ℕ → ℕ → ℕ → Type 0
 CallFor g symbols look n k = (rest : List Symbol) × (symbols ≡ Nonterminal n ∷ rest) × MayFollow g rest look (lookahead_at k)
@@ -67,6 +59,15 @@ CallFor g symbols look n k = (rest : List Symbol) × (symbols ≡ Nonterminal n 
 -- some production of m calls for it
 abbrev pub IsExpanded : Grammar → ℕ → ℕ → ℕ → ℕ → Type 0
 IsExpanded g m j n k = (p : ℕ) × (p < length g.productions) × (left_of g p ≡ m) × CallFor g (right_of g p) (lookahead_at j) n k
+
+-- marked is what the kernel's items call for, and what the productions of nonterminals that are marked call for, and nothing else
+pub record AreCalledFor (g : Shape) (kernel : List Item) (rows : List (List Bool)) : Type 0 where
+  pub begun : All (λ i. AreMarked g rows (CallFor g.grammar (after_dot g.grammar i) i.look)) kernel
+  pub closed : (n k : ℕ) → marked rows n k ≡ true → AreMarked g rows (IsExpanded g.grammar n k)
+  pub only : (n k : ℕ) → marked rows n k ≡ true → IsCalledFor g.grammar kernel n (lookahead_at k)
+
+abbrev pub beginning_of : ℕ → ℕ → Item
+beginning_of p k = record { production = Some p; dot = 0; look = lookahead_at k }
 
 -- the item begins production p, with a lookahead that is marked for n
 abbrev pub IsBeginning : List (List Bool) → ℕ → ℕ → Item → Type 0

@@ -7,7 +7,7 @@ ghost use Rattle.item_sets.specs.Order.{IsRising, IsBefore, IsOrdered};
 ghost use Rattle.first_sets.specs.Productions.{IsKnown};
 ghost use Rattle.item_sets.specs.Sets.{after_dot, IsItem};
 ghost use Rattle.item_sets.specs.States.{IsSetOf};
-ghost use Rattle.item_sets.specs.Worklist.{marked, AreEntries, Grows, AreCalledFor, AreListed, Expands, beginning_of, CallFor, IsExpanded, IsBeginning, HaveBeginnings};
+ghost use Rattle.item_sets.specs.Worklist.{marked, AreCalledFor, IsGrownBy, beginning_of, CallFor, IsExpanded, IsBeginning, HaveBeginnings};
 ghost use Rattle.theory.specs.First.{MayFollow};
 
 use crate::item::Item;
@@ -49,30 +49,24 @@ fn only_lookahead(symbols: &[Symbol], lookahead: Option<usize>) -> Option<Option
     }
 }
 
-impl Worklist {
+impl<'a> Worklist<'a> {
     /// Adds a nonterminal that stands before these symbols, with each lookahead that may follow them.
     fn insert_each(
         &mut self,
-        grammar: &AugmentedGrammar,
         nonterminal: usize,
         after: &[Symbol],
         lookahead: Option<usize>,
     ) -> Result<(), AllocError>
-        requires entries { AreEntries grammar.now self.old }
-        requires nonterminal { nonterminal < grammar.now.nonterminals }
-        requires known { All (IsKnown grammar.now) after.now }
-        ensures entries { OnOk result (AreEntries grammar.now self.new) }
-        ensures grows { OnOk result (Grows self.old self.new) }
-        ensures entered { OnOk result ((k : ℕ) → k < grammar.now.grammar.rules + 1
-            → MayFollow grammar.now.grammar after.now lookahead (lookahead_at k)
-            → marked self.new.rows nonterminal k ≡ true) }
-        ensures only { OnOk result ((n k : ℕ) → marked self.new.rows n k ≡ true
-            → (marked self.old.rows n k ≡ true) ⊎ ((n ≡ nonterminal)
-            × MayFollow grammar.now.grammar after.now lookahead (lookahead_at k))) }
+        requires nonterminal { nonterminal < self.old.grammar.nonterminals }
+        requires known { All (IsKnown self.old.grammar) after.now }
+        ensures { OnOk result (IsGrownBy (λ n k. (n ≡ nonterminal)
+            × MayFollow self.old.grammar.grammar after.now lookahead (lookahead_at k))
+            self.old self.new) }
     {
+        let grammar = self.grammar();
         for column in 0..grammar.lookaheads() {
             if grammar.may_follow(after, lookahead, lookahead_at(column)) {
-                self.insert_new(grammar, nonterminal, column)?;
+                self.insert_new(nonterminal, column)?;
             }
         }
         Ok(())
@@ -81,22 +75,15 @@ impl Worklist {
     /// Adds a nonterminal with this lookahead, where it is one of the grammar's.
     fn insert_with(
         &mut self,
-        grammar: &AugmentedGrammar,
         nonterminal: usize,
         lookahead: Option<usize>,
     ) -> Result<(), AllocError>
-        requires entries { AreEntries grammar.now self.old }
-        requires nonterminal { nonterminal < grammar.now.nonterminals }
-        ensures entries { OnOk result (AreEntries grammar.now self.new) }
-        ensures grows { OnOk result (Grows self.old self.new) }
-        ensures done { OnOk result ((k : ℕ) → k < grammar.now.grammar.rules + 1
-            → lookahead_at k ≡ lookahead → marked self.new.rows nonterminal k ≡ true) }
-        ensures only { OnOk result ((n k : ℕ) → marked self.new.rows n k ≡ true
-            → (marked self.old.rows n k ≡ true)
-            ⊎ ((n ≡ nonterminal) × (lookahead_at k ≡ lookahead))) }
+        requires { nonterminal < self.old.grammar.nonterminals }
+        ensures { OnOk result (IsGrownBy (λ n k. (n ≡ nonterminal) × (lookahead_at k ≡ lookahead))
+            self.old self.new) }
     {
-        match column_in(grammar, lookahead) {
-            Some(column) => self.insert_new(grammar, nonterminal, column),
+        match column_in(self.grammar(), lookahead) {
+            Some(column) => self.insert_new(nonterminal, column),
             None => Ok(()),
         }
     }
@@ -104,26 +91,19 @@ impl Worklist {
     /// Adds a nonterminal that stands before these symbols.
     fn insert_before(
         &mut self,
-        grammar: &AugmentedGrammar,
         nonterminal: usize,
         after: &[Symbol],
         lookahead: Option<usize>,
     ) -> Result<(), AllocError>
-        requires entries { AreEntries grammar.now self.old }
-        requires nonterminal { nonterminal < grammar.now.nonterminals }
-        requires known { All (IsKnown grammar.now) after.now }
-        ensures entries { OnOk result (AreEntries grammar.now self.new) }
-        ensures grows { OnOk result (Grows self.old self.new) }
-        ensures entered { OnOk result ((k : ℕ) → k < grammar.now.grammar.rules + 1
-            → MayFollow grammar.now.grammar after.now lookahead (lookahead_at k)
-            → marked self.new.rows nonterminal k ≡ true) }
-        ensures only { OnOk result ((n k : ℕ) → marked self.new.rows n k ≡ true
-            → (marked self.old.rows n k ≡ true) ⊎ ((n ≡ nonterminal)
-            × MayFollow grammar.now.grammar after.now lookahead (lookahead_at k))) }
+        requires nonterminal { nonterminal < self.old.grammar.nonterminals }
+        requires known { All (IsKnown self.old.grammar) after.now }
+        ensures { OnOk result (IsGrownBy (λ n k. (n ≡ nonterminal)
+            × MayFollow self.old.grammar.grammar after.now lookahead (lookahead_at k))
+            self.old self.new) }
     {
         match only_lookahead(after, lookahead) {
-            Some(only) => self.insert_with(grammar, nonterminal, only)?,
-            None => self.insert_each(grammar, nonterminal, after, lookahead)?,
+            Some(only) => self.insert_with(nonterminal, only)?,
+            None => self.insert_each(nonterminal, after, lookahead)?,
         }
         Ok(())
     }
@@ -131,18 +111,12 @@ impl Worklist {
     /// Adds the nonterminal that these symbols begin with.
     fn insert_first(
         &mut self,
-        grammar: &AugmentedGrammar,
         symbols: &[Symbol],
         lookahead: Option<usize>,
     ) -> Result<(), AllocError>
-        requires entries { AreEntries grammar.now self.old }
-        requires known { All (IsKnown grammar.now) symbols.now }
-        ensures entries { OnOk result (AreEntries grammar.now self.new) }
-        ensures grows { OnOk result (Grows self.old self.new) }
-        ensures entered { OnOk result (AreListed grammar.now self.new.rows symbols.now lookahead) }
-        ensures only { OnOk result ((n k : ℕ) → marked self.new.rows n k ≡ true
-            → (marked self.old.rows n k ≡ true)
-            ⊎ CallFor grammar.now.grammar symbols.now lookahead n k) }
+        requires { All (IsKnown self.old.grammar) symbols.now }
+        ensures { OnOk result (IsGrownBy (CallFor self.old.grammar.grammar symbols.now lookahead)
+            self.old self.new) }
     {
         if symbols.is_empty() {
             return Ok(());
@@ -151,152 +125,115 @@ impl Worklist {
         match prefix[0] {
             Symbol::Rule(_) => Ok(()),
             Symbol::Nonterminal(n) => {
-                self.insert_before(grammar, n, after, lookahead)?;
+                self.insert_before(n, after, lookahead)?;
                 Ok(())
             }
         }
     }
 
     /// Adds what the productions of an entry's nonterminal begin with.
-    fn expand(&mut self, grammar: &AugmentedGrammar, entry: Entry) -> Result<(), AllocError>
-        requires entries { AreEntries grammar.now self.old }
-        requires entry { entry.nonterminal < grammar.now.nonterminals }
-        ensures entries { OnOk result (AreEntries grammar.now self.new) }
-        ensures grows { OnOk result (Grows self.old self.new) }
-        ensures expands { OnOk result (Expands grammar.now self.new.rows entry.nonterminal
-            entry.column) }
-        ensures only { OnOk result ((n k : ℕ) → marked self.new.rows n k ≡ true
-            → (marked self.old.rows n k ≡ true)
-            ⊎ IsExpanded grammar.now.grammar entry.nonterminal entry.column n k) }
+    fn expand(&mut self, entry: Entry) -> Result<(), AllocError>
+        requires { entry.nonterminal < self.old.grammar.nonterminals }
+        ensures { OnOk result (IsGrownBy
+            (IsExpanded self.old.grammar.grammar entry.nonterminal entry.column)
+            self.old self.new) }
     {
+        let grammar = self.grammar();
         for p in grammar.of_left(entry.nonterminal) {
-            self.insert_first(grammar, grammar.right(*p), lookahead_at(entry.column))?;
+            self.insert_first(grammar.right(*p), lookahead_at(entry.column))?;
         }
         Ok(())
     }
 
     /// Adds the nonterminal after the item's dot.
-    fn insert_at_dot(&mut self, grammar: &AugmentedGrammar, item: Item) -> Result<(), AllocError>
-        requires entries { AreEntries grammar.now self.old }
-        requires item { IsItem grammar.now item }
-        ensures entries { OnOk result (AreEntries grammar.now self.new) }
-        ensures grows { OnOk result (Grows self.old self.new) }
-        ensures entered { OnOk result (AreListed grammar.now self.new.rows
-            (after_dot grammar.now.grammar item) item.look) }
-        ensures only { OnOk result ((n k : ℕ) → marked self.new.rows n k ≡ true
-            → (marked self.old.rows n k ≡ true)
-            ⊎ CallFor grammar.now.grammar (after_dot grammar.now.grammar item) item.look n k) }
+    fn insert_at_dot(&mut self, item: Item) -> Result<(), AllocError>
+        requires { IsItem self.old.grammar item }
+        ensures { OnOk result (IsGrownBy
+            (CallFor self.old.grammar.grammar (after_dot self.old.grammar.grammar item) item.look)
+            self.old self.new) }
     {
+        let grammar = self.grammar();
         match item.production {
             None => {
                 let start = [Symbol::Nonterminal(grammar.start())];
                 let side: &[Symbol] = &start;
-                self.insert_first(grammar, side.split_at(item.dot).1, item.look)?;
+                self.insert_first(side.split_at(item.dot).1, item.look)?;
                 Ok(())
             }
             Some(p) => {
                 let right = grammar.right(ProductionNumber::new(p));
-                self.insert_first(grammar, right.split_at(item.dot).1, item.look)?;
+                self.insert_first(right.split_at(item.dot).1, item.look)?;
                 Ok(())
             }
         }
     }
 
     /// Adds all that the set with this kernel calls for, to an empty worklist.
-    fn insert_all(&mut self, grammar: &AugmentedGrammar, kernel: &[Item]) -> Result<(), AllocError>
-        requires entries { AreEntries grammar.now self.old }
+    fn insert_all(&mut self, kernel: &[Item]) -> Result<(), AllocError>
         requires blank { (n k : ℕ) → marked self.old.rows n k ≡ false }
-        requires items { All (IsItem grammar.now) kernel.now }
-        ensures entries { OnOk result (AreEntries grammar.now self.new) }
-        ensures entered { OnOk result (All
-            (λ i. AreListed grammar.now self.new.rows (after_dot grammar.now.grammar i) i.look)
-            kernel.now) }
-        ensures closed { OnOk result ((n k : ℕ) → marked self.new.rows n k ≡ true
-            → Expands grammar.now self.new.rows n k) }
-        ensures worklist { OnOk result (AreCalledFor grammar.now.grammar kernel.now self.new.rows) }
+        requires items { All (IsItem self.old.grammar) kernel.now }
+        ensures grammar { OnOk result (self.new.grammar ≡ self.old.grammar) }
+        ensures called { OnOk result (AreCalledFor self.old.grammar kernel.now self.new.rows) }
     {
         for item in kernel {
-            self.insert_at_dot(grammar, *item)?;
+            self.insert_at_dot(*item)?;
         }
         let mut i = 0;
         while i < self.len() {
-            let entry = self.at(i);
-            self.expand(grammar, entry)?;
+            self.expand(self.at(i))?;
             i += 1;
         }
         Ok(())
     }
-}
 
-/// Adds the items that a production begins with.
-fn add_items(
-    grammar: &AugmentedGrammar,
-    worklist: &Worklist,
-    p: ProductionNumber,
-    items: &mut Vec<Item>,
-) -> Result<(), AllocError>
-    requires entries { AreEntries grammar.now worklist.now }
-    requires production { p < length grammar.now.grammar.productions }
-    requires rising { IsRising items.old.items }
-    requires before { All (IsBefore p 0) items.old.items }
-    ensures rising { OnOk result (IsRising items.new.items) }
-    ensures before { OnOk result (All (IsBefore (p + 1) 0) items.new.items) }
-    ensures kept { OnOk result ((i : Item) → Contains items.old.items i
-        → Contains items.new.items i) }
-    ensures added { OnOk result ((k : ℕ) → k < grammar.now.grammar.rules + 1
-        → marked worklist.now.rows (left_of grammar.now.grammar p) k ≡ true
-        → Contains items.new.items (beginning_of p k)) }
-    ensures only { OnOk result ((i : Item) → Contains items.new.items i → Contains items.old.items i
-        ⊎ IsBeginning worklist.now.rows (left_of grammar.now.grammar p) p i) }
-{
-    let left = grammar.left(p);
-    if worklist.has_none(grammar, left) {
-        return Ok(());
-    }
-    for column in 0..grammar.lookaheads() {
-        if worklist.has(grammar, left, column) {
-            items.push(Item {
-                production: Some(p.index()),
-                dot: 0,
-                look: lookahead_at(column),
-            })?;
+    /// Adds the items that a production begins with.
+    fn add_items(&self, p: ProductionNumber, items: &mut Vec<Item>) -> Result<(), AllocError>
+        requires production { p < length self.now.grammar.grammar.productions }
+        requires rising { IsRising items.old.items }
+        requires before { All (IsBefore p 0) items.old.items }
+        ensures rising { OnOk result (IsRising items.new.items) }
+        ensures before { OnOk result (All (IsBefore (p + 1) 0) items.new.items) }
+        ensures kept { OnOk result ((i : Item) → Contains items.old.items i
+            → Contains items.new.items i) }
+        ensures added { OnOk result ((k : ℕ) → k < self.now.grammar.grammar.rules + 1
+            → marked self.now.rows (left_of self.now.grammar.grammar p) k ≡ true
+            → Contains items.new.items (beginning_of p k)) }
+        ensures only { OnOk result ((i : Item) → Contains items.new.items i
+            → Contains items.old.items i
+            ⊎ IsBeginning self.now.rows (left_of self.now.grammar.grammar p) p i) }
+    {
+        let grammar = self.grammar();
+        let left = grammar.left(p);
+        if self.has_none(left) {
+            return Ok(());
         }
+        for column in 0..grammar.lookaheads() {
+            if self.has(left, column) {
+                items.push(Item {
+                    production: Some(p.index()),
+                    dot: 0,
+                    look: lookahead_at(column),
+                })?;
+            }
+        }
+        Ok(())
     }
-    Ok(())
-}
 
-/// How many productions there are, or none where nothing is called for.
-fn listed_productions(grammar: &AugmentedGrammar, worklist: &Worklist) -> usize
-    requires { AreEntries grammar.now worklist.now }
-    ensures at_most { result ≤ length grammar.now.grammar.productions }
-    ensures some { (n k : ℕ) → marked worklist.now.rows n k ≡ true
-        → result ≡ length grammar.now.grammar.productions }
-{
-    if worklist.len() == 0 {
-        0
-    } else {
-        grammar.len()
+    /// The kernel, then the items that are called for, by production and lookahead.
+    fn items(&self, alloc: Global, kernel: &[Item]) -> Result<Vec<Item>, AllocError>
+        requires { IsOrdered self.now.grammar kernel.now }
+        ensures { IfOk result
+            (λ items. HaveBeginnings self.now.grammar kernel.now self.now.rows items.items) }
+    {
+        let mut items = Vec::from_slice(alloc, kernel)?;
+        if self.len() == 0 {
+            return Ok(items);
+        }
+        for index in 0..self.grammar().len() {
+            self.add_items(ProductionNumber::new(index), &mut items)?;
+        }
+        Ok(items)
     }
-}
-
-/// The kernel, then the items that are called for, by production and lookahead.
-fn items_of(
-    alloc: Global,
-    grammar: &AugmentedGrammar,
-    worklist: &Worklist,
-    kernel: &[Item],
-) -> Result<Vec<Item>, AllocError>
-    requires entries { AreEntries grammar.now worklist.now }
-    requires kernel { IsOrdered grammar.now kernel.now }
-    ensures { IfOk result
-        (λ items. HaveBeginnings grammar.now kernel.now worklist.now.rows items.items) }
-{
-    let mut items = Vec::from_slice(alloc, kernel)?;
-    let count = listed_productions(grammar, worklist);
-    for index in 0..count {
-        add_items(grammar, worklist, ProductionNumber::new(index), &mut items)?;
-    }
-    Ok(items)
 }
 
 /// The items of the set with this kernel: the kernel, and all beginnings that it asks for.
@@ -308,7 +245,7 @@ pub fn close(
     requires { IsOrdered grammar.now kernel.now }
     ensures { IfOk result (λ items. IsSetOf grammar.now kernel.now items.items) }
 {
-    let mut worklist = Worklist::new(alloc, grammar.nonterminals(), grammar.lookaheads())?;
-    worklist.insert_all(grammar, kernel)?;
-    items_of(alloc, grammar, &worklist, kernel)
+    let mut worklist = Worklist::new(alloc, grammar)?;
+    worklist.insert_all(kernel)?;
+    worklist.items(alloc, kernel)
 }

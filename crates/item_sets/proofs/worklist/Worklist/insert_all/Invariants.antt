@@ -1,25 +1,26 @@
-use Rattle.std.proofs.Common.{◌<◌, ◌≤◌, ◌+◌, ◌-◌, ℕ, All, length, slice_index_or}
-use Rattle.item_sets.specs.declared.item.Item.{Item}
+use Rattle.std.proofs.Common.{◌≡◌, ◌<◌, ◌≤◌, ◌+◌, ◌-◌, ℕ, true, All, length, slice_index_or}
 use Rattle.item_sets.specs.declared.worklist.Entry.{Entry}
+use Rattle.first_sets.specs.Lookaheads.{lookahead_at}
 use Rattle.item_sets.specs.Sets.{after_dot}
-use Rattle.item_sets.specs.Worklist.{AreEntries, AreCalledFor, AreListed, Expands, unmarked_in}
+use Rattle.item_sets.specs.Worklist.{marked, AreMarked, CallFor, IsCalledFor, IsExpanded, IsGrownBy, unmarked_in}
+use Rattle.item_sets.proofs.FirstKernel.{start_item}
 use Rattle.item_sets.proofs.worklist.Worklist.insert_all.Given as goal
 
 abbrev pub invariant-loop-item : goal.invariant-loop-item
-invariant-loop-item l = record {
-  entries : AreEntries l.grammar l.self;
-  entered : (j : ℕ) (d : Item) → j < l.item-index → AreListed l.grammar l.self.rows (after_dot l.grammar.grammar (slice_index_or l.kernel j d)) (slice_index_or l.kernel j d).look;
-  worklist : AreCalledFor l.grammar.grammar l.kernel l.self.rows;
-}
+invariant-loop-item l =
+    let g = l.fn.self.grammar.grammar in
+    IsGrownBy (λ n k. (i : ℕ) × (i < l.item-index) × CallFor g (after_dot g (slice_index_or l.kernel i start_item)) (slice_index_or l.kernel i start_item).look n k) l.fn.self l.self
 
 abbrev pub invariant-loop-i : goal.invariant-loop-i
-invariant-loop-i l = record {
-  entries : AreEntries l.grammar l.self;
-  entered : All (λ i. AreListed l.grammar l.self.rows (after_dot l.grammar.grammar i) i.look) l.kernel;
-  worklist : AreCalledFor l.grammar.grammar l.kernel l.self.rows;
-  within : l.i ≤ length l.self.list;
-  expanded : (j : ℕ) (d : Entry) → j < l.i → Expands l.grammar l.self.rows (slice_index_or l.self.list j d).nonterminal (slice_index_or l.self.list j d).column;
-}
+invariant-loop-i l =
+    let g = l.fn.self.grammar in
+    record {
+      grammar : l.self.grammar ≡ g;
+      begun : All (λ i. AreMarked g l.self.rows (CallFor g.grammar (after_dot g.grammar i) i.look)) l.kernel;
+      only : (n k : ℕ) → marked l.self.rows n k ≡ true → IsCalledFor g.grammar l.kernel n (lookahead_at k);
+      within : l.i ≤ length l.self.list;
+      expanded : (j : ℕ) (d : Entry) → j < l.i → AreMarked g l.self.rows (IsExpanded g.grammar (slice_index_or l.self.list j d).nonterminal (slice_index_or l.self.list j d).column);
+    }
 
 abbrev pub decreases-loop-i : goal.decreases-loop-i
 decreases-loop-i l = (length l.self.list + unmarked_in l.self.rows) - l.i

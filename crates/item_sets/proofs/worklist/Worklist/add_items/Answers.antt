@@ -3,19 +3,19 @@ use Rattle.std.proofs.lemmas.Bool.{cases_eq}
 use Rattle.std.proofs.lemmas.List.Elements.{Contains-push, Contains-push_cases, Contains-append_left}
 use Rattle.definitions.specs.Trees.{left_of}
 use Rattle.item_sets.specs.Worklist.{marked, beginning_of}
-use Rattle.item_sets.proofs.Ordered.{rising_more, all_before_more, all_before_same, all_before_next}
-use Rattle.item_sets.proofs.closure.add_items.Goals as goal
-use Rattle.item_sets.proofs.closure.add_items.Goals.{then-has+in_ok-push, else-has}
+use Rattle.item_sets.proofs.Ordered.{rising_more, all_before_more, all_before_same}
+use Rattle.item_sets.proofs.worklist.Worklist.add_items.Goals as goal
+use Rattle.item_sets.proofs.worklist.Worklist.add_items.Goals.{then-has+in_ok-push, else-has}
 
 pub loop-column-preserved : goal.loop-column-preserved
 loop-column-preserved c =
-    let g = c.args.grammar.now.grammar in
+    let g = c.args.self.now.grammar.grammar in
     let i = c.loop-column.invariant in
     let at = c.loop-column.column in
     let p = c.args.p in
-    let rows = c.args.worklist.now.rows in
+    let rows = c.args.self.now.rows in
     let old = c.loop-column.items.items in
-    let has : c.has.result ≡ marked rows (left_of g p) at = c.has.ensures ∙ ap (λ n. marked rows n at) c.left-left.ensures.left in
+    let has : c.has.result ≡ marked rows (left_of g p) at = c.has.ensures ∙ ap (λ n. marked rows n at) (c.left-left.ensures.left ∙ ap (λ h. left_of h.grammar p) c.grammar-grammar.ensures) in
     elim c.if-has.branch [
       | then-has+in_ok-push w ↦
           let on : marked rows (left_of g p) at ≡ true = sym has ∙ w.if-has.true in
@@ -37,6 +37,3 @@ loop-column-preserved c =
             only = i.only;
           })
     ]
-
-pub returns-clause-before : goal.returns-clause-before
-returns-clause-before c = all_before_next c.args.p c.loop-column.column c.loop-column.items.items c.loop-column.invariant.before

@@ -3,15 +3,15 @@ use Rattle.std.proofs.lemmas.Bool.{cases_eq}
 use Rattle.definitions.specs.Trees.{left_of}
 use Rattle.item_sets.specs.Order.{IsBefore}
 use Rattle.item_sets.specs.Worklist.{marked, beginning_of}
-use Rattle.item_sets.proofs.closure.items_of.Goals as goal
+use Rattle.item_sets.proofs.worklist.Worklist.items.Goals as goal
 
 pub loop-index-preserved : goal.loop-index-preserved
 loop-index-preserved c =
-    let g = c.args.grammar.now.grammar in
+    let g = c.args.self.now.grammar.grammar in
     let i = c.loop-index.invariant in
     let e = c.in_ok-add_items.ensures in
     let at = c.loop-index.index in
-    let rows = c.args.worklist.now.rows in
+    let rows = c.args.self.now.rows in
     let new = c.add_items.new.items.items in
     let p = c.new.result in
     let same : p ≡ at = c.new.ensures in
