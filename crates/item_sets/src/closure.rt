@@ -50,28 +50,6 @@ fn only_lookahead(symbols: &[Symbol], lookahead: Option<usize>) -> Option<Option
 }
 
 impl<'a> Worklist<'a> {
-    /// Adds a nonterminal that stands before these symbols, with each lookahead that may follow them.
-    fn insert_each(
-        &mut self,
-        nonterminal: usize,
-        after: &[Symbol],
-        lookahead: Option<usize>,
-    ) -> Result<(), AllocError>
-        requires nonterminal { nonterminal < self.old.grammar.nonterminals }
-        requires known { All (IsKnown self.old.grammar) after.now }
-        ensures { OnOk result (IsGrownBy (λ n k. (n ≡ nonterminal)
-            × MayFollow self.old.grammar.grammar after.now lookahead (lookahead_at k))
-            self.old self.new) }
-    {
-        let grammar = self.grammar();
-        for column in 0..grammar.lookaheads() {
-            if grammar.may_follow(after, lookahead, lookahead_at(column)) {
-                self.insert_new(nonterminal, column)?;
-            }
-        }
-        Ok(())
-    }
-
     /// Adds a nonterminal with this lookahead, where it is one of the grammar's.
     fn insert_with(
         &mut self,
@@ -88,7 +66,7 @@ impl<'a> Worklist<'a> {
         }
     }
 
-    /// Adds a nonterminal that stands before these symbols.
+    /// Adds a nonterminal that stands before these symbols, with each lookahead that may follow them.
     fn insert_before(
         &mut self,
         nonterminal: usize,
@@ -101,9 +79,14 @@ impl<'a> Worklist<'a> {
             × MayFollow self.old.grammar.grammar after.now lookahead (lookahead_at k))
             self.old self.new) }
     {
-        match only_lookahead(after, lookahead) {
-            Some(only) => self.insert_with(nonterminal, only)?,
-            None => self.insert_each(nonterminal, after, lookahead)?,
+        if let Some(only) = only_lookahead(after, lookahead) {
+            return self.insert_with(nonterminal, only);
+        }
+        let grammar = self.grammar();
+        for column in 0..grammar.lookaheads() {
+            if grammar.may_follow(after, lookahead, lookahead_at(column)) {
+                self.insert_new(nonterminal, column)?;
+            }
         }
         Ok(())
     }

@@ -1,11 +1,12 @@
 use Rattle.std.proofs.Common.{rules, ◌≡◌, ℕ}
 use Rattle.std.specs.Prelude.{◌↔◌}
+use Rattle.std.proofs.lemmas.Result.{on_ok_weaker}
 use Rattle.theory.specs.First.{MayFollow}
 use Rattle.first_sets.specs.Lookaheads.{lookahead_at}
 use Rattle.item_sets.proofs.worklist.Worklist.insert_before.Goals as goal
 
-pub returns-in_ok-insert_with-in-Some : goal.returns-in_ok-insert_with-in-Some
-returns-in_ok-insert_with-in-Some c =
+pub returns-in-Some : goal.returns-in-Some
+returns-in-Some c =
     let g = c.args.self.now.grammar.grammar in
     let is : (k : ℕ) → MayFollow g c.args.after.now c.args.lookahead (lookahead_at k) ↔ (lookahead_at k ≡ c.in-Some.only) = λ k. c.in-Some.ensures g (lookahead_at k) in
-    search (rules, is)
+    on_ok_weaker c.insert_with.result (λ e. search (rules, is, e)) c.insert_with.ensures
