@@ -1,5 +1,5 @@
 -- All numbers of the items of a set are in range.
-use Rattle.std.proofs.Common.{◌≡◌, ◌<◌, ℕ, Bool, true, List, [], ◌∷◌, Option, Some, None, refl, sym, subst, length, All, Contains, ⊎_elim, arith}
+use Rattle.std.proofs.Common.{◌≡◌, ◌+◌, ◌<◌, ℕ, Bool, true, List, [], ◌∷◌, Option, Some, None, refl, sym, subst, length, All, Contains, ⊎_elim, arith}
 use Rattle.std.specs.Prelude.{IfSome}
 use Rattle.std.proofs.lemmas.List.Elements.{All-cons, All-head, All-tail, All-drop}
 use Rattle.definitions.specs.declared.Symbol.{Symbol}
@@ -7,10 +7,11 @@ use Rattle.definitions.specs.declared.Symbol.TheVariants.{Nonterminal}
 use Rattle.definitions.specs.Derivations.{first}
 use Rattle.item_sets.specs.declared.item.Item.{Item}
 use Rattle.definitions.specs.Trees.{left_of, right_of}
+use Rattle.first_sets.specs.Lookaheads.{lookahead_at}
 use Rattle.first_sets.specs.Productions.{Shape, IsSound, IsKnown}
 use Rattle.theory.specs.First.{MayFollow}
 use Rattle.item_sets.specs.Sets.{side, after_dot, IsItem, IsIn, Kernel, Closed}
-use Rattle.item_sets.specs.Worklist.{marked, AreMarked, CallFor, AreCalledFor, HaveBeginnings}
+use Rattle.item_sets.specs.Worklist.{marked, AreMarked, CallFor, IsCalledFor, IsExpanded, AreCalledFor, HaveBeginnings}
 use Rattle.first_sets.proofs.Numbers.{has_production}
 use Rattle.item_sets.proofs.WorklistIsRight.{begins_in}
 use Rattle.first_sets.proofs.Columns.{column_there}
@@ -42,19 +43,33 @@ module _ (g : Shape) (sound : IsSound g) where
         let x = in_known h in
         record { production = l; dot = omega arith; look = may_known g sound rest i.look a m (rest_known i x n rest e) x.look }
 
+    -- what may follow a nonterminal after an item's dot is called for, in its column
+    called_at : {i : Item} (n : ℕ) (rest : List Symbol) (a : Option ℕ) → IsIn g.grammar kernel i → after_dot g.grammar i ≡ Nonterminal n ∷ rest → MayFollow g.grammar rest i.look a → (k : ℕ) × (k < g.grammar.rules + 1) × (lookahead_at k ≡ a) × CallFor g.grammar (after_dot g.grammar i) i.look n k
+    called_at {i = i} n rest a x e m =
+        let is = in_known x in
+        let k = column_there g.grammar.rules a (may_known g sound rest i.look a m (rest_known i is n rest e) is.look) in
+        (k.0, k.1, k.2, (rest, e, subst (λ y. MayFollow g.grammar rest i.look y) (sym k.2) m))
+
+    module _ (rows : List (List Bool)) (begun : All (λ i. AreMarked g rows (CallFor g.grammar (after_dot g.grammar i) i.look)) kernel) (closed : (n k : ℕ) → marked rows n k ≡ true → AreMarked g rows (IsExpanded g.grammar n k)) where
+      calls_marked : {i : Item} → IsIn g.grammar kernel i → AreMarked g rows (CallFor g.grammar (after_dot g.grammar i) i.look)
+      calls_marked (Kernel {i = i} c) = subst (λ j. AreMarked g rows (CallFor g.grammar (after_dot g.grammar j) j.look)) c.2 (begun c.0 i c.1)
+      calls_marked (Closed {i = i} n rest p a x e l s m) =
+          let k = called_at n rest a x e m in
+          λ q j b call. closed n k.0 (calls_marked x n k.0 k.1 k.3) q j b (p, l, s, subst (λ y. CallFor g.grammar (right_of g.grammar p) y q j) (sym k.2) call)
+
+      -- if the calls of the kernel and of what is marked are marked, all calls of the closure are
+      pub all_marked : AreMarked g rows (IsCalledFor g.grammar kernel)
+      all_marked n k l x = calls_marked x.1 n k l x.2
+
     module _ (rows : List (List Bool)) (called : AreCalledFor g kernel rows) (all : List Item) (h : HaveBeginnings g kernel rows all) where
       -- each item is in the closure
       pub only_in : (i : Item) → Contains all i → IsIn g.grammar kernel i
-      only_in i c = ⊎_elim (λ k. Kernel k) (λ b. subst (IsIn g.grammar kernel) b.2.2 (begins_in g.grammar kernel rows called.only (left_of g.grammar b.0) b.2.0 b.2.1 b.0 b.1 refl)) (h.only i c)
-
-      calls_marked : (i : Item) → Contains all i → AreMarked g rows (CallFor g.grammar (after_dot g.grammar i) i.look)
-      calls_marked i c = ⊎_elim (λ k. subst (λ j. AreMarked g rows (CallFor g.grammar (after_dot g.grammar j) j.look)) k.2 (called.begun k.0 i k.1)) (λ b. subst (λ j. AreMarked g rows (CallFor g.grammar (after_dot g.grammar j) j.look)) b.2.2 (λ n k l x. called.closed (left_of g.grammar b.0) b.2.0 b.2.1 n k l (b.0, b.1, refl, x))) (h.only i c)
+      only_in i c = ⊎_elim (λ k. Kernel k) (λ b. subst (IsIn g.grammar kernel) b.2.2 (begins_in g.grammar kernel rows called.sound (left_of g.grammar b.0) b.2.0 b.2.1 b.0 b.1 refl)) (h.only i c)
 
       -- and each item of the closure is there
       pub has_all : {i : Item} → IsIn g.grammar kernel i → Contains all i
       has_all (Kernel {i = i} c) = h.kept i c
       has_all (Closed {i = i} n rest p a x e l s m) =
-          let is = in_known x in
-          let k = column_there g.grammar.rules a (may_known g sound rest i.look a m (rest_known i is n rest e) is.look) in
-          let on : marked rows n k.0 ≡ true = calls_marked i (has_all x) n k.0 k.1 (rest, e, subst (λ y. MayFollow g.grammar rest i.look y) (sym k.2) m) in
+          let k = called_at n rest a x e m in
+          let on : marked rows n k.0 ≡ true = called.complete n k.0 k.1 (i, x, k.3) in
           subst (λ y. Contains all (record { production = Some p; dot = 0; look = y })) k.2 (h.added p k.0 l k.1 (subst (λ y. marked rows y k.0 ≡ true) (sym s) on))

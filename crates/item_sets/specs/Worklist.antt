@@ -47,24 +47,22 @@ pub record IsGrownBy (calls : ℕ → ℕ → Type 0) (old new : Entries) : Type
   pub same : (i : ℕ) (d : Entry) → i < length old.list → slice_index_or new.list i d ≡ slice_index_or old.list i d
   pub count : length new.list + unmarked_in new.rows ≡ length old.list + unmarked_in old.rows
 
--- some item of the set stands before n, with a after it
-abbrev pub IsCalledFor : Grammar → List Item → ℕ → Option ℕ → Type 0
-IsCalledFor g kernel n a = (i : Item) × (rest : List Symbol) × IsIn g kernel i × (after_dot g i ≡ Nonterminal n ∷ rest)
-    × MayFollow g rest i.look a
-
 -- these symbols call for n, with the lookahead at k after it
 abbrev pub CallFor : Grammar → List Symbol → Option ℕ → ℕ → ℕ → Type 0
 CallFor g symbols look n k = (rest : List Symbol) × (symbols ≡ Nonterminal n ∷ rest) × MayFollow g rest look (lookahead_at k)
+
+-- some item of the kernel's closure calls for it
+abbrev pub IsCalledFor : Grammar → List Item → ℕ → ℕ → Type 0
+IsCalledFor g kernel n k = (i : Item) × IsIn g kernel i × CallFor g (after_dot g i) i.look n k
 
 -- some production of m calls for it
 abbrev pub IsExpanded : Grammar → ℕ → ℕ → ℕ → ℕ → Type 0
 IsExpanded g m j n k = (p : ℕ) × (p < length g.productions) × (left_of g p ≡ m) × CallFor g (right_of g p) (lookahead_at j) n k
 
--- marked is what the kernel's items call for, and what the productions of nonterminals that are marked call for, and nothing else
+-- marked is exactly what the kernel's closure calls for
 pub record AreCalledFor (g : Shape) (kernel : List Item) (rows : List (List Bool)) : Type 0 where
-  pub begun : All (λ i. AreMarked g rows (CallFor g.grammar (after_dot g.grammar i) i.look)) kernel
-  pub closed : (n k : ℕ) → marked rows n k ≡ true → AreMarked g rows (IsExpanded g.grammar n k)
-  pub only : (n k : ℕ) → marked rows n k ≡ true → IsCalledFor g.grammar kernel n (lookahead_at k)
+  pub sound : (n k : ℕ) → marked rows n k ≡ true → IsCalledFor g.grammar kernel n k
+  pub complete : AreMarked g rows (IsCalledFor g.grammar kernel)
 
 abbrev pub beginning_of : ℕ → ℕ → Item
 beginning_of p k = record { production = Some p; dot = 0; look = lookahead_at k }

@@ -4,7 +4,7 @@ ghost use Rattle.definitions.specs.Trees.{Grammar, left_of};
 ghost use Rattle.item_sets.specs.declared.item.Item.{Item};
 ghost use Rattle.first_sets.specs.Lookaheads.{lookahead_at};
 ghost use Rattle.item_sets.specs.Order.{IsRising, IsBefore, IsOrdered};
-ghost use Rattle.first_sets.specs.Productions.{IsKnown};
+ghost use Rattle.first_sets.specs.Productions.{IsKnown, IsSound};
 ghost use Rattle.item_sets.specs.Sets.{after_dot, IsItem};
 ghost use Rattle.item_sets.specs.States.{IsSetOf};
 ghost use Rattle.item_sets.specs.Worklist.{marked, AreCalledFor, IsGrownBy, beginning_of, CallFor, IsExpanded, IsBeginning, HaveBeginnings};
@@ -153,6 +153,7 @@ impl<'a> Worklist<'a> {
 
     /// Adds all that the set with this kernel calls for, to an empty worklist.
     fn insert_all(&mut self, kernel: &[Item]) -> Result<(), AllocError>
+        requires sound { IsSound self.old.grammar }
         requires blank { (n k : ℕ) → marked self.old.rows n k ≡ false }
         requires items { All (IsItem self.old.grammar) kernel.now }
         ensures grammar { OnOk result (self.new.grammar ≡ self.old.grammar) }

@@ -6,7 +6,8 @@ use Rattle.item_sets.specs.declared.worklist.Entry.{Entry}
 use Rattle.item_sets.specs.Sets.{after_dot, Kernel}
 use Rattle.item_sets.specs.Worklist.{marked, AreMarked, CallFor, IsExpanded}
 use Rattle.item_sets.proofs.FirstKernel.{start_item}
-use Rattle.item_sets.proofs.WorklistIsRight.{asked_wanted, expanded_wanted}
+use Rattle.item_sets.proofs.InRange.{all_marked}
+use Rattle.item_sets.proofs.WorklistIsRight.{expanded_called}
 use Rattle.item_sets.proofs.worklist.Worklist.insert_all.Goals as goal
 
 pub loop-i-init : goal.loop-i-init
@@ -18,9 +19,9 @@ loop-i-init c =
     record {
       grammar = i.grammar;
       begun = λ j d l. subst (λ x. AreMarked g c.loop-item.self.rows (CallFor g.grammar (after_dot g.grammar x) x.look)) (get_or_default kernel j start_item d l) (λ n k b x. i.added n k b (j, omega (arith, l, all), x));
-      only = λ n k m. ⊎_elim
+      sound = λ n k m. ⊎_elim
           (λ o. let b = c.requires.blank n k in absurd (cc (b, o)))
-          (λ s. let l = s.1 in asked_wanted g.grammar kernel (slice_index_or kernel s.0 start_item) n k (Kernel (Contains-get_or kernel s.0 start_item (omega (arith, l, all)))) s.2)
+          (λ s. let l = s.1 in (slice_index_or kernel s.0 start_item, Kernel (Contains-get_or kernel s.0 start_item (omega (arith, l, all))), s.2))
           (i.only n k m);
       within = omega arith;
       expanded = λ j d l. absurd (omega (arith, l));
@@ -42,7 +43,7 @@ loop-i-preserved c =
     record {
       grammar = e.grammar ∙ i.grammar;
       begun = λ j d l n k b x. e.keeps n k (i.begun j d l n k b x);
-      only = λ n k m. ⊎_elim (λ o. i.only n k o) (λ x. expanded_wanted g.grammar c.args.kernel.now old.rows i.only entry.nonterminal entry.column on n k (subst (λ h. IsExpanded h.grammar entry.nonterminal entry.column n k) i.grammar x)) (e.only n k m);
+      sound = λ n k m. ⊎_elim (λ o. i.sound n k o) (λ x. expanded_called g.grammar c.args.kernel.now old.rows i.sound entry.nonterminal entry.column on n k (subst (λ h. IsExpanded h.grammar entry.nonterminal entry.column n k) i.grammar x)) (e.only n k m);
       within = omega (arith, at, longer);
       expanded = λ j d l. ⊎_elim
           (λ s. let same : slice_index_or new.list j d ≡ entry = ap (λ x. slice_index_or new.list x d) s ∙ e.same c.loop-i.i d at ∙ get_or_default old.list c.loop-i.i d entry at ∙ sym is in subst (λ x. AreMarked g new.rows (IsExpanded g.grammar x.nonterminal x.column)) (sym same) here)
@@ -56,11 +57,11 @@ returns-clause-called c =
     let rows = c.loop-i.self.rows in
     let all : length c.loop-i.self.list ≤ c.loop-i.i = search rules in
     record {
-      begun = c.loop-i.invariant.begun;
-      closed = λ n k m.
+      sound = c.loop-i.invariant.sound;
+      complete = all_marked g c.requires.sound c.args.kernel.now c.requires.items rows c.loop-i.invariant.begun
+          (λ n k m.
           let h = c.len.ensures.entries.listed n k m in
           let entry : Entry = record { nonterminal = n; column = k } in
           let below = h.1 in
-          subst (λ x. AreMarked g rows (IsExpanded g.grammar x.nonterminal x.column)) h.2 (c.loop-i.invariant.expanded h.0 entry (omega (arith, below, all)));
-      only = c.loop-i.invariant.only;
+          subst (λ x. AreMarked g rows (IsExpanded g.grammar x.nonterminal x.column)) h.2 (c.loop-i.invariant.expanded h.0 entry (omega (arith, below, all))));
     }

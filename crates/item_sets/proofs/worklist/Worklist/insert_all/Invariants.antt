@@ -1,6 +1,5 @@
 use Rattle.std.proofs.Common.{◌≡◌, ◌<◌, ◌≤◌, ◌+◌, ◌-◌, ℕ, true, All, length, slice_index_or}
 use Rattle.item_sets.specs.declared.worklist.Entry.{Entry}
-use Rattle.first_sets.specs.Lookaheads.{lookahead_at}
 use Rattle.item_sets.specs.Sets.{after_dot}
 use Rattle.item_sets.specs.Worklist.{marked, AreMarked, CallFor, IsCalledFor, IsExpanded, IsGrownBy, unmarked_in}
 use Rattle.item_sets.proofs.FirstKernel.{start_item}
@@ -17,7 +16,7 @@ invariant-loop-i l =
     record {
       grammar : l.self.grammar ≡ g;
       begun : All (λ i. AreMarked g l.self.rows (CallFor g.grammar (after_dot g.grammar i) i.look)) l.kernel;
-      only : (n k : ℕ) → marked l.self.rows n k ≡ true → IsCalledFor g.grammar l.kernel n (lookahead_at k);
+      sound : (n k : ℕ) → marked l.self.rows n k ≡ true → IsCalledFor g.grammar l.kernel n k;
       within : l.i ≤ length l.self.list;
       expanded : (j : ℕ) (d : Entry) → j < l.i → AreMarked g l.self.rows (IsExpanded g.grammar (slice_index_or l.self.list j d).nonterminal (slice_index_or l.self.list j d).column);
     }
