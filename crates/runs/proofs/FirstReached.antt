@@ -11,8 +11,8 @@ use Rattle.seqtree.proofs.FirstReached.{not_earlier}
 use Rattle.runs.specs.declared.counted.Counted.{Counted}
 use Rattle.runs.specs.Counted.{most}
 use Rattle.runs.specs.Runs.{flattened}
-use Rattle.runs.proofs.Flat.{prefix, prefix-more, whole_at}
-use Rattle.runs.proofs.Totals.{all_of, total-sum, items_before}
+use Rattle.chunks.proofs.Joined.{prefix-more, whole_at}
+use Rattle.runs.proofs.Totals.{prefix, all_of, total-sum, items_before}
 
 -- i is the least number of items that go before the one at which the goal is reached
 pub record IsFound {A S : Type 0} (zero : S) (op : S → S → S) (measure : A → S) (reached : S → Bool) (items : List A) (i : ℕ) (sum : S) : Type 0 where
@@ -58,7 +58,7 @@ module _ {A S : Type 0} {zero : S} {op : S → S → S} (measure : A → S) (law
     -- a prefix that ends in the run
     taken : (j : ℕ) → j ≤ length run → take (length (prefix runs place) + j) (flattened runs) ≡ prefix runs place ++ take j run
     taken j l =
-        ap (take (length (prefix runs place) + j)) (sym (whole_at runs place run at))
+        ap (take (length (prefix runs place) + j)) (sym (whole_at (λ r. r) runs place run at))
         ∙ take-append-add (prefix runs place) (run ++ flattened (drop (place + 1) runs)) j
         ∙ ap (λ q. prefix runs place ++ q) (take-append-le j run (flattened (drop (place + 1) runs)) l)
 
@@ -74,12 +74,12 @@ module _ {A S : Type 0} {zero : S} {op : S → S → S} (measure : A → S) (law
         go (inr l) =
             let whole : take (length run - 1 + 1) run ≡ run = take_all (length run - 1 + 1) run (omega (arith, some)) in
             let low : reached (op (tot (prefix runs place)) (tot run)) ≡ false = ap (λ t. reached (op (tot (prefix runs place)) (tot t))) (sym whole) ∙ least.not_before (length run - 1) (omega (arith, l, some)) in
-            let same : tot (prefix runs (place + 1)) ≡ op (tot (prefix runs place)) (tot run) = ap tot (prefix-more runs place run at) ∙ total-append measure laws (prefix runs place) run in
+            let same : tot (prefix runs (place + 1)) ≡ op (tot (prefix runs place)) (tot run) = ap tot (prefix-more (λ r. r) runs place run at) ∙ total-append measure laws (prefix runs place) run in
             absurd (false≢true (sym low ∙ ap reached (sym same) ∙ high))
 
     length_all : length (flattened runs) ≡ length (prefix runs place) + (length run + length (flattened (drop (place + 1) runs)))
     length_all =
-        sym (ap length (whole_at runs place run at)) ∙ length-append (prefix runs place) (run ++ flattened (drop (place + 1) runs)) ∙ ap (λ n. length (prefix runs place) + n) (length-append run (flattened (drop (place + 1) runs)))
+        sym (ap length (whole_at (λ r. r) runs place run at)) ∙ length-append (prefix runs place) (run ++ flattened (drop (place + 1) runs)) ∙ ap (λ n. length (prefix runs place) + n) (length-append run (flattened (drop (place + 1) runs)))
 
     pub found_in : IsFound zero op measure reached (flattened runs) (length (prefix runs place) + i) s
     found_in = record {
@@ -88,7 +88,7 @@ module _ {A S : Type 0} {zero : S} {op : S → S → S} (measure : A → S) (law
       not_before = λ k l. elim (cases_lt k (length (prefix runs place))) [
         | inl m ↦
             let short : take (k + 1) (flattened runs) ≡ take (k + 1) (prefix runs place) =
-            ap (take (k + 1)) (sym (whole_at runs place run at)) ∙ take-append-le (k + 1) (prefix runs place) (run ++ flattened (drop (place + 1) runs)) (omega (arith, m)) in
+            ap (take (k + 1)) (sym (whole_at (λ r. r) runs place run at)) ∙ take-append-le (k + 1) (prefix runs place) (run ++ flattened (drop (place + 1) runs)) (omega (arith, m)) in
             ap (λ t. reached (tot t)) short ∙ before_it k m
         | inr m ↦
             let j : ℕ = k - length (prefix runs place) in

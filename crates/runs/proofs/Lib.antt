@@ -1,5 +1,3 @@
-mod FewRuns
-mod RefilledRuns
-mod Flat
+mod RunsMade
 mod FirstReached
 mod Totals

@@ -9,7 +9,11 @@ use Rattle.seqtree.proofs.Totals.{total-append}
 use Rattle.runs.specs.declared.counted.Counted.{Counted}
 use Rattle.runs.specs.Counted.{most, nothing, join_three, counted}
 use Rattle.runs.specs.Runs.{flattened}
-use Rattle.runs.proofs.Flat.{prefix, prefix-le}
+use Rattle.chunks.proofs.Joined.{prefix-le}
+
+-- the items before the run at place i
+abbrev pub prefix : {A : Type 0} → List (List A) → ℕ → List A
+prefix runs i = flattened (take i runs)
 
 module _ {A S : Type 0} {zero : S} {op : S → S → S} (measure : A → S) (laws : MonoidLaws zero op) where
   abbrev pub all_of : List (List A) → Counted S
@@ -32,7 +36,7 @@ module _ {A S : Type 0} {zero : S} {op : S → S → S} (measure : A → S) (law
 
   module _ (runs : List (List A)) (few : length (flattened runs) ≤ most) (offset : ℕ) where
     pub items_before : (i : ℕ) → (all_of (take i runs)).items ≡ length (prefix runs i)
-    items_before i = total-items (take i runs) (omega (arith, few, prefix-le runs i))
+    items_before i = total-items (take i runs) (omega (arith, few, prefix-le (λ run. run) runs i))
 
     -- no more items than the offset lie before the first run after which more do
     pub starts_before : (i : ℕ) → ((k : ℕ) → k < i → nat_lt offset (all_of (take (k + 1) runs)).items ≡ false) → length (prefix runs i) ≤ offset

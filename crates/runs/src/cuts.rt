@@ -2,7 +2,8 @@
 
 ghost use Rattle.std.specs.Prelude.{◌≡◌, ◌^◌, ◌<◌, length, take};
 ghost use Rattle.seqtree.specs.Monoid.{total};
-ghost use Rattle.runs.specs.Runs.{flattened, IsCut};
+ghost use Rattle.chunks.specs.Chunks.{IsCut};
+ghost use Rattle.runs.specs.Runs.{flattened};
 
 use crate::counted::{AfterItem, Counted};
 use crate::run::Run;
@@ -22,7 +23,7 @@ pub struct Cut<'a, T> {
 /// Cuts a list in two at an offset, and at its end where the offset is past it. The steps are a logarithm.
 pub fn cut_at<T: Measured>(runs: &Seq<Run<T>>, offset: usize) -> Cut<'_, T>
     requires counted { length (flattened runs.now) < 2 ^ 64 }
-    ensures { IsCut runs.now offset result.run result.prefix.now result.back.now }
+    ensures { IsCut (λ run. run) runs.now offset result.run result.prefix.now result.back.now }
 {
     let (cut, _sum) = cut_with_sum(runs, offset);
     cut
@@ -31,7 +32,7 @@ pub fn cut_at<T: Measured>(runs: &Seq<Run<T>>, offset: usize) -> Cut<'_, T>
 /// The same cut, and the sum of the runs that lie whole before it.
 pub fn cut_with_sum<T: Measured>(runs: &Seq<Run<T>>, offset: usize) -> (Cut<'_, T>, T::Sum)
     requires counted { length (flattened runs.now) < 2 ^ 64 }
-    ensures cut { IsCut runs.now offset result.0.run result.0.prefix.now result.0.back.now }
+    ensures cut { IsCut (λ run. run) runs.now offset result.0.run result.0.prefix.now result.0.back.now }
     ensures sum { result.1
         ≡ total T.Sum.empty T.Sum.op T.measure (flattened (take result.0.run runs.now)) }
 {

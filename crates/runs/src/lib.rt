@@ -27,7 +27,6 @@
 
 mod counted;
 mod cuts;
-mod gaps;
 mod items;
 mod list;
 mod run;

@@ -3,12 +3,13 @@
 ghost use Rattle.std.specs.Prelude.{◌≡◌, ℕ, IsTrue, false, ◌+◌, ◌-◌, ◌*◌, ◌^◌, ◌<◌, ◌≤◌, ◌++◌, [], length, take, drop, slice_get, option_copied, OnOk, OnErr};
 ghost use Rattle.seqtree.specs.Monoid.{total};
 ghost use Rattle.seqtree.specs.Goal.{IsLeast};
+ghost use Rattle.runs.specs.Runs.{flattened};
 
 use crate::counted::{Counted, OfSum};
 use crate::cuts::{cut_at, cut_with_sum};
-use crate::gaps::{Splice, splice_between};
 use crate::items::Iter;
-use crate::run::{Run, sum_of};
+use crate::run::{Run, join_three, sum_of};
+use chunks::Chunks;
 use seqtree::{Goal, Measured, Monoid, Seq};
 use std::alloc::{AllocError, Global};
 use std::marker::Model;
@@ -16,34 +17,46 @@ use std::marker::Model;
 /// A list of items, which returns the sum of any prefix of it. The items lie in runs, so that a change costs the runs that it
 /// touches, the new items, and the logarithm of the length.
 #[derive(Drop)]
-pub struct Runs<T: Measured> {
-    runs: Seq<Run<T>>,
+pub struct Runs<T: Measured + Copy> {
+    runs: Chunks<Run<T>>,
 }
 
-impl<T: Measured> Model for Runs<T> {
-    ghost use Rattle.std.specs.Prelude.{List};
-    ghost use Rattle.runs.specs.Runs.{flattened, IsStored};
+impl<T: Measured + Copy> Model for Runs<T> {
+    ghost use Rattle.std.specs.Prelude.{List, ◌<◌, ◌^◌, length};
+    ghost use Rattle.runs.specs.Runs.{flattened};
 
     ghost Value = { List T };
 
     ghost view = { λ r. flattened r.runs };
 
-    ghost invariant = { λ r. IsStored r.runs };
+    ghost invariant = { λ r. length (flattened r.runs) < 2 ^ 64 };
 }
 
-impl<T: Measured> Runs<T> {
+impl<T: Measured + Copy> Runs<T> {
     /// The list with no item. Takes no memory.
     pub fn new() -> Self
         ensures { result ≡ [] }
     {
-        Runs { runs: Seq::new() }
+        Runs {
+            runs: Chunks::new(),
+        }
+    }
+
+    /// The runs, in which the items lie.
+    fn seq(&self) -> &Seq<Run<T>>
+        ensures items { flattened result.now ≡ self.now }
+        ensures counted { length self.now < 2 ^ 64 }
+        ensures few { 16 * length result.now ≤ length self.now + 16 }
+        ensures enough { length self.now ≤ 32 * length result.now }
+    {
+        self.runs.seq()
     }
 
     /// How many items there are.
     pub fn len(&self) -> usize
         ensures { result ≡ length self.now }
     {
-        self.runs.total().items
+        self.seq().total().items
     }
 
     /// In how many runs the items lie: few, but enough to hold them.
@@ -51,14 +64,14 @@ impl<T: Measured> Runs<T> {
         ensures few { 16 * result ≤ length self.now + 16 }
         ensures enough { length self.now ≤ 32 * result }
     {
-        self.runs.len()
+        self.seq().len()
     }
 
     /// The sum of all items.
     pub fn total(&self) -> T::Sum
         ensures { result ≡ total T.Sum.empty T.Sum.op T.measure self.now }
     {
-        let Counted { items: _, sum } = self.runs.total();
+        let Counted { items: _, sum } = self.seq().total();
         sum
     }
 
@@ -66,7 +79,7 @@ impl<T: Measured> Runs<T> {
     pub fn total_before(&self, i: usize) -> T::Sum
         ensures { result ≡ total T.Sum.empty T.Sum.op T.measure (take i self.now) }
     {
-        let (cut, sum) = cut_with_sum(&self.runs, i);
+        let (cut, sum) = cut_with_sum(self.seq(), i);
         sum.join(&sum_of(cut.prefix))
     }
 
@@ -74,15 +87,16 @@ impl<T: Measured> Runs<T> {
     pub fn get(&self, i: usize) -> Option<&T>
         ensures { option_copied result ≡ slice_get self.now i }
     {
-        cut_at(&self.runs, i).back.first()
+        cut_at(self.seq(), i).back.first()
     }
 
     /// The items from the place `i` on.
     pub fn iter_from(&self, i: usize) -> Iter<'_, T>
         ensures { result ≡ drop i self.now }
     {
-        let cut = cut_at(&self.runs, i);
-        Iter::new(cut.back, self.runs.iter_from(cut.run + 1))
+        let runs = self.seq();
+        let cut = cut_at(runs, i);
+        Iter::new(cut.back, runs.iter_from(cut.run + 1))
     }
 
     /// The least `i` such that the sum of the first `i + 1` items reaches the goal, and the sum of the items before
@@ -97,17 +111,16 @@ impl<T: Measured> Runs<T> {
             IsTrue (G.reaches goal.now (total T.Sum.empty T.Sum.op T.measure
             (take (result.0 + 1) self.now))) }
     {
-        let (place, before) = self.runs.locate(&OfSum { goal });
+        let runs = self.seq();
+        let (place, before) = runs.locate(&OfSum { goal });
         let Counted { items, sum } = before;
-        let Some(run) = self.runs.get(place) else {
+        let Some(run) = runs.get(place) else {
             return (items, sum);
         };
         let (within, sum) = locate_in(run.items(), sum, goal);
         (items + within, sum)
     }
-}
 
-impl<T: Measured + Copy> Runs<T> {
     /// Puts the given items in the place of `from..to`. Takes all memory before it changes anything, and refuses for memory
     /// alone; after a refusal the list is as before.
     pub fn replace(
@@ -124,10 +137,12 @@ impl<T: Measured + Copy> Runs<T> {
             ≡ take from self.old ++ items.now ++ drop to self.old) }
         ensures unchanged { OnErr result (self.new ≡ self.old) }
     {
-        let start = cut_at(&self.runs, from);
-        let end = cut_at(&self.runs, to);
-        let Splice { from, to, runs } = splice_between(alloc, &self.runs, &start, &end, items)?;
-        self.runs.replace(from, to, runs);
+        let runs = self.runs.seq();
+        let start = cut_at(runs, from);
+        let end = cut_at(runs, to);
+        let items = join_three(alloc, start.prefix, items, end.back)?;
+        let (from, to) = (start.run, end.run + 1);
+        self.runs.replace(alloc, from, to, items)?;
         Ok(())
     }
 }

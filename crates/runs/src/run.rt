@@ -1,10 +1,11 @@
 //! Runs of items, and items cut into runs.
 
-ghost use Rattle.std.specs.Prelude.{◌≡◌, ◌+◌, ◌<◌, ◌≤◌, length, All, IfOk};
+ghost use Rattle.std.specs.Prelude.{◌≡◌, ◌+◌, ◌<◌, ◌≤◌, ◌++◌, length, All, IfOk};
 ghost use Rattle.seqtree.specs.Monoid.{total};
 ghost use Rattle.runs.specs.Runs.{flattened, IsLarge, IsShort};
 
 use crate::counted::Counted;
+use chunks::Chunk;
 use seqtree::{Measured, Monoid};
 use std::alloc::{AllocError, Global};
 use std::marker::Model;
@@ -71,6 +72,61 @@ impl<T: Measured> Measured for Run<T> {
             sum: T::Sum::zero().join(&self.sum),
         }
     }
+}
+
+impl<T: Measured + Copy> Chunk for Run<T> {
+    ghost use Rattle.std.specs.Prelude.{length};
+    ghost use Rattle.runs.specs.Laws.{length_measures};
+    ghost use Rattle.runs.specs.declared.run.TheConstants.{LONGEST_RUN, SHORTEST_OF_SEVERAL};
+
+    type Item = T;
+    type Items = Vec<T>;
+
+    const SHORTEST: usize = SHORTEST_OF_SEVERAL;
+    const LONGEST: usize = LONGEST_RUN;
+
+    ghost SHORTEST = { SHORTEST_OF_SEVERAL };
+
+    ghost LONGEST = { LONGEST_RUN };
+
+    ghost items = { λ run. run };
+
+    ghost list = { λ whole. whole.items };
+
+    ghost size = { length };
+
+    ghost laws = { length_measures };
+
+    fn size(whole: &Vec<T>) -> usize {
+        whole.len()
+    }
+
+    fn before(&self, alloc: Global, back: Vec<T>) -> Result<Vec<T>, AllocError> {
+        join_three(alloc, &self.items, &back, &[])
+    }
+
+    fn after(&self, alloc: Global, prefix: Vec<T>) -> Result<Vec<T>, AllocError> {
+        join_three(alloc, &prefix, &self.items, &[])
+    }
+
+    fn cut_up(alloc: Global, whole: &Vec<T>) -> Result<Vec<Run<T>>, AllocError> {
+        runs_of(alloc, whole)
+    }
+}
+
+/// Three lists, one after another.
+pub fn join_three<T: Copy>(
+    alloc: Global,
+    prefix: &[T],
+    middle: &[T],
+    back: &[T],
+) -> Result<Vec<T>, AllocError>
+    ensures { IfOk result (λ items. items.items ≡ prefix.now ++ middle.now ++ back.now) }
+{
+    let mut items = Vec::from_slice(alloc, prefix)?;
+    items.extend_from_slice(middle)?;
+    items.extend_from_slice(back)?;
+    Ok(items)
 }
 
 /// The sum of items.

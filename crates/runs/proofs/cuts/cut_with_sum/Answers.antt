@@ -1,9 +1,9 @@
-use Rattle.std.proofs.Common.{arith, sym, ap, ◌∙◌, ◌≡◌, ◌+◌, ◌-◌, ◌≤◌, ◌++◌, length, take, drop}
+use Rattle.std.proofs.Common.{arith, refl, [], sym, ap, ◌∙◌, ◌≡◌, ◌+◌, ◌-◌, ◌≤◌, ◌++◌, length, take, drop}
 use Rattle.std.specs.Prelude.{Some, None, slice_get, option_copied}
 use Rattle.runs.specs.Counted.{most}
 use Rattle.runs.specs.Runs.{flattened}
-use Rattle.runs.proofs.Flat.{prefix, within_runs, inside, before_cut, after_cut, past_run, before_end, after_end}
-use Rattle.runs.proofs.Totals.{total-sum, items_before, starts_before, ends_after}
+use Rattle.chunks.proofs.Joined.{within_chunks, inside, cut_in, cut_at_end}
+use Rattle.runs.proofs.Totals.{prefix, total-sum, items_before, starts_before, ends_after}
 use Rattle.runs.proofs.cuts.cut_with_sum.Goals as goal
 
 pub overflow_sub-offset : goal.overflow_sub-offset
@@ -27,9 +27,9 @@ split_at-requires g c =
     let at : Some run ≡ slice_get runs place = ap option_copied (sym c.in-Some.is) ∙ c.get.ensures in
     let few : length (flattened runs) ≤ most = omega (arith, c.requires.counted) in
     let starts = starts_before m laws runs few c.args.offset place c.locate-place.ensures.not_before in
-    let ends = ends_after m laws runs few c.args.offset place (c.locate-place.ensures.reached (within_runs runs place run at)) in
+    let ends = ends_after m laws runs few c.args.offset place (c.locate-place.ensures.reached (within_chunks runs place run at)) in
     let count : c.locate-place.result.1.items ≡ length (prefix runs place) = ap (λ s. s.items) c.locate-place.ensures.before ∙ items_before m laws runs few c.args.offset place in
-    omega (arith, count, inside runs place run at c.args.offset starts ends, ap length c.items.ensures.same)
+    omega (arith, count, inside (λ r. r) runs place run at c.args.offset starts ends, ap length c.items.ensures.same)
 
 pub returns-clause-cut : goal.returns-clause-cut
 returns-clause-cut g c =
@@ -42,16 +42,10 @@ returns-clause-cut g c =
     let at : Some run ≡ slice_get runs place = ap option_copied (sym c.in-Some.is) ∙ c.get.ensures in
     let few : length (flattened runs) ≤ most = omega (arith, c.requires.counted) in
     let starts = starts_before m laws runs few o place c.locate-place.ensures.not_before in
-    let ends = ends_after m laws runs few o place (c.locate-place.ensures.reached (within_runs runs place run at)) in
+    let ends = ends_after m laws runs few o place (c.locate-place.ensures.reached (within_chunks runs place run at)) in
     let count : c.locate-place.result.1.items ≡ length (prefix runs place) = ap (λ s. s.items) c.locate-place.ensures.before ∙ items_before m laws runs few o place in
     let same = c.items.ensures.same in
-    record {
-      within = c.locate-place.ensures.within;
-      before = before_cut runs place run at o starts ends ∙ ap (λ t. prefix runs place ++ t) (sym (c.split_at.ensures.front ∙ (λ i. take (o - count i) (same i))));
-      after = after_cut runs place run at o starts ends ∙ ap (λ t. t ++ flattened (drop (place + 1) runs)) (sym (c.split_at.ensures.back ∙ (λ i. drop (o - count i) (same i))));
-      starts = starts;
-      ends = λ _. ends;
-    }
+    cut_in (λ r. r) runs place run at o starts ends c.split_at.result.0.now c.split_at.result.1.now (c.split_at.ensures.front ∙ (λ i. take (o - count i) (same i))) (c.split_at.ensures.back ∙ (λ i. drop (o - count i) (same i)))
 
 pub returns-in_default-clause-cut : goal.returns-in_default-clause-cut
 returns-in_default-clause-cut g c =
@@ -61,16 +55,9 @@ returns-in_default-clause-cut g c =
     let place = c.locate-place.result.0 in
     let o = c.args.offset in
     let none : slice_get runs place ≡ None = sym c.get.ensures ∙ ap option_copied c.in_default.is in
-    let end : place ≡ length runs = past_run runs place none c.locate-place.ensures.within in
     let few : length (flattened runs) ≤ most = omega (arith, c.requires.counted) in
     let starts = starts_before m laws runs few o place c.locate-place.ensures.not_before in
-    record {
-      within = c.locate-place.ensures.within;
-      before = before_end runs o place end starts;
-      after = after_end runs o place end starts;
-      starts = starts;
-      ends = λ l. absurd (omega (arith, l, end));
-    }
+    cut_at_end (λ r. r) runs o place none starts [] [] c.locate-place.ensures.within refl refl
 
 pub returns-clause-sum : goal.returns-clause-sum
 returns-clause-sum g c = ap (λ s. s.sum) c.locate-place.ensures.before ∙ total-sum g.T.Measured.measure g.met.T.Sum.Monoid.laws (take c.locate-place.result.0 c.args.runs.now)

@@ -1,7 +1,7 @@
 use Rattle.std.proofs.Common.{◌≡◌, All, ◌++◌, arith, sym, ap, subst, ◌∙◌}
 use Rattle.std.proofs.lemmas.List.{take-append-drop}
 use Rattle.runs.specs.Runs.{flattened, IsLarge, IsShort}
-use Rattle.runs.proofs.Flat.{flattened-more, flattened-last, flattened-none, large-more, short-more}
+use Rattle.runs.proofs.RunsMade.{flattened-more, flattened-last, flattened-none, large-more, short-more}
 use Rattle.runs.proofs.run.runs_of.Goals.{then-rest-gt0+in_ok-new-2+in_ok-push-2, else-rest-gt0}
 use Rattle.runs.proofs.run.runs_of.Goals as goal
 

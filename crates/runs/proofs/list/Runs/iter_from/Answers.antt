@@ -1,6 +1,5 @@
 use Rattle.std.proofs.Common.{arith}
-use Rattle.runs.proofs.RefilledRuns.{runs_le}
 use Rattle.runs.proofs.list.Runs.iter_from.Goals as goal
 
 pub overflow_add-cut : goal.overflow_add-cut
-overflow_add-cut g c = omega (arith, c.cut_at-cut.ensures.within, runs_le c.self.inside.runs c.self.invariant)
+overflow_add-cut g c = omega (arith, c.cut_at-cut.ensures.within, c.seq-runs.ensures.few, c.seq-runs.ensures.counted)

@@ -6,6 +6,6 @@ use Rattle.runs.proofs.list.Runs.len.Goals as goal
 
 pub returns : goal.returns
 returns g c =
-    let runs = c.self.inside.runs in
-    let few : length (flattened runs) ≤ most = omega (arith, c.self.invariant.counted) in
-    ap (λ s. s.items) c.total.ensures ∙ total-items g.T.Measured.measure g.met.T.Sum.Monoid.laws runs few ∙ ap length c.self.view_is
+    let runs = c.seq.result.now in
+    let few : length (flattened runs) ≤ most = omega (arith, c.seq.ensures.counted, ap length c.seq.ensures.items) in
+    ap (λ s. s.items) c.total.ensures ∙ total-items g.T.Measured.measure g.met.T.Sum.Monoid.laws runs few ∙ ap length c.seq.ensures.items
