@@ -7,6 +7,6 @@ pub mod Lines
 pub mod LocatedPiece
 pub mod Offsets
 pub mod PastTheEnd
-pub mod Pieces
+pub mod Summed
 pub mod Steps
 pub mod CharacterLoops

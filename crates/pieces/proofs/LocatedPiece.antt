@@ -1,6 +1,6 @@
 -- What the place of a piece that was looked for says of the text.
 use Rattle.std.specs.Prelude.{◌≡◌, ℕ, zero, suc, ◌+◌, ◌-◌, ◌^◌, ◌<◌, ◌≤◌, ◌⊎◌, Bool, true, false, ◌&&◌, ◌==◌, nat_lt, List, [], ◌∷◌, ◌++◌, length, take, drop}
-use Rattle.std.specs.List.{concat}
+use Rattle.pieces.specs.Pieces.{text_in}
 use Rattle.std.proofs.Common.{arith, refl, sym, ap, inl, inr, ◌∙◌, length-append, length-take}
 use Rattle.std.proofs.lemmas.Bool.{ltb-true, ltb-false, lt-ltb, eqb-true, eq-eqb, or_cases, or_left, or_right, and_from, and_parts, false≢true}
 use Rattle.std.proofs.lemmas.List.{append_assoc, take-append-drop}
@@ -15,7 +15,7 @@ use Rattle.pieces.specs.declared.sums.AfterPosition.{AfterPosition}
 use Rattle.pieces.specs.Sums.{sums_of, joined, most, end_before_feed, count_of, counts_of, is_after_character, is_after_position}
 use Rattle.pieces.specs.Prefixes.{IsPast}
 use Rattle.pieces.proofs.KnownPrefix.{same_line, same_character, line-le, nothing-end}
-use Rattle.pieces.proofs.Pieces.{text_before, total-pieces, few_before}
+use Rattle.pieces.proofs.Summed.{text_before, total-pieces, few_before}
 
 -- the goals, of the sum of a prefix s
 after-character : (g : AfterCharacter) (s : List ℕ) → is_after_character g (sums_of s) ≡ true → g.offset < length s
@@ -58,7 +58,7 @@ not_after-position g (c ∷ s) few h = λ past. false≢true (sym h ∙ go past)
         or_right _ _ (and_from _ _ (and_from _ _ (eq-eqb _ _ line) (lt-ltb _ _ low)) (lt-ltb _ _ up))
 
 -- a list of pieces, few enough, and a place in it
-module _ (pieces : List (List ℕ)) (few : units Utf8 (concat pieces) ≤ 2 ^ 30) where
+module _ (pieces : List (List ℕ)) (few : units Utf8 (text_in pieces) ≤ 2 ^ 30) where
   abbrev sum_before : ℕ → Sums
   sum_before i = total Empty joined sums_of (take i pieces)
 

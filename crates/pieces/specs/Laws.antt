@@ -1,12 +1,16 @@
--- The sums of parts of a text are a monoid, and a goal that one reaches stays reached.
+-- The sums of parts of a text are a monoid, a goal that one reaches stays reached, and bytes add up.
 use Rattle.std.specs.Prelude.{◌≡◌, ℕ, zero, suc, ◌<◌, ◌≤◌, ◌⊎◌, true, not, ◌||◌, ◌&&◌, ◌==◌, nat_lt, if◌then◌else◌, refl}
 use Rattle.std.proofs.Common.{ap, sym, ◌∙◌, inl, inr, arith}
 use Rattle.std.proofs.lemmas.Bool.{ltb-true, lt-ltb, or_cases, and_parts, eqb-true, false≢true, and_from, or_left, or_right, eq-eqb}
+use Rattle.std.proofs.lemmas.List.Sums.{sum_by-append}
+use Rattle.chunks.specs.Chunks.{IsMeasure}
 use Rattle.seqtree.specs.Monoid.{MonoidLaws}
 use Rattle.seqtree.specs.Goal.{StaysReached}
 use Rattle.seqtree.specs.Saturated.{saturated-zero_right, saturated-assoc}
 use Rattle.definitions.specs.declared.Unit.{Unit as Encoding}
 use Rattle.definitions.specs.declared.Unit.TheVariants.{Utf8, Utf16, Utf32}
+use Rattle.definitions.specs.Text.{unit, units}
+use Rattle.pieces.specs.declared.cuts.TheConstants.{SHORTEST_OF_SEVERAL}
 use Rattle.pieces.specs.declared.sums.Units.{Units}
 use Rattle.pieces.specs.declared.sums.Counts.{Counts}
 use Rattle.pieces.specs.declared.sums.Sums.{Sums}
@@ -108,3 +112,8 @@ after_position_stays g (Filled a) (Filled b) h = go (or_cases _ _ h)
         let line = and_parts _ _ parts.0 in
         later g.unit g.position.line g.position.character a.breaks (later_breaks a b) a.units_after b.units_after (eqb-true _ _ line.0)
         (ltb-true _ _ line.1) (ltb-true _ _ parts.1)
+
+-- the bytes of texts add up
+pub bytes_measure : IsMeasure (units Utf8) SHORTEST_OF_SEVERAL
+unfolding units
+bytes_measure = record { adds = λ s t. sum_by-append (unit Utf8) s t; some = omega arith; }

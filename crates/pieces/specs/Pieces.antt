@@ -1,12 +1,17 @@
--- What holds of a piece of a text.
+-- The text of pieces, and what holds of a piece of a text.
 use Rattle.std.specs.Prelude.{◌≡◌, ◌≤◌, ℕ, List, length}
 use Rattle.std.specs.Str.{chars}
+use Rattle.chunks.specs.Chunks.{joined}
 use Rattle.definitions.specs.declared.Unit.TheVariants.{Utf8}
 use Rattle.definitions.specs.Text.{units}
 use Rattle.pieces.specs.declared.cuts.TheConstants.{SHORTEST_OF_SEVERAL}
 use Rattle.pieces.specs.declared.piece.TheConstants.{LONGEST_PIECE}
 use Rattle.pieces.specs.declared.sums.Sums.{Sums}
 use Rattle.pieces.specs.Sums.{sums_of}
+
+-- `text_in pieces`: the characters of pieces, in order
+abbrev pub text_in : List (List ℕ) → List ℕ
+text_in pieces = joined (λ piece. piece) pieces
 
 -- `IsPiece bytes sum`: what a piece keeps: 1 to 1,024 bytes, and the sum of the characters whose UTF-8 they are
 pub record IsPiece (bytes : List ℕ) (sums : Sums) : Type 0 where
@@ -17,3 +22,7 @@ pub record IsPiece (bytes : List ℕ) (sums : Sums) : Type 0 where
 -- the piece has at least 509 bytes
 abbrev pub IsLarge : List ℕ → Type 0
 IsLarge piece = SHORTEST_OF_SEVERAL ≤ units Utf8 piece
+
+-- the piece has at most 1,024 bytes
+abbrev pub IsShort : List ℕ → Type 0
+IsShort piece = units Utf8 piece ≤ LONGEST_PIECE

@@ -1,9 +1,8 @@
 //! A text cut into pieces.
 
 ghost use Rattle.std.specs.Prelude.{◌≡◌, ◌+◌, ◌<◌, ◌≤◌, length, All, IfOk};
-ghost use Rattle.std.specs.List.{concat};
 ghost use Rattle.std.specs.Str.{IsCharBoundary, chars};
-ghost use Rattle.pieces.specs.Pieces.{IsLarge};
+ghost use Rattle.pieces.specs.Pieces.{text_in, IsLarge, IsShort};
 
 use crate::piece::{LONGEST_PIECE, Piece};
 use std::alloc::{AllocError, Global};
@@ -18,9 +17,10 @@ const LONGEST_HALVED: usize = 2_040;
 /// least [`SHORTEST_OF_SEVERAL`] (509) bytes where the text has so many, and a text of at most [`LONGEST_PIECE`] (1,024) bytes
 /// is one piece. Refuses for memory alone.
 pub fn pieces_of(alloc: Global, text: &str) -> Result<Vec<Piece>, AllocError>
-    ensures joined { IfOk result (λ pieces. concat pieces.items ≡ chars text.now) }
+    ensures joined { IfOk result (λ pieces. text_in pieces.items ≡ chars text.now) }
     ensures large { IfOk result (λ pieces.
         SHORTEST_OF_SEVERAL ≤ length text.now → All IsLarge pieces.items) }
+    ensures short { IfOk result (λ pieces. All IsShort pieces.items) }
     ensures one { IfOk result (λ pieces.
         length text.now ≤ LONGEST_PIECE → length pieces.items ≤ 1) }
     ensures shortest { SHORTEST_OF_SEVERAL ≡ 509 }

@@ -1,7 +1,7 @@
 //! Positions and offsets, looked up in a text that is a list of pieces.
 
 ghost use Rattle.std.specs.Prelude.{◌≡◌, ◌-◌, ◌≤◌, ◌^◌, ◌↔◌, ℕ, IsTrue, ◌&&◌, ◌==◌, if◌then◌else◌, List, [], ◌∷◌, ◌++◌, length, take, drop};
-ghost use Rattle.std.specs.List.{concat};
+ghost use Rattle.pieces.specs.Pieces.{text_in};
 ghost use Rattle.std.specs.Str.{chars};
 ghost use Rattle.definitions.specs.Text.{units, begins_with, line_feed};
 ghost use Rattle.definitions.specs.Text as of;
@@ -10,43 +10,44 @@ ghost use Rattle.definitions.specs.declared.Unit.TheVariants.{Utf8};
 ghost use Rattle.pieces.specs.Sums.{sums_of, end_before_feed};
 ghost use Rattle.pieces.specs.Prefixes.{prefix_of, goes_on, with_ones, room, IsPast};
 
-use crate::piece::Piece;
+use crate::places::Pieces;
 use crate::sums::{AfterCharacter, AfterPosition, Sums};
 use definitions::{Position, Unit};
-use seqtree::Seq;
 
-/// The position of an offset (LSP 3.17, "Position"). Between a `\r` and its `\n` it is the end of the line, and past
-/// the end of the text the end of the text.
-pub fn position(pieces: &Seq<Piece>, unit: Unit, offset: usize) -> Position
-    requires few { units Utf8 (concat pieces.now) ≤ 2 ^ 30 }
-    ensures { result ≡ of.position unit (concat pieces.now) offset }
-{
-    let (place, before) = pieces.locate(&AfterCharacter { offset });
-    let prefix = Prefix::new(unit, before);
-    let Some(piece) = pieces.get(place) else {
-        return prefix.position(false);
-    };
-    let (prefix, before_feed) = prefix.with_first(
-        unit,
-        piece.text(),
-        offset - prefix.characters as usize,
-    );
-    prefix.position(before_feed)
-}
+impl Pieces {
+    /// The position of an offset (LSP 3.17, "Position"). Between a `\r` and its `\n` it is the end of the line, and past
+    /// the end of the text the end of the text.
+    pub fn position(&self, unit: Unit, offset: usize) -> Position
+        ensures { result ≡ of.position unit (text_in self.now) offset }
+    {
+        let pieces = self.seq();
+        let (place, before) = pieces.locate(&AfterCharacter { offset });
+        let prefix = Prefix::new(unit, before);
+        let Some(piece) = pieces.get(place) else {
+            return prefix.position(false);
+        };
+        let (prefix, before_feed) = prefix.with_first(
+            unit,
+            piece.text(),
+            offset - prefix.characters as usize,
+        );
+        prefix.position(before_feed)
+    }
 
-/// The offset of a position (LSP 3.17, "Position"): past the end of a line it is the end of the line, past the last
-/// line the end of the text, and between the units of one character the start of that character.
-pub fn offset(pieces: &Seq<Piece>, unit: Unit, position: Position) -> usize
-    requires few { units Utf8 (concat pieces.now) ≤ 2 ^ 30 }
-    ensures is { result ≡ of.offset unit (concat pieces.now) position }
-    ensures within { result ≤ length (concat pieces.now) }
-{
-    let (place, before) = pieces.locate(&AfterPosition { unit, position });
-    let prefix = Prefix::new(unit, before);
-    let Some(piece) = pieces.get(place) else {
-        return prefix.end_in_line(position.line);
-    };
-    prefix.offset_in(unit, piece.text(), position)
+    /// The offset of a position (LSP 3.17, "Position"): past the end of a line it is the end of the line, past the last
+    /// line the end of the text, and between the units of one character the start of that character.
+    pub fn offset(&self, unit: Unit, position: Position) -> usize
+        ensures is { result ≡ of.offset unit (text_in self.now) position }
+        ensures within { result ≤ length (text_in self.now) }
+    {
+        let pieces = self.seq();
+        let (place, before) = pieces.locate(&AfterPosition { unit, position });
+        let prefix = Prefix::new(unit, before);
+        let Some(piece) = pieces.get(place) else {
+            return prefix.end_in_line(position.line);
+        };
+        prefix.offset_in(unit, piece.text(), position)
+    }
 }
 
 /// What is known of a prefix of a text.

@@ -1,10 +1,12 @@
 //! A piece of a text.
 
-ghost use Rattle.std.specs.Prelude.{◌≡◌, ◌≤◌, length, IfOk, string_bytes, encode_utf8_all};
+ghost use Rattle.std.specs.Prelude.{◌≡◌, ◌≤◌, ◌++◌, length, IfOk, string_bytes, encode_utf8_all};
 ghost use Rattle.std.specs.Str.{chars};
 ghost use Rattle.pieces.specs.Sums.{sums_of};
 
+use crate::cuts::{SHORTEST_OF_SEVERAL, pieces_of};
 use crate::sums::{Sums, of_text};
+use chunks::Chunk;
 use seqtree::Measured;
 use std::alloc::{AllocError, Global};
 use std::marker::Model;
@@ -64,4 +66,67 @@ impl Measured for Piece {
     fn sum(&self) -> Sums {
         self.sums
     }
+}
+
+impl Chunk for Piece {
+    ghost use Rattle.std.specs.Prelude.{string_bytes};
+    ghost use Rattle.std.specs.Str.{chars};
+    ghost use Rattle.definitions.specs.Text.{units};
+    ghost use Rattle.definitions.specs.declared.Unit.TheVariants.{Utf8};
+    ghost use Rattle.pieces.specs.Laws.{bytes_measure};
+    ghost use Rattle.pieces.specs.declared.cuts.TheConstants.{SHORTEST_OF_SEVERAL};
+    ghost use Rattle.pieces.specs.declared.piece.TheConstants.{LONGEST_PIECE};
+
+    type Item = char;
+    type Items = String;
+
+    const SHORTEST: usize = SHORTEST_OF_SEVERAL;
+    const LONGEST: usize = LONGEST_PIECE;
+
+    ghost SHORTEST = { SHORTEST_OF_SEVERAL };
+
+    ghost LONGEST = { LONGEST_PIECE };
+
+    ghost items = { λ piece. piece };
+
+    ghost list = { λ whole. chars (string_bytes whole) };
+
+    ghost size = { units Utf8 };
+
+    ghost laws = { bytes_measure };
+
+    fn size(whole: &String) -> usize {
+        whole.as_str().len()
+    }
+
+    fn before(&self, alloc: Global, back: String) -> Result<String, AllocError> {
+        let both = join_three(alloc, self.text(), back.as_str(), "")?;
+        Ok(both)
+    }
+
+    fn after(&self, alloc: Global, prefix: String) -> Result<String, AllocError> {
+        let both = join_three(alloc, prefix.as_str(), self.text(), "")?;
+        Ok(both)
+    }
+
+    fn cut_up(alloc: Global, whole: &String) -> Result<Vec<Piece>, AllocError> {
+        let pieces = pieces_of(alloc, whole.as_str())?;
+        Ok(pieces)
+    }
+}
+
+/// Three texts, one after another. Refuses for memory alone.
+pub fn join_three(
+    alloc: Global,
+    prefix: &str,
+    middle: &str,
+    back: &str,
+) -> Result<String, AllocError>
+    ensures { IfOk result (λ text.
+        chars (string_bytes text) ≡ chars prefix.now ++ chars middle.now ++ chars back.now) }
+{
+    let mut text = String::from_str(alloc, prefix)?;
+    text.push_str(middle)?;
+    text.push_str(back)?;
+    Ok(text)
 }

@@ -1,16 +1,40 @@
 //! Places in a text that is a list of pieces.
 
-ghost use Rattle.std.specs.Prelude.{◌≡◌, ◌<◌, ◌≤◌, ◌^◌, ℕ, List, length, take, drop, slice_index};
-ghost use Rattle.std.specs.List.{concat};
+ghost use Rattle.std.specs.Prelude.{◌≡◌, ◌+◌, ◌*◌, ◌<◌, ◌≤◌, ◌^◌, ◌++◌, ℕ, List, [], length, take, drop, slice_index, string_bytes, OnOk, OnErr};
 ghost use Rattle.std.specs.Str.{chars};
 ghost use Rattle.definitions.specs.Text.{units};
 ghost use Rattle.definitions.specs.declared.Unit.TheVariants.{Utf8};
+ghost use Rattle.pieces.specs.Pieces.{text_in};
 ghost use Rattle.pieces.specs.Sums.{sums_of};
 ghost use Rattle.pieces.specs.Places.{IsCut};
 
+use crate::cuts::SHORTEST_OF_SEVERAL;
 use crate::piece::Piece;
 use crate::sums::{AfterCharacter, Sums};
+use chunks::Chunks;
 use seqtree::{Measured, Seq};
+use std::alloc::{AllocError, Global};
+use std::marker::Model;
+
+/// A text in pieces, of at most 2^30 bytes in UTF-8. The pieces are few: at most one has less than
+/// [`SHORTEST_OF_SEVERAL`] bytes.
+#[derive(Drop)]
+pub struct Pieces {
+    chunks: Chunks<Piece>,
+}
+
+impl Model for Pieces {
+    ghost use Rattle.std.specs.Prelude.{List, ℕ, ◌≤◌, ◌^◌};
+    ghost use Rattle.definitions.specs.Text.{units};
+    ghost use Rattle.definitions.specs.declared.Unit.TheVariants.{Utf8};
+    ghost use Rattle.pieces.specs.Pieces.{text_in};
+
+    ghost Value = { List (List ℕ) };
+
+    ghost view = { λ p. p.chunks };
+
+    ghost invariant = { λ p. units Utf8 (text_in p.chunks) ≤ 2 ^ 30 };
+}
 
 /// Where a text in pieces is cut in two.
 #[derive(Clone, Copy)]
@@ -25,57 +49,97 @@ pub struct Cut<'a> {
     pub back: &'a str,
 }
 
-/// Cuts a text in two at an offset, and at its end where the offset is past it. The steps are a logarithm, and one walk
-/// over a piece that isn't ASCII.
-pub fn cut_at(pieces: &Seq<Piece>, offset: usize) -> Cut<'_>
-    requires few { units Utf8 (concat pieces.now) ≤ 2 ^ 30 }
-    ensures { IsCut pieces.now offset result }
-{
-    let (place, before) = pieces.locate(&AfterCharacter { offset });
-    let before_place = bytes_in(before);
-    let Some(piece) = pieces.get(place) else {
-        return Cut {
-            piece: place,
-            bytes: before_place,
-            prefix: "",
-            back: "",
-        };
-    };
-    let (prefix, back) = split(piece, offset - characters_in(before));
-    Cut {
-        piece: place,
-        bytes: before_place + prefix.len(),
-        prefix,
-        back,
+impl Pieces {
+    /// The empty text, in no piece. Takes no memory.
+    pub fn new() -> Self
+        ensures { result ≡ [] }
+    {
+        Pieces {
+            chunks: Chunks::new(),
+        }
     }
-}
 
-/// The character at an offset. The steps are those of [`cut_at`].
-pub fn character(pieces: &Seq<Piece>, offset: usize) -> char
-    requires few { units Utf8 (concat pieces.now) ≤ 2 ^ 30 }
-    requires in_range { offset < length (concat pieces.now) }
-    ensures { result ≡ slice_index (concat pieces.now) offset }
-{
-    let Some(c) = cut_at(pieces, offset).back.chars().next() else {
-        unreachable!()
-    };
-    c
-}
+    /// The pieces, in order.
+    pub fn seq(&self) -> &Seq<Piece>
+        ensures same { result.now ≡ self.now }
+        ensures fits { units Utf8 (text_in result.now) ≤ 2 ^ 30 }
+        ensures few { SHORTEST_OF_SEVERAL * length result.now
+            ≤ units Utf8 (text_in result.now) + SHORTEST_OF_SEVERAL }
+    {
+        self.chunks.seq()
+    }
 
-/// How many characters a text has.
-pub fn characters(pieces: &Seq<Piece>) -> usize
-    requires few { units Utf8 (concat pieces.now) ≤ 2 ^ 30 }
-    ensures { result ≡ length (concat pieces.now) }
-{
-    characters_in(pieces.total())
-}
+    /// Puts a text in the place of the pieces from `from` up to `to`, or to the end. Takes all memory before it changes
+    /// anything, and refuses for memory alone; after a refusal the pieces are as before.
+    pub fn replace(
+        &mut self,
+        alloc: Global,
+        from: usize,
+        to: usize,
+        text: String,
+    ) -> Result<(), AllocError>
+        requires ordered { from ≤ to }
+        requires in_range { from ≤ length self.old }
+        requires fits { units Utf8 (text_in (take from self.old) ++ chars (string_bytes text)
+            ++ text_in (drop to self.old)) ≤ 2 ^ 30 }
+        ensures text { OnOk result (text_in self.new
+            ≡ text_in (take from self.old) ++ chars (string_bytes text)
+            ++ text_in (drop to self.old)) }
+        ensures unchanged { OnErr result (self.new ≡ self.old) }
+    {
+        self.chunks.replace(alloc, from, to, text)?;
+        Ok(())
+    }
 
-/// How many bytes a text has in UTF-8.
-pub fn bytes(pieces: &Seq<Piece>) -> usize
-    requires few { units Utf8 (concat pieces.now) ≤ 2 ^ 30 }
-    ensures { result ≡ units Utf8 (concat pieces.now) }
-{
-    bytes_in(pieces.total())
+    /// Cuts the text in two at an offset, and at its end where the offset is past it. The steps are a logarithm, and one
+    /// walk over a piece that isn't ASCII.
+    pub fn cut_at(&self, offset: usize) -> Cut<'_>
+        ensures { IsCut self.now offset result }
+    {
+        let pieces = self.seq();
+        let (place, before) = pieces.locate(&AfterCharacter { offset });
+        let before_place = bytes_in(before);
+        let Some(piece) = pieces.get(place) else {
+            return Cut {
+                piece: place,
+                bytes: before_place,
+                prefix: "",
+                back: "",
+            };
+        };
+        let (prefix, back) = split(piece, offset - characters_in(before));
+        Cut {
+            piece: place,
+            bytes: before_place + prefix.len(),
+            prefix,
+            back,
+        }
+    }
+
+    /// The character at an offset. The steps are those of `cut_at`.
+    pub fn character(&self, offset: usize) -> char
+        requires { offset < length (text_in self.now) }
+        ensures { result ≡ slice_index (text_in self.now) offset }
+    {
+        let Some(c) = self.cut_at(offset).back.chars().next() else {
+            unreachable!()
+        };
+        c
+    }
+
+    /// How many characters the text has.
+    pub fn characters(&self) -> usize
+        ensures { result ≡ length (text_in self.now) }
+    {
+        characters_in(self.seq().total())
+    }
+
+    /// How many bytes the text has in UTF-8.
+    pub fn bytes(&self) -> usize
+        ensures { result ≡ units Utf8 (text_in self.now) }
+    {
+        bytes_in(self.seq().total())
+    }
 }
 
 /// How many characters a part with this sum has.

@@ -1,6 +1,3 @@
-mod FewPieces
-mod RefilledPieces
 mod Lines
 mod Sizes
 mod NextPosition
-mod Spliced

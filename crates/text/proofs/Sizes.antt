@@ -1,5 +1,5 @@
 -- How many bytes a text and its parts have in UTF-8.
-use Rattle.std.specs.Prelude.{◌≡◌, ℕ, ◌+◌, ◌*◌, ◌-◌, ◌≤◌, List, ◌++◌, length, take, drop, encode_utf8_all}
+use Rattle.std.specs.Prelude.{◌≡◌, ℕ, ◌+◌, ◌-◌, ◌≤◌, List, ◌++◌, length, take, drop, encode_utf8_all}
 use Rattle.std.specs.Str.{IsUtf8, chars}
 use Rattle.std.proofs.Common.{arith, sym, ap, ◌∙◌, length-append}
 use Rattle.std.proofs.lemmas.List.{take-append-drop}
@@ -9,12 +9,11 @@ use Rattle.definitions.specs.Text.{edit}
 use Rattle.definitions.proofs.Characters.{encodes-chars}
 use Rattle.definitions.specs.Text.{units}
 use Rattle.definitions.specs.declared.Unit.TheVariants.{Utf8}
-use Rattle.std.specs.List.{concat}
+use Rattle.pieces.specs.Pieces.{text_in}
 use Rattle.pieces.specs.declared.places.Cut.{Cut}
 use Rattle.pieces.specs.Places.{IsCut}
 use Rattle.pieces.proofs.Joins.{units-bytes}
 use Rattle.text.specs.Stored.{IsStored}
-use Rattle.text.proofs.FewPieces.{few}
 
 -- how many bytes the characters have
 abbrev pub size : List ℕ → ℕ
@@ -48,16 +47,13 @@ kept t a b before after bytes l e f g =
       edited = λ s. omega (arith, size-append (take a t ++ s) (drop b t), size-append (take a t) s, one, two, rest, g);
     }
 
-pub kept_cut : (ps : List (List ℕ)) (t : List ℕ) (a b bytes : ℕ) (start end : Cut) → concat ps ≡ t → a ≤ b → IsCut ps a start → IsCut ps b end → bytes ≡ size t → IsKept t a b start.bytes end.bytes bytes
+pub kept_cut : (ps : List (List ℕ)) (t : List ℕ) (a b bytes : ℕ) (start end : Cut) → text_in ps ≡ t → a ≤ b → IsCut ps a start → IsCut ps b end → bytes ≡ size t → IsKept t a b start.bytes end.bytes bytes
 kept_cut ps t a b bytes start end view l p q e =
     kept t a b start.bytes end.bytes bytes l (p.bytes ∙ ap (λ u. units Utf8 (take a u)) view) (q.bytes ∙ ap (λ u. units Utf8 (take b u)) view) e
 
--- a text that is stored has few bytes and few pieces
-pub bytes_le : (ps : List (List ℕ)) → IsStored ps → units Utf8 (concat ps) ≤ 1048576
-bytes_le ps h = omega (arith, units-bytes (concat ps), h.few)
+-- a text that is stored has few bytes
+pub bytes_le : (ps : List (List ℕ)) → IsStored ps → units Utf8 (text_in ps) ≤ 1048576
+bytes_le ps h = omega (arith, units-bytes (text_in ps), h.few)
 
-pub length_le : (ps : List (List ℕ)) → IsStored ps → length (concat ps) ≤ 1048576
-length_le ps h = omega (arith, length-le-encodes (concat ps), h.few)
-
-pub pieces_le : (ps : List (List ℕ)) → IsStored ps → 509 * length ps ≤ size (concat ps) + 509
-pieces_le ps h = omega (arith, few ps, units-bytes (concat ps), h.small)
+pub length_le : (ps : List (List ℕ)) → IsStored ps → length (text_in ps) ≤ 1048576
+length_le ps h = omega (arith, length-le-encodes (text_in ps), h.few)

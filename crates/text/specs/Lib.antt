@@ -1,4 +1,3 @@
-pub mod Gaps
 pub mod Places
 pub mod Stored
 pub use Rattle.definitions.specs.Text

@@ -2,7 +2,7 @@
 
 ghost use Rattle.std.specs.Prelude.{◌≡◌, [], ◌∷◌, ◌++◌, length, slice_get, MatchOption};
 ghost use Rattle.std.specs.Iterator.{YieldsFirst, item_count};
-ghost use Rattle.std.specs.List.{concat};
+ghost use Rattle.pieces.specs.Pieces.{text_in};
 ghost use Rattle.std.specs.Str.{chars};
 
 use pieces::Piece;
@@ -20,12 +20,12 @@ pub struct Chars<'a> {
 
 impl<'a> Model for Chars<'a> {
     ghost use Rattle.std.specs.Prelude.{◌≡◌, ℕ, List, [], ◌++◌, length};
-    ghost use Rattle.std.specs.List.{concat};
+    ghost use Rattle.pieces.specs.Pieces.{text_in};
     ghost use Rattle.std.specs.Str.{chars};
 
     ghost Value = { List ℕ };
 
-    ghost view = { λ c. chars c.present.now ++ concat c.pieces };
+    ghost view = { λ c. chars c.present.now ++ text_in c.pieces };
 
     ghost invariant = { λ c. length c.present.now ≡ 0 → length c.pieces ≡ 0 };
 }
@@ -33,7 +33,7 @@ impl<'a> Model for Chars<'a> {
 impl<'a> Chars<'a> {
     /// The characters of `present` and then those of the pieces.
     pub(crate) fn new(present: &'a str, mut pieces: Iter<'a, Piece>) -> Chars<'a>
-        ensures { result ≡ chars present.now ++ concat pieces.entry }
+        ensures { result ≡ chars present.now ++ text_in pieces.entry }
     {
         let present = refill(present, &mut pieces);
         Chars { present, pieces }
@@ -73,7 +73,7 @@ fn split_first(text: &str) -> Option<(char, &str)>
 
 /// What is left of the present piece, or the next piece where nothing is.
 fn refill<'a>(present: &'a str, pieces: &mut Iter<'a, Piece>) -> &'a str
-    ensures same { chars result.now ++ concat pieces.new ≡ chars present.now ++ concat pieces.old }
+    ensures same { chars result.now ++ text_in pieces.new ≡ chars present.now ++ text_in pieces.old }
     ensures filled { length result.now ≡ 0 → length pieces.new ≡ 0 }
 {
     if present.len() > 0 {

@@ -7,11 +7,10 @@ ghost use Rattle.definitions.specs.Text.{IsText, edit, changed};
 ghost use Rattle.definitions.specs.Text as of;
 
 use crate::characters::Chars;
-use crate::gaps::{Splice, splice_between};
 use crate::places::Places;
 use definitions::{Position, Range, Unit};
-use pieces::{Piece, SHORTEST_OF_SEVERAL, cut_at, pieces_of};
-use seqtree::{Seq, Slots};
+use pieces::{Piece, Pieces, SHORTEST_OF_SEVERAL, join_three};
+use seqtree::Seq;
 use std::alloc::{AllocError, Global};
 use std::marker::Model;
 use thiserror::Error;
@@ -46,17 +45,17 @@ impl From<AllocError> for TextFault {
 /// an edit costs the pieces that it touches, the new characters, and the logarithm of the length.
 #[derive(Drop)]
 pub struct Text {
-    pieces: Seq<Piece>,
+    pieces: Pieces,
 }
 
 impl Model for Text {
     ghost use Rattle.std.specs.Prelude.{List, ℕ};
-    ghost use Rattle.std.specs.List.{concat};
+    ghost use Rattle.pieces.specs.Pieces.{text_in};
     ghost use Rattle.text.specs.Stored.{IsStored};
 
     ghost Value = { List ℕ };
 
-    ghost view = { λ t. concat t.pieces };
+    ghost view = { λ t. text_in t.pieces };
 
     ghost invariant = { λ t. IsStored t.pieces };
 }
@@ -73,9 +72,8 @@ impl Text {
         if text.len() > LONGEST_TEXT {
             return Err(TextFault::TooLarge);
         }
-        let items = Slots::make(alloc, pieces_of(alloc, text)?)?;
-        let mut pieces = Seq::new();
-        pieces.replace(0, 0, items);
+        let mut pieces = Pieces::new();
+        pieces.replace(alloc, 0, 0, String::from_str(alloc, text)?)?;
         Ok(Text { pieces })
     }
 
@@ -91,14 +89,15 @@ impl Text {
         ensures too_large { (result ≡ Err TextFault.TooLarge)
             ↔ (LONGEST_TEXT < length (encode_utf8_all (edit self.old a b (chars new.now)))) }
     {
-        let start = cut_at(&self.pieces, a);
-        let end = cut_at(&self.pieces, b);
+        let start = self.pieces.cut_at(a);
+        let end = self.pieces.cut_at(b);
         let kept = start.bytes + (self.bytes() - end.bytes);
         if new.len() > LONGEST_TEXT - kept {
             return Err(TextFault::TooLarge);
         }
-        let Splice { from, to, items } = splice_between(alloc, &self.pieces, start, end, new)?;
-        self.pieces.replace(from, to, items);
+        let text = join_three(alloc, start.prefix, new, end.back)?;
+        let (from, to) = (start.piece, end.piece + 1);
+        self.pieces.replace(alloc, from, to, text)?;
         Ok(())
     }
 
@@ -148,7 +147,7 @@ impl Text {
         ensures is { result ≡ of.offset unit self.now position }
         ensures within { result ≤ length self.now }
     {
-        pieces::offset(&self.pieces, unit, position)
+        self.pieces.offset(unit, position)
     }
 
     /// The position of an offset (LSP 3.17, "Position"). Between a `\r` and its `\n` it is the end of the line, and past
@@ -156,14 +155,14 @@ impl Text {
     pub fn position(&self, unit: Unit, offset: usize) -> Position
         ensures { result ≡ of.position unit self.now offset }
     {
-        pieces::position(&self.pieces, unit, offset)
+        self.pieces.position(unit, offset)
     }
 
     /// A walk over the text, from its start, that returns positions as it goes.
     pub fn places(&self, unit: Unit) -> Places<'_>
         ensures { result ≡ record { text = self.now; offset = 0; unit = unit } }
     {
-        Places::new(&self.pieces, unit)
+        Places::new(self.pieces.seq(), unit)
     }
 
     /// How many characters the text has.
@@ -172,7 +171,7 @@ impl Text {
         ensures few { result ≤ LONGEST_TEXT }
         ensures characters { IsText self.now }
     {
-        pieces::characters(&self.pieces)
+        self.pieces.characters()
     }
 
     /// How many bytes the text has in UTF-8, at most [`LONGEST_TEXT`].
@@ -180,7 +179,7 @@ impl Text {
         ensures count { result ≡ length (encode_utf8_all self.now) }
         ensures few { result ≤ LONGEST_TEXT }
     {
-        pieces::bytes(&self.pieces)
+        self.pieces.bytes()
     }
 
     /// The character at an offset. The steps are a logarithm of the length, and those within one piece.
@@ -188,15 +187,15 @@ impl Text {
         requires { offset < length self.now }
         ensures { result ≡ slice_index self.now offset }
     {
-        pieces::character(&self.pieces, offset)
+        self.pieces.character(offset)
     }
 
     /// The characters from an offset on, none from the end of the text on.
     pub fn chars_from(&self, offset: usize) -> Chars<'_>
         ensures { result ≡ drop offset self.now }
     {
-        let cut = cut_at(&self.pieces, offset);
-        Chars::new(cut.back, self.pieces.iter_from(cut.piece + 1))
+        let cut = self.pieces.cut_at(offset);
+        Chars::new(cut.back, self.pieces.seq().iter_from(cut.piece + 1))
     }
 
     /// All characters, one after another, for readers that go by offsets through the whole text.
@@ -215,7 +214,7 @@ impl Text {
         ensures { IfOk result (λ string. string_bytes string ≡ encode_utf8_all self.now) }
     {
         let mut string = String::with_capacity(alloc, self.bytes())?;
-        for piece in self.pieces.iter_from(0) {
+        for piece in self.pieces.seq().iter_from(0) {
             string.push_str(piece.text())?;
         }
         Ok(string)
@@ -227,6 +226,6 @@ impl Text {
         ensures few { SHORTEST_OF_SEVERAL * length result.now
             ≤ length (encode_utf8_all self.now) + SHORTEST_OF_SEVERAL }
     {
-        &self.pieces
+        self.pieces.seq()
     }
 }

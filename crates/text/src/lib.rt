@@ -22,7 +22,6 @@
 
 mod characters;
 mod document;
-mod gaps;
 mod places;
 
 pub use characters::Chars;

@@ -1,7 +1,7 @@
 //! A walk over a text that returns positions as it goes.
 
 ghost use Rattle.std.specs.Prelude.{◌≡◌, ◌∷◌, ◌+◌, ◌<◌, ◌≤◌, ◌^◌, ℕ, List, length, min, drop, slice_get};
-ghost use Rattle.std.specs.List.{concat};
+ghost use Rattle.pieces.specs.Pieces.{text_in};
 ghost use Rattle.definitions.specs.Text as of;
 ghost use Rattle.text.specs.Places.{Place};
 
@@ -25,21 +25,21 @@ pub struct Places<'a> {
 }
 
 impl<'a> Model for Places<'a> {
-    ghost use Rattle.std.specs.List.{concat};
+    ghost use Rattle.pieces.specs.Pieces.{text_in};
     ghost use Rattle.text.specs.Places.{Place, IsPlaced};
 
     ghost Value = { Place };
 
-    ghost view = { λ p. record { text = concat p.pieces.now; offset = p.offset; unit = p.unit } };
+    ghost view = { λ p. record { text = text_in p.pieces.now; offset = p.offset; unit = p.unit } };
 
-    ghost invariant = { λ p. IsPlaced (concat p.pieces.now) p.ahead p.offset p.unit p.position };
+    ghost invariant = { λ p. IsPlaced (text_in p.pieces.now) p.ahead p.offset p.unit p.position };
 }
 
 impl<'a> Places<'a> {
     /// The start of a text.
     pub(crate) fn new(pieces: &'a Seq<Piece>, unit: Unit) -> Places<'a>
-        requires { length (concat pieces.now) < 2 ^ 29 }
-        ensures { result ≡ record { text = concat pieces.now; offset = 0; unit = unit } }
+        requires { length (text_in pieces.now) < 2 ^ 29 }
+        ensures { result ≡ record { text = text_in pieces.now; offset = 0; unit = unit } }
     {
         Places {
             pieces,

@@ -1,5 +1,5 @@
 use Rattle.std.proofs.Common.{arith, ap, sym, ◌∙◌, ◌≡◌, ◌++◌, ℕ, List, [], ◌∷◌, length}
-use Rattle.std.specs.List.{concat}
+use Rattle.pieces.specs.Pieces.{text_in}
 use Rattle.std.specs.Str.{chars}
 use Rattle.std.proofs.lemmas.Str.{chars-nil}
 use Rattle.text.proofs.characters.refill.Goals as goal
@@ -10,4 +10,4 @@ none (b ∷ bs) e = absurd (omega (arith, e))
 
 pub returns-in-Some-clause-same : goal.returns-in-Some-clause-same
 returns-in-Some-clause-same c =
-    ap (λ t. t ++ concat c.next.new.self) c.text.ensures.characters ∙ ap concat (sym c.in-Some.ensures.steps) ∙ ap (λ t. t ++ concat c.args.pieces.now) (sym (none c.args.present.now (omega arith)))
+    ap (λ t. t ++ text_in c.next.new.self) c.text.ensures.characters ∙ ap text_in (sym c.in-Some.ensures.steps) ∙ ap (λ t. t ++ text_in c.args.pieces.now) (sym (none c.args.present.now (omega arith)))

@@ -1,6 +1,6 @@
 use Rattle.std.proofs.Common.{arith, refl, ap, sym, subst, ◌∙◌, ◌≡◌, ◌<◌, ◌++◌, ℕ, List, [], ◌∷◌, Option, None, Some, length, true}
 use Rattle.std.specs.Prelude.{slice_get, is_some}
-use Rattle.std.specs.List.{concat}
+use Rattle.pieces.specs.Pieces.{text_in}
 use Rattle.std.specs.Str.{chars}
 use Rattle.std.proofs.lemmas.Bool.{false≢true}
 use Rattle.std.proofs.lemmas.List.{append-nil}
@@ -11,12 +11,12 @@ prefix_get : (xs ys : List ℕ) (c : ℕ) → Some c ≡ slice_get xs 0 → Some
 prefix_get [] ys c h = absurd (none-some c (sym h))
 prefix_get (x ∷ xs) ys c h = h
 
-no_pieces : (ps : List (List ℕ)) → length ps ≡ 0 → concat ps ≡ []
+no_pieces : (ps : List (List ℕ)) → length ps ≡ 0 → text_in ps ≡ []
 no_pieces [] e = refl
 no_pieces (p ∷ ps) e = absurd (omega (arith, e))
 
-peeked : (bs : List ℕ) (ps : List (List ℕ)) (r : Option ℕ) → (length bs ≡ 0 → length ps ≡ 0) → (0 < length bs → is_some r ≡ true) → r ≡ slice_get (chars bs) 0 → r ≡ slice_get (chars bs ++ concat ps) 0
-peeked bs ps (Some c) full some h = prefix_get (chars bs) (concat ps) c h
+peeked : (bs : List ℕ) (ps : List (List ℕ)) (r : Option ℕ) → (length bs ≡ 0 → length ps ≡ 0) → (0 < length bs → is_some r ≡ true) → r ≡ slice_get (chars bs) 0 → r ≡ slice_get (chars bs ++ text_in ps) 0
+peeked bs ps (Some c) full some h = prefix_get (chars bs) (text_in ps) c h
 peeked [] ps None full some h = h ∙ ap (λ t. slice_get t 0) (sym (append-nil (chars [])) ∙ ap (λ t. chars [] ++ t) (sym (no_pieces ps (full refl))))
 peeked (b ∷ bs) ps None full some h = absurd (false≢true (some (omega arith)))
 

@@ -1,14 +1,11 @@
 use Rattle.std.proofs.Common.{arith, ap, ◌∙◌}
-use Rattle.std.specs.List.{concat}
+use Rattle.pieces.specs.Pieces.{text_in}
 use Rattle.pieces.proofs.Joins.{units-bytes}
 use Rattle.text.proofs.Sizes.{size, bytes_le}
 use Rattle.text.proofs.document.Text.bytes.Goals as goal
 
-pub bytes-requires : goal.bytes-requires
-bytes-requires c = omega (arith, bytes_le c.self.inside.pieces c.self.invariant)
-
 pub returns-clause-count : goal.returns-clause-count
-returns-clause-count c = c.bytes.ensures ∙ units-bytes (concat c.self.inside.pieces) ∙ ap size c.self.view_is
+returns-clause-count c = c.bytes.ensures ∙ units-bytes (text_in c.self.inside.pieces) ∙ ap size c.self.view_is
 
 pub returns-clause-few : goal.returns-clause-few
 returns-clause-few c = omega (arith, c.bytes.ensures, bytes_le c.self.inside.pieces c.self.invariant)

@@ -1,6 +1,17 @@
-use Rattle.std.proofs.Common.{arith, ap}
-use Rattle.text.proofs.Sizes.{size, pieces_le}
+use Rattle.std.proofs.Common.{arith, refl, ap, ◌∙◌, ◌≡◌, ◌++◌, ℕ, List, [], ◌∷◌}
+use Rattle.std.specs.List.{concat}
+use Rattle.pieces.specs.Pieces.{text_in}
+use Rattle.pieces.proofs.Joins.{units-bytes}
+use Rattle.text.proofs.Sizes.{size}
 use Rattle.text.proofs.document.Text.pieces.Goals as goal
 
+concat_is : (pieces : List (List ℕ)) → concat pieces ≡ text_in pieces
+concat_is [] = refl
+concat_is (p ∷ pieces) = ap (λ t. p ++ t) (concat_is pieces)
+
+pub returns-clause-text : goal.returns-clause-text
+returns-clause-text c = concat_is c.seq.result.now ∙ ap text_in c.seq.ensures.same ∙ c.self.view_is
+
 pub returns-clause-few : goal.returns-clause-few
-returns-clause-few c = omega (arith, pieces_le c.self.inside.pieces c.self.invariant, ap size c.self.view_is)
+returns-clause-few c =
+    omega (arith, c.seq.ensures.few, units-bytes (text_in c.seq.result.now), ap (λ ps. size (text_in ps)) c.seq.ensures.same, ap size c.self.view_is)

@@ -1,6 +1,7 @@
-use Rattle.std.proofs.Common.{arith}
+use Rattle.std.proofs.Common.{arith, ap, length}
+use Rattle.pieces.specs.Pieces.{text_in}
 use Rattle.text.proofs.Sizes.{length_le}
 use Rattle.text.proofs.document.Text.places.Goals as goal
 
 pub new-requires : goal.new-requires
-new-requires c = omega (arith, length_le c.self.inside.pieces c.self.invariant)
+new-requires c = omega (arith, length_le c.self.inside.pieces c.self.invariant, ap (λ ps. length (text_in ps)) c.seq.ensures.same)

@@ -1,18 +1,14 @@
-use Rattle.std.proofs.Common.{arith, ap, refl, List, ℕ}
-use Rattle.std.specs.List.{concat}
+use Rattle.std.proofs.Common.{arith, ap, refl, sym, subst, ◌∙◌, ◌≤◌}
+use Rattle.std.specs.Prelude.{string_bytes}
 use Rattle.std.specs.Str.{chars}
-use Rattle.definitions.specs.Text.{edit}
+use Rattle.definitions.specs.Text.{IsText, edit, units}
+use Rattle.definitions.specs.declared.Unit.TheVariants.{Utf8}
+use Rattle.pieces.proofs.Joins.{units-bytes}
 use Rattle.definitions.proofs.Characters.{IsText-chars, IsText-edit}
-use Rattle.text.specs.Gaps.{IsSplice}
-use Rattle.text.proofs.Sizes.{size, size-chars, kept_cut, bytes_le}
-use Rattle.text.proofs.Spliced.{spliced_few, spliced_stored}
+use Rattle.chunks.proofs.Joined.{in_order}
+use Rattle.chunks.proofs.Gaps.{filled_between}
+use Rattle.text.proofs.Sizes.{size, size-chars, kept_cut}
 use Rattle.text.proofs.document.Text.replace.Goals as goal
-
-pub cut_at-start-requires : goal.cut_at-start-requires
-cut_at-start-requires c = record { few = omega (arith, bytes_le c.self.inside.pieces c.self.invariant) }
-
-pub cut_at-end-requires : goal.cut_at-end-requires
-cut_at-end-requires c = record { few = omega (arith, bytes_le c.self.inside.pieces c.self.invariant) }
 
 pub overflow_sub-kept : goal.overflow_sub-kept
 overflow_sub-kept c =
@@ -34,30 +30,60 @@ returns-then-new-kept-clause-too_large c =
     let kept = kept_cut c.self.inside.pieces c.args.self.now c.args.a c.args.b c.bytes.result c.cut_at-start.result c.cut_at-end.result c.self.view_is c.requires.ordered c.cut_at-start.ensures c.cut_at-end.ensures c.bytes.ensures.count in
     (λ _. omega (arith, kept.edited (chars c.args.new.now), size-chars c.args.new.now c.utf8.new, c.if-new-kept.true, c.bytes.ensures.few, kept.few), λ _. refl)
 
-pub returns-in_err-from-clause-too_large : goal.returns-in_err-from-clause-too_large
-returns-in_err-from-clause-too_large c =
+pub returns-in_err-text-clause-too_large : goal.returns-in_err-text-clause-too_large
+returns-in_err-text-clause-too_large c =
     let kept = kept_cut c.self.inside.pieces c.args.self.now c.args.a c.args.b c.bytes.result c.cut_at-start.result c.cut_at-end.result c.self.view_is c.requires.ordered c.cut_at-start.ensures c.cut_at-end.ensures c.bytes.ensures.count in
     (λ e. absurd (let wrong = rw e at c.from_residual.ensures in cc), λ large. absurd (omega (arith, kept.edited (chars c.args.new.now), size-chars c.args.new.now c.utf8.new, large, c.if-new-kept.false, c.bytes.ensures.few, kept.few)))
 
+pub replace-requires-clause-ordered : goal.replace-requires-clause-ordered
+replace-requires-clause-ordered c =
+    let start = c.cut_at-start.result in
+    let end = c.cut_at-end.result in
+    omega (arith, in_order (λ q. q) c.self.inside.pieces c.args.a c.args.b start.piece end.piece (chars start.prefix.now) (chars start.back.now) (chars end.prefix.now) (chars end.back.now) c.requires.ordered c.cut_at-start.ensures.at c.cut_at-end.ensures.at)
+
+pub replace-requires-clause-in_range : goal.replace-requires-clause-in_range
+replace-requires-clause-in_range c = c.cut_at-start.ensures.at.within
+
+pub overflow_add-to : goal.overflow_add-to
+overflow_add-to c = omega (arith, c.cut_at-end.ensures.few)
+
+pub returns-in_err-replace-clause-too_large : goal.returns-in_err-replace-clause-too_large
+returns-in_err-replace-clause-too_large c =
+    let kept = kept_cut c.self.inside.pieces c.args.self.now c.args.a c.args.b c.bytes.result c.cut_at-start.result c.cut_at-end.result c.self.view_is c.requires.ordered c.cut_at-start.ensures c.cut_at-end.ensures c.bytes.ensures.count in
+    (λ e. absurd (let wrong = rw e at c.from_residual-in_err-replace.ensures in cc), λ large. absurd (omega (arith, kept.edited (chars c.args.new.now), size-chars c.args.new.now c.utf8.new, large, c.if-new-kept.false, c.bytes.ensures.few, kept.few)))
+
 pub replace-requires-clause-fits : goal.replace-requires-clause-fits
 replace-requires-clause-fits c =
-    let ps = c.self.inside.pieces in
-    let wanted : List ℕ = edit (concat ps) c.args.a c.args.b (chars c.args.new.now) in
-    let made : IsSplice ps wanted c.in_ok-from.field-0 = c.in_ok-from.ensures c.args.a c.args.b c.requires.ordered c.cut_at-start.ensures c.cut_at-end.ensures c.self.invariant.small in
-    let kept = kept_cut c.self.inside.pieces c.args.self.now c.args.a c.args.b c.bytes.result c.cut_at-start.result c.cut_at-end.result c.self.view_is c.requires.ordered c.cut_at-start.ensures c.cut_at-end.ensures c.bytes.ensures.count in
-    let same = ap (λ t. size (edit t c.args.a c.args.b (chars c.args.new.now))) c.self.view_is in
-    omega (arith, spliced_few ps wanted c.in_ok-from.field-0 made, same, kept.edited (chars c.args.new.now), size-chars c.args.new.now c.utf8.new, c.if-new-kept.false, c.bytes.ensures.few, kept.few)
+    let start = c.cut_at-start.result in
+    let end = c.cut_at-end.result in
+    let filled = filled_between (λ q. q) c.self.inside.pieces c.args.a c.args.b start.piece end.piece (chars start.prefix.now) (chars start.back.now) (chars end.prefix.now) (chars end.back.now) (chars c.args.new.now) (chars (string_bytes c.in_ok-text.text)) c.requires.ordered c.cut_at-start.ensures.at c.cut_at-end.ensures.at c.in_ok-text.ensures in
+    let kept = kept_cut c.self.inside.pieces c.args.self.now c.args.a c.args.b c.bytes.result start end c.self.view_is c.requires.ordered c.cut_at-start.ensures c.cut_at-end.ensures c.bytes.ensures.count in
+    let wanted = edit c.args.self.now c.args.a c.args.b (chars c.args.new.now) in
+    let few : size wanted ≤ 1048576 = omega (arith, kept.edited (chars c.args.new.now), size-chars c.args.new.now c.utf8.new, c.if-new-kept.false, c.bytes.ensures.few, kept.few) in
+    let same = ap (λ t. edit t c.args.a c.args.b (chars c.args.new.now)) c.self.view_is in
+    omega (arith, few, units-bytes wanted, ap (units Utf8) (filled ∙ same))
 
-pub invariant_of-self : goal.invariant_of-self
-invariant_of-self c =
-    let ps = c.self.inside.pieces in
-    let wanted : List ℕ = edit (concat ps) c.args.a c.args.b (chars c.args.new.now) in
-    let made : IsSplice ps wanted c.in_ok-from.field-0 = c.in_ok-from.ensures c.args.a c.args.b c.requires.ordered c.cut_at-start.ensures c.cut_at-end.ensures c.self.invariant.small in
-    let kept = kept_cut c.self.inside.pieces c.args.self.now c.args.a c.args.b c.bytes.result c.cut_at-start.result c.cut_at-end.result c.self.view_is c.requires.ordered c.cut_at-start.ensures c.cut_at-end.ensures c.bytes.ensures.count in
-    let same = ap (λ t. size (edit t c.args.a c.args.b (chars c.args.new.now))) c.self.view_is in
-    spliced_stored ps c.replace.new.self wanted c.in_ok-from.field-0 made c.replace.ensures.list
-    (IsText-edit (concat ps) c.args.a c.args.b (chars c.args.new.now) c.self.invariant.text (IsText-chars c.args.new.now c.utf8.new))
-    (omega (arith, same, kept.edited (chars c.args.new.now), size-chars c.args.new.now c.utf8.new, c.if-new-kept.false, c.bytes.ensures.few, kept.few))
+pub invariant_of-self-2 : goal.invariant_of-self-2
+invariant_of-self-2 c =
+    let start = c.cut_at-start.result in
+    let end = c.cut_at-end.result in
+    let filled = filled_between (λ q. q) c.self.inside.pieces c.args.a c.args.b start.piece end.piece (chars start.prefix.now) (chars start.back.now) (chars end.prefix.now) (chars end.back.now) (chars c.args.new.now) (chars (string_bytes c.in_ok-text.text)) c.requires.ordered c.cut_at-start.ensures.at c.cut_at-end.ensures.at c.in_ok-text.ensures in
+    let kept = kept_cut c.self.inside.pieces c.args.self.now c.args.a c.args.b c.bytes.result start end c.self.view_is c.requires.ordered c.cut_at-start.ensures c.cut_at-end.ensures c.bytes.ensures.count in
+    let wanted = edit c.args.self.now c.args.a c.args.b (chars c.args.new.now) in
+    let few : size wanted ≤ 1048576 = omega (arith, kept.edited (chars c.args.new.now), size-chars c.args.new.now c.utf8.new, c.if-new-kept.false, c.bytes.ensures.few, kept.few) in
+    let same = ap (λ t. edit t c.args.a c.args.b (chars c.args.new.now)) c.self.view_is in
+    let text = c.in_ok-replace.ensures.text ∙ filled ∙ same in
+    record {
+      text = subst IsText (sym text) (IsText-edit c.args.self.now c.args.a c.args.b (chars c.args.new.now) (subst IsText c.self.view_is c.self.invariant.text) (IsText-chars c.args.new.now c.utf8.new));
+      few = omega (arith, few, ap size text);
+    }
+
+pub returns-clause-edited : goal.returns-clause-edited
+returns-clause-edited c =
+    let start = c.cut_at-start.result in
+    let end = c.cut_at-end.result in
+    let filled = filled_between (λ q. q) c.self.inside.pieces c.args.a c.args.b start.piece end.piece (chars start.prefix.now) (chars start.back.now) (chars end.prefix.now) (chars end.back.now) (chars c.args.new.now) (chars (string_bytes c.in_ok-text.text)) c.requires.ordered c.cut_at-start.ensures.at c.cut_at-end.ensures.at c.in_ok-text.ensures in
+    c.in_ok-replace.ensures.text ∙ filled ∙ ap (λ t. edit t c.args.a c.args.b (chars c.args.new.now)) c.self.view_is
 
 pub returns-clause-too_large : goal.returns-clause-too_large
 returns-clause-too_large c =

@@ -1,7 +1,7 @@
 use Rattle.std.proofs.Common.{◌≡◌, ◌++◌}
 use Rattle.std.specs.Prelude.{string_bytes, encode_utf8_all}
-use Rattle.std.specs.List.{concat}
+use Rattle.pieces.specs.Pieces.{text_in}
 use Rattle.text.proofs.document.Text.to_string.Given as goal
 
 abbrev pub invariant-loop-piece : goal.invariant-loop-piece
-invariant-loop-piece l = string_bytes l.string ++ encode_utf8_all (concat l.piece-iterator) ≡ encode_utf8_all l.self
+invariant-loop-piece l = string_bytes l.string ++ encode_utf8_all (text_in l.piece-iterator) ≡ encode_utf8_all l.self

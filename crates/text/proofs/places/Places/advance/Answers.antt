@@ -1,27 +1,27 @@
 use Rattle.std.proofs.Common.{arith, ap, sym, ◌∙◌, ◌≡◌, ◌∷◌, ℕ, List, length, length-drop, drop}
-use Rattle.std.specs.List.{concat}
+use Rattle.pieces.specs.Pieces.{text_in}
 use Rattle.text.proofs.NextPosition.{position-line, position-character, at_place}
 use Rattle.text.proofs.places.Places.advance.Goals as goal
 
 pub returns-in_default-clause-offset : goal.returns-in_default-clause-offset
 returns-in_default-clause-offset c =
-    let text : List ℕ = concat c.loop.self-inside.pieces.now in
+    let text : List ℕ = text_in c.loop.self-inside.pieces.now in
     let placed = c.loop.invariant.placed in
     omega (arith, c.loop.invariant.far, c.loop-test.true, placed.within, ap length (sym placed.ahead ∙ c.in_default.ensures.steps.0), length-drop c.loop.self-inside.offset text, ap length c.loop.invariant.text)
 
 pub position_after-self-inside-requires-clause-line : goal.position_after-self-inside-requires-clause-line
 position_after-self-inside-requires-clause-line c =
     let placed = c.loop.invariant.placed in
-    omega (arith, placed.within, placed.few, ap (λ p. p.line) placed.is, position-line c.loop.self-inside.unit (concat c.loop.self-inside.pieces.now) c.loop.self-inside.offset placed.within)
+    omega (arith, placed.within, placed.few, ap (λ p. p.line) placed.is, position-line c.loop.self-inside.unit (text_in c.loop.self-inside.pieces.now) c.loop.self-inside.offset placed.within)
 
 pub position_after-self-inside-requires-clause-character : goal.position_after-self-inside-requires-clause-character
 position_after-self-inside-requires-clause-character c =
     let placed = c.loop.invariant.placed in
-    omega (arith, placed.within, placed.few, ap (λ p. p.character) placed.is, position-character c.loop.self-inside.unit (concat c.loop.self-inside.pieces.now) c.loop.self-inside.offset)
+    omega (arith, placed.within, placed.few, ap (λ p. p.character) placed.is, position-character c.loop.self-inside.unit (text_in c.loop.self-inside.pieces.now) c.loop.self-inside.offset)
 
 pub loop-preserved : goal.loop-preserved
 loop-preserved c =
-    let text : List ℕ = concat c.loop.self-inside.pieces.now in
+    let text : List ℕ = text_in c.loop.self-inside.pieces.now in
     let offset = c.loop.self-inside.offset in
     let placed = c.loop.invariant.placed in
     let rest : List ℕ = c.next.new.self in

@@ -1,12 +1,12 @@
 use Rattle.std.proofs.Common.{◌≡◌, ◌+◌}
-use Rattle.std.specs.List.{concat}
+use Rattle.pieces.specs.Pieces.{text_in}
 use Rattle.text.specs.Places.{IsPlaced}
 use Rattle.text.proofs.places.Places.advance.Given as goal
 
 abbrev pub invariant-loop : goal.invariant-loop
 invariant-loop l = record {
-  placed : IsPlaced (concat l.self-inside.pieces.now) l.self-inside.ahead l.self-inside.offset l.self-inside.unit l.self-inside.position;
-  text : concat l.self-inside.pieces.now ≡ l.fn.self.text;
+  placed : IsPlaced (text_in l.self-inside.pieces.now) l.self-inside.ahead l.self-inside.offset l.self-inside.unit l.self-inside.position;
+  text : text_in l.self-inside.pieces.now ≡ l.fn.self.text;
   unit : l.self-inside.unit ≡ l.fn.self.unit;
   far : l.self-inside.offset ≡ l.fn.self.offset + l.counter;
 }

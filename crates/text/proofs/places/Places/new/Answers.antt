@@ -1,5 +1,5 @@
 use Rattle.std.proofs.Common.{arith, ◌++◌, ◌∙◌}
-use Rattle.std.specs.List.{concat}
+use Rattle.pieces.specs.Pieces.{text_in}
 use Rattle.std.proofs.lemmas.Str.{chars-nil}
 use Rattle.text.proofs.NextPosition.{position-start}
 use Rattle.text.proofs.places.Places.new.Goals as goal
@@ -9,6 +9,6 @@ invariant_of-result c =
     record {
       within = omega arith;
       few = c.requires;
-      ahead = c.new.ensures ∙ (λ i. chars-nil i ++ concat (c.iter_from.ensures i));
-      is = position-start c.args.unit (concat c.args.pieces.now);
+      ahead = c.new.ensures ∙ (λ i. chars-nil i ++ text_in (c.iter_from.ensures i));
+      is = position-start c.args.unit (text_in c.args.pieces.now);
     }

@@ -1,0 +1,9 @@
+use Rattle.std.proofs.Common.{ap, sym, ◌∙◌}
+use Rattle.std.specs.Str.{chars}
+use Rattle.definitions.specs.Text.{units}
+use Rattle.definitions.specs.declared.Unit.TheVariants.{Utf8}
+use Rattle.pieces.proofs.Joins.{units-chars}
+use Rattle.pieces.proofs.piece.PieceChunk.size.Goals as goal
+
+pub returns : goal.returns
+returns c = sym (units-chars c.as_str.result.now c.as_str.utf8) ∙ ap (λ bytes. units Utf8 (chars bytes)) c.as_str.ensures.value

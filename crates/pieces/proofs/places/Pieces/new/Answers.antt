@@ -1,0 +1,9 @@
+use Rattle.std.proofs.Common.{arith, ap, ◌∙◌}
+use Rattle.definitions.specs.Text.{units}
+use Rattle.definitions.specs.declared.Unit.TheVariants.{Utf8}
+use Rattle.pieces.specs.Pieces.{text_in}
+use Rattle.pieces.proofs.Joins.{units-nil}
+use Rattle.pieces.proofs.places.Pieces.new.Goals as goal
+
+pub invariant_of-result : goal.invariant_of-result
+invariant_of-result c = omega (arith, ap (λ ps. units Utf8 (text_in ps)) c.new.ensures, units-nil Utf8)
