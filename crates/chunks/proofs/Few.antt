@@ -19,8 +19,8 @@ module _ {X A : Type 0} (items : X → List A) (size : List A → ℕ) (shortest
   small-cons : (chunk : X) (chunks : List X) → small (chunk ∷ chunks) ≡ one_if_small chunk + small chunks
   small-cons chunk chunks = sum_by-cons one_if_small chunk chunks
 
-  module _ (measure : IsMeasure size shortest) where
-    nothing : size [] ≡ 0
+  module _ (longest : ℕ) (measure : IsMeasure size shortest longest) where
+    pub nothing : size [] ≡ 0
     nothing = omega (arith, measure.adds [] [])
 
     size_of_one : (d : ℕ) → d ≤ shortest → (chunk : X) → d ≤ size (items chunk) + d * one_if_small chunk
@@ -45,10 +45,10 @@ module _ {X A : Type 0} (items : X → List A) (size : List A → ℕ) (shortest
             omega (arith, e, ap (λ k. d * k) one)
 
     -- and chunks that are short are enough of them
-    pub enough : (longest : ℕ) (chunks : List X) → All (IsShort items size longest) chunks → size (joined items chunks) ≤ longest * length chunks
-    enough longest [] h = omega (arith, nothing)
-    enough longest (chunk ∷ chunks) h =
-        omega (arith, All-head (IsShort items size longest) chunk chunks h, enough longest chunks (All-tail (IsShort items size longest) chunk chunks h), measure.adds (items chunk) (joined items chunks))
+    pub enough : (chunks : List X) → All (IsShort items size longest) chunks → size (joined items chunks) ≤ longest * length chunks
+    enough [] h = omega (arith, nothing)
+    enough (chunk ∷ chunks) h =
+        omega (arith, All-head (IsShort items size longest) chunk chunks h, enough chunks (All-tail (IsShort items size longest) chunk chunks h), measure.adds (items chunk) (joined items chunks))
 
   none_small : (chunks : List X) → All (IsLarge items size shortest) chunks → small chunks ≡ 0
   none_small [] h = refl

@@ -60,7 +60,7 @@ module _ {X A : Type 0} (items : X → List A) where
       ∙ sym (append_assoc first whole last))
 
   -- what a change leaves
-  module _ (size : List A → ℕ) (shortest longest : ℕ) (measure : IsMeasure size shortest) (chunks cut : List X) (list new : List A) (from to : ℕ) (are : AreFew items size shortest longest chunks) (gap : IsGap items chunks list from to new) (room : HasRoom items size shortest chunks from to new) (is : AreCut items size shortest longest new cut) where
+  module _ (size : List A → ℕ) (shortest longest : ℕ) (measure : IsMeasure size shortest longest) (chunks cut : List X) (list new : List A) (from to : ℕ) (are : AreFew items size shortest longest chunks) (gap : IsGap items chunks list from to new) (room : HasRoom items size shortest chunks from to new) (is : AreCut items size shortest longest new cut) where
     joined_are : joined items (take from chunks ++ cut ++ drop to chunks) ≡ list
     joined_are =
         joined-append items (take from chunks ++ cut) (drop to chunks)
@@ -68,11 +68,11 @@ module _ {X A : Type 0} (items : X → List A) where
         ∙ sym gap.filled
 
     small_one : small items size shortest (take from chunks ++ cut ++ drop to chunks) ≤ 1
-    small_one = small_edited items size shortest chunks cut from to (size new) gap.ordered are.small is.large is.one room
+    small_one = small_edited items size shortest chunks cut from to (size new) gap.ordered are.small is.large (λ h. is.one (omega (arith, h, measure.fits))) room
 
     pub few_left : size list < 2 ^ 64 → length chunks - (to - from) + length cut < 2 ^ 64
     few_left fits =
-        omega (arith, fits, ap size joined_are, gap.ordered, gap.within, few items size shortest measure 2 measure.some (take from chunks ++ cut ++ drop to chunks) small_one, length-append (take from chunks ++ cut) (drop to chunks), length-append (take from chunks) cut, length-take from chunks, length-drop to chunks)
+        omega (arith, fits, ap size joined_are, gap.ordered, gap.within, few items size shortest longest measure 2 measure.some (take from chunks ++ cut ++ drop to chunks) small_one, length-append (take from chunks ++ cut) (drop to chunks), length-append (take from chunks) cut, length-take from chunks, length-drop to chunks)
 
     pub left : (made : List X) → made ≡ take from chunks ++ cut ++ drop to chunks → (joined items made ≡ list) × AreFew items size shortest longest made
     left made same =

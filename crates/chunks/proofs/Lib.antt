@@ -1,3 +1,4 @@
 pub mod Few
 pub mod Joined
 pub mod Gaps
+pub mod Cutting

@@ -6,10 +6,11 @@ abbrev pub joined : {X A : Type 0} → (X → List A) → List X → List A
 joined items [] = []
 joined items (x ∷ xs) = items x ++ joined items xs
 
--- `IsMeasure size shortest`: sizes add up, and what isn't small has at least 2
-pub record IsMeasure {A : Type 0} (size : List A → ℕ) (shortest : ℕ) : Type 0 where
+-- `IsMeasure size shortest longest`: sizes add up, what isn't small has at least 2, and what is small isn't too long
+pub record IsMeasure {A : Type 0} (size : List A → ℕ) (shortest longest : ℕ) : Type 0 where
   pub adds : (s t : List A) → size (s ++ t) ≡ size s + size t
   pub some : 2 ≤ shortest
+  pub fits : shortest ≤ longest
 
 module _ {X A : Type 0} (items : X → List A) where
   module _ (size : List A → ℕ) where
@@ -30,13 +31,22 @@ module _ {X A : Type 0} (items : X → List A) where
       pub short : All (IsShort longest) chunks
       pub small : count_by (is_small shortest) chunks ≤ 1
 
-    -- these are chunks of the items `list`, none longer than `longest`, and none small where the items aren't; items that are small are at
-    -- most one chunk
+    -- these are chunks of the items `list`, none longer than `longest`, and none small where the items aren't; items that aren't too long for
+    -- one chunk are at most one
     pub record AreCut (shortest longest : ℕ) (list : List A) (chunks : List X) : Type 0 where
       pub joined_are : joined items chunks ≡ list
       pub large : shortest ≤ size list → All (IsLarge shortest) chunks
       pub short : All (IsShort longest) chunks
-      pub one : size list < shortest → length chunks ≤ 1
+      pub one : size list ≤ longest → length chunks ≤ 1
+
+    -- the same of chunks that are followed by the items `rest`, which are still to be cut
+    pub record IsCutting (shortest longest : ℕ) (list : List A) (chunks : List X) (rest : List A) : Type 0 where
+      pub joined_are : joined items chunks ++ rest ≡ list
+      pub large : All (IsLarge shortest) chunks
+      pub short : All (IsShort longest) chunks
+      pub left : shortest ≤ size list → shortest ≤ size rest
+      pub shorter : size rest ≤ size list
+      pub none : size list ≤ longest → length chunks ≡ 0
 
     -- these items are small only where no chunk outside of `from..to` is
     abbrev pub HasRoom : ℕ → List X → ℕ → ℕ → List A → Type 0

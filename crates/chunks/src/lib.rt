@@ -70,5 +70,5 @@ pub trait Chunk: Measured {
         ensures { IfOk result (λ chunks.
             AreCut items size SHORTEST LONGEST (list whole.now) chunks.items) };
 
-    ghost laws: { IsMeasure size SHORTEST };
+    ghost laws: { IsMeasure size SHORTEST LONGEST };
 }

@@ -1,20 +1,14 @@
 -- Where a text may be cut.
-use Rattle.std.specs.Prelude.{◌≡◌, ℕ, zero, suc, ◌+◌, ◌<◌, ◌≤◌, ◌⊎◌, true, List, [], ◌∷◌, ◌++◌, length, take, drop, encode_utf8_all, All}
+use Rattle.std.specs.Prelude.{◌≡◌, ℕ, zero, suc, ◌+◌, ◌<◌, ◌≤◌, ◌⊎◌, true, List, [], ◌∷◌, ◌++◌, length, take, drop, encode_utf8_all}
 use Rattle.std.specs.Str.{IsUtf8, IsCharBoundary, all_scalars, chars}
 use Rattle.std.proofs.Common.{arith, refl, sym, ap, subst, inl, inr, ◌∙◌}
 use Rattle.std.proofs.lemmas.Bool.{cases_lt, and_parts, and_from}
-use Rattle.std.proofs.lemmas.List.{length-drop, append-nil, append_assoc, take-append-drop}
+use Rattle.std.proofs.lemmas.List.{length-drop, take-append-drop}
 use Rattle.std.proofs.Math.Seq.{take-append_seam, drop-append_seam}
-use Rattle.chunks.proofs.Joined.{joined-append}
-use Rattle.std.proofs.lemmas.List.Elements.{All-nil, All-cons, All-append}
-use Rattle.pieces.specs.Pieces.{text_in}
 use Rattle.definitions.specs.Text.{units}
 use Rattle.definitions.specs.declared.Unit.TheVariants.{Utf8}
-use Rattle.pieces.specs.declared.cuts.TheConstants.{SHORTEST_OF_SEVERAL}
-use Rattle.pieces.specs.declared.piece.TheConstants.{LONGEST_PIECE}
-use Rattle.pieces.specs.Pieces.{IsLarge, IsShort}
-use Rattle.pieces.proofs.Joins.{units-bytes, units-chars}
-use Rattle.std.proofs.lemmas.Str.{IsUtf8-drop, IsCharBoundary-past_char, IsCharBoundary-at_seam, len_utf8_bounds, chars-append, chars-nil, chars-encodes, scalars-chars, encodes-chars, encodes-append}
+use Rattle.pieces.proofs.Joins.{units-bytes}
+use Rattle.std.proofs.lemmas.Str.{IsUtf8-drop, IsCharBoundary-past_char, IsCharBoundary-at_seam, len_utf8_bounds, chars-encodes, scalars-chars, encodes-chars, encodes-append}
 use Rattle.std.specs.Char.{len_utf8}
 
 -- the last place up to n at which a longer text may be cut is less than the 4 bytes of a character before it
@@ -28,33 +22,6 @@ near bs at n u b l m none = go (IsUtf8-drop bs at u b).0 (IsUtf8-drop bs at u b)
         past : (n < at + len_utf8 c) ⊎ (at + len_utf8 c ≤ n) → n < at + 4
         past (inl h) = omega (arith, h, len_utf8_bounds c)
         past (inr h) = absurd (none (at + len_utf8 c) (omega (arith, len_utf8_bounds c)) h (IsCharBoundary-past_char bs (encode_utf8_all cs) at c (omega (arith, l, m)) (IsUtf8-drop bs at u b) (sym e)))
-
--- one piece more: what is left is taken off at the start
-pub text-more : (pieces : List (List ℕ)) (piece rest prefix back t : List ℕ) → IsUtf8 prefix → rest ≡ prefix ++ back → piece ≡ chars prefix → text_in pieces ++ chars rest ≡ t → text_in (pieces ++ piece ∷ []) ++ chars back ≡ t
-text-more pieces piece rest prefix back t u cut is before =
-    ap (λ l. l ++ chars back) (joined-append (λ p. p) pieces (piece ∷ []) ∙ ap (λ l. text_in pieces ++ l) (append-nil piece))
-    ∙ append_assoc (text_in pieces) piece (chars back)
-    ∙ ap (λ l. text_in pieces ++ (l ++ chars back)) is
-    ∙ ap (λ l. text_in pieces ++ l) (sym (chars-append prefix back u) ∙ ap chars (sym cut))
-    ∙ before
-
-pub text-last : (pieces : List (List ℕ)) (piece rest t : List ℕ) → piece ≡ chars rest → text_in pieces ++ chars rest ≡ t → text_in (pieces ++ piece ∷ []) ≡ t
-text-last pieces piece rest t is before = joined-append (λ p. p) pieces (piece ∷ []) ∙ ap (λ l. text_in pieces ++ l) (append-nil piece ∙ is) ∙ before
-
--- one large piece more
-pub large-more : (pieces : List (List ℕ)) (piece prefix : List ℕ) → IsUtf8 prefix → piece ≡ chars prefix → SHORTEST_OF_SEVERAL ≤ length prefix → All IsLarge pieces → All IsLarge (pieces ++ piece ∷ [])
-large-more pieces piece prefix u is long before =
-    let units_are : units Utf8 piece ≡ length prefix = ap (units Utf8) is ∙ units-chars prefix u in
-    All-append IsLarge pieces (piece ∷ []) before (All-cons IsLarge piece [] (omega (arith, long, units_are)) (All-nil IsLarge))
-
-pub short-more : (pieces : List (List ℕ)) (piece prefix : List ℕ) → IsUtf8 prefix → piece ≡ chars prefix → length prefix ≤ LONGEST_PIECE → All IsShort pieces → All IsShort (pieces ++ piece ∷ [])
-short-more pieces piece prefix u is few before =
-    let units_are : units Utf8 piece ≡ length prefix = ap (units Utf8) is ∙ units-chars prefix u in
-    All-append IsShort pieces (piece ∷ []) before (All-cons IsShort piece [] (omega (arith, few, units_are)) (All-nil IsShort))
-
-pub text-none : (pieces : List (List ℕ)) (rest t : List ℕ) → length rest ≤ 0 → text_in pieces ++ chars rest ≡ t → text_in pieces ≡ t
-text-none pieces [] t l before = sym (append-nil (text_in pieces)) ∙ ap (λ l. text_in pieces ++ l) (sym chars-nil) ∙ before
-text-none pieces (b ∷ rest) t l before = absurd (omega (arith, l))
 
 -- the parts of a text's characters are texts
 scalars_parted : (cs : List ℕ) (n : ℕ) → all_scalars cs ≡ true → (all_scalars (take n cs) ≡ true) × (all_scalars (drop n cs) ≡ true)

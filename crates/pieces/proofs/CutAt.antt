@@ -1,14 +1,12 @@
 -- What lies before and after a cut of a text in pieces.
-use Rattle.std.specs.Prelude.{◌≡◌, ℕ, zero, suc, ◌+◌, ◌-◌, ◌<◌, ◌≤◌, List, [], ◌∷◌, ◌++◌, Option, Some, None, length, take, drop, slice_index, slice_get, encode_utf8, encode_utf8_all, MatchOption}
+use Rattle.std.specs.Prelude.{◌≡◌, ℕ, ◌+◌, ◌<◌, ◌≤◌, List, ◌++◌, Option, Some, None, length, take, drop, slice_index, slice_get, encode_utf8, encode_utf8_all, MatchOption}
 use Rattle.pieces.specs.Pieces.{text_in}
 use Rattle.std.specs.Str.{chars}
-use Rattle.std.proofs.Common.{arith, length-append, length-drop, length-take, get_or, sym, ap, inl, inr, ◌⊎◌, ◌∙◌}
+use Rattle.std.proofs.Common.{arith, length-append, length-drop, length-take, sym, ap, inl, inr, ◌⊎◌, ◌∙◌}
 use Rattle.std.proofs.lemmas.Bool.{cases_lt}
-use Rattle.std.proofs.lemmas.List.{take-append-drop, drop_more, take_all, drop_all, take-append-le, drop-append-le, append-nil}
+use Rattle.std.proofs.lemmas.List.{take-append-drop, drop_more}
 use Rattle.chunks.proofs.Joined.{whole_at, none_after}
-use Rattle.std.proofs.lemmas.Option.{slice_get_cases, none-some}
 use Rattle.std.proofs.lemmas.Str.{encode_same, length-encode, len_utf8_bounds, length-le-encodes}
-use Rattle.std.proofs.Math.Seq.{take-append-add, drop-append-add}
 use Rattle.definitions.specs.Text.{units}
 use Rattle.definitions.specs.declared.Unit.TheVariants.{Utf8}
 use Rattle.pieces.specs.declared.places.Cut.{Cut}

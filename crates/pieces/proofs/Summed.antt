@@ -1,10 +1,8 @@
 -- The sum of a text that is a list of pieces, and of what lies before one of them.
-use Rattle.std.specs.Prelude.{◌≡◌, ℕ, zero, suc, ◌+◌, ◌<◌, ◌≤◌, ◌⊎◌, Bool, true, false, List, [], ◌∷◌, ◌++◌, length, take, drop, slice_get, slice_index_or, unwrap_or, Option, Some, None}
+use Rattle.std.specs.Prelude.{◌≡◌, ℕ, ◌≤◌, List, [], ◌∷◌, ◌++◌, take, drop}
 use Rattle.pieces.specs.Pieces.{text_in}
-use Rattle.std.proofs.Common.{arith, refl, sym, ap, inl, inr, ◌∙◌}
-use Rattle.std.proofs.lemmas.Bool.{cases_lt, false≢true}
-use Rattle.std.proofs.lemmas.List.{append-nil, take-append-drop, take_all, take_more, drop_more}
-use Rattle.std.proofs.lemmas.Option.{slice_get_within, unwrap_or-slice_get}
+use Rattle.std.proofs.Common.{arith, refl, sym, ap, ◌∙◌}
+use Rattle.std.proofs.lemmas.List.{take-append-drop}
 use Rattle.chunks.proofs.Joined.{joined-append}
 use Rattle.seqtree.specs.Monoid.{total}
 use Rattle.definitions.specs.declared.Unit.TheVariants.{Utf8}

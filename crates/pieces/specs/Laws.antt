@@ -11,6 +11,7 @@ use Rattle.definitions.specs.declared.Unit.{Unit as Encoding}
 use Rattle.definitions.specs.declared.Unit.TheVariants.{Utf8, Utf16, Utf32}
 use Rattle.definitions.specs.Text.{unit, units}
 use Rattle.pieces.specs.declared.cuts.TheConstants.{SHORTEST_OF_SEVERAL}
+use Rattle.pieces.specs.declared.piece.TheConstants.{LONGEST_PIECE}
 use Rattle.pieces.specs.declared.sums.Units.{Units}
 use Rattle.pieces.specs.declared.sums.Counts.{Counts}
 use Rattle.pieces.specs.declared.sums.Sums.{Sums}
@@ -114,6 +115,6 @@ after_position_stays g (Filled a) (Filled b) h = go (or_cases _ _ h)
         (ltb-true _ _ line.1) (ltb-true _ _ parts.1)
 
 -- the bytes of texts add up
-pub bytes_measure : IsMeasure (units Utf8) SHORTEST_OF_SEVERAL
+pub bytes_measure : IsMeasure (units Utf8) SHORTEST_OF_SEVERAL LONGEST_PIECE
 unfolding units
-bytes_measure = record { adds = λ s t. sum_by-append (unit Utf8) s t; some = omega arith; }
+bytes_measure = record { adds = λ s t. sum_by-append (unit Utf8) s t; some = omega arith; fits = omega arith }

@@ -2,9 +2,6 @@
 use Rattle.std.specs.Prelude.{◌≡◌, ◌≤◌, ℕ, List, length}
 use Rattle.std.specs.Str.{chars}
 use Rattle.chunks.specs.Chunks.{joined}
-use Rattle.definitions.specs.declared.Unit.TheVariants.{Utf8}
-use Rattle.definitions.specs.Text.{units}
-use Rattle.pieces.specs.declared.cuts.TheConstants.{SHORTEST_OF_SEVERAL}
 use Rattle.pieces.specs.declared.piece.TheConstants.{LONGEST_PIECE}
 use Rattle.pieces.specs.declared.sums.Sums.{Sums}
 use Rattle.pieces.specs.Sums.{sums_of}
@@ -18,11 +15,3 @@ pub record IsPiece (bytes : List ℕ) (sums : Sums) : Type 0 where
   pub some : 1 ≤ length bytes
   pub few : length bytes ≤ LONGEST_PIECE
   pub summed : sums ≡ sums_of (chars bytes)
-
--- the piece has at least 509 bytes
-abbrev pub IsLarge : List ℕ → Type 0
-IsLarge piece = SHORTEST_OF_SEVERAL ≤ units Utf8 piece
-
--- the piece has at most 1,024 bytes
-abbrev pub IsShort : List ℕ → Type 0
-IsShort piece = units Utf8 piece ≤ LONGEST_PIECE

@@ -1,8 +1,10 @@
 //! A text cut into pieces.
 
-ghost use Rattle.std.specs.Prelude.{◌≡◌, ◌+◌, ◌<◌, ◌≤◌, length, All, IfOk};
+ghost use Rattle.std.specs.Prelude.{◌≡◌, ◌+◌, ◌<◌, ◌≤◌, length, IfOk};
 ghost use Rattle.std.specs.Str.{IsCharBoundary, chars};
-ghost use Rattle.pieces.specs.Pieces.{text_in, IsLarge, IsShort};
+ghost use Rattle.chunks.specs.Chunks.{AreCut};
+ghost use Rattle.definitions.specs.Text.{units};
+ghost use Rattle.definitions.specs.declared.Unit.TheVariants.{Utf8};
 
 use crate::piece::{LONGEST_PIECE, Piece};
 use std::alloc::{AllocError, Global};
@@ -17,12 +19,8 @@ const LONGEST_HALVED: usize = 2_040;
 /// least [`SHORTEST_OF_SEVERAL`] (509) bytes where the text has so many, and a text of at most [`LONGEST_PIECE`] (1,024) bytes
 /// is one piece. Refuses for memory alone.
 pub fn pieces_of(alloc: Global, text: &str) -> Result<Vec<Piece>, AllocError>
-    ensures joined { IfOk result (λ pieces. text_in pieces.items ≡ chars text.now) }
-    ensures large { IfOk result (λ pieces.
-        SHORTEST_OF_SEVERAL ≤ length text.now → All IsLarge pieces.items) }
-    ensures short { IfOk result (λ pieces. All IsShort pieces.items) }
-    ensures one { IfOk result (λ pieces.
-        length text.now ≤ LONGEST_PIECE → length pieces.items ≤ 1) }
+    ensures cut { IfOk result (λ pieces. AreCut (λ piece. piece) (units Utf8)
+        SHORTEST_OF_SEVERAL LONGEST_PIECE (chars text.now) pieces.items) }
     ensures shortest { SHORTEST_OF_SEVERAL ≡ 509 }
     ensures longest { LONGEST_PIECE ≡ 1024 }
 {

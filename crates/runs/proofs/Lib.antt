@@ -1,3 +1,2 @@
-mod RunsMade
 mod FirstReached
 mod Totals

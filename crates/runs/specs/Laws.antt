@@ -5,7 +5,7 @@ use Rattle.std.proofs.lemmas.Bool.{ltb-true, lt-ltb}
 use Rattle.seqtree.specs.Monoid.{MonoidLaws}
 use Rattle.seqtree.specs.Saturated.{saturated, saturated-zero_left, saturated-zero_right, saturated-assoc}
 use Rattle.chunks.specs.Chunks.{IsMeasure}
-use Rattle.runs.specs.declared.run.TheConstants.{SHORTEST_OF_SEVERAL}
+use Rattle.runs.specs.declared.run.TheConstants.{LONGEST_RUN, SHORTEST_OF_SEVERAL}
 use Rattle.runs.specs.declared.counted.Counted.{Counted}
 use Rattle.runs.specs.Counted.{most, nothing, join_three}
 
@@ -24,5 +24,5 @@ pub after_item_stays : {S : Type 0} (op : S → S → S) (offset : ℕ) (s r : C
 after_item_stays op offset s r h = lt-ltb _ _ (let p = ltb-true offset s.items h in let q = saturated_ge s.items r.items in omega arith)
 
 -- how many items there are adds up
-pub length_measures : {A : Type 0} → IsMeasure {A = A} length SHORTEST_OF_SEVERAL
-length_measures = record { adds = length-append; some = omega arith; }
+pub length_measures : {A : Type 0} → IsMeasure {A = A} length SHORTEST_OF_SEVERAL LONGEST_RUN
+length_measures = record { adds = length-append; some = omega arith; fits = omega arith }

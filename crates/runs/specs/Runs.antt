@@ -1,8 +1,8 @@
--- A list that lies in runs: its items, what a run keeps, and what holds of the runs that items are cut into.
-use Rattle.std.specs.Prelude.{◌≡◌, ℕ, ◌≤◌, List, length}
+-- A list that lies in runs: its items, and what a run keeps.
+use Rattle.std.specs.Prelude.{◌≡◌, ◌≤◌, List, length}
 use Rattle.chunks.specs.Chunks.{joined}
 use Rattle.seqtree.specs.Monoid.{total}
-use Rattle.runs.specs.declared.run.TheConstants.{LONGEST_RUN, SHORTEST_OF_SEVERAL}
+use Rattle.runs.specs.declared.run.TheConstants.{LONGEST_RUN}
 
 -- `flattened runs`: the items of runs, in order: what a list in runs is seen as
 abbrev pub flattened : {A : Type 0} → List (List A) → List A
@@ -13,11 +13,3 @@ pub record IsRun {A S : Type 0} (zero : S) (op : S → S → S) (measure : A →
   pub some : 1 ≤ length items
   pub few : length items ≤ LONGEST_RUN
   pub summed : sum ≡ total zero op measure items
-
--- the run has at least 16 items
-abbrev pub IsLarge : {A : Type 0} → List A → Type 0
-IsLarge run = SHORTEST_OF_SEVERAL ≤ length run
-
--- the run has at most 32 items
-abbrev pub IsShort : {A : Type 0} → List A → Type 0
-IsShort run = length run ≤ LONGEST_RUN

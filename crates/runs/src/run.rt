@@ -1,8 +1,8 @@
 //! Runs of items, and items cut into runs.
 
-ghost use Rattle.std.specs.Prelude.{◌≡◌, ◌+◌, ◌<◌, ◌≤◌, ◌++◌, length, All, IfOk};
+ghost use Rattle.std.specs.Prelude.{◌≡◌, ◌+◌, ◌<◌, ◌≤◌, ◌++◌, length, IfOk};
 ghost use Rattle.seqtree.specs.Monoid.{total};
-ghost use Rattle.runs.specs.Runs.{flattened, IsLarge, IsShort};
+ghost use Rattle.chunks.specs.Chunks.{AreCut};
 
 use crate::counted::Counted;
 use chunks::Chunk;
@@ -144,12 +144,8 @@ pub fn sum_of<T: Measured>(items: &[T]) -> T::Sum
 /// [`SHORTEST_OF_SEVERAL`] items where there are so many, and items that fit into one run are one. Refuses for memory
 /// alone.
 pub fn runs_of<T: Measured + Copy>(alloc: Global, items: &[T]) -> Result<Vec<Run<T>>, AllocError>
-    ensures joined { IfOk result (λ runs. flattened runs.items ≡ items.now) }
-    ensures large { IfOk result (λ runs.
-        SHORTEST_OF_SEVERAL ≤ length items.now → All IsLarge runs.items) }
-    ensures short { IfOk result (λ runs. All IsShort runs.items) }
-    ensures one { IfOk result (λ runs.
-        length items.now ≤ LONGEST_RUN → length runs.items ≤ 1) }
+    ensures { IfOk result (λ runs. AreCut (λ run. run) length SHORTEST_OF_SEVERAL LONGEST_RUN
+        items.now runs.items) }
 {
     let mut runs = Vec::new(alloc);
     let mut rest = items;

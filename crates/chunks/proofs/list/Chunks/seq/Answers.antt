@@ -5,9 +5,9 @@ use Rattle.chunks.proofs.list.Chunks.seq.Goals as goal
 pub returns-clause-few : goal.returns-clause-few
 returns-clause-few g c =
     let m = g.C.Chunk in
-    rw (← c.self.view_is) (few m.items m.size m.SHORTEST g.met.C.Chunk.laws m.SHORTEST (omega arith) c.self.inside.chunks c.self.invariant.small)
+    rw (← c.self.view_is) (few m.items m.size m.SHORTEST m.LONGEST g.met.C.Chunk.laws m.SHORTEST (omega arith) c.self.inside.chunks c.self.invariant.small)
 
 pub returns-clause-enough : goal.returns-clause-enough
 returns-clause-enough g c =
     let m = g.C.Chunk in
-    rw (← c.self.view_is) (enough m.items m.size m.SHORTEST g.met.C.Chunk.laws m.LONGEST c.self.inside.chunks c.self.invariant.short)
+    rw (← c.self.view_is) (enough m.items m.size m.SHORTEST m.LONGEST g.met.C.Chunk.laws c.self.inside.chunks c.self.invariant.short)

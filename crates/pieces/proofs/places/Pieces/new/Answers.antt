@@ -1,4 +1,4 @@
-use Rattle.std.proofs.Common.{arith, ap, ◌∙◌}
+use Rattle.std.proofs.Common.{arith, ap}
 use Rattle.definitions.specs.Text.{units}
 use Rattle.definitions.specs.declared.Unit.TheVariants.{Utf8}
 use Rattle.pieces.specs.Pieces.{text_in}
