@@ -15,6 +15,8 @@
 //! ```
 //! let mut pieces: Chunks<Piece> = Chunks::new();
 //! let text = String::from_str(alloc, "1+2").ok()?;
+//! println!(rt; "size {}", Piece::size(&text)).ok()?;
+//! // size 3
 //! pieces.replace(alloc, 0, 0, text).ok()?;
 //! println!(rt; "{} chunk", pieces.seq().len()).ok()?;
 //! // 1 chunk

@@ -78,9 +78,11 @@ impl Chunk for Piece {
     ghost use Rattle.pieces.specs.declared.piece.TheConstants.{LONGEST_PIECE};
 
     type Item = char;
+
     type Items = String;
 
     const SHORTEST: usize = SHORTEST_OF_SEVERAL;
+
     const LONGEST: usize = LONGEST_PIECE;
 
     ghost SHORTEST = { SHORTEST_OF_SEVERAL };

@@ -32,7 +32,8 @@ pub fn cut_at<T: Measured>(runs: &Seq<Run<T>>, offset: usize) -> Cut<'_, T>
 /// The same cut, and the sum of the runs that lie whole before it.
 pub fn cut_with_sum<T: Measured>(runs: &Seq<Run<T>>, offset: usize) -> (Cut<'_, T>, T::Sum)
     requires counted { length (flattened runs.now) < 2 ^ 64 }
-    ensures cut { IsCut (λ run. run) runs.now offset result.0.run result.0.prefix.now result.0.back.now }
+    ensures cut { IsCut (λ run. run) runs.now offset
+        result.0.run result.0.prefix.now result.0.back.now }
     ensures sum { result.1
         ≡ total T.Sum.empty T.Sum.op T.measure (flattened (take result.0.run runs.now)) }
 {

@@ -80,9 +80,11 @@ impl<T: Measured + Copy> Chunk for Run<T> {
     ghost use Rattle.runs.specs.declared.run.TheConstants.{LONGEST_RUN, SHORTEST_OF_SEVERAL};
 
     type Item = T;
+
     type Items = Vec<T>;
 
     const SHORTEST: usize = SHORTEST_OF_SEVERAL;
+
     const LONGEST: usize = LONGEST_RUN;
 
     ghost SHORTEST = { SHORTEST_OF_SEVERAL };

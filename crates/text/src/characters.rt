@@ -73,7 +73,8 @@ fn split_first(text: &str) -> Option<(char, &str)>
 
 /// What is left of the present piece, or the next piece where nothing is.
 fn refill<'a>(present: &'a str, pieces: &mut Iter<'a, Piece>) -> &'a str
-    ensures same { chars result.now ++ text_in pieces.new ≡ chars present.now ++ text_in pieces.old }
+    ensures same { chars result.now ++ text_in pieces.new
+        ≡ chars present.now ++ text_in pieces.old }
     ensures filled { length result.now ≡ 0 → length pieces.new ≡ 0 }
 {
     if present.len() > 0 {

@@ -1,16 +1,11 @@
 //! Pieces of texts, and what they add up to.
 
-ghost use Rattle.std.specs.Prelude.{◌≤◌, ◌^◌, length, IfOk};
-ghost use Rattle.std.specs.List.{concat};
-ghost use Rattle.definitions.specs.Text.{units};
-ghost use Rattle.definitions.specs.declared.Unit.TheVariants.{Utf8};
-
 use crate::documents::filled;
-use pieces::{
-    Counts, LONGEST_PIECE, Piece, Position, Sums, Unit, Units, of_text, offset, pieces_of, position,
-};
-use seqtree::{Measured, Monoid, Seq, Slots};
-use std::alloc::{AllocError, Global};
+use pieces::{Counts, Sums, Units, of_text, pieces_of};
+use seqtree::{Measured, Monoid};
+use std::alloc::Global;
+use std::process::Abort;
+use text::{Position, Text, Unit};
 
 /// As many characters, bytes and breaks, and nothing after the last break.
 fn ended(characters: u32, bytes: u32, breaks: u32) -> Sums {
@@ -45,43 +40,38 @@ fn sums_join_over_a_line_end(rt: HostRuntime) {
     assert!(rt; joined == ended(3, 3, 1));
 }
 
-/// `\u{1F600}a`, `\u{E9}` and `b` in three lines, where the first break is in two pieces.
-fn three_lines(alloc: Global) -> Result<Seq<Piece>, AllocError>
-    ensures few { IfOk result (λ pieces. units Utf8 (concat pieces) ≤ 2 ^ 30) }
-{
-    in_two(alloc, "\u{1F600}a\r", "\n\u{E9}\rb")
-}
-
-/// A text in two pieces.
-fn in_two(alloc: Global, prefix: &str, back: &str) -> Result<Seq<Piece>, AllocError>
-    requires prefix { 1 ≤ length prefix.now }
-    requires prefix_few { length prefix.now ≤ LONGEST_PIECE }
-    requires back { 1 ≤ length back.now }
-    requires back_few { length back.now ≤ LONGEST_PIECE }
-    ensures few { IfOk result (λ pieces. units Utf8 (concat pieces) ≤ 2 ^ 30) }
-{
-    let mut parts = Vec::new(alloc);
-    parts.push(Piece::new(alloc, prefix)?)?;
-    parts.push(Piece::new(alloc, back)?)?;
-    let mut pieces = Seq::new();
-    let _none = pieces.replace(0, 0, Slots::make(alloc, parts)?);
-    Ok(pieces)
+/// A line of 600 characters, and then `\u{1F600}a`, `\u{E9}` and `b` with 602 more in three lines. The first break of these is in
+/// two pieces.
+fn three_lines(rt: &impl Abort, alloc: Global) -> Text {
+    let before = filled(rt, alloc, 'x', 600);
+    let after = filled(rt, alloc, 'x', 602);
+    let whole = format!(in alloc; "{before}\n\u{1F600}a\r\n\u{E9}\rb{after}").expect(rt, "memory");
+    let text = Text::open(alloc, whole.as_str()).expect(rt, "a text");
+    assert!(rt;
+        text.pieces()
+            .get(0)
+            .expect(rt, "a piece")
+            .text()
+            .ends_with("a\r")
+    );
+    text
 }
 
 /// Each row is an offset, the line of its position, and the character in UTF-8, UTF-16 and UTF-32.
 #[test]
 fn positions_over_a_border(rt: HostRuntime) {
-    let pieces = three_lines(rt.alloc()).expect(&rt, "memory");
+    let text = three_lines(&rt, rt.alloc());
     let rows = [
-        (0, 0, 0, 0, 0),
-        (1, 0, 4, 2, 1),
-        (2, 0, 5, 3, 2),
-        (3, 0, 5, 3, 2),
-        (4, 1, 0, 0, 0),
-        (5, 1, 2, 1, 1),
-        (6, 2, 0, 0, 0),
-        (7, 2, 1, 1, 1),
-        (8, 2, 1, 1, 1),
+        (601, 1, 0, 0, 0),
+        (602, 1, 4, 2, 1),
+        (603, 1, 5, 3, 2),
+        (604, 1, 5, 3, 2),
+        (605, 2, 0, 0, 0),
+        (606, 2, 2, 1, 1),
+        (607, 3, 0, 0, 0),
+        (608, 3, 1, 1, 1),
+        (1210, 3, 603, 603, 603),
+        (1211, 3, 603, 603, 603),
     ];
     for (at, line, utf8, utf16, utf32) in rows {
         for (unit, character) in [
@@ -90,7 +80,7 @@ fn positions_over_a_border(rt: HostRuntime) {
             (Unit::Utf32, utf32),
         ] {
             let wanted = Position { line, character };
-            assert!(rt; position(&pieces, unit, at) == wanted, "at {at}");
+            assert!(rt; text.position(unit, at) == wanted, "at {at}");
         }
     }
 }
@@ -98,22 +88,22 @@ fn positions_over_a_border(rt: HostRuntime) {
 /// Past the ends of lines, between the units of a character, and past the last line too.
 #[test]
 fn offsets_over_a_border(rt: HostRuntime) {
-    let pieces = three_lines(rt.alloc()).expect(&rt, "memory");
+    let text = three_lines(&rt, rt.alloc());
     for (unit, line, character, wanted) in [
-        (Unit::Utf8, 0, 3, 0),
-        (Unit::Utf8, 0, 4, 1),
-        (Unit::Utf16, 0, 1, 0),
-        (Unit::Utf16, 0, 2, 1),
-        (Unit::Utf32, 0, 1, 1),
-        (Unit::Utf32, 0, 9, 2),
-        (Unit::Utf16, 1, 0, 4),
-        (Unit::Utf8, 1, 1, 4),
-        (Unit::Utf16, 1, 9, 5),
-        (Unit::Utf16, 2, 0, 6),
-        (Unit::Utf16, 2, 9, 7),
-        (Unit::Utf16, 3, 0, 7),
+        (Unit::Utf8, 1, 3, 601),
+        (Unit::Utf8, 1, 4, 602),
+        (Unit::Utf16, 1, 1, 601),
+        (Unit::Utf16, 1, 2, 602),
+        (Unit::Utf32, 1, 1, 602),
+        (Unit::Utf32, 1, 9, 603),
+        (Unit::Utf16, 2, 0, 605),
+        (Unit::Utf8, 2, 1, 605),
+        (Unit::Utf16, 2, 9, 606),
+        (Unit::Utf16, 3, 0, 607),
+        (Unit::Utf16, 3, 999, 1210),
+        (Unit::Utf16, 4, 0, 1210),
     ] {
-        let found = offset(&pieces, unit, Position { line, character });
+        let found = text.offset(unit, Position { line, character });
         assert!(rt; found == wanted, "at {line}:{character}");
     }
 }

@@ -28,6 +28,7 @@ fn of_values(rt: &HostRuntime, alloc: Global) -> Option<()> {
     plain::use_theory();
     plain::use_frames(rt, alloc)?;
     lists::use_seqtree(rt, alloc)?;
+    lists::use_chunks(rt, alloc)?;
     lists::use_runs(rt, alloc)?;
     lists::use_patterns(rt, alloc)?;
     lists::use_pieces(rt, alloc)?;
