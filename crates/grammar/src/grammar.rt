@@ -1,6 +1,6 @@
 //! What a grammar file defines.
 
-ghost use Rattle.std.specs.Prelude.{◌≡◌, ◌<◌, false, List, [], length, map, slice_index_or, IfOk, IfErr};
+ghost use Rattle.std.specs.Prelude.{◌≡◌, ◌<◌, ◌≤◌, false, List, [], length, map, slice_index_or, IfOk, IfErr};
 ghost use Rattle.std.specs.Str.{chars};
 ghost use Rattle.std.specs.Iterator.{YieldsFirstBy, item_count};
 ghost use Rattle.definitions.specs.Tokens.{is_skipped};
@@ -140,7 +140,8 @@ impl Grammar {
 
     /// The patterns of the rules, in file order.
     pub fn patterns(&self) -> &[Pattern]
-        ensures { result.now ≡ self.now.patterns }
+        ensures is { result.now ≡ self.now.patterns }
+        ensures few { length self.now.patterns ≤ 256 }
     {
         &self.patterns
     }
