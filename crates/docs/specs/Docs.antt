@@ -22,7 +22,7 @@ open_document d = record { unit = d.unit; version = d.version; text = d.text; la
 -- the tokens and the parse that a document keeps are those of its text, by this language; no token was made by an edit after the last one,
 -- and the nodes in memory are bounded
 pub record IsCurrent (language : LanguageData) (d : Doc) : Type 0 where
-  pub tokens : AreTokensOf language.file.patterns language.file.skips d.text d.tokens.items
+  pub tokens : AreTokensOf language.file d.text d.tokens.items
   pub parse : IsParseOf language.tables (significant_kinds d.tokens.items) d.store d.parse
   pub grammar : language.tables.grammar ≡ language.file.grammar
   pub born : All (λ x. x.born ≤ d.parse.number) d.tokens.items

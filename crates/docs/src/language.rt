@@ -1,9 +1,9 @@
 //! The language of a grammar file: its grammar, the automaton of its token rules, and its tables.
 
-ghost use Rattle.std.specs.Prelude.{◌≡◌, ◌≤◌, ◌+◌, List, length, All, IfOk, IfErr};
+ghost use Rattle.std.specs.Prelude.{◌≡◌, ◌+◌, List, length, All, IfOk, IfErr};
 ghost use Rattle.definitions.specs.declared.Kind.{Kind};
-ghost use Rattle.definitions.specs.TokenEdits.{IsSpliced, made, plain_splice, splice};
-ghost use Rattle.lexer.specs.Rescans.{AreRescanned, IsEdited, plain_all, significant_kinds};
+ghost use Rattle.definitions.specs.TokenEdits.{IsSpliced, plain_splice};
+ghost use Rattle.lexer.specs.Rescans.{AreTokensAfter, IsEdited, significant_kinds};
 ghost use Rattle.lexer.specs.Tokens.{AreTokensOf};
 ghost use Rattle.parser.specs.Changes.{IsParseAfter};
 ghost use Rattle.parser.specs.Parses.{IsParseOf};
@@ -15,9 +15,9 @@ ghost use Rattle.docs.specs.Edits.{AlwaysCounts, CountsOnce};
 use crate::significant::Significant;
 use definitions::laws::{expected_unique, folds_unique, selection_unique, tokens_unique};
 use definitions::{Edit, KindSplice};
-use dfa::{Automaton, DfaFault};
+use dfa::DfaFault;
 use grammar::{Grammar, GrammarCause, GrammarFault};
-use lexer::{Characters, Tokens, Whole, each_text_has_tokens};
+use lexer::{Characters, Scanner, Tokens, Whole, each_text_has_tokens};
 use parser::Parse;
 use parser::laws::{each_list_has_a_verdict, each_viable_list_has_expected};
 use std::alloc::{AllocError, Global};
@@ -33,8 +33,7 @@ use views::{each_offset_has_a_selection, trees_have_folds};
 /// What a grammar file defines, made ready for scanning and parsing.
 #[derive(Drop)]
 pub struct Language {
-    grammar: Grammar,
-    automaton: Automaton,
+    scanner: Scanner,
     tables: Tables,
 }
 
@@ -42,16 +41,15 @@ impl Model for Language {
     ghost use Rattle.std.specs.Prelude.{◌≡◌};
     ghost use Rattle.std.specs.Coded.{codes};
     ghost use Rattle.definitions.specs.contracts.expression.Expression as e;
-    ghost use Rattle.dfa.specs.Table.{IsAutomaton};
     ghost use Rattle.docs.specs.Languages.{LanguageData};
 
     ghost Value = { LanguageData };
 
     ghost coded = { Prim.hlevel (codes, e.the_row.coded) };
 
-    ghost view = { λ l. record { file = l.grammar; tables = l.tables } };
+    ghost view = { λ l. record { file = l.scanner; tables = l.tables } };
 
-    ghost invariant = { λ l. IsAutomaton l.grammar.patterns l.automaton × (l.tables.grammar ≡ l.grammar.grammar) };
+    ghost invariant = { λ l. l.tables.grammar ≡ l.scanner.grammar };
 }
 
 /// Why a grammar file defines no language.
@@ -114,19 +112,17 @@ impl Language {
             ) => return Err(LoadFault::Memory),
             Err(fault) => return Err(LoadFault::Grammar(fault)),
         };
-        let automaton = match Automaton::build(alloc, grammar.patterns()) {
-            Ok(automaton) => automaton,
+        let scanner = match Scanner::new(alloc, grammar) {
+            Ok(scanner) => scanner,
             Err(DfaFault::TooManyStates) => return Err(LoadFault::TooManyStates),
             Err(DfaFault::Memory) => return Err(LoadFault::Memory),
         };
-        match Tables::build(alloc, &grammar) {
-            Ok(tables) => Ok(Language {
-                grammar,
-                automaton,
-                tables,
-            }),
+        match Tables::build(alloc, scanner.grammar()) {
+            Ok(tables) => Ok(Language { scanner, tables }),
             Err(TableFault::TooManySets) => Err(LoadFault::TooManySets),
-            Err(TableFault::Conflict(conflict)) => Err(LoadFault::Conflict(grammar, conflict)),
+            Err(TableFault::Conflict(conflict)) => {
+                Err(LoadFault::Conflict(scanner.into_grammar(), conflict))
+            }
             Err(TableFault::Memory) => Err(LoadFault::Memory),
         }
     }
@@ -135,7 +131,7 @@ impl Language {
     pub fn grammar(&self) -> &Grammar
         ensures { result.now ≡ self.now.file }
     {
-        &self.grammar
+        self.scanner.grammar()
     }
 
     /// The tables of the file's grammar.
@@ -148,20 +144,14 @@ impl Language {
 
     /// The tokens of a text. Refuses for memory alone.
     pub(crate) fn scan(&self, alloc: Global, text: &Text) -> Result<Tokens, AllocError>
-        ensures tokens { IfOk result (λ r.
-            AreTokensOf self.now.file.patterns self.now.file.skips text.now r.items) }
+        ensures tokens { IfOk result (λ r. AreTokensOf self.now.file text.now r.items) }
         ensures born { IfOk result (λ r. All (λ x. x.born ≡ 0) r.items) }
         ensures scanned { IfOk result (λ r. r.scanned ≡ length r.items) }
     {
         // The read opens the invariant of the text.
         let _length = text.len();
         let characters = text.characters(alloc)?;
-        Tokens::scan(
-            alloc,
-            &self.grammar,
-            &self.automaton,
-            &Characters(&characters),
-        )
+        Tokens::scan(alloc, &self.scanner, &Characters(&characters))
     }
 
     /// The parse of these tokens, with its nodes in the store. Refuses for memory alone.
@@ -189,23 +179,13 @@ impl Language {
         text: &Text,
         edit: Edit,
     ) -> Result<KindSplice, AllocError>
-        requires { IsEdited self.now.file.patterns self.now.file.skips edit tokens.old.items
-            text.now }
-        ensures tokens { IfOk result (λ _.
-            AreTokensOf self.now.file.patterns self.now.file.skips text.now tokens.new.items) }
-        ensures kinds { IfOk result (λ s. IsSpliced (plain_splice s)
-            (significant_kinds tokens.old.items) (significant_kinds tokens.new.items)) }
-        ensures splice { let old = plain_all tokens.old.items in
-            let new = plain_all tokens.new.items in
-            IfOk result (λ s. plain_splice s ≡ splice self.now.file.skips edit old new) }
-        ensures scanned { let old = plain_all tokens.old.items in
-            let new = plain_all tokens.new.items in
-            IfOk result (λ _. tokens.new.scanned ≡ length (made edit old new)) }
-        ensures kept { IfOk result (λ _. AreRescanned edit tokens.old.items tokens.new.items) }
+        requires { IsEdited self.now.file edit tokens.old.items text.now }
+        ensures { IfOk result (λ s. AreTokensAfter self.now.file edit text.now (plain_splice s)
+            tokens.old tokens.new) }
     {
         // The read opens the invariant of the text.
         let _length = text.len();
-        tokens.rescan(alloc, &self.grammar, &self.automaton, &Whole(text), edit)
+        tokens.rescan(alloc, &self.scanner, &Whole(text), edit)
     }
 
     /// Brings the parse to the tokens after an edit of this number, whose kinds the splice has changed. Refuses for memory
@@ -258,8 +238,8 @@ impl Language {
         folds_unique();
         selection_unique();
         self.tables.moves_are_decided();
-        // The reads open the invariants of the tables and of the language.
+        // The reads open the invariants of the tables and of the scanner.
         let _start = self.tables.start();
-        let _automaton = &self.automaton;
+        let _grammar = self.scanner.grammar();
     }
 }

@@ -1,16 +1,14 @@
 //! A document that keeps its tokens and its parse through edits.
 
 ghost use Rattle.std.specs.Prelude.{◌≡◌, ◌+◌, ◌≤◌, drop, length};
-ghost use Rattle.dfa.specs.Table.{IsAutomaton};
 ghost use Rattle.definitions.specs.TokenEdits.{IsSpliced, plain_splice};
 ghost use Rattle.lexer.specs.Tokens.{AreTokensOf};
 ghost use Rattle.lexer.specs.Rescans.{significant_kinds};
 ghost use Rattle.parser.specs.Parses.{IsParseOf};
 
 use definitions::{Edit, Kind, KindSplice};
-use dfa::Automaton;
 use grammar::Grammar;
-use lexer::{KindsAhead, Tokens, Whole};
+use lexer::{KindsAhead, Scanner, Tokens, Whole};
 use parser::{Parse, Verdict};
 use std::alloc::Global;
 use std::process::Abort;
@@ -18,26 +16,19 @@ use tables::Tables;
 use text::Text;
 use trees::{Kinds, Store};
 
-/// A grammar with its automaton and its tables.
+/// The scanner and the tables of a grammar.
 #[derive(Drop)]
 pub struct Language {
-    pub grammar: Grammar,
-    pub automaton: Automaton,
+    pub scanner: Scanner,
     pub tables: Tables,
 }
 
 /// The language of a grammar file.
-pub fn load(rt: &impl Abort, alloc: Global, file: &str) -> Language
-    ensures { IsAutomaton result.grammar.patterns result.automaton }
-{
+pub fn load(rt: &impl Abort, alloc: Global, file: &str) -> Language {
     let grammar = Grammar::read(alloc, file).expect(rt, "a grammar");
-    let automaton = Automaton::build(alloc, grammar.patterns()).expect(rt, "an automaton");
-    let tables = Tables::build(alloc, &grammar).expect(rt, "tables");
-    Language {
-        grammar,
-        automaton,
-        tables,
-    }
+    let scanner = Scanner::new(alloc, grammar).expect(rt, "a scanner");
+    let tables = Tables::build(alloc, scanner.grammar()).expect(rt, "tables");
+    Language { scanner, tables }
 }
 
 /// The kinds of the tokens that aren't skipped, looked up among all.
@@ -79,16 +70,13 @@ pub struct Document {
 
 /// Scans and parses a whole text.
 pub fn open(rt: &impl Abort, alloc: Global, language: &Language, text: &str) -> Document
-    requires { IsAutomaton language.now.grammar.patterns language.now.automaton }
-    ensures tokens { AreTokensOf language.now.grammar.patterns language.now.grammar.skips
-        result.text result.tokens.items }
+    ensures tokens { AreTokensOf language.now.scanner result.text result.tokens.items }
     ensures parse { IsParseOf language.now.tables (significant_kinds result.tokens.items)
         result.store result.parse }
 {
     let text = Text::open(alloc, text).expect(rt, "a text");
     let _length = text.len();
-    let (grammar, automaton) = (&language.grammar, &language.automaton);
-    let tokens = Tokens::scan(alloc, grammar, automaton, &Whole(&text)).expect(rt, "tokens");
+    let tokens = Tokens::scan(alloc, &language.scanner, &Whole(&text)).expect(rt, "tokens");
     let mut store = Store::new(alloc);
     let kinds = Significant(&tokens);
     let parse = Parse::whole(alloc, &language.tables, &mut store, &kinds).expect(rt, "a parse");
@@ -134,12 +122,9 @@ pub fn rescan(
     tokens: &mut Tokens,
     change: &Change<'_>,
 ) -> KindSplice
-    requires sound { IsAutomaton language.now.grammar.patterns language.now.automaton }
-    requires tokens { AreTokensOf language.now.grammar.patterns language.now.grammar.skips
-        text.old tokens.old.items }
+    requires tokens { AreTokensOf language.now.scanner text.old tokens.old.items }
     requires inside { change.now.at + change.now.removed ≤ length text.old }
-    ensures tokens { AreTokensOf language.now.grammar.patterns language.now.grammar.skips
-        text.new tokens.new.items }
+    ensures tokens { AreTokensOf language.now.scanner text.new tokens.new.items }
     ensures kinds { IsSpliced (plain_splice result) (significant_kinds tokens.old.items)
         (significant_kinds tokens.new.items) }
 {
@@ -154,9 +139,8 @@ pub fn rescan(
     text.replace(alloc, change.at, change.at + change.removed, change.piece)
         .expect(rt, "an edit");
     let _after = text.len();
-    let (grammar, automaton) = (&language.grammar, &language.automaton);
     tokens
-        .rescan(alloc, grammar, automaton, &Whole(text), edit)
+        .rescan(alloc, &language.scanner, &Whole(text), edit)
         .expect(rt, "a rescan")
 }
 
@@ -168,13 +152,10 @@ pub fn apply(
     document: &mut Document,
     change: &Change<'_>,
 )
-    requires sound { IsAutomaton language.now.grammar.patterns language.now.automaton }
-    requires tokens { AreTokensOf language.now.grammar.patterns language.now.grammar.skips
-        document.old.text document.old.tokens.items }
+    requires tokens { AreTokensOf language.now.scanner document.old.text document.old.tokens.items }
     requires parse { IsParseOf language.now.tables (significant_kinds document.old.tokens.items)
         document.old.store document.old.parse }
-    ensures tokens { AreTokensOf language.now.grammar.patterns language.now.grammar.skips
-        document.new.text document.new.tokens.items }
+    ensures tokens { AreTokensOf language.now.scanner document.new.text document.new.tokens.items }
     ensures parse { IsParseOf language.now.tables (significant_kinds document.new.tokens.items)
         document.new.store document.new.parse }
 {

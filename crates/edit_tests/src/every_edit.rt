@@ -1,6 +1,5 @@
 //! Every edit of every short text, against whole scans and parses of the text before and the text after it.
 
-ghost use Rattle.dfa.specs.Table.{IsAutomaton};
 ghost use Rattle.lexer.specs.Rescans.{significant_kinds};
 ghost use Rattle.parser.specs.Parses.{IsParseOf};
 
@@ -305,9 +304,7 @@ fn facts_of_texts(
     alloc: Global,
     language: &Language,
     texts: &[String],
-) -> Vec<Facts>
-    requires { IsAutomaton language.now.grammar.patterns language.now.automaton }
-{
+) -> Vec<Facts> {
     let mut all = Vec::new(alloc);
     for text in texts {
         let document = open(rt, alloc, language, text.as_str());
@@ -364,9 +361,7 @@ fn check_edit(
     text: &str,
     old: &Facts,
     change: &Change<'_>,
-)
-    requires { IsAutomaton language.now.grammar.patterns language.now.automaton }
-{
+) {
     let mut document = open(rt, alloc, language, text);
     apply(rt, alloc, language, &mut document, change);
     check_edited(rt, alloc, language, all, &document, (text, old), change);
@@ -381,9 +376,7 @@ fn check_cut(
     number: usize,
     cut: (usize, usize),
     pieces: usize,
-)
-    requires { IsAutomaton language.now.grammar.patterns language.now.automaton }
-{
+) {
     let (Some(text), Some(old)) = (all.texts.get(number), all.facts.get(number)) else {
         panic!(rt; "no text {number}");
     };
@@ -407,9 +400,7 @@ fn check_place(
     text: (usize, usize),
     at: usize,
     pieces: usize,
-)
-    requires { IsAutomaton language.now.grammar.patterns language.now.automaton }
-{
+) {
     let (number, length) = text;
     for removed in 0..3 {
         if removed <= length.saturating_sub(at) {
@@ -426,9 +417,7 @@ fn check_text(
     all: &Texts<'_>,
     text: (usize, usize),
     pieces: usize,
-)
-    requires { IsAutomaton language.now.grammar.patterns language.now.automaton }
-{
+) {
     let (_, length) = text;
     for at in 0..length.saturating_add(1) {
         check_place(rt, alloc, language, all, text, at, pieces);

@@ -1,7 +1,6 @@
 //! How many kinds a change of a parse reads, and how often it looks for one among all.
 
 ghost use Rattle.std.specs.Prelude.{◌≡◌, ◌+◌, ◌≤◌, drop, length};
-ghost use Rattle.dfa.specs.Table.{IsAutomaton};
 ghost use Rattle.lexer.specs.Tokens.{AreTokensOf};
 ghost use Rattle.lexer.specs.Rescans.{significant_kinds};
 ghost use Rattle.parser.specs.Parses.{IsParseOf};
@@ -63,9 +62,7 @@ fn reads_for(
     document: &mut Document,
     change: &Change<'_>,
 ) -> (usize, usize)
-    requires sound { IsAutomaton language.now.grammar.patterns language.now.automaton }
-    requires tokens { AreTokensOf language.now.grammar.patterns language.now.grammar.skips
-        document.old.text document.old.tokens.items }
+    requires tokens { AreTokensOf language.now.scanner document.old.text document.old.tokens.items }
     requires parse { IsParseOf language.now.tables (significant_kinds document.old.tokens.items)
         document.old.store document.old.parse }
     requires inside { change.now.at + change.now.removed ≤ length document.old.text }

@@ -1,7 +1,6 @@
 //! Worked edits, with the counts of what they make.
 
 ghost use Rattle.std.specs.Prelude.{◌≡◌, ◌+◌, ◌≤◌, length};
-ghost use Rattle.dfa.specs.Table.{IsAutomaton};
 ghost use Rattle.lexer.specs.Tokens.{AreTokensOf};
 ghost use Rattle.lexer.specs.Rescans.{significant_kinds};
 ghost use Rattle.parser.specs.Parses.{IsParseOf};
@@ -49,13 +48,10 @@ fn check_row(
     document: &mut Document,
     row: &Row<'_>,
 )
-    requires sound { IsAutomaton language.now.grammar.patterns language.now.automaton }
-    requires tokens { AreTokensOf language.now.grammar.patterns language.now.grammar.skips
-        document.old.text document.old.tokens.items }
+    requires tokens { AreTokensOf language.now.scanner document.old.text document.old.tokens.items }
     requires parse { IsParseOf language.now.tables (significant_kinds document.old.tokens.items)
         document.old.store document.old.parse }
-    ensures tokens { AreTokensOf language.now.grammar.patterns language.now.grammar.skips
-        document.new.text document.new.tokens.items }
+    ensures tokens { AreTokensOf language.now.scanner document.new.text document.new.tokens.items }
     ensures parse { IsParseOf language.now.tables (significant_kinds document.new.tokens.items)
         document.new.store document.new.parse }
 {
@@ -79,9 +75,7 @@ fn check_row(
 }
 
 /// Opens a text and makes the edits of the rows in turn.
-fn check(rt: &impl Abort, alloc: Global, language: &Language, text: &str, rows: &[Row<'_>])
-    requires { IsAutomaton language.now.grammar.patterns language.now.automaton }
-{
+fn check(rt: &impl Abort, alloc: Global, language: &Language, text: &str, rows: &[Row<'_>]) {
     let mut document = open(rt, alloc, language, text);
     'rows: for row in rows {
         check_row(rt, alloc, language, &mut document, row);

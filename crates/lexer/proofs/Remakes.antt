@@ -2,7 +2,7 @@
 use Rattle.definitions.proofs.TokensLead.{GoOn, before_rejoin, chars, chars-cons, chars_from, prefix_before, prefix_leads, leads_inside, leads_join, leads_split, length-placed, placed_at}
 use Rattle.definitions.specs.Tokens.{Leads}
 use Rattle.definitions.proofs.TokensKept.{length-edit}
-use Rattle.std.specs.Prelude.{◌≡◌, ℕ, zero, suc, ◌+◌, ◌-◌, ◌<◌, ◌≤◌, ◌^◌, Bool, true, false, List, [], ◌∷◌, ◌++◌, length, take, drop, slice_get, slice_index_or, IsSomeAnd}
+use Rattle.std.specs.Prelude.{◌≡◌, ℕ, zero, suc, ◌+◌, ◌-◌, ◌<◌, ◌≤◌, ◌^◌, true, false, List, [], ◌∷◌, ◌++◌, length, take, drop, slice_get, slice_index_or, IsSomeAnd}
 use Rattle.std.proofs.Common.{arith, refl, sym, ap, subst, inl, inr, ◌∙◌, length-append, length-drop}
 use Rattle.std.proofs.lemmas.Bool.{cases_lt}
 use Rattle.std.proofs.lemmas.List.{map-append, take-take, length-take, take_all, take-append-le}
@@ -15,6 +15,7 @@ use Rattle.definitions.specs.Tokens.{Token as PlainToken, Placed, IsToken, AreTo
 use Rattle.definitions.specs.TokenEdits.{kept_before, is_rejoined}
 use Rattle.definitions.proofs.TokensKept.{boundaries-end, length-boundaries}
 use Rattle.dfa.specs.Windows.{IsWithinReach}
+use Rattle.grammar.specs.Grammars.{FileGrammar}
 use Rattle.lexer.specs.declared.sums.Token.{Token}
 use Rattle.lexer.specs.Tokens.{plain, characters, Fits}
 use Rattle.lexer.specs.Rescans.{plain_all, prefix_end, IsEdited, IsNeeded, IsReachedByMade}
@@ -39,18 +40,18 @@ tokens_length rules t xs p =
     let end : slice_index_or (boundaries 0 (plain_all xs)) (length (plain_all xs)) 0 ≡ 0 + length t = boundaries-end rules t 0 0 (plain_all xs) p in
     sym (ap characters whole) ∙ sym (boundary_at xs (length xs) 0 (omega arith)) ∙ ap (λ n. slice_index_or (boundaries 0 (plain_all xs)) n 0) (sym (length-plain xs)) ∙ end ∙ omega arith
 
-module _ (rules : List Expression) (skips : List Bool) (e : Edit) (items : List Token) (u : List ℕ) (h : IsEdited rules skips e items u) where
+module _ (file : FileGrammar) (e : Edit) (items : List Token) (u : List ℕ) (h : IsEdited file e items u) where
   pub removed_fits : Fits items → e.at + e.removed ≤ 2 ^ 30
-  removed_fits f = omega (arith, tokens_length rules h.text items h.tokens.tokens, f.short, h.inside)
+  removed_fits f = omega (arith, tokens_length file.patterns h.text items h.tokens.tokens, f.short, h.inside)
 
-  prefix_all : Leads rules u (plain_all (take (kept_before e (plain_all items)) items))
+  prefix_all : Leads file.patterns u (plain_all (take (kept_before e (plain_all items)) items))
   prefix_all =
-      subst (λ v. Leads rules v (plain_all (take (kept_before e (plain_all items)) items))) (sym h.new_text)
-      (subst (λ xs. Leads rules (edit h.text e.at (e.at + e.removed) h.piece) xs) (sym (plain-take (kept_before e (plain_all items)) items))
-      (prefix_leads rules h.text h.piece e (plain_all items) h.inside h.tokens.tokens))
+      subst (λ v. Leads file.patterns v (plain_all (take (kept_before e (plain_all items)) items))) (sym h.new_text)
+      (subst (λ xs. Leads file.patterns (edit h.text e.at (e.at + e.removed) h.piece) xs) (sym (plain-take (kept_before e (plain_all items)) items))
+      (prefix_leads file.patterns h.text h.piece e (plain_all items) h.inside h.tokens.tokens))
 
   pub prefix_inside : prefix_end e items ≤ length u
-  prefix_inside = subst (λ n. n ≤ length u) (chars-plain (take (kept_before e (plain_all items)) items)) (leads_inside rules u (plain_all (take (kept_before e (plain_all items)) items)) prefix_all)
+  prefix_inside = subst (λ n. n ≤ length u) (chars-plain (take (kept_before e (plain_all items)) items)) (leads_inside file.patterns u (plain_all (take (kept_before e (plain_all items)) items)) prefix_all)
 
   pub kept_before-le : kept_before e (plain_all items) ≤ length items
   kept_before-le = omega (arith, prefix_len-le-length {X = Placed}, length-placed 0 (plain_all items), length-plain items)
@@ -60,75 +61,79 @@ module _ (rules : List Expression) (skips : List Bool) (e : Edit) (items : List 
   prefix_passed place at same j l =
       let inside : j < kept_before e (plain_all items) = omega (arith, same) in
       let start = boundary_at items j 0 (omega (arith, kept_before-le)) in
-      omega (arith, prefix_before rules h.text e (plain_all items) j h.tokens.tokens inside, start)
+      omega (arith, prefix_before file.patterns h.text e (plain_all items) j h.tokens.tokens inside, start)
 
-  pub all_lead : (made : List Token) → Leads rules (drop (prefix_end e items) u) (plain_all made) → Leads rules u (plain_all (take (kept_before e (plain_all items)) items) ++ plain_all made)
-  all_lead made m = leads_join rules u (plain_all (take (kept_before e (plain_all items)) items)) (plain_all made) prefix_all (subst (λ n. Leads rules (drop n u) (plain_all made)) (sym (chars-plain (take (kept_before e (plain_all items)) items))) m)
+  pub all_lead : (made : List Token) → Leads file.patterns (drop (prefix_end e items) u) (plain_all made) → Leads file.patterns u (plain_all (take (kept_before e (plain_all items)) items) ++ plain_all made)
+  all_lead made m = leads_join file.patterns u (plain_all (take (kept_before e (plain_all items)) items)) (plain_all made) prefix_all (subst (λ n. Leads file.patterns (drop n u) (plain_all made)) (sym (chars-plain (take (kept_before e (plain_all items)) items))) m)
 
   pub end_rejoins : is_rejoined e (plain_all items) (length u) ≡ true
   end_rejoins =
       let long : length u + (e.at + e.removed) ≡ length h.text + e.at + length h.piece = ap (λ v. length v + (e.at + e.removed)) h.new_text ∙ length-edit h.text h.piece e.at (e.at + e.removed) (omega arith) h.inside in
-      let sum : characters (take (length items) items) ≡ length h.text = ap characters (take_all (length items) items (omega arith)) ∙ tokens_length rules h.text items h.tokens.tokens in
+      let sum : characters (take (length items) items) ≡ length h.text = ap characters (take_all (length items) items (omega arith)) ∙ tokens_length file.patterns h.text items h.tokens.tokens in
       is_rejoined_at e items (length u) (length items) (omega (arith, long, h.inserted, h.inside)) (omega arith) (omega (arith, long, sum, h.inserted))
 
   pub end_moved : characters (take (length items) items) + e.inserted ≡ length u + e.removed
   end_moved =
       let long : length u + (e.at + e.removed) ≡ length h.text + e.at + length h.piece = ap (λ v. length v + (e.at + e.removed)) h.new_text ∙ length-edit h.text h.piece e.at (e.at + e.removed) (omega arith) h.inside in
-      let sum : characters (take (length items) items) ≡ length h.text = ap characters (take_all (length items) items (omega arith)) ∙ tokens_length rules h.text items h.tokens.tokens in
+      let sum : characters (take (length items) items) ≡ length h.text = ap characters (take_all (length items) items (omega arith)) ∙ tokens_length file.patterns h.text items h.tokens.tokens in
       omega (arith, long, sum, h.inserted)
 
-  -- The boundaries of the new tokens up to the place that has been reached are no places of rejoining.
-  module _ (made : List Token) (m : Leads rules (drop (prefix_end e items) u) (plain_all made))
+  abbrev pub kept : List Token
+  kept = take (kept_before e (plain_all items)) items
+
+  pub many : length kept ≡ kept_before e (plain_all items)
+  many = length-take (kept_before e (plain_all items)) items ∙ omega (arith, kept_before-le)
+
+  -- no boundary of the new tokens before the place that has been reached is a place of rejoining
+  pub not_before : (made : List Token) → ((k : ℕ) → k < length made → is_rejoined e (plain_all items) (prefix_end e items + characters (take k made)) ≡ false)
+      → (i : ℕ) → i < length (kept ++ made) → is_rejoined e (plain_all items) (characters (take i (kept ++ made))) ≡ false
+  not_before made earlier i l = elim (cases_lt i (length kept)) [
+    | inl lt ↦
+        let fits : i ≤ length kept = omega arith in
+        let prefix_only : take i (kept ++ made) ≡ take i kept = take-append-le i kept made fits in
+        let shorter : take i kept ≡ take i items = take-take i (kept_before e (plain_all items)) items (omega (arith, many)) in
+        let at : slice_index_or (boundaries 0 (plain_all items)) i 0 ≡ characters (take i items) = boundary_at items i 0 (omega (arith, many, kept_before-le)) in
+        let low : slice_index_or (boundaries 0 (plain_all items)) i 0 < e.at = prefix_before file.patterns h.text e (plain_all items) i h.tokens.tokens (omega (arith, many)) in
+        not_after e items (characters (take i (kept ++ made))) (omega (arith, low, at, ap characters prefix_only, ap characters shorter))
+    | inr ge ↦
+        let j = i - length kept in
+        let is : i ≡ length kept + j = omega arith in
+        let both : take i (kept ++ made) ≡ kept ++ take j made = ap (λ n. take n (kept ++ made)) is ∙ take-append-add kept made j in
+        let sum : characters (take i (kept ++ made)) ≡ prefix_end e items + characters (take j made) = ap characters both ∙ sum_by-append (λ x. x.length) kept (take j made) in
+        subst (λ n. is_rejoined e (plain_all items) n ≡ false) (sym sum) (earlier j (omega (arith, length-append kept made)))
+  ]
+
+  -- Neither is that place itself.
+  module _ (made : List Token) (m : Leads file.patterns (drop (prefix_end e items) u) (plain_all made))
       (earlier : (k : ℕ) → k < length made → is_rejoined e (plain_all items) (prefix_end e items + characters (take k made)) ≡ false)
       (here : is_rejoined e (plain_all items) (prefix_end e items + characters made) ≡ false) where
-    abbrev kept : List Token
-    kept = take (kept_before e (plain_all items)) items
-
-    many : length kept ≡ kept_before e (plain_all items)
-    many = length-take (kept_before e (plain_all items)) items ∙ omega (arith, kept_before-le)
-
-    up_to : (j : ℕ) → j ≤ length made → is_rejoined e (plain_all items) (prefix_end e items + characters (take j made)) ≡ false
-    up_to j l = elim (cases_lt j (length made)) [
-      | inl lt ↦ earlier j lt
-      | inr ge ↦ subst (λ ys. is_rejoined e (plain_all items) (prefix_end e items + characters ys) ≡ false) (sym (take_all j made ge)) here
-    ]
-
     not_here : (i : ℕ) → i ≤ length (kept ++ made) → is_rejoined e (plain_all items) (characters (take i (kept ++ made))) ≡ false
-    not_here i l = elim (cases_lt i (length kept)) [
-      | inl lt ↦
-          let fits : i ≤ length kept = omega arith in
-          let prefix_only : take i (kept ++ made) ≡ take i kept = take-append-le i kept made fits in
-          let shorter : take i kept ≡ take i items = take-take i (kept_before e (plain_all items)) items (omega (arith, many)) in
-          let at : slice_index_or (boundaries 0 (plain_all items)) i 0 ≡ characters (take i items) = boundary_at items i 0 (omega (arith, many, kept_before-le)) in
-          let low : slice_index_or (boundaries 0 (plain_all items)) i 0 < e.at = prefix_before rules h.text e (plain_all items) i h.tokens.tokens (omega (arith, many)) in
-          not_after e items (characters (take i (kept ++ made))) (omega (arith, low, at, ap characters prefix_only, ap characters shorter))
+    not_here i l = elim (cases_lt i (length (kept ++ made))) [
+      | inl lt ↦ not_before made earlier i lt
       | inr ge ↦
-          let j = i - length kept in
-          let is : i ≡ length kept + j = omega arith in
-          let both : take i (kept ++ made) ≡ kept ++ take j made = ap (λ n. take n (kept ++ made)) is ∙ take-append-add kept made j in
-          let sum : characters (take i (kept ++ made)) ≡ prefix_end e items + characters (take j made) = ap characters both ∙ sum_by-append (λ x. x.length) kept (take j made) in
-          subst (λ n. is_rejoined e (plain_all items) n ≡ false) (sym sum) (up_to j (omega (arith, length-append kept made)))
+          let whole : characters (take i (kept ++ made)) ≡ prefix_end e items + characters made = ap characters (take_all i (kept ++ made) ge) ∙ sum_by-append (λ x. x.length) kept made in
+          subst (λ n. is_rejoined e (plain_all items) n ≡ false) (sym whole) here
     ]
 
     joined : plain_all (kept ++ made) ≡ plain_all kept ++ plain_all made
     joined = map-append plain kept made
 
     -- after them stands a token whose reach holds what is within the reach there
-    reached_by : (i : ℕ) → prefix_end e items + characters made < length u → IsWithinReach rules u (prefix_end e items + characters made) i
-        → (new : List PlainToken) → AreTokens rules u new → IsReachedByMade e (plain_all items) new i
+    reached_by : (i : ℕ) → prefix_end e items + characters made < length u → IsWithinReach file.patterns u (prefix_end e items + characters made) i
+        → (new : List PlainToken) → AreTokens file.patterns u new → IsReachedByMade e (plain_all items) new i
     reached_by i lt w new p = go later.rest later.joined later.tokens
       where
-        later : GoOn rules u (plain_all kept ++ plain_all made) new
-        later = leads_split rules u (plain_all kept ++ plain_all made) new (all_lead made m) p
+        later : GoOn file.patterns u (plain_all kept ++ plain_all made) new
+        later = leads_split file.patterns u (plain_all kept ++ plain_all made) new (all_lead made m) p
 
         sum : chars (plain_all kept ++ plain_all made) ≡ prefix_end e items + characters made
         sum = ap chars (sym joined) ∙ chars-plain (kept ++ made) ∙ sum_by-append (λ x. x.length) kept made
 
-        go : (rest : List PlainToken) → new ≡ (plain_all kept ++ plain_all made) ++ rest → AreTokens rules (drop (chars (plain_all kept ++ plain_all made)) u) rest → IsReachedByMade e (plain_all items) new i
+        go : (rest : List PlainToken) → new ≡ (plain_all kept ++ plain_all made) ++ rest → AreTokens file.patterns (drop (chars (plain_all kept ++ plain_all made)) u) rest → IsReachedByMade e (plain_all items) new i
         go [] is q = absurd (omega (arith, ap length q, length-drop (chars (plain_all kept ++ plain_all made)) u, sum, lt))
         go (y ∷ ys) is q =
-            let at : IsToken rules (drop (prefix_end e items + characters made) u) y = subst (λ n. IsToken rules (drop n u) y) sum q.0 in
-            let past : i < prefix_end e items + characters made + y.reach = within_token rules u (prefix_end e items + characters made) i y.reach (omega arith) w at.reach in
+            let at : IsToken file.patterns (drop (prefix_end e items + characters made) u) y = subst (λ n. IsToken file.patterns (drop n u) y) sum q.0 in
+            let past : i < prefix_end e items + characters made + y.reach = within_token file.patterns u (prefix_end e items + characters made) i y.reach (omega arith) w at.reach in
             let k = length (plain_all kept ++ plain_all made) in
             let size : k ≡ length (kept ++ made) = ap length (sym joined) ∙ length-plain (kept ++ made) in
             let long : length new ≡ k + length (y ∷ ys) = ap length is ∙ length-append (plain_all kept ++ plain_all made) (y ∷ ys) in (
@@ -143,7 +148,7 @@ module _ (rules : List Expression) (skips : List Bool) (e : Edit) (items : List 
                   (placed_at 0 (plain_all kept ++ plain_all made) y ys (λ x. i < x.start + x.token.reach) (omega (arith, sum, past))),
             )
 
-    pub needed : (i : ℕ) → prefix_end e items + characters made < length u → IsWithinReach rules u (prefix_end e items + characters made) i → IsNeeded rules e items u i
+    pub needed : (i : ℕ) → prefix_end e items + characters made < length u → IsWithinReach file.patterns u (prefix_end e items + characters made) i → IsNeeded file.patterns e items u i
     needed i lt w = record { past = omega (arith, w.after); inside = w.inside; reached = reached_by i lt w }
 
 pub earlier_one : (e : Edit) (items : List Token) (from : ℕ) (made : List Token) (x : Token)

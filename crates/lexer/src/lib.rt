@@ -1,20 +1,19 @@
 //! The tokens of a text by longest matches, and what an edit changes of them.
 //!
-//! `Tokens::scan` scans a text by a grammar and its automaton; after an edit `rescan` changes the tokens to those of
-//! the new text, and returns the splice of the kinds. The source is `Whole(&text)`, or `Characters`, which has all
-//! characters in a vector and is faster for a whole scan. `token`, `start_of` and `count` are about all tokens, by
-//! their places; `kind`, `place` and `significant` about those that aren't skipped.
+//! `Scanner::new` makes the scanner of a grammar. `Tokens::scan` scans a text by it; after an edit `rescan` changes the
+//! tokens to those of the new text, and returns the splice of the kinds. The source is `Whole(&text)`, or
+//! `Characters`, which has all characters in a vector and is faster for a whole scan. `token`, `start_of` and `count`
+//! are about all tokens, by their places; `kind`, `place` and `significant` about those that aren't skipped.
 //!
 //! Words: a token's *stamp* is the number of the edit that made it; `scanned` counts the tokens made by the last edit.
 //!
 //! Limits: those of `text`. A rescan reads from the first token whose reach the edit meets to the first place where an
-//! old token begins again; the other tokens stay. In the example `grammar` is read from the grammar file in README.md,
-//! and `automaton` is built of its patterns.
+//! old token begins again; the other tokens stay. In the example `scanner` is that of the grammar file in README.md.
 //!
 //! ```
 //! let text = Text::open(alloc, "1 + 2").ok()?;
 //! let end = text.len();
-//! let tokens = Tokens::scan(alloc, grammar, automaton, &Whole(&text)).ok()?;
+//! let tokens = Tokens::scan(alloc, scanner, &Whole(&text)).ok()?;
 //! let (all, read) = (tokens.count(), tokens.significant());
 //! println!(rt; "{end} characters, {all} tokens, {read} significant").ok()
 //! // 5 characters, 5 tokens, 3 significant
@@ -24,7 +23,7 @@
 mod ahead;
 mod characters;
 mod laws;
-mod scan;
+mod scanner;
 mod sums;
 mod tokens;
 mod walk;
@@ -35,6 +34,7 @@ pub use characters::Characters;
 pub use definitions::{Edit, Kind, KindSplice};
 pub use dfa::Source;
 pub use laws::{each_text_has_tokens, equal_tokens_are_the_same};
+pub use scanner::Scanner;
 pub use sums::{AfterCharacter, ShortKind, Sums, Token};
 pub use tokens::Tokens;
 pub use whole::Whole;

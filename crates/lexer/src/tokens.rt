@@ -1,22 +1,18 @@
 //! The list of the tokens of a text, and its change by an edit.
-ghost use Rattle.std.specs.Prelude.{◌≡◌, ◌≢◌, ℕ, ◌+◌, ◌-◌, ◌<◌, ◌≤◌, ◌^◌, Bool, true, false, List, [], ◌∷◌, ◌++◌, length, map, take, drop, count_by, filter, slice_get, slice_index_or, slice_range, option_copied, IfOk, OnErr, MatchOption, All};
+ghost use Rattle.std.specs.Prelude.{◌≡◌, ℕ, ◌+◌, ◌-◌, ◌<◌, ◌≤◌, ◌^◌, true, false, List, ◌∷◌, length, take, drop, count_by, slice_get, slice_range, option_copied, IfOk, OnErr, MatchOption, All};
 ghost use Rattle.definitions.specs.declared.expression.Expression.{Expression};
-ghost use Rattle.definitions.specs.Tokens.{IsToken, AreTokens, is_skipped};
-ghost use Rattle.dfa.specs.Table.{IsAutomaton, kind_of};
-ghost use Rattle.dfa.specs.Windows.{IsWithinReach};
-ghost use Rattle.definitions.specs.TokenEdits.{kept_before, is_rejoined, rejoin, made, splice, plain_splice, IsSpliced, same_kind, same_kinds};
-ghost use Rattle.definitions.specs.declared.Kind.TheVariants.{Invalid};
+ghost use Rattle.definitions.specs.Tokens.{AreTokens};
+ghost use Rattle.definitions.specs.TokenEdits.{kept_before, is_rejoined, plain_splice, same_kind, same_kinds};
 ghost use Rattle.lexer.specs.Walks.{IsPassed, horizon};
-ghost use Rattle.lexer.specs.Tokens.{plain, is_significant, characters, Fits, AreTokensOf};
-ghost use Rattle.lexer.specs.Rescans.{plain_all, prefix_end, significant_kinds, IsEdited, IsNeeded, IsRemade, AreRescanned, change};
+ghost use Rattle.lexer.specs.Tokens.{is_significant, characters, Fits, AreTokensOf};
+ghost use Rattle.lexer.specs.Rescans.{plain_all, significant_kinds, IsEdited, IsNeeded, IsRemade, AreTokensAfter, change};
 
 use crate::ahead::KindsAhead;
-use crate::scan::{scan_all, token_at};
+use crate::scanner::Scanner;
 use crate::sums::{AfterSignificant, ReachesPast, Token};
 use crate::walk::Walk;
 use definitions::{Edit, Kind, KindSplice};
-use dfa::{Automaton, Source};
-use grammar::Grammar;
+use dfa::Source;
 use runs::Runs;
 use std::alloc::{AllocError, Global};
 use std::marker::Model;
@@ -44,19 +40,17 @@ impl Tokens {
     /// All tokens of a text, made by edit 0.
     pub fn scan<S: Source>(
         alloc: Global,
-        grammar: &Grammar,
-        automaton: &Automaton,
+        scanner: &Scanner,
         source: &S,
     ) -> Result<Tokens, AllocError>
-        requires sound { IsAutomaton grammar.now.patterns automaton.now }
         requires small { length (S.text source.now) ≤ 1048576 }
         requires window { (i : ℕ) → i < length (S.text source.now) → S.in_window source.now i }
         ensures tokens { IfOk result
-            (λ r. AreTokensOf grammar.now.patterns grammar.now.skips (S.text source.now) r.items) }
+            (λ r. AreTokensOf scanner.now (S.text source.now) r.items) }
         ensures born { IfOk result (λ r. All (λ x. x.born ≡ 0) r.items) }
         ensures scanned { IfOk result (λ r. r.scanned ≡ length r.items) }
     {
-        let items = scan_all(alloc, grammar, automaton, source)?;
+        let items = scanner.scan_all(alloc, source)?;
         let scanned = items.len();
         Ok(Tokens { items, scanned })
     }
@@ -153,35 +147,23 @@ impl Tokens {
     pub fn rescan<S: Source>(
         &mut self,
         alloc: Global,
-        grammar: &Grammar,
-        automaton: &Automaton,
+        scanner: &Scanner,
         source: &S,
         edit: Edit,
     ) -> Result<KindSplice, AllocError>
-        requires sound { IsAutomaton grammar.now.patterns automaton.now }
         requires small { length (S.text source.now) ≤ 1048576 }
-        requires edited { IsEdited grammar.now.patterns grammar.now.skips edit self.old.items
+        requires edited { IsEdited scanner.now edit self.old.items
             (S.text source.now) }
         requires window { (i : ℕ)
-            → IsNeeded grammar.now.patterns edit self.old.items (S.text source.now) i
+            → IsNeeded scanner.now.patterns edit self.old.items (S.text source.now) i
             → S.in_window source.now i }
-        ensures tokens { IfOk result
-            (λ _. AreTokensOf grammar.now.patterns grammar.now.skips (S.text source.now)
-            self.new.items) }
-        ensures kept { IfOk result (λ _. AreRescanned edit self.old.items self.new.items) }
-        ensures splice { IfOk result
-            (λ s. plain_splice s ≡ splice grammar.now.skips edit (plain_all self.old.items)
-            (plain_all self.new.items)) }
-        ensures kinds { IfOk result (λ s. IsSpliced (plain_splice s)
-            (significant_kinds self.old.items) (significant_kinds self.new.items)) }
-        ensures scanned { IfOk result
-            (λ _. self.new.scanned ≡ length (made edit (plain_all self.old.items) (plain_all
-            self.new.items))) }
+        ensures after { IfOk result (λ s. AreTokensAfter scanner.now edit (S.text source.now)
+            (plain_splice s) self.old self.new) }
         ensures err { OnErr result (self.new ≡ self.old) }
     {
         let (kept_before, end) = kept_prefix(&self.items, edit);
         let old = Walk::new(&self.items, kept_before, end);
-        let (made, to) = remake(alloc, grammar, automaton, source, edit, old)?;
+        let (made, to) = remake(alloc, scanner, source, edit, old)?;
         let kinds = kinds_of(alloc, &made)?;
         let splice = splice_of(&self.items, kept_before, to, kinds);
         self.items.replace(alloc, kept_before, to, &made)?;
@@ -224,20 +206,18 @@ fn rejoin_place(old: &mut Walk<'_>, edit: Edit, at: usize) -> Option<usize>
 /// The tokens from where the old ones are no longer kept to the place of rejoining, and the place of the first old token after it.
 fn remake<S: Source>(
     alloc: Global,
-    grammar: &Grammar,
-    automaton: &Automaton,
+    scanner: &Scanner,
     source: &S,
     edit: Edit,
     mut old: Walk<'_>,
 ) -> Result<(Vec<Token>, usize), AllocError>
-    requires sound { IsAutomaton grammar.now.patterns automaton.now }
     requires small { length (S.text source.now) ≤ 1048576 }
-    requires edited { IsEdited grammar.now.patterns grammar.now.skips edit old.items
+    requires edited { IsEdited scanner.now edit old.items
         (S.text source.now) }
-    requires window { (i : ℕ) → IsNeeded grammar.now.patterns edit old.items (S.text source.now) i
+    requires window { (i : ℕ) → IsNeeded scanner.now.patterns edit old.items (S.text source.now) i
         → S.in_window source.now i }
     requires kept_before { old.place ≡ kept_before edit (plain_all old.items) }
-    ensures { IfOk result (λ r. IsRemade grammar.now.patterns grammar.now.skips edit old.entry.items
+    ensures { IfOk result (λ r. IsRemade scanner.now edit old.entry.items
         (S.text source.now) r.0.items r.1) }
 {
     let mut made = Vec::new(alloc);
@@ -246,7 +226,7 @@ fn remake<S: Source>(
         if let Some(to) = rejoin_place(&mut old, edit, at) {
             return Ok((made, to));
         }
-        let token = token_at(grammar, automaton, source, at, edit.number);
+        let token = scanner.token_at(source, at, edit.number);
         made.push(token)?;
         at += token.length as usize;
     }
@@ -319,7 +299,6 @@ fn have_kinds(items: &Runs<Token>, from: usize, to: usize, kinds: &[Kind]) -> bo
 /// these kinds.
 fn splice_of(items: &Runs<Token>, kept_before: usize, to: usize, mut kinds: Vec<Kind>) -> KindSplice
     requires fits { Fits items.now }
-    requires ordered { kept_before ≤ to }
     requires within { to ≤ length items.now }
     ensures { plain_splice result ≡ change items.now kept_before to kinds.items }
 {

@@ -1,8 +1,7 @@
 //! The rows of tokens, and the text of a tree. `tests/program` has long texts and deep trees.
 
-use dfa::Automaton;
 use grammar::Grammar;
-use lexer::{Kind, Tokens, Whole};
+use lexer::{Kind, Scanner, Tokens, Whole};
 use std::alloc::{AllocError, Global};
 use std::process::Abort;
 use text::{LONGEST_TEXT, Text, Unit};
@@ -13,12 +12,13 @@ use worked::{LISTS, SUMS};
 /// The rows of a text's tokens, a line for each.
 fn rows(rt: &impl Abort, alloc: Global, file: &str, text: &str) -> String {
     let grammar = Grammar::read(alloc, file).expect(rt, "a grammar");
-    let automaton = Automaton::build(alloc, grammar.patterns()).expect(rt, "an automaton");
+    let scanner = Scanner::new(alloc, grammar).expect(rt, "a scanner");
     let text = Text::open(alloc, text).expect(rt, "a text");
     let count = text.len();
     prove!(count <= LONGEST_TEXT);
-    let tokens = Tokens::scan(alloc, &grammar, &automaton, &Whole(&text)).expect(rt, "tokens");
-    let rows = token_rows(alloc, &grammar, Unit::Utf16, &text, &tokens).expect(rt, "rows");
+    let tokens = Tokens::scan(alloc, &scanner, &Whole(&text)).expect(rt, "tokens");
+    let grammar = scanner.grammar();
+    let rows = token_rows(alloc, grammar, Unit::Utf16, &text, &tokens).expect(rt, "rows");
     let mut lines = String::new(alloc);
     for row in &rows {
         let line = line(alloc, row.name, row.range).expect(rt, "memory");

@@ -2,12 +2,10 @@
 
 ghost use Rattle.std.specs.Prelude.{◌≡◌, ◌+◌, ◌<◌, ◌≤◌, drop, length};
 ghost use Rattle.std.specs.Str.{chars};
-ghost use Rattle.dfa.specs.Table.{IsAutomaton};
 ghost use Rattle.lexer.specs.Tokens.{AreTokensOf};
 
-use dfa::Automaton;
 use grammar::Grammar;
-use lexer::{Edit, Kind, KindSplice, Source, Tokens, Whole};
+use lexer::{Edit, Kind, KindSplice, Scanner, Source, Tokens, Whole};
 use std::alloc::Global;
 use std::cell::Cell;
 use std::process::Abort;
@@ -20,29 +18,18 @@ const PLUS: Kind = Kind::Rule(1);
 
 const RP: Kind = Kind::Rule(3);
 
-/// A grammar and the automaton of its rules.
-#[derive(Drop)]
-struct Language {
-    grammar: Grammar,
-    automaton: Automaton,
-}
-
-fn load(rt: &impl Abort, alloc: Global, text: &str) -> Language
-    ensures { IsAutomaton result.grammar.patterns result.automaton }
-{
+/// The scanner of a grammar file.
+fn load(rt: &impl Abort, alloc: Global, text: &str) -> Scanner {
     let grammar = Grammar::read(alloc, text).expect(rt, "a grammar");
-    let automaton = Automaton::build(alloc, grammar.patterns()).expect(rt, "an automaton");
-    Language { grammar, automaton }
+    Scanner::new(alloc, grammar).expect(rt, "a scanner")
 }
 
 /// The tokens of a whole text.
-fn scan(rt: &impl Abort, alloc: Global, language: &Language, text: &Text) -> Tokens
-    requires { IsAutomaton language.now.grammar.patterns language.now.automaton }
-    ensures { let g = language.now.grammar in
-        AreTokensOf g.patterns g.skips text.now result.items }
+fn scan(rt: &impl Abort, alloc: Global, scanner: &Scanner, text: &Text) -> Tokens
+    ensures { AreTokensOf scanner.now text.now result.items }
 {
     let _length = text.len();
-    Tokens::scan(alloc, &language.grammar, &language.automaton, &Whole(text)).expect(rt, "tokens")
+    Tokens::scan(alloc, scanner, &Whole(text)).expect(rt, "tokens")
 }
 
 /// A text whose reads are counted.
@@ -107,17 +94,14 @@ struct Rescan {
 fn change(
     rt: &impl Abort,
     alloc: Global,
-    language: &Language,
+    scanner: &Scanner,
     text: &mut Text,
     tokens: &mut Tokens,
     step: &Step<'_>,
 ) -> Rescan
-    requires sound { IsAutomaton language.now.grammar.patterns language.now.automaton }
-    requires tokens { let g = language.now.grammar in
-        AreTokensOf g.patterns g.skips text.old tokens.old.items }
+    requires tokens { AreTokensOf scanner.now text.old tokens.old.items }
     requires inside { step.now.at + step.now.removed ≤ length text.old }
-    ensures { let g = language.now.grammar in
-        AreTokensOf g.patterns g.skips text.new tokens.new.items }
+    ensures { AreTokensOf scanner.now text.new tokens.new.items }
 {
     let piece = Text::open(alloc, step.piece).expect(rt, "a piece");
     let edit = Edit {
@@ -135,7 +119,7 @@ fn change(
         reads: Cell::new(0),
     };
     let splice = tokens
-        .rescan(alloc, &language.grammar, &language.automaton, &source, edit)
+        .rescan(alloc, scanner, &source, edit)
         .expect(rt, "a rescan");
     let reads = source.reads.get();
     Rescan { splice, reads }
@@ -158,21 +142,18 @@ fn born_by(tokens: &Tokens, number: u64) -> usize {
 fn check_step(
     rt: &impl Abort,
     alloc: Global,
-    language: &Language,
+    scanner: &Scanner,
     text: &mut Text,
     tokens: &mut Tokens,
     step: &Step<'_>,
 ) -> usize
-    requires sound { IsAutomaton language.now.grammar.patterns language.now.automaton }
-    requires tokens { let g = language.now.grammar in
-        AreTokensOf g.patterns g.skips text.old tokens.old.items }
-    ensures { let g = language.now.grammar in
-        AreTokensOf g.patterns g.skips text.new tokens.new.items }
+    requires tokens { AreTokensOf scanner.now text.old tokens.old.items }
+    ensures { AreTokensOf scanner.now text.new tokens.new.items }
 {
     let length = text.len();
     assert!(rt; step.at <= length);
     assert!(rt; step.removed <= length - step.at);
-    let rescan = change(rt, alloc, language, text, tokens, step);
+    let rescan = change(rt, alloc, scanner, text, tokens, step);
     assert!(rt; tokens.scanned() == step.scanned);
     assert!(rt; born_by(tokens, step.number) == step.scanned);
     assert!(rt; tokens.count() == step.count);
@@ -186,25 +167,23 @@ fn check_step(
 fn check(
     rt: &impl Abort,
     alloc: Global,
-    language: &Language,
+    scanner: &Scanner,
     open: &str,
     steps: &[Step<'_>],
-) -> usize
-    requires { IsAutomaton language.now.grammar.patterns language.now.automaton }
-{
+) -> usize {
     let mut text = Text::open(alloc, open).expect(rt, "a text");
-    let mut tokens = scan(rt, alloc, language, &text);
+    let mut tokens = scan(rt, alloc, scanner, &text);
     let mut reads = 0;
     'steps: for step in steps {
-        reads = check_step(rt, alloc, language, &mut text, &mut tokens, step);
+        reads = check_step(rt, alloc, scanner, &mut text, &mut tokens, step);
     }
     reads
 }
 
 /// The same, by the rules of a grammar file.
 fn check_by(rt: &impl Abort, alloc: Global, file: &str, open: &str, steps: &[Step<'_>]) -> usize {
-    let language = load(rt, alloc, file);
-    check(rt, alloc, &language, open, steps)
+    let scanner = load(rt, alloc, file);
+    check(rt, alloc, &scanner, open, steps)
 }
 
 /// Whether the tokens have these names, lengths, reaches and starts, and stamp 0.
@@ -229,15 +208,13 @@ fn are_rows(grammar: &Grammar, tokens: &Tokens, rows: &[(&str, u32, u32, usize)]
 fn has_tokens(
     rt: &impl Abort,
     alloc: Global,
-    language: &Language,
+    scanner: &Scanner,
     text: &str,
     rows: &[(&str, u32, u32, usize)],
-) -> bool
-    requires { IsAutomaton language.now.grammar.patterns language.now.automaton }
-{
+) -> bool {
     let text = Text::open(alloc, text).expect(rt, "a text");
-    let tokens = scan(rt, alloc, language, &text);
-    are_rows(&language.grammar, &tokens, rows)
+    let tokens = scan(rt, alloc, scanner, &text);
+    are_rows(scanner.grammar(), &tokens, rows)
 }
 
 /// So many times the same characters.
@@ -257,8 +234,8 @@ fn check_tokens(
     text: &str,
     rows: &[(&str, u32, u32, usize)],
 ) {
-    let language = load(rt, alloc, file);
-    assert!(rt; has_tokens(rt, alloc, &language, text, rows));
+    let scanner = load(rt, alloc, file);
+    assert!(rt; has_tokens(rt, alloc, &scanner, text, rows));
 }
 
 #[test]
@@ -301,16 +278,11 @@ fn check_kinds_in_turn(rt: &impl Abort, grammar: &Grammar, tokens: &Tokens) {
 }
 
 /// Scans 1,500 times `1 +`.
-fn check_with_kinds(rt: &impl Abort, alloc: Global, language: &Language, text: &str)
-    requires { IsAutomaton language.now.grammar.patterns language.now.automaton }
-{
+fn check_with_kinds(rt: &impl Abort, alloc: Global, scanner: &Scanner, text: &str) {
     let text = Text::open(alloc, text).expect(rt, "a text");
-    let _length = text.len();
-    let (grammar, automaton) = (&language.grammar, &language.automaton);
-    let scanned = Tokens::scan(alloc, grammar, automaton, &Whole(&text));
-    let tokens = scanned.expect(rt, "tokens");
-    check_tokens_in_turn(rt, grammar, &tokens);
-    check_kinds_in_turn(rt, grammar, &tokens);
+    let tokens = scan(rt, alloc, scanner, &text);
+    check_tokens_in_turn(rt, scanner.grammar(), &tokens);
+    check_kinds_in_turn(rt, scanner.grammar(), &tokens);
 }
 
 /// More tokens than are put into the list at once.
@@ -418,20 +390,20 @@ fn reads_few_characters(rt: HostRuntime) {
 #[test]
 fn tokens_lie_in_few_runs(rt: HostRuntime) {
     let alloc = rt.alloc();
-    let language = load(&rt, alloc, SUMS);
+    let scanner = load(&rt, alloc, SUMS);
     let open = repeated(&rt, alloc, "1+", 48);
     let mut text = Text::open(alloc, &open).expect(&rt, "a text");
-    let mut tokens = scan(&rt, alloc, &language, &text);
+    let mut tokens = scan(&rt, alloc, &scanner, &text);
     assert!(rt; tokens.items().runs() == 3);
     let plus = [Kind::Rule(1)];
     let last = step_by_7((72, 14, ""), (1, 82), (71, 86, &plus));
-    check_step(&rt, alloc, &language, &mut text, &mut tokens, &last);
+    check_step(&rt, alloc, &scanner, &mut text, &mut tokens, &last);
     let mut middle = step_by_7((40, 14, ""), (1, 68), (39, 54, &plus));
     middle.number = 8;
-    check_step(&rt, alloc, &language, &mut text, &mut tokens, &middle);
+    check_step(&rt, alloc, &scanner, &mut text, &mut tokens, &middle);
     let mut first = step_by_7((8, 14, ""), (1, 54), (7, 22, &plus));
     first.number = 9;
-    check_step(&rt, alloc, &language, &mut text, &mut tokens, &first);
+    check_step(&rt, alloc, &scanner, &mut text, &mut tokens, &first);
     assert!(rt; tokens.items().runs() == 3);
 }
 

@@ -11,11 +11,8 @@ mod programs;
 mod sets;
 mod texts;
 
-ghost use Rattle.dfa.specs.Table.{IsAutomaton};
-
-use dfa::Automaton;
 use grammar::Grammar;
-use lexer::{Tokens, Whole};
+use lexer::{Scanner, Tokens, Whole};
 use std::alloc::Global;
 use std::process::ExitCode;
 use tables::Tables;
@@ -50,15 +47,16 @@ fn of_sets(rt: &HostRuntime, alloc: Global) -> Option<()> {
 /// The examples of a grammar file.
 fn of_file(rt: &HostRuntime, alloc: Global) -> Option<()> {
     let grammar = Grammar::read(alloc, SUMS).ok()?;
-    by_grammar(rt, alloc, &grammar)
+    by_grammar(rt, alloc, &grammar)?;
+    let scanner = Scanner::new(alloc, grammar).ok()?;
+    by_scanner(rt, alloc, &scanner)
 }
 
 /// The examples that take a grammar, or what is built of one.
 fn by_grammar(rt: &HostRuntime, alloc: Global, grammar: &Grammar) -> Option<()> {
     texts::use_dfa(rt, alloc, grammar)?;
     parses::use_tables(rt, alloc, grammar)?;
-    with_tables(rt, alloc, grammar)?;
-    with_automaton(rt, alloc, grammar)
+    with_tables(rt, alloc, grammar)
 }
 
 /// The example that takes tables.
@@ -67,41 +65,19 @@ fn with_tables(rt: &HostRuntime, alloc: Global, grammar: &Grammar) -> Option<()>
     parses::use_parser(rt, alloc, &tables)
 }
 
-/// The examples that take an automaton, or the tokens that it finds.
-fn with_automaton(rt: &HostRuntime, alloc: Global, grammar: &Grammar) -> Option<()> {
-    let Ok(automaton) = Automaton::build(alloc, grammar.patterns()) else {
-        return None;
-    };
-    by_automaton(rt, alloc, grammar, &automaton)
-}
-
-/// The same, with the automaton.
-fn by_automaton(
-    rt: &HostRuntime,
-    alloc: Global,
-    grammar: &Grammar,
-    automaton: &Automaton,
-) -> Option<()>
-    requires { IsAutomaton grammar.now.patterns automaton.now }
-{
-    texts::use_lexer(rt, alloc, grammar, automaton)?;
-    with_tokens(rt, alloc, grammar, automaton)
+/// The examples that take a scanner, or the tokens that it finds.
+fn by_scanner(rt: &HostRuntime, alloc: Global, scanner: &Scanner) -> Option<()> {
+    texts::use_lexer(rt, alloc, scanner)?;
+    with_tokens(rt, alloc, scanner)
 }
 
 /// The example that takes a text and its tokens.
-fn with_tokens(
-    rt: &HostRuntime,
-    alloc: Global,
-    grammar: &Grammar,
-    automaton: &Automaton,
-) -> Option<()>
-    requires { IsAutomaton grammar.now.patterns automaton.now }
-{
+fn with_tokens(rt: &HostRuntime, alloc: Global, scanner: &Scanner) -> Option<()> {
     let text = Text::open(alloc, "12").ok()?;
     // The scan requires that the text is short, as each `Text` is.
     let _length = text.len();
-    let tokens = Tokens::scan(alloc, grammar, automaton, &Whole(&text)).ok()?;
-    answers::use_views(rt, alloc, grammar, &text, &tokens)
+    let tokens = Tokens::scan(alloc, scanner, &Whole(&text)).ok()?;
+    answers::use_views(rt, alloc, scanner.grammar(), &text, &tokens)
 }
 
 /// The examples that load a language.

@@ -1,10 +1,8 @@
 //! Examples of texts and of their tokens.
 
-ghost use Rattle.dfa.specs.Table.{IsAutomaton};
-
 use dfa::Automaton;
 use grammar::Grammar;
-use lexer::{Tokens, Whole};
+use lexer::{Scanner, Tokens, Whole};
 use std::alloc::Global;
 use text::{Text, Unit};
 
@@ -31,17 +29,10 @@ pub fn use_text(rt: &HostRuntime, alloc: Global) -> Option<()> {
 }
 
 /// The example of `lexer`.
-pub fn use_lexer(
-    rt: &HostRuntime,
-    alloc: Global,
-    grammar: &Grammar,
-    automaton: &Automaton,
-) -> Option<()>
-    requires { IsAutomaton grammar.now.patterns automaton.now }
-{
+pub fn use_lexer(rt: &HostRuntime, alloc: Global, scanner: &Scanner) -> Option<()> {
     let text = Text::open(alloc, "1 + 2").ok()?;
     let end = text.len();
-    let tokens = Tokens::scan(alloc, grammar, automaton, &Whole(&text)).ok()?;
+    let tokens = Tokens::scan(alloc, scanner, &Whole(&text)).ok()?;
     let (all, read) = (tokens.count(), tokens.significant());
     println!(rt; "{end} characters, {all} tokens, {read} significant").ok()
     // 5 characters, 5 tokens, 3 significant

@@ -1,5 +1,5 @@
 -- The sums of tokens give the two places of an offset.
-use Rattle.std.specs.Prelude.{◌≡◌, ℕ, zero, suc, ◌+◌, ◌<◌, ◌≤◌, ◌^◌, Bool, true, false, List, [], ◌∷◌, length, map, take, drop, count_by, slice_get, Some, None, All, IsTrue, nat_lt, if◌then◌else◌}
+use Rattle.std.specs.Prelude.{◌≡◌, ℕ, zero, suc, ◌+◌, ◌<◌, ◌≤◌, ◌^◌, true, false, List, [], ◌∷◌, length, map, take, drop, count_by, slice_get, Some, None, All, IsTrue, nat_lt, if◌then◌else◌}
 use Rattle.std.proofs.Common.{arith, refl, sym, ap, subst, ◌∙◌}
 use Rattle.std.proofs.lemmas.Bool.{ltb-true, ltb-false}
 use Rattle.std.proofs.lemmas.List.{length-take}
@@ -9,6 +9,7 @@ use Rattle.definitions.specs.declared.expression.Expression.{Expression}
 use Rattle.definitions.specs.Tokens.{AreTokens, is_skipped, kinds, placed, significant}
 use Rattle.definitions.proofs.TokensLead.{chars}
 use Rattle.definitions.proofs.TokensUnique.{IsPiece-inside}
+use Rattle.grammar.specs.Grammars.{FileGrammar}
 use Rattle.lexer.specs.declared.sums.Sums.{Sums}
 use Rattle.lexer.specs.declared.sums.Token.{Token}
 use Rattle.lexer.specs.Rescans.{plain_all}
@@ -50,12 +51,12 @@ count_none [] (suc p) e = refl
 count_none (y ∷ xs) zero e = absurd (cc)
 count_none (y ∷ xs) (suc p) e = ap (λ ys. y ∷ ys) (count_none xs p e)
 
-module _ (rules : List Expression) (skips : List Bool) (t : List ℕ) (items : List Token) (h : AreTokensOf rules skips t items) (short : length t ≤ 2 ^ 30) where
+module _ (file : FileGrammar) (t : List ℕ) (items : List Token) (h : AreTokensOf file t items) (short : length t ≤ 2 ^ 30) where
   long : characters items ≡ length t
-  long = tokens_length rules t items h.tokens
+  long = tokens_length file.patterns t items h.tokens
 
   pub few : length items ≤ length t
-  few = omega (arith, long, length-le-characters items (nonempty rules t items h.tokens))
+  few = omega (arith, long, length-le-characters items (nonempty file.patterns t items h.tokens))
 
   characters_exact : (n : ℕ) → (tot (take n items)).characters ≡ characters (take n items)
   characters_exact n = total_characters (take n items) (omega (arith, long, sum_by-take-le (λ x. x.length) items n))
@@ -66,10 +67,10 @@ module _ (rules : List Expression) (skips : List Bool) (t : List ℕ) (items : L
   plain_characters : (n : ℕ) → chars (take n (plain_all items)) ≡ characters (take n items)
   plain_characters n = ap chars (sym (plain-take n items)) ∙ chars-plain (take n items)
 
-  plain_count : (n : ℕ) → length (kinds skips (take n (plain_all items))) ≡ count_by is_significant (take n items)
+  plain_count : (n : ℕ) → length (kinds file.skips (take n (plain_all items))) ≡ count_by is_significant (take n items)
   plain_count n =
-      ap (λ xs. length (kinds skips xs)) (sym (plain-take n items))
-      ∙ ap length (kinds_plain skips (take n items) (All-take (λ x. x.skipped ≡ is_skipped skips (kind_in x)) n items h.marked))
+      ap (λ xs. length (kinds file.skips xs)) (sym (plain-take n items))
+      ∙ ap length (kinds_plain file.skips (take n items) (All-take (λ x. x.skipped ≡ is_skipped file.skips (kind_in x)) n items h.marked))
       ∙ length-kinds (take n items)
 
   module _ (o p : ℕ) (before : Sums) (l : IsLocated items o p before) where
@@ -90,24 +91,24 @@ module _ (rules : List Expression) (skips : List Bool) (t : List ℕ) (items : L
           omega (arith, high, characters_exact (p + 1), plain_characters (suc p), ap (λ n. characters (take n items)) next);
     }
 
-    first_is : length (kinds skips (take p (plain_all items))) ≡ before.significant
+    first_is : length (kinds file.skips (take p (plain_all items))) ≡ before.significant
     first_is = plain_count p ∙ sym (significant_exact p) ∙ ap (λ s. s.significant) (sym l.sum)
 
-    around : (reached : ℕ) → count_by is_significant (take (suc p) items) ≡ reached → IsAround (significant skips (placed 0 (plain_all items))) o reached before.significant
+    around : (reached : ℕ) → count_by is_significant (take (suc p) items) ≡ reached → IsAround (significant file.skips (placed 0 (plain_all items))) o reached before.significant
     around reached e =
-        subst (λ n. IsAround (significant skips (placed 0 (plain_all items))) o n before.significant) (plain_count (suc p) ∙ e)
-        (subst (λ n. IsAround (significant skips (placed 0 (plain_all items))) o (length (kinds skips (take (suc p) (plain_all items)))) n) first_is
-        (places_around rules skips o 0 t (plain_all items) p h.tokens place))
+        subst (λ n. IsAround (significant file.skips (placed 0 (plain_all items))) o n before.significant) (plain_count (suc p) ∙ e)
+        (subst (λ n. IsAround (significant file.skips (placed 0 (plain_all items))) o (length (kinds file.skips (take (suc p) (plain_all items)))) n) first_is
+        (places_around file.patterns file.skips o 0 t (plain_all items) p h.tokens place))
 
     counted : count_by is_significant (take p items) ≡ before.significant
     counted = sym (plain_count p) ∙ first_is
 
     -- in a significant token, in a skipped one, and after all
-    pub point_inside : (x : Token) → slice_get items p ≡ Some x → x.skipped ≡ false → IsAround (significant skips (placed 0 (plain_all items))) o (before.significant + 1) before.significant
+    pub point_inside : (x : Token) → slice_get items p ≡ Some x → x.skipped ≡ false → IsAround (significant file.skips (placed 0 (plain_all items))) o (before.significant + 1) before.significant
     point_inside x at e = around (before.significant + 1) (count_one items p x at ∙ ap (λ n. n + (if x.skipped then 0 else 1)) counted ∙ ap (λ b. before.significant + (if b then 0 else 1)) e)
 
-    pub point_skipped : (x : Token) → slice_get items p ≡ Some x → x.skipped ≡ true → IsAround (significant skips (placed 0 (plain_all items))) o before.significant before.significant
+    pub point_skipped : (x : Token) → slice_get items p ≡ Some x → x.skipped ≡ true → IsAround (significant file.skips (placed 0 (plain_all items))) o before.significant before.significant
     point_skipped x at e = around before.significant (count_one items p x at ∙ ap (λ n. n + (if x.skipped then 0 else 1)) counted ∙ ap (λ b. before.significant + (if b then 0 else 1)) e ∙ omega arith)
 
-    pub point_after : slice_get items p ≡ None → IsAround (significant skips (placed 0 (plain_all items))) o before.significant before.significant
+    pub point_after : slice_get items p ≡ None → IsAround (significant file.skips (placed 0 (plain_all items))) o before.significant before.significant
     point_after at = around before.significant (ap (λ xs. count_by is_significant xs) (count_none items p at) ∙ counted)

@@ -48,7 +48,7 @@ module _ (encoding : Encoding) (file : FileGrammar) (t : List ℕ) (tokens : Lis
       (reverse (map (range_of encoding t) (reported reached first)), selected o reached first (places_around file.patterns file.skips o 0 t tokens p.0 h p.1))
 
 -- the same of stored tokens and of roots in a store
-module _ (encoding : Encoding) (file : FileGrammar) (t : List ℕ) (items : List Stored) (cells : List Cell) (roots : List Child) (h : AreTokensOf file.patterns file.skips t items) (r : AreRootsOf file cells (map plain items) roots) where
+module _ (encoding : Encoding) (file : FileGrammar) (t : List ℕ) (items : List Stored) (cells : List Cell) (roots : List Child) (h : AreTokensOf file t items) (r : AreRootsOf file cells (map plain items) roots) where
   counted : length (placed_parts file (map plain items)) ≡ count_by is_significant items
   counted = count_of_parts file.skips items h.marked
 
@@ -56,7 +56,7 @@ module _ (encoding : Encoding) (file : FileGrammar) (t : List ℕ) (items : List
   pub roots_fit : length t ≤ 2 ^ 30 → length (all_kinds (trees_of_roots cells roots)) < 2 ^ 64
   roots_fit short =
       let covered = parts_cover encoding file t (map plain items) (trees_of_roots cells roots) r.symbols h.tokens r.are_trees r.covered in
-      omega (arith, covered, counted, count_by-le-length is_significant items, few file.patterns file.skips t items h short)
+      omega (arith, covered, counted, count_by-le-length is_significant items, few file t items h short)
 
   pub spans_stand : (o reached first : ℕ) → IsAround (placed_parts file (map plain items)) o reached first → All (IsSpanOf (count_by is_significant items)) (dedup is_same (spans_all reached first 0 (trees_of_roots cells roots)))
   spans_stand o reached first a =

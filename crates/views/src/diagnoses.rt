@@ -34,8 +34,7 @@ pub fn diagnostic(
     parse: &Parse,
 ) -> Result<Option<Diagnostic>, AllocError>
     requires tables { tables.now.grammar ≡ grammar.now.grammar }
-    requires tokens { AreTokensOf grammar.now.patterns grammar.now.skips text.now
-        tokens.now.items }
+    requires tokens { AreTokensOf grammar.now text.now tokens.now.items }
     requires parse { (cells : List Cell)
         × IsParseOf tables.now (significant_kinds tokens.now.items) cells parse.now }
     ensures reported { IfOk result (λ reported. (cells : List Cell)

@@ -34,7 +34,7 @@ pub fn folds(
     store: &Store,
     roots: &[Child],
 ) -> Result<Vec<(u32, u32)>, AllocError>
-    requires tokens { AreTokensOf grammar.now.patterns grammar.now.skips text.now tokens.now.items }
+    requires tokens { AreTokensOf grammar.now text.now tokens.now.items }
     requires roots { AreRootsOf grammar.now store.now (map plain tokens.now.items) roots.now }
     ensures { IfOk result (λ pairs.
         AreFoldsOf grammar.now text.now (map plain tokens.now.items)

@@ -2,7 +2,6 @@
 
 ghost use Rattle.std.specs.Prelude.{◌≡◌, ◌+◌, ◌<◌, ◌≤◌, ◌^◌, ℕ, Bool, List, [], ◌∷◌, All, length, map, count_by, reverse, IfOk, MatchOption};
 ghost use Rattle.std.specs.List.{dedup};
-ghost use Rattle.definitions.specs.declared.expression.Expression.{Expression};
 ghost use Rattle.definitions.specs.Answers.{range_of, shortened};
 ghost use Rattle.definitions.specs.Tokens.{is_skipped, placed, significant};
 ghost use Rattle.definitions.specs.Trees.{all_kinds};
@@ -52,11 +51,9 @@ pub fn selection(
     roots: &[Child],
     offset: usize,
 ) -> Result<Vec<Range>, AllocError>
-    requires { (file : FileGrammar)
-        × AreTokensOf file.patterns file.skips text.now tokens.now.items
+    requires { (file : FileGrammar) × AreTokensOf file text.now tokens.now.items
         × AreRootsOf file store.now (map plain tokens.now.items) roots.now }
-    ensures { (file : FileGrammar)
-        → AreTokensOf file.patterns file.skips text.now tokens.now.items
+    ensures { (file : FileGrammar) → AreTokensOf file text.now tokens.now.items
         → AreRootsOf file store.now (map plain tokens.now.items) roots.now
         → IfOk result (λ ranges. IsSelectionOf unit file text.now (map plain tokens.now.items)
         (trees_of_roots store.now roots.now) offset ranges.items) }
@@ -69,9 +66,9 @@ pub fn selection(
 
 /// The two places of an offset.
 fn point_of(tokens: &Tokens, offset: usize) -> Point
-    ensures around { (rules : List Expression) (skips : List Bool) (t : List ℕ)
-        → AreTokensOf rules skips t tokens.now.items → length t ≤ 2 ^ 30
-        → IsAround (significant skips (placed 0 (map plain tokens.now.items))) offset
+    ensures around { (file : FileGrammar) (t : List ℕ)
+        → AreTokensOf file t tokens.now.items → length t ≤ 2 ^ 30
+        → IsAround (significant file.skips (placed 0 (map plain tokens.now.items))) offset
         result.reached result.first }
     ensures near { result.reached ≤ result.first + 1 }
 {

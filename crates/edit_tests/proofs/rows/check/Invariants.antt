@@ -5,6 +5,6 @@ use Rattle.edit_tests.proofs.rows.check.Given as goal
 
 abbrev pub invariant-rows : goal.invariant-rows
 invariant-rows g l = record {
-  tokens : AreTokensOf l.language.grammar.patterns l.language.grammar.skips l.document.text l.document.tokens.items;
+  tokens : AreTokensOf l.language.scanner l.document.text l.document.tokens.items;
   parse : IsParseOf l.language.tables (significant_kinds l.document.tokens.items) l.document.store l.document.parse;
 }

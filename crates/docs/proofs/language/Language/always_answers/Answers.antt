@@ -14,14 +14,15 @@ use Rattle.docs.proofs.language.Language.always_answers.Goals as goal
 
 pub returns-clause-always : goal.returns-clause-always
 returns-clause-always c =
-    let file = c.self.inside.grammar in
-    let same = c.self.invariant.1 in
+    let file = c.self.inside.scanner in
+    let same = c.self.invariant in
+    let automaton = c.grammar-grammar.ensures.automaton in
     let accepted : IsAccepted file.grammar = subst (λ (g : Grammar). IsAccepted g) same c.start-start.ensures.accepted in
     let decided : AreMovesDecided file.grammar = subst (λ (g : Grammar). AreMovesDecided g) same c.moves_are_decided.ensures in
     let first = accepted.productive.start in
     let begins : IsViable file.grammar [] = (yield first.0, (first.0, record { root = first.1; kinds = refl })) in
     let always : LayersAnswer file = record {
-      tokens = λ t text. c.each_text_has_tokens.ensures file.patterns c.self.inside.automaton t c.self.invariant.0 text;
+      tokens = λ t text. c.each_text_has_tokens.ensures file.patterns automaton.0 t automaton.1 text;
       verdicts = λ kinds. c.each_list_has_a_verdict.ensures file.grammar accepted decided kinds;
       begins = begins;
       settled = λ x viable. c.settled_unique.ensures.exists file.grammar x viable;
@@ -33,8 +34,8 @@ returns-clause-always c =
 
 pub returns-clause-once : goal.returns-clause-once
 returns-clause-once c =
-    let file = c.self.inside.grammar in
-    let accepted : IsAccepted file.grammar = subst (λ (g : Grammar). IsAccepted g) c.self.invariant.1 c.start-start.ensures.accepted in
+    let file = c.self.inside.scanner in
+    let accepted : IsAccepted file.grammar = subst (λ (g : Grammar). IsAccepted g) c.self.invariant c.start-start.ensures.accepted in
     let once : AnswersOnce file = answers_once (record {
       tokens = c.tokens_unique.ensures;
       verdicts = c.verdict_unique.ensures;
