@@ -1,5 +1,5 @@
-//! The scanner of a grammar, and the tokens of a whole text.
-ghost use Rattle.std.specs.Prelude.{◌≡◌, ℕ, ◌+◌, ◌<◌, ◌≤◌, ◌++◌, ◌^◌, length, drop, IfOk, IfErr, OnOk};
+//! The scanner of a grammar, which finds one token, or the next ones.
+ghost use Rattle.std.specs.Prelude.{◌≡◌, ℕ, ◌+◌, ◌<◌, ◌≤◌, length, drop, IfOk, IfErr};
 ghost use Rattle.definitions.specs.Tokens.{IsToken, is_skipped};
 ghost use Rattle.dfa.specs.Positions.{HasMoreStatesThan};
 ghost use Rattle.dfa.specs.Table.{Table, IsAutomaton};
@@ -11,7 +11,6 @@ ghost use Rattle.lexer.specs.Scans.{AreNext};
 use crate::sums::{ShortKind, Token};
 use dfa::{Automaton, DfaFault, Source};
 use grammar::Grammar;
-use runs::Runs;
 use std::alloc::{AllocError, Global};
 use std::marker::Model;
 
@@ -96,7 +95,7 @@ impl Scanner {
     }
 
     /// The next tokens from an offset on, as many as a batch takes, and the offset after them.
-    fn scan_batch<S: Source>(
+    pub(crate) fn scan_batch<S: Source>(
         &self,
         alloc: Global,
         source: &S,
@@ -118,36 +117,4 @@ impl Scanner {
         }
         Ok((made, at))
     }
-
-    /// The tokens of a text.
-    pub(crate) fn scan_all<S: Source>(
-        &self,
-        alloc: Global,
-        source: &S,
-    ) -> Result<Runs<Token>, AllocError>
-        requires small { length (S.text source.now) ≤ 1048576 }
-        requires window { (i : ℕ) → i < length (S.text source.now) → S.in_window source.now i }
-        ensures { IfOk result
-            (λ list. AreNext self.now (S.text source.now) 0 list
-            (length (S.text source.now))) }
-    {
-        let mut list = Runs::new();
-        let mut at = 0;
-        while at < source.len() {
-            let (piece, end) = self.scan_batch(alloc, source, at)?;
-            append(alloc, &mut list, &piece)?;
-            at = end;
-        }
-        Ok(list)
-    }
-}
-
-/// Puts tokens after those of a list.
-fn append(alloc: Global, list: &mut Runs<Token>, tokens: &[Token]) -> Result<(), AllocError>
-    requires { length list.old + length tokens.now < 2 ^ 64 }
-    ensures { OnOk result (list.new ≡ list.old ++ tokens.now) }
-{
-    let end = list.len();
-    list.replace(alloc, end, end, tokens)?;
-    Ok(())
 }

@@ -1,5 +1,5 @@
 //! The list of the tokens of a text, and its change by an edit.
-ghost use Rattle.std.specs.Prelude.{◌≡◌, ℕ, ◌+◌, ◌-◌, ◌<◌, ◌≤◌, ◌^◌, true, false, List, ◌∷◌, length, take, drop, count_by, slice_get, slice_range, option_copied, IfOk, OnErr, MatchOption, All};
+ghost use Rattle.std.specs.Prelude.{◌≡◌, ℕ, ◌+◌, ◌-◌, ◌<◌, ◌≤◌, ◌^◌, true, false, List, ◌∷◌, ◌++◌, length, take, drop, count_by, slice_get, slice_range, option_copied, IfOk, OnErr, OnOk, MatchOption, All};
 ghost use Rattle.definitions.specs.declared.expression.Expression.{Expression};
 ghost use Rattle.definitions.specs.Tokens.{AreTokens};
 ghost use Rattle.definitions.specs.TokenEdits.{kept_before, is_rejoined, plain_splice, same_kind, same_kinds};
@@ -50,7 +50,13 @@ impl Tokens {
         ensures born { IfOk result (λ r. All (λ x. x.born ≡ 0) r.items) }
         ensures scanned { IfOk result (λ r. r.scanned ≡ length r.items) }
     {
-        let items = scanner.scan_all(alloc, source)?;
+        let mut items = Runs::new();
+        let mut at = 0;
+        while at < source.len() {
+            let (batch, end) = scanner.scan_batch(alloc, source, at)?;
+            append(alloc, &mut items, &batch)?;
+            at = end;
+        }
         let scanned = items.len();
         Ok(Tokens { items, scanned })
     }
@@ -172,6 +178,16 @@ impl Tokens {
     }
 }
 
+/// Puts tokens after those of a list.
+fn append(alloc: Global, list: &mut Runs<Token>, tokens: &[Token]) -> Result<(), AllocError>
+    requires { length list.old + length tokens.now < 2 ^ 64 }
+    ensures { OnOk result (list.new ≡ list.old ++ tokens.now) }
+{
+    let end = list.len();
+    list.replace(alloc, end, end, tokens)?;
+    Ok(())
+}
+
 /// How many tokens the edit keeps at the start, and the offset after them.
 fn kept_prefix(items: &Runs<Token>, edit: Edit) -> (usize, usize)
     requires { Fits items.now }
@@ -216,7 +232,9 @@ fn remake<S: Source>(
         (S.text source.now) }
     requires window { (i : ℕ) → IsNeeded scanner.now.patterns edit old.items (S.text source.now) i
         → S.in_window source.now i }
-    requires kept_before { old.place ≡ kept_before edit (plain_all old.items) }
+    requires kept_before { (rules : List Expression) (t : List ℕ)
+        → AreTokens rules t (plain_all old.items)
+        → old.place ≡ kept_before edit (plain_all old.items) }
     ensures { IfOk result (λ r. IsRemade scanner.now edit old.entry.items
         (S.text source.now) r.0.items r.1) }
 {

@@ -17,14 +17,15 @@ loop-at-init g c =
     let xs = c.args.old.items in
     let file = c.args.scanner.now in
     let u = g.S.Source.text c.args.source.now in
-    let start : c.start-at.result ≡ prefix_end c.args.edit xs = c.start-at.ensures.is ∙ ap (λ n. characters (take n xs)) c.requires.kept_before in
+    let kept = c.requires.kept_before file.patterns c.requires.edited.text c.requires.edited.tokens.tokens in
+    let start : c.start-at.result ≡ prefix_end c.args.edit xs = c.start-at.ensures.is ∙ ap (λ n. characters (take n xs)) kept in
     rw c.new-made.ensures.items (record {
       inside = omega (arith, start, prefix_inside file c.args.edit xs u c.requires.edited);
       sum = omega (arith, start);
       leads = tt;
       made = made_none _ _;
       items = refl;
-      passed = prefix_passed file c.args.edit xs u c.requires.edited c.args.old.place c.start-at.result c.requires.kept_before;
+      passed = prefix_passed file c.args.edit xs u c.requires.edited c.args.old.place c.start-at.result kept;
       earlier = λ k l. absurd (omega arith);
     })
 

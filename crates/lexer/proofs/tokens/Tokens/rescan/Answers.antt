@@ -15,16 +15,6 @@ listed : (xs items made : List Token) (n m to : ℕ) (new : List Token) → new 
 listed xs items made n m to new e f s =
     e ∙ ap (λ k. (take k xs ++ items) ++ drop to xs) f ∙ ap (λ ys. (take m xs ++ ys) ++ drop to xs) s ∙ append_assoc (take m xs) made (drop to xs)
 
-pub remake-requires-clause-kept_before : goal.remake-requires-clause-kept_before
-remake-requires-clause-kept_before g c =
-    let xs = c.self.inside.items in
-    let e = c.args.edit in
-    let file = c.args.scanner.now in
-    let u = g.S.Source.text c.args.source.now in
-    let h : IsEdited file e xs u = subst (λ d. IsEdited file e d.items u) (sym c.self.view_is) c.requires.edited in
-    let place : c.kept_prefix-kept_before.result.0 ≡ kept_before e (plain_all xs) = c.kept_prefix-kept_before.ensures.kept_before file.patterns h.text h.tokens.tokens in
-    subst (λ s. s.place ≡ kept_before e (plain_all s.items)) (sym c.new-old.ensures) place
-
 pub replace-requires-clause-ordered : goal.replace-requires-clause-ordered
 replace-requires-clause-ordered g c =
     let xs = c.self.inside.items in
