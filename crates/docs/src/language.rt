@@ -1,4 +1,4 @@
-//! The language of a grammar file: its grammar, the automaton of its token rules, and its tables.
+//! The language of a grammar file: its scanner and its tables.
 
 ghost use Rattle.std.specs.Prelude.{◌≡◌, ◌+◌, List, length, All, IfOk, IfErr};
 ghost use Rattle.definitions.specs.declared.Kind.{Kind};

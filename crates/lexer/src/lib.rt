@@ -7,8 +7,9 @@
 //!
 //! Words: a token's *stamp* is the number of the edit that made it; `scanned` counts the tokens made by the last edit.
 //!
-//! Limits: those of `text`. A rescan reads from the first token whose reach the edit meets to the first place where an
-//! old token begins again; the other tokens stay. In the example `scanner` is that of the grammar file in README.md.
+//! Limits: those of `text`, and of `dfa` for the grammar. A rescan reads from the first token whose reach the edit meets
+//! to the first place where an old token begins again; the other tokens stay. In the example `scanner` is that of the
+//! grammar file in README.md.
 //!
 //! ```
 //! let text = Text::open(alloc, "1 + 2").ok()?;
