@@ -151,7 +151,8 @@ impl Language {
         // The read opens the invariant of the text.
         let _length = text.len();
         let characters = text.characters(alloc)?;
-        Tokens::scan(alloc, &self.scanner, &Characters(&characters))
+        let (grammar, automaton) = (self.scanner.grammar(), self.scanner.automaton());
+        Tokens::scan(alloc, grammar, automaton, &Characters(&characters))
     }
 
     /// The parse of these tokens, with its nodes in the store. Refuses for memory alone.
@@ -185,7 +186,8 @@ impl Language {
     {
         // The read opens the invariant of the text.
         let _length = text.len();
-        tokens.rescan(alloc, &self.scanner, &Whole(text), edit)
+        let (grammar, automaton) = (self.scanner.grammar(), self.scanner.automaton());
+        tokens.rescan(alloc, grammar, automaton, &Whole(text), edit)
     }
 
     /// Brings the parse to the tokens after an edit of this number, whose kinds the splice has changed. Refuses for memory

@@ -76,7 +76,8 @@ pub fn open(rt: &impl Abort, alloc: Global, language: &Language, text: &str) -> 
 {
     let text = Text::open(alloc, text).expect(rt, "a text");
     let _length = text.len();
-    let tokens = Tokens::scan(alloc, &language.scanner, &Whole(&text)).expect(rt, "tokens");
+    let (grammar, automaton) = (language.scanner.grammar(), language.scanner.automaton());
+    let tokens = Tokens::scan(alloc, grammar, automaton, &Whole(&text)).expect(rt, "tokens");
     let mut store = Store::new(alloc);
     let kinds = Significant(&tokens);
     let parse = Parse::whole(alloc, &language.tables, &mut store, &kinds).expect(rt, "a parse");
@@ -139,8 +140,9 @@ pub fn rescan(
     text.replace(alloc, change.at, change.at + change.removed, change.piece)
         .expect(rt, "an edit");
     let _after = text.len();
+    let (grammar, automaton) = (language.scanner.grammar(), language.scanner.automaton());
     tokens
-        .rescan(alloc, &language.scanner, &Whole(text), edit)
+        .rescan(alloc, grammar, automaton, &Whole(text), edit)
         .expect(rt, "a rescan")
 }
 

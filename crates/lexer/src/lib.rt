@@ -1,7 +1,7 @@
 //! The tokens of a text by longest matches, and what an edit changes of them.
 //!
-//! `Scanner::new` makes the scanner of a grammar. `Tokens::scan` scans a text by it; after an edit `rescan` changes the
-//! tokens to those of the new text, and returns the splice of the kinds. The source is `Whole(&text)`, or
+//! `Scanner::new` joins a grammar with the automaton of its token rules. `Tokens::scan` scans a text by them; after an
+//! edit `rescan` changes the tokens to those of the new text, and returns the splice of the kinds. The source is `Whole(&text)`, or
 //! `Characters`, which has all characters in a vector and is faster for a whole scan. `token`, `start_of` and `count`
 //! are about all tokens, by their places; `kind`, `place` and `significant` about those that aren't skipped.
 //!
@@ -14,7 +14,8 @@
 //! ```
 //! let text = Text::open(alloc, "1 + 2").ok()?;
 //! let end = text.len();
-//! let tokens = Tokens::scan(alloc, scanner, &Whole(&text)).ok()?;
+//! let (grammar, automaton) = (scanner.grammar(), scanner.automaton());
+//! let tokens = Tokens::scan(alloc, grammar, automaton, &Whole(&text)).ok()?;
 //! let (all, read) = (tokens.count(), tokens.significant());
 //! println!(rt; "{end} characters, {all} tokens, {read} significant").ok()
 //! // 5 characters, 5 tokens, 3 significant

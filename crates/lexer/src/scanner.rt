@@ -1,4 +1,4 @@
-//! The scanner of a grammar, which finds one token, or the next ones.
+//! What a scan goes by: a grammar, with the automaton of its token rules.
 ghost use Rattle.std.specs.Prelude.{◌≡◌, ℕ, ◌+◌, ◌<◌, ◌≤◌, length, drop, IfOk, IfErr};
 ghost use Rattle.definitions.specs.Tokens.{IsToken, is_skipped};
 ghost use Rattle.dfa.specs.Positions.{HasMoreStatesThan};
@@ -18,6 +18,8 @@ use std::marker::Model;
 const BATCH_LEN: usize = 1024;
 
 /// A grammar, with the automaton of its token rules. A contract sees the grammar.
+///
+/// Its two parts are what the calls of [`Tokens`](crate::Tokens) are handed.
 #[derive(Drop)]
 pub struct Scanner {
     grammar: Grammar,
@@ -25,7 +27,6 @@ pub struct Scanner {
 }
 
 impl Model for Scanner {
-    ghost use Rattle.std.specs.Prelude.{◌≤◌, length};
     ghost use Rattle.std.specs.Coded.{codes};
     ghost use Rattle.definitions.specs.contracts.expression.Expression as e;
     ghost use Rattle.dfa.specs.Table.{IsAutomaton};
@@ -37,7 +38,7 @@ impl Model for Scanner {
 
     ghost view = { λ s. s.grammar };
 
-    ghost invariant = { λ s. IsAutomaton s.grammar.patterns s.automaton × (length s.grammar.patterns ≤ 256) };
+    ghost invariant = { λ s. IsAutomaton s.grammar.patterns s.automaton };
 }
 
 impl Scanner {
@@ -63,15 +64,57 @@ impl Scanner {
         &self.grammar
     }
 
+    /// The automaton of its token rules.
+    pub fn automaton(&self) -> &Automaton
+        ensures { IsAutomaton self.now.patterns result.now }
+    {
+        &self.automaton
+    }
+
     /// The grammar, without the automaton.
     pub fn into_grammar(self) -> Grammar
         ensures { result ≡ self }
     {
         self.grammar
     }
+}
+
+/// A grammar, with the automaton of its token rules, while tokens are found by them. A contract sees the grammar.
+#[derive(Drop)]
+pub(crate) struct Scan<'a> {
+    grammar: &'a Grammar,
+    automaton: &'a Automaton,
+}
+
+impl<'a> Model for Scan<'a> {
+    ghost use Rattle.std.specs.Prelude.{◌≤◌, length};
+    ghost use Rattle.std.specs.Coded.{codes};
+    ghost use Rattle.definitions.specs.contracts.expression.Expression as e;
+    ghost use Rattle.dfa.specs.Table.{IsAutomaton};
+    ghost use Rattle.grammar.specs.Grammars.{FileGrammar};
+
+    ghost Value = { FileGrammar };
+
+    ghost coded = { Prim.hlevel (codes, e.the_row.coded) };
+
+    ghost view = { λ s. s.grammar.now };
+
+    ghost invariant = { λ s. IsAutomaton s.grammar.now.patterns s.automaton.now × (length s.grammar.now.patterns ≤ 256) };
+}
+
+impl<'a> Scan<'a> {
+    /// A scan by this grammar, of whose token rules this is the automaton.
+    pub fn new(grammar: &'a Grammar, automaton: &'a Automaton) -> Scan<'a>
+        requires { IsAutomaton grammar.now.patterns automaton.now }
+        ensures { result ≡ grammar.now }
+    {
+        // The read says that there are few rules.
+        let _patterns = grammar.patterns();
+        Scan { grammar, automaton }
+    }
 
     /// The token that starts at this offset.
-    pub(crate) fn token_at<S: Source>(&self, source: &S, at: usize, born: u64) -> Token
+    pub fn token_at<S: Source>(&self, source: &S, at: usize, born: u64) -> Token
         requires small { length (S.text source.now) ≤ 1048576 }
         requires within { at < length (S.text source.now) }
         requires window { (i : ℕ) → IsWithinReach self.now.patterns (S.text source.now) at i
@@ -95,7 +138,7 @@ impl Scanner {
     }
 
     /// The next tokens from an offset on, as many as a batch takes, and the offset after them.
-    pub(crate) fn scan_batch<S: Source>(
+    pub fn scan_batch<S: Source>(
         &self,
         alloc: Global,
         source: &S,

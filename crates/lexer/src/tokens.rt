@@ -2,17 +2,19 @@
 ghost use Rattle.std.specs.Prelude.{◌≡◌, ℕ, ◌+◌, ◌-◌, ◌<◌, ◌≤◌, ◌^◌, true, false, List, ◌∷◌, ◌++◌, length, take, drop, count_by, slice_get, slice_range, option_copied, IfOk, OnErr, OnOk, MatchOption, All};
 ghost use Rattle.definitions.specs.declared.expression.Expression.{Expression};
 ghost use Rattle.definitions.specs.Tokens.{AreTokens};
+ghost use Rattle.dfa.specs.Table.{IsAutomaton};
 ghost use Rattle.definitions.specs.TokenEdits.{kept_before, is_rejoined, plain_splice, same_kind, same_kinds};
 ghost use Rattle.lexer.specs.Walks.{IsPassed, horizon};
 ghost use Rattle.lexer.specs.Tokens.{is_significant, characters, Fits, AreTokensOf};
 ghost use Rattle.lexer.specs.Rescans.{plain_all, significant_kinds, IsEdited, IsNeeded, IsRemade, AreTokensAfter, change};
 
 use crate::ahead::KindsAhead;
-use crate::scanner::Scanner;
+use crate::scanner::Scan;
 use crate::sums::{AfterSignificant, ReachesPast, Token};
 use crate::walk::Walk;
 use definitions::{Edit, Kind, KindSplice};
-use dfa::Source;
+use dfa::{Automaton, Source};
+use grammar::Grammar;
 use runs::Runs;
 use std::alloc::{AllocError, Global};
 use std::marker::Model;
@@ -40,20 +42,23 @@ impl Tokens {
     /// All tokens of a text, made by edit 0.
     pub fn scan<S: Source>(
         alloc: Global,
-        scanner: &Scanner,
+        grammar: &Grammar,
+        automaton: &Automaton,
         source: &S,
     ) -> Result<Tokens, AllocError>
+        requires sound { IsAutomaton grammar.now.patterns automaton.now }
         requires small { length (S.text source.now) ≤ 1048576 }
         requires window { (i : ℕ) → i < length (S.text source.now) → S.in_window source.now i }
         ensures tokens { IfOk result
-            (λ r. AreTokensOf scanner.now (S.text source.now) r.items) }
+            (λ r. AreTokensOf grammar.now (S.text source.now) r.items) }
         ensures born { IfOk result (λ r. All (λ x. x.born ≡ 0) r.items) }
         ensures scanned { IfOk result (λ r. r.scanned ≡ length r.items) }
     {
+        let scan = Scan::new(grammar, automaton);
         let mut items = Runs::new();
         let mut at = 0;
         while at < source.len() {
-            let (batch, end) = scanner.scan_batch(alloc, source, at)?;
+            let (batch, end) = scan.scan_batch(alloc, source, at)?;
             append(alloc, &mut items, &batch)?;
             at = end;
         }
@@ -153,23 +158,25 @@ impl Tokens {
     pub fn rescan<S: Source>(
         &mut self,
         alloc: Global,
-        scanner: &Scanner,
+        grammar: &Grammar,
+        automaton: &Automaton,
         source: &S,
         edit: Edit,
     ) -> Result<KindSplice, AllocError>
+        requires sound { IsAutomaton grammar.now.patterns automaton.now }
         requires small { length (S.text source.now) ≤ 1048576 }
-        requires edited { IsEdited scanner.now edit self.old.items
-            (S.text source.now) }
+        requires edited { IsEdited grammar.now edit self.old.items (S.text source.now) }
         requires window { (i : ℕ)
-            → IsNeeded scanner.now.patterns edit self.old.items (S.text source.now) i
+            → IsNeeded grammar.now.patterns edit self.old.items (S.text source.now) i
             → S.in_window source.now i }
-        ensures after { IfOk result (λ s. AreTokensAfter scanner.now edit (S.text source.now)
+        ensures after { IfOk result (λ s. AreTokensAfter grammar.now edit (S.text source.now)
             (plain_splice s) self.old self.new) }
         ensures err { OnErr result (self.new ≡ self.old) }
     {
         let (kept_before, end) = kept_prefix(&self.items, edit);
         let old = Walk::new(&self.items, kept_before, end);
-        let (made, to) = remake(alloc, scanner, source, edit, old)?;
+        let scan = Scan::new(grammar, automaton);
+        let (made, to) = remake(alloc, &scan, source, edit, old)?;
         let kinds = kinds_of(alloc, &made)?;
         let splice = splice_of(&self.items, kept_before, to, kinds);
         self.items.replace(alloc, kept_before, to, &made)?;
@@ -222,20 +229,19 @@ fn rejoin_place(old: &mut Walk<'_>, edit: Edit, at: usize) -> Option<usize>
 /// The tokens from where the old ones are no longer kept to the place of rejoining, and the place of the first old token after it.
 fn remake<S: Source>(
     alloc: Global,
-    scanner: &Scanner,
+    scan: &Scan<'_>,
     source: &S,
     edit: Edit,
     mut old: Walk<'_>,
 ) -> Result<(Vec<Token>, usize), AllocError>
     requires small { length (S.text source.now) ≤ 1048576 }
-    requires edited { IsEdited scanner.now edit old.items
-        (S.text source.now) }
-    requires window { (i : ℕ) → IsNeeded scanner.now.patterns edit old.items (S.text source.now) i
+    requires edited { IsEdited scan.now edit old.items (S.text source.now) }
+    requires window { (i : ℕ) → IsNeeded scan.now.patterns edit old.items (S.text source.now) i
         → S.in_window source.now i }
     requires kept_before { (rules : List Expression) (t : List ℕ)
         → AreTokens rules t (plain_all old.items)
         → old.place ≡ kept_before edit (plain_all old.items) }
-    ensures { IfOk result (λ r. IsRemade scanner.now edit old.entry.items
+    ensures { IfOk result (λ r. IsRemade scan.now edit old.entry.items
         (S.text source.now) r.0.items r.1) }
 {
     let mut made = Vec::new(alloc);
@@ -244,7 +250,7 @@ fn remake<S: Source>(
         if let Some(to) = rejoin_place(&mut old, edit, at) {
             return Ok((made, to));
         }
-        let token = scanner.token_at(source, at, edit.number);
+        let token = scan.token_at(source, at, edit.number);
         made.push(token)?;
         at += token.length as usize;
     }

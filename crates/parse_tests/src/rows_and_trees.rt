@@ -16,8 +16,8 @@ fn rows(rt: &impl Abort, alloc: Global, file: &str, text: &str) -> String {
     let text = Text::open(alloc, text).expect(rt, "a text");
     let count = text.len();
     prove!(count <= LONGEST_TEXT);
-    let tokens = Tokens::scan(alloc, &scanner, &Whole(&text)).expect(rt, "tokens");
-    let grammar = scanner.grammar();
+    let (grammar, automaton) = (scanner.grammar(), scanner.automaton());
+    let tokens = Tokens::scan(alloc, grammar, automaton, &Whole(&text)).expect(rt, "tokens");
     let rows = token_rows(alloc, grammar, Unit::Utf16, &text, &tokens).expect(rt, "rows");
     let mut lines = String::new(alloc);
     for row in &rows {

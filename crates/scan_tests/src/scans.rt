@@ -29,7 +29,8 @@ fn scan(rt: &impl Abort, alloc: Global, scanner: &Scanner, text: &Text) -> Token
     ensures { AreTokensOf scanner.now text.now result.items }
 {
     let _length = text.len();
-    Tokens::scan(alloc, scanner, &Whole(text)).expect(rt, "tokens")
+    let (grammar, automaton) = (scanner.grammar(), scanner.automaton());
+    Tokens::scan(alloc, grammar, automaton, &Whole(text)).expect(rt, "tokens")
 }
 
 /// A text whose reads are counted.
@@ -118,8 +119,9 @@ fn change(
         whole: Whole(text),
         reads: Cell::new(0),
     };
+    let (grammar, automaton) = (scanner.grammar(), scanner.automaton());
     let splice = tokens
-        .rescan(alloc, scanner, &source, edit)
+        .rescan(alloc, grammar, automaton, &source, edit)
         .expect(rt, "a rescan");
     let reads = source.reads.get();
     Rescan { splice, reads }

@@ -76,7 +76,8 @@ fn with_tokens(rt: &HostRuntime, alloc: Global, scanner: &Scanner) -> Option<()>
     let text = Text::open(alloc, "12").ok()?;
     // The scan requires that the text is short, as each `Text` is.
     let _length = text.len();
-    let tokens = Tokens::scan(alloc, scanner, &Whole(&text)).ok()?;
+    let (grammar, automaton) = (scanner.grammar(), scanner.automaton());
+    let tokens = Tokens::scan(alloc, grammar, automaton, &Whole(&text)).ok()?;
     answers::use_views(rt, alloc, scanner.grammar(), &text, &tokens)
 }
 

@@ -32,7 +32,8 @@ pub fn use_text(rt: &HostRuntime, alloc: Global) -> Option<()> {
 pub fn use_lexer(rt: &HostRuntime, alloc: Global, scanner: &Scanner) -> Option<()> {
     let text = Text::open(alloc, "1 + 2").ok()?;
     let end = text.len();
-    let tokens = Tokens::scan(alloc, scanner, &Whole(&text)).ok()?;
+    let (grammar, automaton) = (scanner.grammar(), scanner.automaton());
+    let tokens = Tokens::scan(alloc, grammar, automaton, &Whole(&text)).ok()?;
     let (all, read) = (tokens.count(), tokens.significant());
     println!(rt; "{end} characters, {all} tokens, {read} significant").ok()
     // 5 characters, 5 tokens, 3 significant

@@ -10,12 +10,12 @@ use Rattle.lexer.proofs.Walks.{passed_later}
 use Rattle.lexer.proofs.tokens.remake.Goals as goal
 
 pub rejoin_place-requires-clause-removed : goal.rejoin_place-requires-clause-removed
-rejoin_place-requires-clause-removed g c = removed_fits c.args.scanner.now c.args.edit c.args.old.items (g.S.Source.text c.args.source.now) c.requires.edited c.start-at.ensures.fits
+rejoin_place-requires-clause-removed g c = removed_fits c.args.scan.now c.args.edit c.args.old.items (g.S.Source.text c.args.source.now) c.requires.edited c.start-at.ensures.fits
 
 pub loop-at-init : goal.loop-at-init
 loop-at-init g c =
     let xs = c.args.old.items in
-    let file = c.args.scanner.now in
+    let file = c.args.scan.now in
     let u = g.S.Source.text c.args.source.now in
     let kept = c.requires.kept_before file.patterns c.requires.edited.text c.requires.edited.tokens.tokens in
     let start : c.start-at.result ≡ prefix_end c.args.edit xs = c.start-at.ensures.is ∙ ap (λ n. characters (take n xs)) kept in
@@ -36,9 +36,9 @@ token_at-token-requires-clause-window g c = λ i w.
     let old = c.loop-at.invariant in
     let here : is_rejoined c.args.edit (plain_all xs) c.loop-at.at ≡ false = subst (λ ys. is_rejoined c.args.edit (plain_all ys) c.loop-at.at ≡ false) old.items (c.in_default.ensures.is old.passed) in
     c.requires.window i
-    (needed c.args.scanner.now c.args.edit xs u c.requires.edited c.loop-at.made.items old.leads old.earlier
+    (needed c.args.scan.now c.args.edit xs u c.requires.edited c.loop-at.made.items old.leads old.earlier
     (subst (λ n. is_rejoined c.args.edit (plain_all xs) n ≡ false) old.sum here)
-    i (omega (arith, old.sum, c.loop-at-test.true, c.len.ensures)) (subst (λ n. IsWithinReach c.args.scanner.now.patterns u n i) old.sum w))
+    i (omega (arith, old.sum, c.loop-at-test.true, c.len.ensures)) (subst (λ n. IsWithinReach c.args.scan.now.patterns u n i) old.sum w))
 
 pub loop-at-preserved : goal.loop-at-preserved
 loop-at-preserved g c =
@@ -51,7 +51,7 @@ loop-at-preserved g c =
     rw c.in_ok-push.ensures.items (record {
       inside = c.token_at-token.ensures.inside;
       sum = omega (arith, old.sum, characters-more c.loop-at.made.items x);
-      leads = lead_one c.args.scanner.now.patterns u (prefix_end e xs) c.loop-at.at c.loop-at.made.items x old.sum old.leads c.token_at-token.ensures.token;
+      leads = lead_one c.args.scan.now.patterns u (prefix_end e xs) c.loop-at.at c.loop-at.made.items x old.sum old.leads c.token_at-token.ensures.token;
       made = made_more _ _ _ _ old.made c.token_at-token.ensures.marked c.token_at-token.ensures.born c.token_at-token.ensures.nonempty c.token_at-token.ensures.near;
       items = c.rejoin_place.ensures.items ∙ old.items;
       passed = passed_later c.rejoin_place.new.old (horizon e c.loop-at.at) (horizon e (c.loop-at.at + x.length)) (omega arith) (c.rejoin_place.ensures.passed old.passed);
@@ -69,7 +69,7 @@ returns g c =
       leads = old.leads;
       anew = old.made;
       earlier = old.earlier;
-      rejoins = subst (λ n. is_rejoined c.args.edit (plain_all xs) n ≡ true) all (end_rejoins c.args.scanner.now c.args.edit xs u c.requires.edited);
+      rejoins = subst (λ n. is_rejoined c.args.edit (plain_all xs) n ≡ true) all (end_rejoins c.args.scan.now c.args.edit xs u c.requires.edited);
       within = omega (arith, end);
-      moved = rw end (end_moved c.args.scanner.now c.args.edit xs u c.requires.edited ∙ ap (λ n. n + c.args.edit.removed) all);
+      moved = rw end (end_moved c.args.scan.now c.args.edit xs u c.requires.edited ∙ ap (λ n. n + c.args.edit.removed) all);
     }

@@ -14,8 +14,8 @@ invariant-loop-at g l =
     record {
       inside : l.at ≤ length (g.S.Source.text l.source);
       sum : l.at ≡ from + characters l.made.items;
-      leads : Leads l.scanner.patterns (drop from (g.S.Source.text l.source)) (plain_all l.made.items);
-      made : AreMade l.scanner.skips l.edit.number l.made.items;
+      leads : Leads l.scan.patterns (drop from (g.S.Source.text l.source)) (plain_all l.made.items);
+      made : AreMade l.scan.skips l.edit.number l.made.items;
       items : l.old.items ≡ xs;
       passed : IsPassed (horizon l.edit l.at) l.old;
       earlier : (k : ℕ) → k < length l.made.items → is_rejoined l.edit (plain_all xs) (from + characters (take k l.made.items)) ≡ false;

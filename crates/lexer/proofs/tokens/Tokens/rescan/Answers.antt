@@ -19,26 +19,26 @@ pub replace-requires-clause-ordered : goal.replace-requires-clause-ordered
 replace-requires-clause-ordered g c =
     let xs = c.self.inside.items in
     let e = c.args.edit in
-    let file = c.args.scanner.now in
+    let file = c.args.grammar.now in
     let u = g.S.Source.text c.args.source.now in
     let h : IsEdited file e xs u = subst (λ d. IsEdited file e d.items u) (sym c.self.view_is) c.requires.edited in
     let place : c.kept_prefix-kept_before.result.0 ≡ kept_before e (plain_all xs) = c.kept_prefix-kept_before.ensures.kept_before file.patterns h.text h.tokens.tokens in
     let made = c.in_ok-made.made.items in
     let to = c.in_ok-made.to in
-    let r : IsRemade file e xs u made to = subst (λ s. IsRemade file e s.items u made to) c.new-old.ensures c.in_ok-made.ensures in
+    let r : IsRemade file e xs u made to = subst (λ f. IsRemade f e xs u made to) c.new-scan.ensures (subst (λ s. IsRemade c.new-scan.result e s.items u made to) c.new-old.ensures c.in_ok-made.ensures) in
     omega (arith, place, prefix_to file e xs u h made to r c.self.invariant)
 
 pub replace-requires-clause-fits : goal.replace-requires-clause-fits
 replace-requires-clause-fits g c =
     let xs = c.self.inside.items in
     let e = c.args.edit in
-    let file = c.args.scanner.now in
+    let file = c.args.grammar.now in
     let u = g.S.Source.text c.args.source.now in
     let h : IsEdited file e xs u = subst (λ d. IsEdited file e d.items u) (sym c.self.view_is) c.requires.edited in
     let place : c.kept_prefix-kept_before.result.0 ≡ kept_before e (plain_all xs) = c.kept_prefix-kept_before.ensures.kept_before file.patterns h.text h.tokens.tokens in
     let made = c.in_ok-made.made.items in
     let to = c.in_ok-made.to in
-    let r : IsRemade file e xs u made to = subst (λ s. IsRemade file e s.items u made to) c.new-old.ensures c.in_ok-made.ensures in
+    let r : IsRemade file e xs u made to = subst (λ f. IsRemade f e xs u made to) c.new-scan.ensures (subst (λ s. IsRemade c.new-scan.result e s.items u made to) c.new-old.ensures c.in_ok-made.ensures) in
     let new = take (kept_before e (plain_all xs)) xs ++ (made ++ drop to xs) in
     let n : length new ≤ 2 ^ 30 = few new (remade_fits file e xs u h made to r c.self.invariant c.requires.small) in
     omega (arith, n, place, prefix_to file e xs u h made to r c.self.invariant, r.within, ap length c.deref-2.ensures.value, length-append (take (kept_before e (plain_all xs)) xs) (made ++ drop to xs), length-append made (drop to xs), length-take (kept_before e (plain_all xs)) xs, length-drop to xs)
@@ -51,13 +51,13 @@ pub invariant_of-self-2 : goal.invariant_of-self-2
 invariant_of-self-2 g c =
     let xs = c.self.inside.items in
     let e = c.args.edit in
-    let file = c.args.scanner.now in
+    let file = c.args.grammar.now in
     let u = g.S.Source.text c.args.source.now in
     let h : IsEdited file e xs u = subst (λ d. IsEdited file e d.items u) (sym c.self.view_is) c.requires.edited in
     let place : c.kept_prefix-kept_before.result.0 ≡ kept_before e (plain_all xs) = c.kept_prefix-kept_before.ensures.kept_before file.patterns h.text h.tokens.tokens in
     let made = c.in_ok-made.made.items in
     let to = c.in_ok-made.to in
-    let r : IsRemade file e xs u made to = subst (λ s. IsRemade file e s.items u made to) c.new-old.ensures c.in_ok-made.ensures in
+    let r : IsRemade file e xs u made to = subst (λ f. IsRemade f e xs u made to) c.new-scan.ensures (subst (λ s. IsRemade c.new-scan.result e s.items u made to) c.new-old.ensures c.in_ok-made.ensures) in
     let new = take (kept_before e (plain_all xs)) xs ++ (made ++ drop to xs) in
     let list : c.replace.new.self ≡ new = listed xs c.deref-2.result.now made c.kept_prefix-kept_before.result.0 (kept_before e (plain_all xs)) to c.replace.new.self c.in_ok-replace.ensures.list place c.deref-2.ensures.value in
     subst Fits (sym list) (remade_fits file e xs u h made to r c.self.invariant c.requires.small)
@@ -66,13 +66,13 @@ pub returns : goal.returns
 returns g c =
     let xs = c.self.inside.items in
     let e = c.args.edit in
-    let file = c.args.scanner.now in
+    let file = c.args.grammar.now in
     let u = g.S.Source.text c.args.source.now in
     let h : IsEdited file e xs u = subst (λ d. IsEdited file e d.items u) (sym c.self.view_is) c.requires.edited in
     let place : c.kept_prefix-kept_before.result.0 ≡ kept_before e (plain_all xs) = c.kept_prefix-kept_before.ensures.kept_before file.patterns h.text h.tokens.tokens in
     let made = c.in_ok-made.made.items in
     let to = c.in_ok-made.to in
-    let r : IsRemade file e xs u made to = subst (λ s. IsRemade file e s.items u made to) c.new-old.ensures c.in_ok-made.ensures in
+    let r : IsRemade file e xs u made to = subst (λ f. IsRemade f e xs u made to) c.new-scan.ensures (subst (λ s. IsRemade c.new-scan.result e s.items u made to) c.new-old.ensures c.in_ok-made.ensures) in
     let new = take (kept_before e (plain_all xs)) xs ++ (made ++ drop to xs) in
     let list : c.replace.new.self ≡ new = listed xs c.deref-2.result.now made c.kept_prefix-kept_before.result.0 (kept_before e (plain_all xs)) to c.replace.new.self c.in_ok-replace.ensures.list place c.deref-2.ensures.value in
     let kinds = c.in_ok-kinds.ensures ∙ ap significant_kinds c.deref.ensures.value in
