@@ -1,5 +1,5 @@
 -- All numbers of the items of a set are in range.
-use Rattle.std.proofs.Common.{◌≡◌, ◌+◌, ◌<◌, ℕ, Bool, true, List, [], ◌∷◌, Option, Some, None, refl, sym, subst, length, All, Contains, ⊎_elim, arith}
+use Rattle.std.proofs.Common.{◌≡◌, ◌+◌, ◌<◌, ℕ, Bool, true, List, [], ◌∷◌, Option, Some, None, refl, sym, inl, subst, length, All, Contains, ⊎_elim, arith}
 use Rattle.std.specs.Prelude.{IfSome}
 use Rattle.std.proofs.lemmas.List.Elements.{All-cons, All-head, All-tail, All-drop}
 use Rattle.definitions.specs.declared.Symbol.{Symbol}
@@ -61,7 +61,7 @@ module _ (g : Shape) (sound : IsSound g) where
       pub all_marked : AreMarked g rows (IsCalledFor g.grammar kernel)
       all_marked n k l x = calls_marked x.1 n k l x.2
 
-    module _ (rows : List (List Bool)) (called : AreCalledFor g kernel rows) (all : List Item) (h : HaveBeginnings g kernel rows all) where
+    module _ (rows : List (List Bool)) (called : AreCalledFor g kernel rows) (all : List Item) (h : HaveBeginnings g kernel rows (length g.grammar.productions) 0 all) where
       -- each item is in the closure
       pub only_in : (i : Item) → Contains all i → IsIn g.grammar kernel i
       only_in i c = ⊎_elim (λ k. Kernel k) (λ b. subst (IsIn g.grammar kernel) b.2.2 (begins_in g.grammar kernel rows called.sound (left_of g.grammar b.0) b.2.0 b.2.1 b.0 b.1 refl)) (h.only i c)
@@ -72,4 +72,4 @@ module _ (g : Shape) (sound : IsSound g) where
       has_all (Closed {i = i} n rest p a x e l s m) =
           let k = called_at n rest a x e m in
           let on : marked rows n k.0 ≡ true = called.complete n k.0 k.1 (i, x, k.3) in
-          subst (λ y. Contains all (record { production = Some p; dot = 0; look = y })) k.2 (h.added p k.0 l k.1 (subst (λ y. marked rows y k.0 ≡ true) (sym s) on))
+          subst (λ y. Contains all (record { production = Some p; dot = 0; look = y })) k.2 (h.added p k.0 (inl l) k.1 (subst (λ y. marked rows y k.0 ≡ true) (sym s) on))

@@ -8,3 +8,4 @@ pub mod VectorSets
 pub mod AddedKernels
 pub mod GotosGrow
 pub mod KernelsAfter
+pub mod Beginnings

@@ -1,6 +1,6 @@
 -- The order of items, which the closure and a step of the dots keep.
-use Rattle.std.proofs.Common.{◌≡◌, ◌<◌, ◌+◌, ℕ, zero, suc, List, [], ◌∷◌, ◌++◌, All, Contains, length, slice_index_or, refl, sym, ap, ◌∙◌, subst, inl, inr, ⊎_elim, arith}
-use Rattle.std.proofs.lemmas.List.Elements.{All-push, Contains-get_or}
+use Rattle.std.proofs.Common.{◌≡◌, ◌<◌, ◌+◌, ℕ, zero, suc, List, [], ◌∷◌, ◌++◌, Contains, length, slice_index_or, refl, sym, ap, ◌∙◌, subst, inl, inr, ⊎_elim, arith}
+use Rattle.std.proofs.lemmas.List.Elements.{Contains-get_or}
 use Rattle.std.proofs.lemmas.List.Quantifiers.{all_pairs_push}
 use Rattle.definitions.proofs.Ordered.{Contains-cases}
 use Rattle.item_sets.specs.declared.item.Item.{Item}
@@ -10,7 +10,7 @@ use Rattle.first_sets.specs.Lookaheads.{rank}
 use Rattle.item_sets.specs.Order.{Below, IsRising, IsBefore}
 use Rattle.first_sets.proofs.Columns.{rank-lookahead_at}
 
-before_below : (p k : ℕ) (i : Item) → IsBefore p k i → Below i (beginning_of p k)
+pub before_below : (p k : ℕ) (i : Item) → IsBefore p k i → Below i (beginning_of p k)
 before_below p k i (inl (inl e)) = at_start (i.dot) refl
   where
     at_start : (n : ℕ) → i.dot ≡ n → Below i (beginning_of p k)
@@ -20,29 +20,15 @@ before_below p k i (inl (inr l)) = inl l
 before_below p k i (inr (e, inl l)) = inr (e, inl l)
 before_below p k i (inr (e, inr (f, l))) = inr (e, inr (f, let r = rank-lookahead_at k in omega (arith, l, r)))
 
-before_more : (p k : ℕ) (i : Item) → IsBefore p k i → IsBefore p (k + 1) i
+pub before_more : (p k : ℕ) (i : Item) → IsBefore p k i → IsBefore p (k + 1) i
 before_more p k i (inl h) = inl h
 before_more p k i (inr (e, inl l)) = inr (e, inl l)
 before_more p k i (inr (e, inr (f, l))) = inr (e, inr (f, omega (arith, l)))
 
-before_next : (p k : ℕ) (i : Item) → IsBefore p k i → IsBefore (p + 1) 0 i
+pub before_next : (p k : ℕ) (i : Item) → IsBefore p k i → IsBefore (p + 1) 0 i
 before_next p k i (inl h) = inl h
 before_next p k i (inr (e, inl l)) = inr (e, inl (omega (arith, l)))
 before_next p k i (inr (e, inr (f, l))) = inr (e, inl (omega (arith, f)))
-
-module _ (p k : ℕ) (items : List Item) (rising : IsRising items) (before : All (IsBefore p k) items) where
-  -- a beginning goes after the items so far
-  pub rising_more : IsRising (items ++ beginning_of p k ∷ [])
-  rising_more = all_pairs_push Below items (beginning_of p k) rising (λ j d l. before_below p k (slice_index_or items j d) (before j d l))
-
-  pub all_before_more : All (IsBefore p (k + 1)) (items ++ beginning_of p k ∷ [])
-  all_before_more = All-push (IsBefore p (k + 1)) items (beginning_of p k) (λ j d l. before_more p k (slice_index_or items j d) (before j d l)) (inr (refl, inr (refl, let r = rank-lookahead_at k in omega (arith, r))))
-
-pub all_before_same : (p k : ℕ) (items : List Item) → All (IsBefore p k) items → All (IsBefore p (k + 1)) items
-all_before_same p k items h j d l = before_more p k (slice_index_or items j d) (h j d l)
-
-pub all_before_next : (p k : ℕ) (items : List Item) → All (IsBefore p k) items → All (IsBefore (p + 1) 0) items
-all_before_next p k items h j d l = before_next p k (slice_index_or items j d) (h j d l)
 
 below_step : (i j : Item) → Below i j → Below (step i) (step j)
 below_step i j (inl l) = inl (omega (arith, l))

@@ -8,7 +8,7 @@ use Rattle.item_sets.specs.declared.item.Item.{Item}
 use Rattle.item_sets.specs.declared.worklist.Entry.{Entry}
 use Rattle.first_sets.specs.First.{unmarked}
 use Rattle.first_sets.specs.Lookaheads.{lookahead_at}
-use Rattle.item_sets.specs.Order.{IsRising}
+use Rattle.item_sets.specs.Order.{IsRising, IsBefore}
 use Rattle.first_sets.specs.Productions.{Shape}
 use Rattle.item_sets.specs.Sets.{after_dot, IsIn}
 use Rattle.theory.specs.First.{MayFollow}
@@ -71,11 +71,12 @@ beginning_of p k = record { production = Some p; dot = 0; look = lookahead_at k 
 abbrev pub IsBeginning : List (List Bool) → ℕ → ℕ → Item → Type 0
 IsBeginning rows n p i = (k : ℕ) × (marked rows n k ≡ true) × (beginning_of p k ≡ i)
 
--- these items, in order, are the kernel's, and the beginnings with the lookaheads that are marked
-pub record HaveBeginnings (g : Shape) (kernel : List Item) (rows : List (List Bool)) (items : List Item) : Type 0 where
+-- these items, in order, are the kernel's, and of the beginnings before production p's with column k those that are marked
+pub record HaveBeginnings (g : Shape) (kernel : List Item) (rows : List (List Bool)) (p k : ℕ) (items : List Item) : Type 0 where
   pub rising : IsRising items
+  pub before : All (IsBefore p k) items
   pub kept : (i : Item) → Contains kernel i → Contains items i
-  pub added : (p k : ℕ) → p < length g.grammar.productions → k < g.grammar.rules + 1 → marked rows (left_of g.grammar p) k ≡ true
-      → Contains items (beginning_of p k)
+  pub added : (q j : ℕ) → (q < p) ⊎ ((q ≡ p) × (j < k)) → j < g.grammar.rules + 1 → marked rows (left_of g.grammar q) j ≡ true
+      → Contains items (beginning_of q j)
   pub only : (i : Item) → Contains items i
-      → Contains kernel i ⊎ ((p : ℕ) × (p < length g.grammar.productions) × IsBeginning rows (left_of g.grammar p) p i)
+      → Contains kernel i ⊎ ((q : ℕ) × (q < length g.grammar.productions) × IsBeginning rows (left_of g.grammar q) q i)

@@ -1,5 +1,5 @@
 //! The closure of a set of items.
-ghost use Rattle.std.specs.Prelude.{◌≡◌, ◌<◌, ◌≤◌, ◌+◌, ◌↔◌, ℕ, true, false, ◌⊎◌, Option, Some, length, All, Contains, IfOk, OnOk, IfSome};
+ghost use Rattle.std.specs.Prelude.{◌≡◌, ◌<◌, ◌≤◌, ◌+◌, ◌↔◌, ℕ, true, false, ◌⊎◌, Option, Some, List, length, All, Contains, IfOk, OnOk, IfSome};
 ghost use Rattle.definitions.specs.Trees.{Grammar, left_of};
 ghost use Rattle.item_sets.specs.declared.item.Item.{Item};
 ghost use Rattle.first_sets.specs.Lookaheads.{lookahead_at};
@@ -172,19 +172,10 @@ impl<'a> Worklist<'a> {
 
     /// Adds the items that a production begins with.
     fn add_items(&self, p: ProductionNumber, items: &mut Vec<Item>) -> Result<(), AllocError>
-        requires production { p < length self.now.grammar.grammar.productions }
-        requires rising { IsRising items.old.items }
-        requires before { All (IsBefore p 0) items.old.items }
-        ensures rising { OnOk result (IsRising items.new.items) }
-        ensures before { OnOk result (All (IsBefore (p + 1) 0) items.new.items) }
-        ensures kept { OnOk result ((i : Item) → Contains items.old.items i
-            → Contains items.new.items i) }
-        ensures added { OnOk result ((k : ℕ) → k < self.now.grammar.grammar.rules + 1
-            → marked self.now.rows (left_of self.now.grammar.grammar p) k ≡ true
-            → Contains items.new.items (beginning_of p k)) }
-        ensures only { OnOk result ((i : Item) → Contains items.new.items i
-            → Contains items.old.items i
-            ⊎ IsBeginning self.now.rows (left_of self.now.grammar.grammar p) p i) }
+        requires { p < length self.now.grammar.grammar.productions }
+        ensures { OnOk result ((kernel : List Item)
+            → HaveBeginnings self.now.grammar kernel self.now.rows p 0 items.old.items
+            → HaveBeginnings self.now.grammar kernel self.now.rows (p + 1) 0 items.new.items) }
     {
         let grammar = self.grammar();
         let left = grammar.left(p);
@@ -206,8 +197,8 @@ impl<'a> Worklist<'a> {
     /// The kernel, then the items that are called for, by production and lookahead.
     fn items(&self, alloc: Global, kernel: &[Item]) -> Result<Vec<Item>, AllocError>
         requires { IsOrdered self.now.grammar kernel.now }
-        ensures { IfOk result
-            (λ items. HaveBeginnings self.now.grammar kernel.now self.now.rows items.items) }
+        ensures { IfOk result (λ items. HaveBeginnings self.now.grammar kernel.now self.now.rows
+            (length self.now.grammar.grammar.productions) 0 items.items) }
     {
         let mut items = Vec::from_slice(alloc, kernel)?;
         if self.len() == 0 {

@@ -32,7 +32,11 @@ impl<'a> Model for Worklist<'a> {
 
     ghost Value = { Entries };
 
-    ghost view = { λ a. record { grammar = a.grammar.now; list = a.list.items; rows = a.rows.items } };
+    ghost view = { λ a. record {
+      grammar = a.grammar.now;
+      list = a.list.items;
+      rows = a.rows.items;
+    } };
 
     ghost invariant = { λ a. AreEntries a.grammar.now a.list.items a.rows.items };
 }
