@@ -25,13 +25,8 @@ fn column_in(grammar: &AugmentedGrammar, lookahead: Option<usize>) -> Option<usi
 {
     match lookahead {
         None => Some(0),
-        Some(a) => {
-            if a < grammar.rules() {
-                Some(a + 1)
-            } else {
-                None
-            }
-        }
+        Some(a) if a < grammar.rules() => Some(a + 1),
+        Some(_) => None,
     }
 }
 
@@ -107,10 +102,7 @@ impl<'a> Worklist<'a> {
         let (prefix, after) = symbols.split_at(1);
         match prefix[0] {
             Symbol::Rule(_) => Ok(()),
-            Symbol::Nonterminal(n) => {
-                self.insert_before(n, after, lookahead)?;
-                Ok(())
-            }
+            Symbol::Nonterminal(n) => self.insert_before(n, after, lookahead),
         }
     }
 
@@ -136,19 +128,12 @@ impl<'a> Worklist<'a> {
             self.old self.new) }
     {
         let grammar = self.grammar();
-        match item.production {
-            None => {
-                let start = [Symbol::Nonterminal(grammar.start())];
-                let side: &[Symbol] = &start;
-                self.insert_first(side.split_at(item.dot).1, item.look)?;
-                Ok(())
-            }
-            Some(p) => {
-                let right = grammar.right(ProductionNumber::new(p));
-                self.insert_first(right.split_at(item.dot).1, item.look)?;
-                Ok(())
-            }
-        }
+        let start = [Symbol::Nonterminal(grammar.start())];
+        let side: &[Symbol] = match item.production {
+            None => &start,
+            Some(p) => grammar.right(ProductionNumber::new(p)),
+        };
+        self.insert_first(side.split_at(item.dot).1, item.look)
     }
 
     /// Adds all that the set with this kernel calls for, to an empty worklist.
