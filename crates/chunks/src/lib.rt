@@ -32,7 +32,8 @@ pub use list::Chunks;
 pub use seqtree::{Measured, Seq};
 use std::alloc::{AllocError, Global};
 
-/// Some items of a list, which lie together.
+/// Some items of a list, which lie together. Contracts see those of a chunk as `items`, those that lie in no chunk as `list`,
+/// and the size of either as `size`.
 pub trait Chunk: Measured {
     /// An item.
     type Item;

@@ -1,6 +1,6 @@
 //! A piece of a text.
 
-ghost use Rattle.std.specs.Prelude.{◌≡◌, ◌≤◌, ◌++◌, length, IfOk, string_bytes, encode_utf8_all};
+ghost use Rattle.std.specs.Prelude.{◌≡◌, ◌≤◌, ◌++◌, length, IfOk, string_bytes};
 ghost use Rattle.std.specs.Str.{chars};
 ghost use Rattle.pieces.specs.Sums.{sums_of};
 
