@@ -1,6 +1,6 @@
 //! The text of a document.
 
-ghost use Rattle.std.specs.Prelude.{◌≡◌, ◌+◌, ◌*◌, ◌<◌, ◌≤◌, ◌↔◌, ℕ, List, length, drop, slice_index, Err, IfOk, OnOk, OnErr, string_bytes, encode_utf8_all};
+ghost use Rattle.std.specs.Prelude.{◌≡◌, ◌+◌, ◌*◌, ◌<◌, ◌≤◌, ◌↔◌, ◌++◌, ℕ, List, length, drop, slice_index, Err, IfOk, OnOk, OnErr, string_bytes, encode_utf8_all};
 ghost use Rattle.std.specs.List.{concat};
 ghost use Rattle.std.specs.Str.{chars};
 ghost use Rattle.definitions.specs.Text.{IsText, edit, changed};
@@ -203,8 +203,8 @@ impl Text {
         ensures { IfOk result (λ characters. characters.items ≡ self.now) }
     {
         let mut characters = Vec::with_capacity(alloc, self.len())?;
-        for c in self.chars_from(0) {
-            characters.push(c)?;
+        for piece in self.pieces().iter_from(0) {
+            add_characters(&mut characters, piece.text())?;
         }
         Ok(characters)
     }
@@ -228,4 +228,14 @@ impl Text {
     {
         self.pieces.seq()
     }
+}
+
+/// Puts the characters of a text after those of a list.
+fn add_characters(characters: &mut Vec<char>, text: &str) -> Result<(), AllocError>
+    ensures { OnOk result (characters.new.items ≡ characters.old.items ++ chars text.now) }
+{
+    for c in text.chars() {
+        characters.push(c)?;
+    }
+    Ok(())
 }

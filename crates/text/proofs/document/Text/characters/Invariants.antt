@@ -1,5 +1,6 @@
 use Rattle.std.proofs.Common.{◌≡◌, ◌++◌}
+use Rattle.pieces.specs.Pieces.{text_in}
 use Rattle.text.proofs.document.Text.characters.Given as goal
 
-abbrev pub invariant-loop-c : goal.invariant-loop-c
-invariant-loop-c l = l.characters.items ++ l.c-iterator ≡ l.self
+abbrev pub invariant-loop-piece : goal.invariant-loop-piece
+invariant-loop-piece l = l.characters.items ++ text_in l.piece-iterator ≡ l.self
