@@ -9,6 +9,8 @@ use Rattle.definitions.specs.Text.{IsText, IsCharacter}
 use Rattle.definitions.specs.Tokens.{RuleMatches, IsRulePrefix, IsPiece, IsReach}
 use Rattle.definitions.proofs.TokensLocal.{IsRulePrefix-take}
 use Rattle.dfa.specs.Table.{Table, next_state, follower, state_from, state_after, IsFirst, IsAutomaton, kind_of}
+use Rattle.dfa.specs.declared.automaton.Match.{Match}
+use Rattle.dfa.specs.Matches.{IsBest, IsNoted}
 use Rattle.dfa.specs.Windows.{IsWithinReach}
 
 state_from-more : (table : Table) (o : Option ℕ) (u : List ℕ) (c : ℕ) → state_from table o (u ++ c ∷ []) ≡ next_state table (state_from table o u) c
@@ -22,11 +24,6 @@ state_after-more table u c s e = state_from-more table (Some 0) u c ∙ ap (λ o
 pub state_after-none : (table : Table) → state_after table [] ≡ Some 0
 unfolding state_after
 state_after-none table = refl
-
--- of the nonempty prefixes of t with at most n characters, the longest that a rule has, with the first rule that has it
-abbrev pub IsBest : List Expression → List ℕ → ℕ → Option ℕ → ℕ → Type 0
-IsBest rules t n None len = (len ≡ min (length t) 1) × ((j m : ℕ) → 1 ≤ m → m ≤ n → ¬ RuleMatches rules j (take m t))
-IsBest rules t n (Some k) len = (1 ≤ len) × (len ≤ n) × IsFirst rules (take len t) (Some k) × ((j m : ℕ) → len < m → m ≤ n → ¬ RuleMatches rules j (take m t))
 
 -- The state after one more character c of t.
 module _ (rules : List Expression) (table : Table) (a : IsAutomaton rules table) (t : List ℕ) (n s c : ℕ) (text : IsText (take n t)) (character : IsCharacter c) (lt : n < length t) (read : c ≡ slice_index_or t n 0) (is : state_after table (take n t) ≡ Some s) where
@@ -60,23 +57,88 @@ prefixes_more rules t n h f m p q = elim (cases_lt n m) [
   | inr x ↦ h m p x
 ]
 
-none_more : (rules : List Expression) (t : List ℕ) (n l : ℕ) → ((j m : ℕ) → l ≤ m → m ≤ n → ¬ RuleMatches rules j (take m t)) → ((j : ℕ) → ¬ RuleMatches rules j (take (n + 1) t)) → (j m : ℕ) → l ≤ m → m ≤ n + 1 → ¬ RuleMatches rules j (take m t)
-none_more rules t n l h f j m p q = elim (cases_lt n m) [
-  | inl x ↦ let e : n + 1 ≡ m = omega arith in subst (λ (y : ℕ). ¬ RuleMatches rules j (take y t)) e (f j)
-  | inr x ↦ h j m p x
-]
+-- where none of the longer prefixes has a rule, the best match stays
+unmatched : (rules : List Expression) (t : List ℕ) (n read : ℕ) (r : Option ℕ) (len : ℕ) → IsBest rules t n r len → n ≤ read → ((m : ℕ) → n < m → m ≤ read → IsFirst rules (take m t) None) → IsBest rules t read r len
+unmatched rules t n read None len h within f = (
+  h.0,
+  λ j m p q. elim (cases_lt n m) [
+    | inl x ↦ f m x q j
+    | inr x ↦ h.1 j m p x
+  ],
+)
+unmatched rules t n read (Some k) len h within f = (
+  h.0,
+  let inside : len ≤ n = h.1 in omega arith,
+  h.2,
+  λ j m p q. elim (cases_lt n m) [
+    | inl x ↦ f m x q j
+    | inr x ↦ h.3 j m p x
+  ],
+)
 
+-- the best match of all that was read: no longer prefix has a rule, or all of it has
+pub best_unmatched : (rules : List Expression) (t : List ℕ) (read : ℕ) (r : Option ℕ) (len : ℕ) → IsNoted rules t read None r len → IsBest rules t read r len
+best_unmatched rules t read r len h = unmatched rules t h.noted read r len h.best h.before h.first
+
+pub best_matched : (rules : List Expression) (t : List ℕ) (read k : ℕ) (r : Option ℕ) (len : ℕ) → 0 < read → IsNoted rules t read (Some k) r len → IsBest rules t read (Some k) read
+best_matched rules t read k r len some h =
+    (omega arith, omega arith, h.first read (h.fewer some) (omega arith), λ j m p q. absurd (omega arith))
+
+pub best_at_start : (rules : List Expression) (t : List ℕ) (s r : Option ℕ) (len : ℕ) → IsNoted rules t 0 s r len → IsBest rules t 0 r len
+best_at_start rules t s r len h =
+    let none : h.noted ≡ 0 = omega (arith, h.before) in
+    subst (λ (n : ℕ). IsBest rules t n r len) none h.best
+
+-- the match of a text with `rest` characters, or none
+pub record AreBounds (rest : ℕ) (found : Match) : Type 0 where
+  pub inside : found.length ≤ rest
+  pub nonempty : 0 < rest → 1 ≤ found.length
+  pub at_end : rest ≡ 0 → (found.rule ≡ None) × (found.length ≡ 0)
+
+-- nothing is read
+pub read_none : (rules : List Expression) (t : List ℕ) (s : Option ℕ) (len : ℕ) → len ≡ min (length t) 1 → IsNoted rules t 0 s None len
+read_none rules t s len e = record {
+  noted = 0;
+  before = omega arith;
+  fewer = λ some. absurd (omega arith);
+  best = (e, λ j m p q. absurd (omega arith));
+  first = λ m p q. absurd (omega arith);
+}
+
+-- one more character, whose prefix has the same rule
+pub read_on : (rules : List Expression) (t : List ℕ) (n : ℕ) (s r : Option ℕ) (len : ℕ) → IsNoted rules t n s r len → IsFirst rules (take (n + 1) t) s → IsNoted rules t (n + 1) s r len
+read_on rules t n s r len h f =
+    let within : h.noted ≤ n = h.before in
+    record {
+      noted = h.noted;
+      before = omega arith;
+      fewer = λ some. omega arith;
+      best = h.best;
+      first = λ m p q. elim (cases_lt n m) [
+        | inl x ↦ let e : n + 1 ≡ m = omega arith in subst (λ (y : ℕ). IsFirst rules (take y t) s) e f
+        | inr x ↦ h.first m p x
+      ];
+    }
+
+-- one more character, after the best match of all before it
+pub read_anew : (rules : List Expression) (t : List ℕ) (n : ℕ) (s r : Option ℕ) (len : ℕ) → IsBest rules t n r len → IsFirst rules (take (n + 1) t) s → IsNoted rules t (n + 1) s r len
+read_anew rules t n s r len h f = record {
+  noted = n;
+  before = omega arith;
+  fewer = λ some. omega arith;
+  best = h;
+  first = λ m p q. let e : n + 1 ≡ m = omega arith in subst (λ (y : ℕ). IsFirst rules (take y t) s) e f;
+}
+
+-- the best match among no characters, and among one more
 pub best_none : (rules : List Expression) (t : List ℕ) (len : ℕ) → len ≡ min (length t) 1 → IsBest rules t 0 None len
-best_none rules t len e = (e, λ j m p q. absurd (omega arith))
+best_none rules t len e = best_at_start rules t None None len (read_none rules t None len e)
 
 pub best_more_none : (rules : List Expression) (t : List ℕ) (n : ℕ) (r : Option ℕ) (len : ℕ) → IsBest rules t n r len → IsFirst rules (take (n + 1) t) None → IsBest rules t (n + 1) r len
-best_more_none rules t n None len h f = (h.0, none_more rules t n 1 h.1 f)
-best_more_none rules t n (Some k) len h f =
-    let within : len ≤ n = h.1 in
-    (h.0, omega arith, h.2, λ j m p q. none_more rules t n (len + 1) (λ j m p q. h.3 j m (omega arith) q) f j m (omega arith) q)
+best_more_none rules t n r len h f = best_unmatched rules t (n + 1) r len (read_anew rules t n None r len h f)
 
-pub best_more_some : (rules : List Expression) (t : List ℕ) (n k : ℕ) → IsFirst rules (take (n + 1) t) (Some k) → IsBest rules t (n + 1) (Some k) (n + 1)
-best_more_some rules t n k f = (omega arith, omega arith, f, λ j m p q. absurd (omega arith))
+pub best_more_some : (rules : List Expression) (t : List ℕ) (n k : ℕ) (r : Option ℕ) (len : ℕ) → IsBest rules t n r len → IsFirst rules (take (n + 1) t) (Some k) → IsBest rules t (n + 1) (Some k) (n + 1)
+best_more_some rules t n k r len h f = best_matched rules t (n + 1) k r len (omega arith) (read_anew rules t n (Some k) r len h f)
 
 -- nothing goes on past n characters: they are all, or one more begins no text of a rule
 abbrev pub Ends : List Expression → List ℕ → ℕ → Type 0

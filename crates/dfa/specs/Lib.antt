@@ -2,6 +2,7 @@ pub mod Alphabet
 pub mod Built
 pub mod Marks
 pub mod Sets
+pub mod Matches
 pub mod Positions
 pub mod Stored
 pub mod Table

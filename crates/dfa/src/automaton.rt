@@ -1,8 +1,9 @@
 //! The table of an automaton, and its longest matches.
-ghost use Rattle.std.specs.Prelude.{◌≡◌, ℕ, ◌+◌, ◌-◌, ◌^◌, ◌<◌, ◌≤◌, drop, slice_index_or, length, List, IfSome};
+ghost use Rattle.std.specs.Prelude.{◌≡◌, ◌⊎◌, ℕ, ◌+◌, ◌-◌, ◌^◌, ◌<◌, ◌≤◌, drop, slice_index_or, length, List, IfSome};
 ghost use Rattle.definitions.specs.declared.expression.Expression.{Expression};
 ghost use Rattle.definitions.specs.Tokens.{IsPiece, IsReach};
 ghost use Rattle.dfa.specs.Table.{part, follower, kind_of, IsAutomaton};
+ghost use Rattle.dfa.specs.Matches.{IsBest, IsNoted};
 ghost use Rattle.dfa.specs.Stored.{table_of, IsState, IsStored};
 ghost use Rattle.dfa.specs.Windows.{IsWithinReach};
 
@@ -54,6 +55,28 @@ pub struct Match {
     /// The fewest characters from the offset on that begin no text of any rule, or, where there are none, one more than are
     /// left. No character after them affects the token.
     pub reach: usize,
+}
+
+impl Match {
+    /// The longer match after `read` characters, to which this rule belongs, or this one where none does.
+    fn or_longer(self, rule: Option<usize>, read: usize) -> Match
+        ensures best { (rules : List Expression) (t : List ℕ)
+            → IsNoted rules t read rule self.rule self.length
+            → IsBest rules t read result.rule result.length }
+        ensures either { (result ≡ self) ⊎ ((0 < read) × (result.length ≡ read)) }
+    {
+        if read == 0 {
+            return self;
+        }
+        match rule {
+            Some(_) => Match {
+                rule,
+                length: read,
+                reach: self.reach,
+            },
+            None => self,
+        }
+    }
 }
 
 impl Automaton {
@@ -123,20 +146,6 @@ impl Automaton {
         }
     }
 
-    /// The state of this number, where it comes after `state`. Within a long token most characters keep the state. Then nothing
-    /// is looked up, and the processor need not wait for the row of the next state.
-    fn enter(&self, state: State, number: usize) -> State
-        requires inside { number < length self.now.accepts }
-        requires is { IsState self.now state }
-        ensures number { result.number ≡ number }
-        ensures is { IsState self.now result }
-    {
-        if number == state.number {
-            return state;
-        }
-        self.state(number)
-    }
-
     /// The token that starts at the offset `from`: the longest match, of equal lengths the earlier rule. Where nothing
     /// matches it is one character, or none at the end.
     ///
@@ -172,13 +181,14 @@ impl Automaton {
             let Some(next) = self.next(state, c) else {
                 break;
             };
-            state = self.enter(state, next);
-            read += 1;
-            if let Some(k) = state.rule {
-                best.rule = Some(k);
-                best.length = read;
+            // Within a long token most characters keep the state, and nothing else is done for them.
+            if next != state.number {
+                best = best.or_longer(state.rule, read);
+                state = self.state(next);
             }
+            read += 1;
         }
+        best = best.or_longer(state.rule, read);
         best.reach = read + 1;
         best
     }

@@ -8,7 +8,8 @@ use Rattle.definitions.specs.declared.Kind.TheVariants.{Rule, Invalid}
 use Rattle.definitions.specs.Text.{IsCharacter, IsText}
 use Rattle.definitions.specs.Tokens.{IsRulePrefix, IsPiece, Token, IsToken, AreTokens}
 use Rattle.dfa.specs.Table.{Table, follower, state_after, IsAutomaton, kind_of}
-use Rattle.dfa.proofs.LongestMatch.{IsBest, Ends, best_none, best_more_none, best_more_some, prefixes_more, more_state, more_prefix, more_first, more_dead, piece_of, reach_of, state_after-none}
+use Rattle.dfa.specs.Matches.{IsBest}
+use Rattle.dfa.proofs.LongestMatch.{Ends, best_none, best_more_none, best_more_some, prefixes_more, more_state, more_prefix, more_first, more_dead, piece_of, reach_of, state_after-none}
 
 module _ (rules : List Expression) (table : Table) (a : IsAutomaton rules table) where
   -- the run over the first n characters of t: its state, and the best of their prefixes
@@ -59,7 +60,7 @@ module _ (rules : List Expression) (table : Table) (a : IsAutomaton rules table)
       prefixes = prefixes_more rules t n r.prefixes (more_prefix rules table a t n r.state (slice_index t n) (All-take IsCharacter n t text) (text n 0 l) l refl r.is x f);
       rule = Some k;
       count = n + 1;
-      best = best_more_some rules t n k (more_first rules table a t n r.state (slice_index t n) (All-take IsCharacter n t text) (text n 0 l) l refl r.is x (Some k) f e);
+      best = best_more_some rules t n k r.rule r.count r.best (more_first rules table a t n r.state (slice_index t n) (All-take IsCharacter n t text) (text n 0 l) l refl r.is x (Some k) f e);
     }
 
     step : (o : Option ℕ) → follower table r.state (slice_index t n) ≡ o → Ended t ⊎ Run t (n + 1)

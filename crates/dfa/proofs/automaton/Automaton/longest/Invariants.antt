@@ -1,10 +1,11 @@
-use Rattle.std.proofs.Common.{ℕ, ◌+◌, ◌-◌, ◌≡◌, ◌≤◌, ◌<◌, List, take, drop, Some, None}
+use Rattle.std.proofs.Common.{ℕ, ◌+◌, ◌-◌, ◌≡◌, ◌≤◌, List, take, drop, Some}
 use Rattle.definitions.specs.declared.expression.Expression.{Expression}
 use Rattle.definitions.specs.Text.{IsText}
 use Rattle.definitions.specs.Tokens.{IsRulePrefix}
 use Rattle.dfa.specs.Stored.{IsState}
 use Rattle.dfa.specs.Table.{IsAutomaton, state_after}
-use Rattle.dfa.proofs.LongestMatch.{IsBest}
+use Rattle.dfa.specs.Matches.{IsNoted}
+use Rattle.dfa.proofs.LongestMatch.{AreBounds}
 use Rattle.dfa.proofs.automaton.Automaton.longest.Given as goal
 
 abbrev pub invariant-loop-read : goal.invariant-loop-read
@@ -13,12 +14,10 @@ invariant-loop-read g l =
       in_text : l.read ≤ l.rest;
       state_is : IsState l.self l.state;
       before : g.S.Source.is_before l.source (l.from + l.read) l.ahead;
-      length_in : l.best.length ≤ l.rest;
-      nonempty : 0 < l.rest → 1 ≤ l.best.length;
-      none_at_end : l.rest ≡ 0 → (l.best.rule ≡ None) × (l.best.length ≡ 0);
+      bounds : AreBounds l.rest l.best;
       stands : state_after l.self (take l.read (drop l.from (g.S.Source.text l.source))) ≡ Some l.state.number;
       text : IsText (take l.read (drop l.from (g.S.Source.text l.source)));
-      so_far : (rules : List Expression) → IsAutomaton rules l.self → ((m : ℕ) → 1 ≤ m → m ≤ l.read → IsRulePrefix rules (take m (drop l.from (g.S.Source.text l.source)))) × IsBest rules (drop l.from (g.S.Source.text l.source)) l.read l.best.rule l.best.length;
+      so_far : (rules : List Expression) → IsAutomaton rules l.self → ((m : ℕ) → 1 ≤ m → m ≤ l.read → IsRulePrefix rules (take m (drop l.from (g.S.Source.text l.source)))) × IsNoted rules (drop l.from (g.S.Source.text l.source)) l.read l.state.rule l.best.rule l.best.length;
     }
 
 abbrev pub decreases-loop-read : goal.decreases-loop-read
