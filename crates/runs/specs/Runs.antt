@@ -8,7 +8,7 @@ use Rattle.runs.specs.declared.run.TheConstants.{LONGEST_RUN}
 abbrev pub flattened : {A : Type 0} → List (List A) → List A
 flattened runs = joined (λ run. run) runs
 
--- what a run keeps: 1 to 32 items, and their sum
+-- what a run keeps: 1 to 64 items, and their sum
 pub record IsRun {A S : Type 0} (zero : S) (op : S → S → S) (measure : A → S) (items : List A) (sum : S) : Type 0 where
   pub some : 1 ≤ length items
   pub few : length items ≤ LONGEST_RUN

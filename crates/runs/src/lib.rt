@@ -1,12 +1,12 @@
 //! A list of small items that knows the sums of its parts, as a `Seq` does, and takes little more memory than the items
-//! themselves: they are stored in runs of up to 32.
+//! themselves: they are stored in runs of up to 64.
 //!
 //! `Runs::new` is an empty list; `replace` puts items in the place of others. `len`, `get`, `total`, `iter_from` and
 //! `locate` are as those of a `Seq`; `total_before` is the sum before a place, and `runs` the number of runs.
 //!
 //! Words: a *run* is a node's items, which lie together. The items are `Measured`, and `Copy`: here tokens.
 //!
-//! Limits: as many items as `usize` counts; at most one run has fewer than 16. `replace` allocates, and after a refusal
+//! Limits: as many items as `usize` counts; at most one run has fewer than 32. `replace` allocates, and after a refusal
 //! the list is as before. A call costs the logarithm of the length and a walk in one run; `replace` also costs the new
 //! items and the runs that it touches.
 //!

@@ -46,8 +46,8 @@ impl<T: Measured + Copy> Runs<T> {
     fn seq(&self) -> &Seq<Run<T>>
         ensures items { flattened result.now ≡ self.now }
         ensures counted { length self.now < 2 ^ 64 }
-        ensures few { 16 * length result.now ≤ length self.now + 16 }
-        ensures enough { length self.now ≤ 32 * length result.now }
+        ensures few { 32 * length result.now ≤ length self.now + 32 }
+        ensures enough { length self.now ≤ 64 * length result.now }
     {
         self.runs.seq()
     }
@@ -61,8 +61,8 @@ impl<T: Measured + Copy> Runs<T> {
 
     /// In how many runs the items lie: few, but enough to hold them.
     pub fn runs(&self) -> usize
-        ensures few { 16 * result ≤ length self.now + 16 }
-        ensures enough { length self.now ≤ 32 * result }
+        ensures few { 32 * result ≤ length self.now + 32 }
+        ensures enough { length self.now ≤ 64 * result }
     {
         self.seq().len()
     }

@@ -11,10 +11,10 @@ use std::alloc::{AllocError, Global};
 use std::marker::Model;
 
 /// The most items that a run may have.
-pub const LONGEST_RUN: usize = 32;
+pub const LONGEST_RUN: usize = 64;
 
 /// The fewest items that a run has where items are cut into several.
-pub const SHORTEST_OF_SEVERAL: usize = 16;
+pub const SHORTEST_OF_SEVERAL: usize = 32;
 
 /// Some items of a list, at least one and at most [`LONGEST_RUN`], and their sum.
 #[derive(Drop)]

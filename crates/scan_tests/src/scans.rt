@@ -387,23 +387,23 @@ fn reads_few_characters(rt: HostRuntime) {
     assert!(rt; 0 < reads && reads < 100);
 }
 
-/// Three runs of 32 tokens, of each of which 14 are taken away: none is so short that it is joined with another. The plus before
+/// Three runs of 64 tokens, of each of which 28 are taken away: none is so short that it is joined with another. The plus before
 /// them is scanned again, since its reach meets the edit.
 #[test]
 fn tokens_lie_in_few_runs(rt: HostRuntime) {
     let alloc = rt.alloc();
     let scanner = load(&rt, alloc, SUMS);
-    let open = repeated(&rt, alloc, "1+", 48);
+    let open = repeated(&rt, alloc, "1+", 96);
     let mut text = Text::open(alloc, &open).expect(&rt, "a text");
     let mut tokens = scan(&rt, alloc, &scanner, &text);
     assert!(rt; tokens.items().runs() == 3);
     let plus = [Kind::Rule(1)];
-    let last = step_by_7((72, 14, ""), (1, 82), (71, 86, &plus));
+    let last = step_by_7((144, 28, ""), (1, 164), (143, 172, &plus));
     check_step(&rt, alloc, &scanner, &mut text, &mut tokens, &last);
-    let mut middle = step_by_7((40, 14, ""), (1, 68), (39, 54, &plus));
+    let mut middle = step_by_7((80, 28, ""), (1, 136), (79, 108, &plus));
     middle.number = 8;
     check_step(&rt, alloc, &scanner, &mut text, &mut tokens, &middle);
-    let mut first = step_by_7((8, 14, ""), (1, 54), (7, 22, &plus));
+    let mut first = step_by_7((16, 28, ""), (1, 108), (15, 44, &plus));
     first.number = 9;
     check_step(&rt, alloc, &scanner, &mut text, &mut tokens, &first);
     assert!(rt; tokens.items().runs() == 3);
