@@ -1,6 +1,6 @@
 //! Nodes in little room: 16 bits for the production, and 32 for each other number and each child, where they fit.
 
-ghost use Rattle.std.specs.Prelude.{◌≡◌, ◌<◌, ◌≤◌, ◌^◌, ℕ, length, map, slice_get, slice_index_or, IfOk, IfSome, IsSome};
+ghost use Rattle.std.specs.Prelude.{◌≡◌, ◌<◌, ◌≤◌, ◌^◌, ℕ, [], true, None, length, map, slice_get, slice_index_or, IfOk, IfSome, IsSome};
 ghost use Rattle.std.specs.List.{All};
 ghost use Rattle.trees.specs.Cells.{AreBelow};
 ghost use Rattle.trees.specs.Forms.{cell_in, IsNarrow};
@@ -72,8 +72,14 @@ impl Model for Node {
 }
 
 impl Node {
-    /// The node of these numbers over these children.
-    pub fn new(alloc: Global, label: Label, children: &[Child]) -> Result<Node, AllocError>
+    /// The node of these numbers over these children, whose packed numbers are given where each has one.
+    pub fn new(
+        alloc: Global,
+        label: Label,
+        children: &[Child],
+        numbers: Option<SmallVec<u32, 4>>,
+    ) -> Result<Node, AllocError>
+        requires { IfSome numbers (λ ns. map unpack ns.items ≡ children.now) }
         ensures { IfOk result (λ node. node ≡ record {
           production = label.production;
           born = label.born;
@@ -82,7 +88,7 @@ impl Node {
           children = children.now;
         }) }
     {
-        if let Some(form) = narrow_node(alloc, label, children)? {
+        if let Some(form) = narrow_form(label, numbers) {
             return Ok(Node { form });
         }
         let children = Vec::from_slice(alloc, children)?;
@@ -191,18 +197,19 @@ fn rename_children(children: &mut [Child], names: &[u32])
     }
 }
 
-/// The narrow form of a node with these numbers and children, where they fit.
-fn narrow_node(alloc: Global, label: Label, children: &[Child]) -> Result<Option<Form>, AllocError>
-    ensures is { IfOk result (λ narrow. IfSome narrow (λ form. cell_in form ≡ record {
+/// The narrow form of a node with these numbers and packed children, where they fit.
+fn narrow_form(label: Label, children: Option<SmallVec<u32, 4>>) -> Option<Form>
+    ensures is { IfSome result (λ form. IfSome children (λ ns. cell_in form ≡ record {
       production = label.production;
       born = label.born;
       tokens = label.tokens;
       size = label.size;
-      children = children.now;
+      children = map unpack ns.items;
     })) }
-    ensures narrow { IfOk result (λ narrow. IfSome narrow IsNarrow) }
+    ensures none { children ≡ None → result ≡ None }
+    ensures narrow { IfSome result IsNarrow }
     ensures every { label.production < 2 ^ 16 → label.born < 2 ^ 32 → label.tokens < 2 ^ 32 →
-        label.size < 2 ^ 32 → All HasNumber children.now → IfOk result IsSome }
+        label.size < 2 ^ 32 → IsSome children → IsSome result }
 {
     let Label {
         production,
@@ -211,32 +218,32 @@ fn narrow_node(alloc: Global, label: Label, children: &[Child]) -> Result<Option
         size,
     } = label;
     if production > GREATEST_PRODUCTION || born.max(tokens).max(size) > GREATEST {
-        return Ok(None);
+        return None;
     }
-    match all_packed(alloc, children)? {
-        Some(children) => Ok(Some(Form::Narrow {
-            production: production as u16,
-            born: born as u32,
-            tokens: tokens as u32,
-            size: size as u32,
-            children,
-        })),
-        None => Ok(None),
-    }
+    Some(Form::Narrow {
+        production: production as u16,
+        born: born as u32,
+        tokens: tokens as u32,
+        size: size as u32,
+        children: children?,
+    })
 }
 
-/// The numbers of the children, where each has one.
-fn all_packed(alloc: Global, children: &[Child]) -> Result<Option<SmallVec<u32, 4>>, AllocError>
-    ensures are { IfOk result (λ numbers. IfSome numbers (λ ns.
-        map unpack ns.items ≡ children.now)) }
-    ensures every { All HasNumber children.now → IfOk result IsSome }
+/// Puts the packed numbers of the children into an empty list, and returns whether each has one.
+pub(crate) fn pack_all(
+    children: &[Child],
+    numbers: &mut SmallVec<u32, 4>,
+) -> Result<bool, AllocError>
+    requires { numbers.old.items ≡ [] }
+    ensures are { IfOk result (λ all. all ≡ true
+        → map unpack numbers.new.items ≡ children.now) }
+    ensures every { All HasNumber children.now → IfOk result (λ all. all ≡ true) }
 {
-    let mut numbers = SmallVec::new(alloc);
     for child in children {
         match pack(*child) {
             Some(number) => numbers.push(number)?,
-            None => return Ok(None),
+            None => return Ok(false),
         }
     }
-    Ok(Some(numbers))
+    Ok(true)
 }

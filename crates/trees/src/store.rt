@@ -8,8 +8,9 @@ ghost use Rattle.trees.specs.declared.store.Child.{Child};
 ghost use Rattle.trees.specs.Cells.{cell_of, most, tree, forest_in, trees_from, forest_of, IsBelow, AreBelow, IsStore, IsGrown, KeepsTrees, tokens_below, branches_below};
 
 use crate::children::Children;
-use crate::node::{Label, Node};
+use crate::node::{Label, Node, pack_all};
 use definitions::Kind;
+use smallvec::SmallVec;
 use std::alloc::{AllocError, Global};
 use std::marker::Model;
 
@@ -194,6 +195,10 @@ impl Store {
         ensures count { OnOk result (length self.new ≡ length self.old + 1) }
         ensures err { OnErr result (self.new ≡ self.old) }
     {
+        // What is written in small parts is slow to be read as a whole right after, so the children are packed before they are
+        // counted.
+        let mut numbers = SmallVec::new(alloc);
+        let is_packed = pack_all(children, &mut numbers)?;
         let (tokens, size) = self.counts(children);
         let label = Label {
             production,
@@ -201,7 +206,7 @@ impl Store {
             tokens,
             size,
         };
-        let node = Node::new(alloc, label, children)?;
+        let node = Node::new(alloc, label, children, is_packed.then_some(numbers))?;
         let index = self.len();
         self.nodes.push(node)?;
         Ok(NodeId { index })

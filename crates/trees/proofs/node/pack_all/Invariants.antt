@@ -1,6 +1,6 @@
 use Rattle.std.proofs.Common.{◌≡◌, map, take}
 use Rattle.trees.specs.Packing.{unpack}
-use Rattle.trees.proofs.node.all_packed.Given as goal
+use Rattle.trees.proofs.node.pack_all.Given as goal
 
 abbrev pub invariant-loop-child : goal.invariant-loop-child
 invariant-loop-child l = map unpack l.numbers.items ≡ take l.child-index l.children
