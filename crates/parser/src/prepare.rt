@@ -1,6 +1,6 @@
 //! The input of the machine after an edit: what a splice leaves of the old trees, with the new kinds in their place.
 
-ghost use Rattle.std.specs.Prelude.{◌≡◌, ◌+◌, ◌<◌, ◌≤◌, ◌++◌, [], ℕ, List, length, map, take, slice_get, IfOk, IfSome};
+ghost use Rattle.std.specs.Prelude.{◌≡◌, ◌+◌, ◌<◌, ◌≤◌, ◌++◌, ◌∷◌, [], ℕ, List, length, map, take, slice_get, IfOk, IfSome, MatchOption};
 ghost use Rattle.definitions.specs.declared.Kind.{Kind};
 ghost use Rattle.definitions.specs.Nodes.{all_branches, place_of};
 ghost use Rattle.definitions.specs.Trees.{Grammar};
@@ -41,6 +41,18 @@ fn count_whole(store: &Store, children: &[Child], n: u64) -> (usize, u64)
     (whole, left)
 }
 
+/// The next of the children, and where none is left, of the trees.
+fn take_next(children: &mut Children<'_>, trees: &mut Input) -> Option<Child>
+    ensures { MatchOption result
+        ((children.old ++ trees.old ≡ []) × (children.new ++ trees.new ≡ []))
+        (λ c. children.old ++ trees.old ≡ c ∷ (children.new ++ trees.new)) }
+{
+    match children.next() {
+        Some(child) => Some(child),
+        None => trees.take(),
+    }
+}
+
 /// Takes the trees of the first `n` kinds away, and returns them, and how many of the `n` kinds there weren't. A tree that has
 /// kinds on both sides is opened.
 fn take_prefix(
@@ -57,8 +69,10 @@ fn take_prefix(
 {
     let mut taken = Vec::new(alloc);
     let mut left = n;
+    // The children of the node that was opened last stand before the trees.
+    let mut children = Children::of(&[]);
     'kinds: while left > 0 {
-        let Some(child) = trees.take() else {
+        let Some(child) = take_next(&mut children, trees) else {
             break;
         };
         let count = store.tokens_of(child);
@@ -66,9 +80,11 @@ fn take_prefix(
             left -= count;
             taken.push(child)?;
         } else if let Child::Node(id) = child {
-            trees.put_all(store.children(id))?;
+            trees.put_all(children)?;
+            children = store.children(id);
         }
     }
+    trees.put_all(children)?;
     Ok((taken, left))
 }
 

@@ -62,11 +62,22 @@ impl<'a, K: Kinds> Reader<'a, K> {
         }
         if k > 0 && k - 1 == self.number {
             self.kind = self.kinds.next(&mut self.ahead, k);
-        } else {
-            let mut ahead = self.kinds.ahead(k);
-            self.kind = self.kinds.next(&mut ahead, k);
-            self.ahead = ahead;
+            self.number = k;
+            return self.kind;
         }
+        self.jump(k)
+    }
+
+    /// The same, wherever the place is. It is a call of its own, since a new place may take much room on the stack, which would
+    /// cost each call that needs none.
+    #[inline(never)]
+    fn jump(&mut self, k: usize) -> Option<Kind>
+        ensures is { result ≡ slice_get self.old k }
+        ensures same { self.new ≡ self.old }
+    {
+        let mut ahead = self.kinds.ahead(k);
+        self.kind = self.kinds.next(&mut ahead, k);
+        self.ahead = ahead;
         self.number = k;
         self.kind
     }
