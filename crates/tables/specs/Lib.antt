@@ -2,6 +2,8 @@ pub mod Moves
 pub mod Gotos
 pub mod Rows
 pub mod Actions
+pub mod Numbers
+pub mod Packed
 pub mod Reports
 pub mod Tables
 pub mod Faults

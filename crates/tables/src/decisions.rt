@@ -9,6 +9,7 @@ ghost use Rattle.item_sets.specs.Sets.{IsItem, item_of};
 
 use crate::expected::Expected;
 use crate::moves::{Call, Decision, call_of, decide};
+use crate::packed::{PackedRow, Small};
 use crate::rows::GotoRow;
 use definitions::Symbol;
 use first_sets::{AugmentedGrammar, Marks, lookahead_at};
@@ -27,11 +28,45 @@ pub enum Move {
     Accept,
 }
 
+/// The number of the first reduction: shifts have the numbers below it.
+const FIRST_REDUCTION: usize = 32_768;
+
+impl Small for Move {
+    ghost use Rattle.std.specs.Prelude.{◌≡◌, IfSome};
+    ghost use Rattle.tables.specs.Numbers.{move_of_number};
+
+    ghost meant = { move_of_number };
+
+    fn number(entry: Option<Move>) -> Option<u16>
+        ensures { IfSome result (λ n. move_of_number n ≡ entry) }
+    {
+        match entry {
+            None => Some(0),
+            Some(Move::Accept) => Some(1),
+            Some(Move::Shift(to)) if to < FIRST_REDUCTION - 2 => Some((to + 2) as u16),
+            Some(Move::Reduce(p)) if p < FIRST_REDUCTION => Some((p + FIRST_REDUCTION) as u16),
+            Some(_) => None,
+        }
+    }
+
+    fn entry(number: u16) -> Option<Move>
+        ensures { result ≡ move_of_number number }
+    {
+        let number = number as usize;
+        match number {
+            0 => None,
+            1 => Some(Move::Accept),
+            _ if number < FIRST_REDUCTION => Some(Move::Shift(number - 2)),
+            _ => Some(Move::Reduce(number - FIRST_REDUCTION)),
+        }
+    }
+}
+
 /// The moves of one state, by the column of what is next: the end, then the token rules.
 #[derive(Drop)]
 pub struct Moves {
     /// The move in each column, if there is one.
-    row: Vec<Option<Move>>,
+    row: PackedRow<Move>,
 }
 
 impl Model for Moves {
@@ -40,7 +75,7 @@ impl Model for Moves {
 
     ghost Value = { List (Option Move) };
 
-    ghost view = { λ a. a.row.items };
+    ghost view = { λ a. a.row };
 }
 
 /// Two items of a set that call for different moves at a lookahead.
@@ -167,7 +202,8 @@ fn moves_of_callers(
             moves.push(None)?;
         }
     }
-    Ok(Decided::Moves(Moves { row: moves }))
+    let row = PackedRow::new(alloc, &moves)?;
+    Ok(Decided::Moves(Moves { row }))
 }
 
 /// The moves of the state with these items and this row, unless two of the items conflict.
@@ -192,7 +228,7 @@ impl Moves {
         ensures { result ≡ in_file_order (rules_with_move 0 (drop 1 self.now))
             (is_some (slice_index_or self.now 0 None)) }
     {
-        Expected::new(&self.row[1..], self.row[0].is_some())
+        Expected::new(self.row.entries().after_first(), self.row.at(0).is_some())
     }
 
     /// The move in a column of the row.
@@ -200,6 +236,6 @@ impl Moves {
         requires { column < length self.now }
         ensures { result ≡ slice_index_or self.now column None }
     {
-        self.row[column]
+        self.row.at(column)
     }
 }

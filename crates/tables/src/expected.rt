@@ -4,13 +4,14 @@ ghost use Rattle.std.specs.Iterator.{YieldsFirst, item_count};
 ghost use Rattle.tables.specs.Expected.{in_file_order, rules_with_move};
 
 use crate::decisions::Move;
+use crate::packed::Entries;
 use std::marker::Model;
 
 /// The token rules that may come next, in file order, and after them `None` where the end may come. It takes no memory.
 #[derive(Drop)]
 pub struct Expected<'a> {
     /// The moves of a state, by the token rule that is next.
-    moves: &'a [Option<Move>],
+    moves: Entries<'a, Move>,
     /// The first rule that was not looked at.
     rule: usize,
     /// Whether the end is still to be listed.
@@ -23,13 +24,13 @@ impl<'a> Model for Expected<'a> {
 
     ghost Value = { List (Option ℕ) };
 
-    ghost view = { λ e. in_file_order (rules_with_move e.rule (drop e.rule e.moves.now)) e.at_end };
+    ghost view = { λ e. in_file_order (rules_with_move e.rule (drop e.rule e.moves)) e.at_end };
 }
 
 impl<'a> Expected<'a> {
     /// What has a move among these, the first of which is that of rule 0, and the end where it has one.
-    pub(crate) fn new(moves: &'a [Option<Move>], at_end: bool) -> Expected<'a>
-        ensures { result ≡ in_file_order (rules_with_move 0 moves.now) at_end }
+    pub(crate) fn new(moves: Entries<'a, Move>, at_end: bool) -> Expected<'a>
+        ensures { result ≡ in_file_order (rules_with_move 0 moves.entry) at_end }
     {
         Expected {
             moves,
@@ -42,7 +43,7 @@ impl<'a> Expected<'a> {
     pub fn nothing() -> Expected<'a>
         ensures { result ≡ [] }
     {
-        Expected::new(&[], false)
+        Expected::new(Entries::none(), false)
     }
 }
 
@@ -57,7 +58,7 @@ impl<'a> Iterator for Expected<'a> {
         while self.rule < self.moves.len() {
             let rule = self.rule;
             self.rule += 1;
-            if self.moves[rule].is_some() {
+            if self.moves.at(rule).is_some() {
                 return Some(Some(rule));
             }
         }

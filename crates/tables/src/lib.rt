@@ -9,8 +9,8 @@
 //! require that it is one.
 //!
 //! Limits: more than 8,192 sets of items are refused as `TooManySets`. Building costs what the collection of
-//! `item_sets` costs; the other calls are one look-up each and don't allocate. In the example `grammar` is read from
-//! the grammar file in README.md.
+//! `item_sets` costs; the other calls are one look-up each and don't allocate. An entry of a table takes 16 bits, where
+//! all of its row fit. In the example `grammar` is read from the grammar file in README.md.
 //!
 //! ```
 //! let tables = Tables::build(alloc, grammar).ok()?;
@@ -27,6 +27,7 @@ mod decisions;
 mod expected;
 pub mod laws;
 mod moves;
+mod packed;
 mod progress;
 mod rows;
 mod tables;

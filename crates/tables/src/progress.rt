@@ -4,7 +4,7 @@ ghost use Rattle.tables.specs.Actions.{AddsMoves, AreMade};
 ghost use Rattle.item_sets.specs.Collection.{AreStates};
 
 use crate::decisions::{Clash, Decided, Moves, moves_of};
-use crate::rows::GotoRow;
+use crate::rows::{GotoRow, Gotos};
 use first_sets::AugmentedGrammar;
 use item_sets::{StateNumber, States, close};
 use std::alloc::{AllocError, Global};
@@ -23,7 +23,7 @@ pub struct ClashAt {
 #[derive(Drop)]
 pub struct Progress {
     /// Where the nonterminals lead from each of the states.
-    pub gotos: Vec<GotoRow>,
+    pub gotos: Vec<Gotos>,
     /// The moves of the states.
     pub moves: Vec<Moves>,
     /// The first conflict, if there was one.
@@ -58,7 +58,7 @@ impl Progress {
     }
 
     /// Adds the gotos of the next state, and its moves or its conflict.
-    fn add(&mut self, gotos: GotoRow, decided: Decided) -> Result<(), AllocError>
+    fn add(&mut self, gotos: Gotos, decided: Decided) -> Result<(), AllocError>
         ensures gotos { OnOk result (self.new.gotos ≡ self.old.gotos ++ gotos ∷ []) }
         ensures moves { OnOk result (AddsMoves self.old self.new decided) }
     {

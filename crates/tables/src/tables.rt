@@ -23,7 +23,7 @@ use crate::conflict::{Conflict, conflict_of};
 use crate::decisions::{Move, Moves};
 use crate::expected::Expected;
 use crate::progress::{ClashAt, Progress, advance};
-use crate::rows::GotoRow;
+use crate::rows::Gotos;
 use definitions::Kind;
 use first_sets::{AugmentedGrammar, ProductionNumber, Productions};
 use grammar::Grammar;
@@ -63,7 +63,7 @@ pub struct Tables {
     /// The productions of the grammar.
     productions: Productions,
     /// Where the nonterminals lead from each state, the first of which is that of the empty prefix.
-    gotos: Vec<GotoRow>,
+    gotos: Vec<Gotos>,
     /// What each state does at each kind that may come next.
     moves: Vec<Moves>,
 }

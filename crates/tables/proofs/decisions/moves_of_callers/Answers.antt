@@ -1,9 +1,9 @@
-use Rattle.std.proofs.Common.{◌≡◌, ◌<◌, ◌+◌, ◌∷◌, ◌++◌, [], None, Option, ℕ, true, false, length, length-append, slice_index_or, ap, sym, subst, refl, inl, inr, ◌∙◌}
+use Rattle.std.proofs.Common.{arith, ◌≡◌, ◌<◌, ◌+◌, ◌∷◌, ◌++◌, [], None, Option, ℕ, true, false, length, length-append, slice_index_or, ap, sym, subst, refl, inl, inr, ◌∙◌}
 use Rattle.tables.specs.declared.decisions.Move.{Move}
 use Rattle.tables.specs.declared.moves.Decision.TheVariants.{Nothing, Agreed}
 use Rattle.tables.specs.Moves.{IsDecision}
 use Rattle.first_sets.specs.Lookaheads.{lookahead_at, rank}
-use Rattle.tables.specs.Rows.{IsChosen, chosen}
+use Rattle.tables.specs.Rows.{AreChosen, IsChosen, chosen}
 use Rattle.first_sets.proofs.Columns.{rank-lookahead_at}
 use Rattle.first_sets.proofs.EachMore.{each_more}
 use Rattle.tables.proofs.decisions.moves_of_callers.Goals as goal
@@ -38,3 +38,12 @@ loop-column-preserved c =
           let quiet : IsDecision g items (lookahead_at at) Nothing = λ j m has calls. let on = subst (λ n. slice_index_or c.in_ok-called.called n false ≡ true) column (c.in_ok-called.ensures.marked j (lookahead_at at) m has calls) in cc (on, c.has.ensures, w.if-has.false) in
           rw is (record { filled = longer None; each = more None (inl (quiet, refl)) })
     ]
+
+pub returns : goal.returns
+returns c =
+    let g = c.args.grammar.now.grammar in
+    let made : AreChosen g c.args.items.now c.args.row.now c.loop-column.moves.items = record {
+      filled = omega (arith, c.loop-column.invariant.filled, c.loop-column-test.false, c.loop-column.auto.column-end, c.lookaheads-column-end.ensures.count);
+      each = c.loop-column.invariant.each;
+    } in
+    subst (AreChosen g c.args.items.now c.args.row.now) (sym (c.in_ok-row.ensures ∙ c.deref.ensures.value)) made
