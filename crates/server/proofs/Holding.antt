@@ -1,5 +1,5 @@
 -- A document that came to stand otherwise.
-use Rattle.std.proofs.Common.{◌≡◌, ℕ, ℤ, Bool, true, List, [], ◌∷◌, ap, ◌∙◌, sym, subst}
+use Rattle.std.proofs.Common.{◌≡◌, ◌⊎◌, inl, inr, ℕ, ℤ, Bool, true, List, [], ◌∷◌, ap, ◌∙◌, sym, subst}
 use Rattle.std.specs.Prelude.{Option, Some, None}
 use Rattle.std.specs.FinMap.{get, insert}
 use Rattle.docs.specs.Docs.{open_document}
@@ -36,6 +36,13 @@ holds_again old mid uri before state answers stop new same h = by state (subst (
     by : (s : DocumentState) → Holds (state_of old.file old.phase (insert old.documents uri before)) uri s answers stop new → Holds old uri s answers stop new
     by (is_open d) g = (g.0, g.1, g.2, (g.3.0, g.3.1 ∙ ap (λ (x : Held). state_of old.file old.phase x) (inserted_again old.documents uri before (is_open d))))
     by (is_lost loss) g = (g.0, (g.1.0, g.1.1 ∙ ap (λ (x : Held). state_of old.file old.phase x) (inserted_again old.documents uri before (is_lost loss))))
+
+-- one that was let go of, if anything was held
+pub holds_let_go : (old : State) (file : FileGrammar) (documents : Held) (uri : List ℕ) (before state : DocumentState) (answers : List Answer) (stop : Option ℕ) (new : State) → file ≡ old.file → (documents ≡ insert old.documents uri before) ⊎ (documents ≡ old.documents) → Holds (state_of file old.phase documents) uri state answers stop new → Holds old uri state answers stop new
+holds_let_go old file documents uri before state answers stop new e (inl put) h =
+    holds_again old (state_of file old.phase documents) uri before state answers stop new (state_same old.file file old.phase (insert old.documents uri before) documents e put) h
+holds_let_go old file documents uri before state answers stop new e (inr same) h =
+    subst (λ (m : State). Holds m uri state answers stop new) (state_same old.file file old.phase old.documents documents e same) h
 
 -- a change of an open document
 pub changes_open : (old mid : State) (uri : List ℕ) (before : DocumentState) (d : Doc) (version : ℤ) (changes : List TextChange) (state : DocumentState) (answers : List Answer) (stop : Option ℕ) (new : State) → get old.documents uri ≡ Some (is_open (open_document d)) → mid ≡ state_of old.file old.phase (insert old.documents uri before) → Becomes old.file version (open_document d) changes state → Holds mid uri state answers stop new → Changes (get old.documents uri) old uri version changes answers stop new

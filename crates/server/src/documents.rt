@@ -1,8 +1,9 @@
 //! The documents that a server holds.
 
-ghost use Rattle.std.specs.Prelude.{◌≡◌, ◌||◌, Some, None, nat_lt, is_some, option_map, IfSome, IfOk, IfErr, OnOk, OnErr, string_bytes};
+ghost use Rattle.std.specs.Prelude.{◌≡◌, ◌⊎◌, ◌||◌, Some, None, nat_lt, is_some, option_map, IfSome, IfOk, IfErr, OnOk, OnErr, string_bytes};
 ghost use Rattle.std.specs.FinMap as map;
-ghost use Rattle.server.specs.Documents.{has_room};
+ghost use Rattle.rpc.specs.declared.reply.Loss.TheVariants.{Memory};
+ghost use Rattle.server.specs.Documents.{has_room, is_lost};
 ghost use Rattle.server.specs.Holding.{entry_view, IsEntryOf};
 
 use docs::{Doc, Language};
@@ -118,6 +119,16 @@ impl Documents {
             Some(held) => Ok(replace(held, entry)),
             None => Err(entry),
         }
+    }
+
+    /// Lets go of what is held under this URI, if anything is, so that its memory is free for another entry. Until that is held,
+    /// it counts as lost for memory. It takes no memory.
+    pub fn let_go(&mut self, uri: &str)
+        ensures documents { let held = map.insert self.old.documents uri.now (is_lost Memory) in
+            (self.new.documents ≡ held) ⊎ (self.new.documents ≡ self.old.documents) }
+        ensures language { self.new.language ≡ self.old.language }
+    {
+        let _ = self.replace(uri, Entry::Lost(Loss::Memory));
     }
 
     /// Takes out what is held under this URI, if anything is.

@@ -101,6 +101,8 @@ impl Server {
         if !self.documents.has_room(uri.as_str()) {
             return one_log(alloc, Log::TooManyDocuments);
         }
+        // The document that this one replaces goes first, since the two may not both have room.
+        self.documents.let_go(uri.as_str());
         let language = self.documents.language();
         let entry = new_document(alloc, language, unit, version, text.as_str())?;
         self.hold(alloc, uri, entry)
