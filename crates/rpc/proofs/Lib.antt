@@ -5,3 +5,4 @@ mod KnownMethods
 mod Strings
 mod Values
 mod Texts
+mod Objects

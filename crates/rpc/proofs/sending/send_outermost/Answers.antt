@@ -1,13 +1,8 @@
-use Rattle.std.proofs.lemmas.Result.{on_ok_weaker}
+use Rattle.rpc.proofs.Objects.{sends_object, sends_member}
 use Rattle.rpc.proofs.sending.send_outermost.Goals as goal
 
 pub returns : goal.returns
 returns g c =
-    let w = g.S.Serializer.written in
-    on_ok_weaker c.end_map.result
-    (λ e. (
-      w c.begin_map.new.self,
-      c.in_ok-begin_map.ensures,
-      (w c.key.new.self, w c.send_range.new.out, c.in_ok-key.ensures, c.in_ok-send_range.ensures, e),
-    ))
+    sends_object _ _ _ c.end_map.result c.in_ok-begin_map.ensures
+    (λ e. sends_member _ _ c.in_ok-key.ensures c.in_ok-send_range.ensures e)
     c.end_map.ensures
