@@ -1,29 +1,74 @@
-use Rattle.std.proofs.Common.{◌≡◌, ◌<◌, ◌+◌, ◌∷◌, ◌++◌, [], length, slice_get, Some, sym, ap, ◌∙◌, subst, arith}
+use Rattle.std.proofs.Common.{◌≡◌, ◌+◌, ℕ, List, length, slice_get, Some, refl, sym, ap, ◌∙◌, subst, arith}
 use Rattle.std.proofs.lemmas.Option.{slice_get_within}
 use Rattle.definitions.specs.Items.{HasMove, Shift, Reduce, Accept}
-use Rattle.definitions.specs.Trees.{yield}
-use Rattle.definitions.specs.TreeEdits.{plain as plain_tree}
+use Rattle.definitions.specs.declared.Kind.{Kind}
+use Rattle.definitions.specs.Trees.{Tree, yield}
+use Rattle.definitions.specs.TreeEdits.{plain as plain_tree, Stamped}
 use Rattle.definitions.specs.declared.Kind.TheVariants.{Rule as Token}
-use Rattle.trees.specs.Cells.{all_trees, tree}
-use Rattle.trees.specs.declared.store.Child.TheVariants.{Token as TokenChild, Node}
+use Rattle.trees.specs.Cells.{Cell, all_trees, tree}
+use Rattle.trees.specs.declared.store.Child.{Child}
+use Rattle.trees.specs.declared.store.Child.TheVariants.{Node}
 use Rattle.theory.specs.Machine.{Reduces}
 use Rattle.tables.specs.Actions.{plain}
-use Rattle.tables.specs.Tables.{IsStateOf}
+use Rattle.tables.specs.Tables.{Sets, IsStateOf}
 use Rattle.parser.specs.FirstInput.{Offers, IsOffer}
+use Rattle.parser.specs.declared.machine.FirstInput.{FirstInput}
 use Rattle.parser.specs.declared.machine.FirstInput.TheVariants.{Tree as OffersTree, Next as OffersNext}
 use Rattle.parser.specs.Input.{input_of, IsInput}
-use Rattle.parser.specs.Machine.{plain_of}
+use Rattle.parser.specs.Machine.{plain_of, HasStates}
 use Rattle.parser.specs.Parses.{IsStoppedAt, verdict_of}
-use Rattle.parser.specs.Run.{CameFrom, SoFar}
+use Rattle.parser.specs.Run.{CameFrom, ComeFrom, SoFar}
+use Rattle.parser.specs.Stamps.{AreOlder}
 use Rattle.parser.proofs.WhereBranchesComeFrom.{came_reduced, came_shifted, came_taken, come_older, come_on, prefix_came, prefix_from, skipped_came, skipped_left}
 use Rattle.parser.proofs.Inputs.{taken}
-use Rattle.parser.proofs.Moves.{top_stands}
+use Rattle.parser.proofs.Moves.{Reached, top_stands}
 use Rattle.parser.proofs.Reusing.{counted}
 use Rattle.parser.proofs.Running.{after_first, reached, reduced_on, shifted_on, skipped_on, taken_on}
 use Rattle.parser.proofs.Stamps.{prefix_stays}
 use Rattle.parser.proofs.StopDecides.{IsStuck, at_fault, at_end, at_tree}
-use Rattle.parser.proofs.machine.Machine.run.Goals.{then-self-count, else-self-count}
+use Rattle.parser.proofs.machine.Machine.run.Goals.{In_ok-id, After-state, then-self-count, else-self-count}
 use Rattle.parser.proofs.machine.Machine.run.Goals as goal
+
+-- what the rest of the input is and offers, once its left edge was tried
+record IsTried (t : Sets) (kinds : List Kind) (cells : List Cell) (stack : List Tree) (read number : ℕ) (whole : List Stamped) (rest now : List Child) (first : FirstInput) : Type 0 where
+  input : IsInput t.grammar cells now kinds read
+  offers : Offers t.grammar stack (input_of cells now kinds read) (input_of cells rest kinds read)
+  offer : (f : FirstInput) → first ≡ f → IsOffer t cells stack kinds read now f
+  came : ComeFrom whole read (all_trees cells now)
+  older : AreOlder number (all_trees cells now)
+
+tried : (g : _) (c : In_ok-id g) → IsTried c.args.tables.now c.args.kinds.now c.moves.store (plain_of c.moves.store c.moves.self.stack.items) c.moves.self.read c.args.number (all_trees c.args.store.now c.args.input) c.moves.input c.first_input.new.input c.in_ok-id.field-0
+tried g c =
+    let t = c.args.tables.now in
+    let cells = c.moves.store in
+    let read = c.moves.self.read in
+    let trees = plain_of cells c.moves.self.stack.items in
+    let full = c.skip_empty.new.self in
+    let now = c.first_input.new.input in
+    let skips = c.skip_empty.ensures.skips in
+    let h = c.moves.invariant in
+    let is = c.in_ok-id.ensures in
+    record {
+      input = subst (λ kinds. IsInput t.grammar cells now kinds read) h.same is.input;
+      offers = λ f d. (skipped_on t.grammar cells c.args.kinds.now read c.moves.input full skips h.so_far.input).1 trees f (subst (λ kinds. Offers t.grammar trees (input_of cells now kinds read) (input_of cells full kinds read)) h.same is.offers f d);
+      offer = λ f e. subst (IsOffer t cells trees c.args.kinds.now read now) e (subst (λ kinds. IsOffer t cells trees kinds read now c.in_ok-id.field-0) h.same is.offer);
+      came = prefix_came (all_trees c.args.store.now c.args.input) cells read c.moves.input full now h.came.left skips is.came;
+      older = come_older c.args.number 0 (all_trees cells c.moves.input) (all_trees cells now) (prefix_from cells c.moves.input full now skips is.came) h.so_far.older;
+    }
+
+-- the state that the machine is in
+stands : (g : _) (c : After-state g) (h : HasStates c.args.tables.now (plain_of c.moves.store c.moves.self.stack.items) c.moves.self.states.items) → IsStateOf c.args.tables.now h.symbols c.state.result
+stands g c h = subst (IsStateOf c.args.tables.now h.symbols) (sym c.state.ensures) (top_stands c.args.tables.now (plain_of c.moves.store c.moves.self.stack.items) c.moves.self.states.items h)
+
+-- the plain machine has come there too
+arrived : (g : _) (c : After-state g) → Reached c.args.tables.now c.args.kinds.now c.moves.store c.moves.self.stack.items c.moves.self.states.items c.moves.self.read
+arrived g c = reached c.args.tables.now (input_of c.args.store.now c.args.input c.args.kinds.now 0) c.args.kinds.now (length c.args.store.now) c.args.number c.moves.store c.moves.self.stack.items c.moves.self.states.items c.moves.self.read c.moves.input c.moves.invariant.so_far c.requires.accepted.productive
+
+-- how far the run has come, of equal parts
+brought : {t : Sets} {whole : List Tree} {kinds : List Kind} {before number : ℕ} {cells : List Cell} {input : List Stamped} {stack stack' rest rest' : List Child} {states states' : List ℕ} {read read' : ℕ} → stack' ≡ stack → states' ≡ states → read' ≡ read → rest' ≡ rest → SoFar t whole kinds before number cells stack states read rest → CameFrom input before number cells stack read rest
+    → SoFar t whole kinds before number cells stack' states' read' rest' × CameFrom input before number cells stack' read' rest'
+brought {t} {whole} {kinds} {before} {number} {cells} {input} a b n r so_far came =
+    subst (λ (x : List Child × List ℕ × ℕ × List Child). SoFar t whole kinds before number cells x.0 x.1 x.2 x.3 × CameFrom input before number cells x.0 x.2 x.3) (λ i. (sym a i, sym b i, sym n i, sym r i)) (so_far, came)
 
 pub first_input-requires-clause-input : goal.first_input-requires-clause-input
 first_input-requires-clause-input g c = subst (λ kinds. IsInput c.args.tables.now.grammar c.moves.store c.skip_empty.new.self kinds c.moves.self.read) (sym c.moves.invariant.same) (skipped_on c.args.tables.now.grammar c.moves.store c.args.kinds.now c.moves.self.read c.moves.input c.skip_empty.new.self c.skip_empty.ensures.skips c.moves.invariant.so_far.input).0
@@ -34,157 +79,107 @@ moves-preserved-in-Tree g c =
     let kinds = c.args.kinds.now in
     let cells = c.moves.store in
     let m = c.moves.self in
-    let h = c.moves.invariant.so_far in
-    let whole = input_of c.args.store.now c.args.input kinds 0 in
-    let before = length c.args.store.now in
-    let trees = plain_of cells m.stack.items in
-    let on = skipped_on t.grammar cells kinds m.read c.moves.input c.skip_empty.new.self c.skip_empty.ensures.skips h.input in
+    let h = c.moves.invariant in
     let now = c.first_input.new.input in
-    let input = subst (λ kinds. IsInput t.grammar cells now kinds m.read) c.moves.invariant.same c.in_ok-id.ensures.input in
-    let offers : Offers t.grammar trees (input_of cells now kinds m.read) (input_of cells c.moves.input kinds m.read) = λ f d. on.1 trees f (subst (λ kinds. Offers t.grammar trees (input_of cells now kinds m.read) (input_of cells c.skip_empty.new.self kinds m.read)) c.moves.invariant.same c.in_ok-id.ensures.offers f d) in
+    let edge = tried g (goal.at.moves-preserved-in-Tree g c).In_ok-id in
     let id = c.in-Tree.id in
-    let came = prefix_came (all_trees c.args.store.now c.args.input) cells m.read c.moves.input c.skip_empty.new.self now c.moves.invariant.came.left c.skip_empty.ensures.skips c.in_ok-id.ensures.came in
-    let older = come_older c.args.number 0 (all_trees cells c.moves.input) (all_trees cells now) (prefix_from cells c.moves.input c.skip_empty.new.self now c.skip_empty.ensures.skips c.in_ok-id.ensures.came) h.older in
-    let offer = subst (λ kinds. IsOffer t cells trees kinds m.read now (OffersTree c.in-Tree.id c.in-Tree.next)) c.moves.invariant.same (subst (IsOffer t cells trees c.moves.kinds m.read now) c.in-Tree.is c.in_ok-id.ensures.offer) in
+    let offer = edge.offer (OffersTree id c.in-Tree.next) c.in-Tree.is in
     let rest = c.take.new.self in
     let now_is = taken c.take.result now rest offer.0.0 (Node id) c.take.ensures offer.0.1 in
-    let next = taken_on t whole kinds before c.args.number cells m.stack.items m.states.items m.read c.moves.input h now rest id c.in-Tree.next now_is input offers older offer.1 in
+    let one = taken_on t (input_of c.args.store.now c.args.input kinds 0) kinds (length c.args.store.now) c.args.number cells m.stack.items m.states.items m.read c.moves.input h.so_far now rest id c.in-Tree.next now_is edge.input edge.offers edge.older offer.1 in
+    let came = came_taken (all_trees c.args.store.now c.args.input) (length c.args.store.now) c.args.number cells m.stack.items m.read c.moves.input h.came now rest id now_is edge.came edge.older in
     let n = length (yield (plain_tree (tree cells (Node id)))) in
-    let input_now = all_trees c.args.store.now c.args.input in
-    let taken_so = came_taken input_now before c.args.number cells m.stack.items m.read c.moves.input c.moves.invariant.came now rest id now_is came older in
-    let count : c.tokens.result ≡ n = c.tokens.ensures.is ∙ counted n (omega (arith, next.within, c.len-count.ensures, c.len-count.type_inv)) in
+    let count : c.tokens.result ≡ n = c.tokens.ensures.is ∙ counted n (omega (arith, one.within, c.len-count.ensures, c.len-count.type_inv)) in
     let push = c.in_ok-push-in-Tree.ensures in
-    let read : m.read + n ≡ c.push.new.self.read + c.tokens.result = omega (arith, push.read, count) in
-    record {
-      so_far = subst (λ s. SoFar t whole kinds before c.args.number cells s c.push.new.self.states.items (c.push.new.self.read + c.tokens.result) rest) (sym push.stack) (subst (λ s. SoFar t whole kinds before c.args.number cells (m.stack.items ++ (Node id ∷ [])) s (c.push.new.self.read + c.tokens.result) rest) (sym push.states) (subst (λ r. SoFar t whole kinds before c.args.number cells (m.stack.items ++ (Node id ∷ [])) (m.states.items ++ (c.in-Tree.next ∷ [])) r rest) read next));
-      came = subst (λ s. CameFrom input_now before c.args.number cells s (c.push.new.self.read + c.tokens.result) rest) (sym push.stack) (subst (λ r. CameFrom input_now before c.args.number cells (m.stack.items ++ (Node id ∷ [])) r rest) read taken_so);
-      grown = c.moves.invariant.grown;
-      same = c.in_ok-id.ensures.same ∙ c.moves.invariant.same;
-    }
+    let read : c.push.new.self.read + c.tokens.result ≡ m.read + n = omega (arith, push.read, count) in
+    let both = brought push.stack push.states read refl one came in
+    record { so_far = both.0; came = both.1; grown = h.grown; same = c.in_ok-id.ensures.same ∙ h.same }
 
 pub overflow_add-self-in-Some-Shift : goal.overflow_add-self-in-Some-Shift
 overflow_add-self-in-Some-Shift g c =
-    let kinds = c.args.kinds.now in
-    let m = c.moves.self in
-    let trees = plain_of c.moves.store m.stack.items in
-    let offer = subst (λ kinds. IsOffer c.args.tables.now c.moves.store trees kinds m.read c.first_input.new.input (OffersNext c.in-Next.look)) c.moves.invariant.same (subst (IsOffer c.args.tables.now c.moves.store trees c.moves.kinds m.read c.first_input.new.input) c.in-Next.is c.in_ok-id.ensures.offer) in
-    let lt : m.read < length kinds = slice_get_within kinds m.read c.in-Some.kind (sym offer.0 ∙ c.in-Some.is) in
-    omega (arith, lt, c.len-count.ensures, c.len-count.type_inv, c.in_ok-push-in-Some-Shift.ensures.read)
+    let offer = (tried g (goal.at.overflow_add-self-in-Some-Shift g c).In_ok-id).offer (OffersNext c.in-Next.look) c.in-Next.is in
+    omega (arith, slice_get_within c.args.kinds.now c.moves.self.read c.in-Some.kind (sym offer.0 ∙ c.in-Some.is), c.len-count.ensures, c.len-count.type_inv, c.in_ok-push-in-Some-Shift.ensures.read)
 
 pub moves-smaller-in-Some-Shift : goal.moves-smaller-in-Some-Shift
 moves-smaller-in-Some-Shift g c =
-    let kinds = c.args.kinds.now in
-    let m = c.moves.self in
-    let trees = plain_of c.moves.store m.stack.items in
-    let offer = subst (λ kinds. IsOffer c.args.tables.now c.moves.store trees kinds m.read c.first_input.new.input (OffersNext c.in-Next.look)) c.moves.invariant.same (subst (IsOffer c.args.tables.now c.moves.store trees c.moves.kinds m.read c.first_input.new.input) c.in-Next.is c.in_ok-id.ensures.offer) in
-    let lt : m.read < length kinds = slice_get_within kinds m.read c.in-Some.kind (sym offer.0 ∙ c.in-Some.is) in
-    omega (arith, lt, c.in_ok-push-in-Some-Shift.ensures.read)
+    let offer = (tried g (goal.at.moves-smaller-in-Some-Shift g c).In_ok-id).offer (OffersNext c.in-Next.look) c.in-Next.is in
+    omega (arith, slice_get_within c.args.kinds.now c.moves.self.read c.in-Some.kind (sym offer.0 ∙ c.in-Some.is), c.in_ok-push-in-Some-Shift.ensures.read)
 
 pub moves-preserved-in-Some-Shift : goal.moves-preserved-in-Some-Shift
 moves-preserved-in-Some-Shift g c =
+    let at = goal.at.moves-preserved-in-Some-Shift g c in
     let t = c.args.tables.now in
     let kinds = c.args.kinds.now in
     let cells = c.moves.store in
     let m = c.moves.self in
-    let h = c.moves.invariant.so_far in
-    let whole = input_of c.args.store.now c.args.input kinds 0 in
-    let before = length c.args.store.now in
-    let trees = plain_of cells m.stack.items in
-    let on = skipped_on t.grammar cells kinds m.read c.moves.input c.skip_empty.new.self c.skip_empty.ensures.skips h.input in
+    let h = c.moves.invariant in
     let now = c.first_input.new.input in
-    let input = subst (λ kinds. IsInput t.grammar cells now kinds m.read) c.moves.invariant.same c.in_ok-id.ensures.input in
-    let offers : Offers t.grammar trees (input_of cells now kinds m.read) (input_of cells c.moves.input kinds m.read) = λ f d. on.1 trees f (subst (λ kinds. Offers t.grammar trees (input_of cells now kinds m.read) (input_of cells c.skip_empty.new.self kinds m.read)) c.moves.invariant.same c.in_ok-id.ensures.offers f d) in
-    let offer = subst (λ kinds. IsOffer t cells trees kinds m.read now (OffersNext c.in-Next.look)) c.moves.invariant.same (subst (IsOffer t cells trees c.moves.kinds m.read now) c.in-Next.is c.in_ok-id.ensures.offer) in
-    let came = prefix_came (all_trees c.args.store.now c.args.input) cells m.read c.moves.input c.skip_empty.new.self now c.moves.invariant.came.left c.skip_empty.ensures.skips c.in_ok-id.ensures.came in
-    let older = come_older c.args.number 0 (all_trees cells c.moves.input) (all_trees cells now) (prefix_from cells c.moves.input c.skip_empty.new.self now c.skip_empty.ensures.skips c.in_ok-id.ensures.came) h.older in
+    let edge = tried g at.In_ok-id in
+    let offer = edge.offer (OffersNext c.in-Next.look) c.in-Next.is in
     let k = c.in-Some.kind in
     let is : slice_get kinds m.read ≡ Some k = sym offer.0 ∙ c.in-Some.is in
     let rest = c.take-in-Some-Shift.new.self in
-    let after = after_first t.grammar cells kinds m.read now rest c.take-in-Some-Shift.result k offer.1 input is c.take-in-Some-Shift.ensures in
-    let symbols = h.has_states.symbols in
-    let there = subst (IsStateOf t symbols) (sym c.state.ensures) (top_stands t trees m.states.items h.has_states) in
-    let next = c.in-Some-Shift.next in
+    let after = after_first t.grammar cells kinds m.read now rest c.take-in-Some-Shift.result k offer.1 edge.input is c.take-in-Some-Shift.ensures in
+    let symbols = h.so_far.has_states.symbols in
+    let there = stands g at.After-state h.so_far.has_states in
     let called : HasMove t.grammar symbols (Some k) Shift = subst (λ l. HasMove t.grammar symbols l Shift) c.in-Some.is (subst (λ move. HasMove t.grammar symbols c.in-Next.look (plain move)) c.in-Some-Shift.field-0-is (c.in-Some-Shift.ensures.is symbols there)) in
-    let a = called.calls.0 in
-    let rule : k ≡ Token a = let same : Some k ≡ Some (Token a) = called.calls.3 in cc same in
-    let goes = c.in-Some-Shift.ensures.shifts symbols a next there (c.in-Some.is ∙ ap Some rule) (ap Some c.in-Some-Shift.field-0-is) in
-    let one = shifted_on t whole kinds before c.args.number cells m.stack.items m.states.items m.read c.moves.input h now rest k a next after input offers older rule (slice_get_within kinds m.read k is) called goes in
+    let rule : k ≡ Token called.calls.0 = let same : Some k ≡ Some (Token called.calls.0) = called.calls.3 in cc same in
+    let goes = c.in-Some-Shift.ensures.shifts symbols called.calls.0 c.in-Some-Shift.next there (c.in-Some.is ∙ ap Some rule) (ap Some c.in-Some-Shift.field-0-is) in
+    let one = shifted_on t (input_of c.args.store.now c.args.input kinds 0) kinds (length c.args.store.now) c.args.number cells m.stack.items m.states.items m.read c.moves.input h.so_far now rest k called.calls.0 c.in-Some-Shift.next after edge.input edge.offers edge.older rule (slice_get_within kinds m.read k is) called goes in
+    let input = all_trees c.args.store.now c.args.input in
+    let came = came_shifted input (length c.args.store.now) c.args.number cells m.stack.items m.read c.moves.input h.came rest k (come_on m.read 1 input (all_trees cells now) (all_trees cells rest) edge.came after.came) in
     let push = c.in_ok-push-in-Some-Shift.ensures in
-    let m' = c.push-in-Some-Shift.new.self in
-    let input_now = all_trees c.args.store.now c.args.input in
-    let shifted_so = came_shifted input_now before c.args.number cells m.stack.items m.read c.moves.input c.moves.invariant.came rest k (come_on m.read 1 input_now (all_trees cells now) (all_trees cells rest) came after.came) in
-    record {
-      so_far = subst (λ s. SoFar t whole kinds before c.args.number cells s m'.states.items (m'.read + 1) rest) (sym push.stack) (subst (λ s. SoFar t whole kinds before c.args.number cells (m.stack.items ++ (TokenChild k ∷ [])) s (m'.read + 1) rest) (sym push.states) (subst (λ r. SoFar t whole kinds before c.args.number cells (m.stack.items ++ (TokenChild k ∷ [])) (m.states.items ++ (next ∷ [])) (r + 1) rest) (sym push.read) one));
-      came = subst (λ s. CameFrom input_now before c.args.number cells s (m'.read + 1) rest) (sym push.stack) (subst (λ r. CameFrom input_now before c.args.number cells (m.stack.items ++ (TokenChild k ∷ [])) (r + 1) rest) (sym push.read) shifted_so);
-      grown = c.moves.invariant.grown;
-      same = c.in_ok-id.ensures.same ∙ c.moves.invariant.same;
-    }
+    let both = brought push.stack push.states (ap (λ n. n + 1) push.read) refl one came in
+    record { so_far = both.0; came = both.1; grown = h.grown; same = c.in_ok-id.ensures.same ∙ h.same }
 
 pub moves-preserved : goal.moves-preserved
 moves-preserved g c =
+    let at = goal.at.moves-preserved g c in
     let t = c.args.tables.now in
     let kinds = c.args.kinds.now in
     let cells = c.moves.store in
     let m = c.moves.self in
-    let h = c.moves.invariant.so_far in
-    let whole = input_of c.args.store.now c.args.input kinds 0 in
-    let before = length c.args.store.now in
-    let trees = plain_of cells m.stack.items in
+    let h = c.moves.invariant in
     let full = c.skip_empty.new.self in
-    let on = skipped_on t.grammar cells kinds m.read c.moves.input full c.skip_empty.ensures.skips h.input in
     let now = c.first_input.new.input in
-    let input = subst (λ kinds. IsInput t.grammar cells now kinds m.read) c.moves.invariant.same c.in_ok-id.ensures.input in
-    let offers : Offers t.grammar trees (input_of cells now kinds m.read) (input_of cells c.moves.input kinds m.read) = λ f d. on.1 trees f (subst (λ kinds. Offers t.grammar trees (input_of cells now kinds m.read) (input_of cells c.skip_empty.new.self kinds m.read)) c.moves.invariant.same c.in_ok-id.ensures.offers f d) in
-    let offer = subst (λ kinds. IsOffer t cells trees kinds m.read now (OffersNext c.in-Next.look)) c.moves.invariant.same (subst (IsOffer t cells trees c.moves.kinds m.read now) c.in-Next.is c.in_ok-id.ensures.offer) in
-    let symbols = h.has_states.symbols in
-    let there = subst (IsStateOf t symbols) (sym c.state.ensures) (top_stands t trees m.states.items h.has_states) in
+    let skips = c.skip_empty.ensures.skips in
+    let on = skipped_on t.grammar cells kinds m.read c.moves.input full skips h.so_far.input in
+    let edge = tried g at.In_ok-id in
+    let offer = edge.offer (OffersNext c.in-Next.look) c.in-Next.is in
+    let states = h.so_far.has_states in
     let p = c.in-Some-Reduce.production in
     let new = c.reduce.new.store in
     let m' = c.reduce.new.self in
-    let called : HasMove t.grammar symbols c.in-Next.look (Reduce p) = subst (λ move. HasMove t.grammar symbols c.in-Next.look (plain move)) c.in-Some-Reduce.field-0-is (c.in-Some-Reduce.ensures.is symbols there) in
+    let called : HasMove t.grammar states.symbols c.in-Next.look (Reduce p) = subst (λ move. HasMove t.grammar states.symbols c.in-Next.look (plain move)) c.in-Some-Reduce.field-0-is (c.in-Some-Reduce.ensures.is states.symbols (stands g at.After-state states)) in
     let done = c.in_ok-reduce-in-Some-Reduce.ensures in
-    let reduces = subst (λ l. Reduces t.grammar trees l (plain_of new m'.stack.items)) offer.0 (done.reduced c.in-Next.look symbols h.has_states.roots called) in
+    let reduces = subst (λ l. Reduces t.grammar (plain_of cells m.stack.items) l (plain_of new m'.stack.items)) offer.0 (done.reduced c.in-Next.look states.symbols states.roots called) in
     let closed = c.in_ok-close-in-Some-Reduce.ensures full c.in_ok-id.ensures.opened c.len-trees.ensures c.first-first.ensures in
-    let one = reduced_on t whole kinds before c.args.number cells m.stack.items m.states.items m.read c.moves.input h now offer.1 offers p new m'.stack.items m'.states.items done.made reduces done.states full on.0 on.1 (come_older c.args.number 0 (all_trees cells c.moves.input) (all_trees cells full) (skipped_came cells c.moves.input full c.skip_empty.ensures.skips) h.older) in
-    let input_now = all_trees c.args.store.now c.args.input in
-    let reduced_so = came_reduced input_now before c.args.number cells m.stack.items m.read c.moves.input c.moves.invariant.came p new m'.stack.items done.made h.below full on.0.below (skipped_left input_now cells m.read c.moves.input full c.moves.invariant.came.left c.skip_empty.ensures.skips) in
-    record {
-      so_far = subst (λ r. SoFar t whole kinds before c.args.number new m'.stack.items m'.states.items r c.close.new.self) (sym done.read) (subst (SoFar t whole kinds before c.args.number new m'.stack.items m'.states.items m.read) (sym closed) one);
-      came = subst (λ r. CameFrom input_now before c.args.number new m'.stack.items r c.close.new.self) (sym done.read) (subst (CameFrom input_now before c.args.number new m'.stack.items m.read) (sym closed) reduced_so);
-      grown = prefix_stays c.args.store.now cells new c.moves.invariant.grown done.grown;
-      same = c.in_ok-id.ensures.same ∙ c.moves.invariant.same;
-    }
+    let one = reduced_on t (input_of c.args.store.now c.args.input kinds 0) kinds (length c.args.store.now) c.args.number cells m.stack.items m.states.items m.read c.moves.input h.so_far now offer.1 edge.offers p new m'.stack.items m'.states.items done.made reduces done.states full on.0 on.1 (come_older c.args.number 0 (all_trees cells c.moves.input) (all_trees cells full) (skipped_came cells c.moves.input full skips) h.so_far.older) in
+    let input = all_trees c.args.store.now c.args.input in
+    let came = came_reduced input (length c.args.store.now) c.args.number cells m.stack.items m.read c.moves.input h.came p new m'.stack.items done.made h.so_far.below full on.0.below (skipped_left input cells m.read c.moves.input full h.came.left skips) in
+    let both = brought refl refl done.read closed one came in
+    record { so_far = both.0; came = both.1; grown = prefix_stays c.args.store.now cells new h.grown done.grown; same = c.in_ok-id.ensures.same ∙ h.same }
 
 pub returns-in-Some-Accept-clause-stops : goal.returns-in-Some-Accept-clause-stops
 returns-in-Some-Accept-clause-stops g c =
+    let at = goal.at.returns-in-Some-Accept-clause-stops g c in
     let t = c.args.tables.now in
     let kinds = c.args.kinds.now in
-    let cells = c.moves.store in
     let m = c.moves.self in
-    let h = c.moves.invariant.so_far in
-    let whole = input_of c.args.store.now c.args.input kinds 0 in
-    let trees = plain_of cells m.stack.items in
-    let offer = subst (λ kinds. IsOffer t cells trees kinds m.read c.first_input.new.input (OffersNext c.in-Next.look)) c.moves.invariant.same (subst (IsOffer t cells trees c.moves.kinds m.read c.first_input.new.input) c.in-Next.is c.in_ok-id.ensures.offer) in
-    let here = reached t whole kinds (length c.args.store.now) c.args.number cells m.stack.items m.states.items m.read c.moves.input h c.requires.accepted.productive in
+    let here = arrived g at.After-state in
     let symbols = here.has_states.symbols in
-    let there = subst (IsStateOf t symbols) (sym c.state.ensures) (top_stands t trees m.states.items here.has_states) in
-    let called : HasMove t.grammar symbols (slice_get kinds m.read) Accept = subst (λ l. HasMove t.grammar symbols l Accept) offer.0 (subst (λ move. HasMove t.grammar symbols c.in-Next.look (plain move)) c.in-Some-Accept.field-0-is (c.in-Some-Accept.ensures.is symbols there)) in
-    at_tree t c.requires.accepted kinds cells m.stack.items m.states.items m.read here called
+    let called : HasMove t.grammar symbols (slice_get kinds m.read) Accept = subst (λ l. HasMove t.grammar symbols l Accept) ((tried g at.In_ok-id).offer (OffersNext c.in-Next.look) c.in-Next.is).0 (subst (λ move. HasMove t.grammar symbols c.in-Next.look (plain move)) c.in-Some-Accept.field-0-is (c.in-Some-Accept.ensures.is symbols (stands g at.After-state here.has_states))) in
+    at_tree t c.requires.accepted kinds c.moves.store m.stack.items m.states.items m.read here called
 
 pub returns-in-None-clause-stops : goal.returns-in-None-clause-stops
 returns-in-None-clause-stops g c =
+    let at = goal.at.returns-in-None-clause-stops g c in
     let t = c.args.tables.now in
     let kinds = c.args.kinds.now in
     let cells = c.moves.store in
     let m = c.moves.self in
-    let h = c.moves.invariant.so_far in
-    let whole = input_of c.args.store.now c.args.input kinds 0 in
-    let trees = plain_of cells m.stack.items in
-    let offer = subst (λ kinds. IsOffer t cells trees kinds m.read c.first_input.new.input (OffersNext c.in-Next.look)) c.moves.invariant.same (subst (IsOffer t cells trees c.moves.kinds m.read c.first_input.new.input) c.in-Next.is c.in_ok-id.ensures.offer) in
-    let here = reached t whole kinds (length c.args.store.now) c.args.number cells m.stack.items m.states.items m.read c.moves.input h c.requires.accepted.productive in
-    let symbols = here.has_states.symbols in
-    let there = subst (IsStateOf t symbols) (sym c.state.ensures) (top_stands t trees m.states.items here.has_states) in
-    let stuck : IsStuck t c.requires.accepted kinds cells m.stack.items m.states.items m.read here = λ move called. c.in-None.ensures.is symbols there move (subst (λ l. HasMove t.grammar symbols l move) (sym offer.0) called) in
+    let here = arrived g at.After-state in
+    let stuck : IsStuck t c.requires.accepted kinds cells m.stack.items m.states.items m.read here = λ move called. c.in-None.ensures.is here.has_states.symbols (stands g at.After-state here.has_states) move (subst (λ l. HasMove t.grammar here.has_states.symbols l move) (sym ((tried g at.In_ok-id).offer (OffersNext c.in-Next.look) c.in-Next.is).0) called) in
     elim c.if-self-count.branch [
       | then-self-count w ↦ subst (λ halt. IsStoppedAt t kinds cells (verdict_of halt m.stack.items) m.stack.items m.states.items) (sym w.result-is) (at_fault t c.requires.accepted kinds cells m.stack.items m.states.items m.read here stuck (omega (arith, w.if-self-count.true, c.len-count.ensures)))
       | else-self-count w ↦ subst (λ halt. IsStoppedAt t kinds cells (verdict_of halt m.stack.items) m.stack.items m.states.items) (sym w.result-is) (at_end t c.requires.accepted kinds cells m.stack.items m.states.items m.read here stuck (omega (arith, w.if-self-count.false, c.len-count.ensures)))

@@ -1,4 +1,4 @@
-use Rattle.std.proofs.Common.{◌+◌, ap, arith, drop, length, subst, sym}
+use Rattle.std.proofs.Common.{[], ◌+◌, ap, arith, drop, length, subst, sym}
 use Rattle.definitions.specs.Nodes.{all_branches}
 use Rattle.parser.specs.Machine.{plain_of}
 use Rattle.trees.specs.Cells.{all_trees}
@@ -10,6 +10,13 @@ use Rattle.parser.proofs.Running.{no_input}
 use Rattle.parser.proofs.Stamping.{none_in_nothing}
 use Rattle.parser.proofs.Stamps.{trees_stay}
 use Rattle.parser.proofs.parse.Parse.whole.Goals as goal
+
+-- the run over no trees, and over all kinds after them
+made : (g : _) (c : goal.In-Ok g) → let kinds = g.K.Kinds.kinds c.args.kinds.now in
+    IsMadeByRun c.args.tables.now (input_of c.args.store.now [] kinds 0) kinds (length c.args.store.now) 0 c.parse_from.new.store c.in-Ok.parse.stack
+made g c =
+    let kinds = g.K.Kinds.kinds c.args.kinds.now in
+    subst (λ l. IsMadeByRun c.args.tables.now (input_of c.args.store.now l kinds 0) kinds (length c.args.store.now) 0 c.parse_from.new.store c.in-Ok.parse.stack) c.new.ensures c.in-Ok.ensures.run
 
 pub parse_from-requires-clause-input : goal.parse_from-requires-clause-input
 parse_from-requires-clause-input g c =
@@ -24,23 +31,13 @@ parse_from-requires-clause-fits g c = omega (arith, ap (λ l. all_branches (plai
 
 pub returns-in-Ok-clause-stamps : goal.returns-in-Ok-clause-stamps
 returns-in-Ok-clause-stamps g c =
-    let t = c.args.tables.now in
     let kinds = g.K.Kinds.kinds c.args.kinds.now in
-    let cells = c.args.store.now in
-    let new = c.parse_from.new.store in
-    let stack = c.in-Ok.parse.stack in
-    let run = subst (λ l. IsMadeByRun t (input_of cells l kinds 0) kinds (length cells) 0 new stack) c.new.ensures c.in-Ok.ensures.run in
-    plain_stamps t (drop (0 + 0) kinds) kinds (length cells) 0 new stack run
+    plain_stamps c.args.tables.now (drop (0 + 0) kinds) kinds (length c.args.store.now) 0 c.parse_from.new.store c.in-Ok.parse.stack (made g c)
 
 pub returns-in-Ok-clause-count : goal.returns-in-Ok-clause-count
 returns-in-Ok-clause-count g c =
-    let t = c.args.tables.now in
     let kinds = g.K.Kinds.kinds c.args.kinds.now in
-    let cells = c.args.store.now in
-    let new = c.parse_from.new.store in
-    let stack = c.in-Ok.parse.stack in
-    let run = subst (λ l. IsMadeByRun t (input_of cells l kinds 0) kinds (length cells) 0 new stack) c.new.ensures c.in-Ok.ensures.run in
-    plain_count t (drop (0 + 0) kinds) kinds (length cells) 0 new stack run
+    plain_count c.args.tables.now (drop (0 + 0) kinds) kinds (length c.args.store.now) 0 c.parse_from.new.store c.in-Ok.parse.stack (made g c)
 
 pub returns-in-Ok-clause-built : goal.returns-in-Ok-clause-built
 returns-in-Ok-clause-built g c =
