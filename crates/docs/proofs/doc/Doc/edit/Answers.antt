@@ -1,7 +1,6 @@
 use Rattle.std.proofs.Common.{◌≡◌, ◌<◌, ◌≤◌, ◌+◌, ◌-◌, ℕ, List, length, min, refl, ap, sym, subst, ◌∙◌, arith}
 use Rattle.std.specs.Prelude.{All}
 use Rattle.std.specs.Str.{chars}
-use Rattle.std.proofs.lemmas.Result.{err_from_is_err_and}
 use Rattle.definitions.specs.Text.{edit}
 use Rattle.definitions.proofs.TokensKept.{length-edit}
 use Rattle.parser.specs.Machine.{AreMadeBy}
@@ -13,7 +12,7 @@ use Rattle.docs.specs.declared.doc.Doc.{Doc}
 use Rattle.docs.specs.Edits.{edit_of}
 use Rattle.docs.proofs.Edits.{next_is, next_later, next_positive, number_after_edit, same_edit}
 use Rattle.docs.proofs.Stamps.{born_on, stamped_so}
-use Rattle.docs.proofs.Refusals.{IsText-changed, large_edit, large_or_not, passed_on, after_text, all_made}
+use Rattle.docs.proofs.Refusals.{IsText-changed, large_edit, passed_on, after_text, all_made}
 use Rattle.docs.proofs.doc.Doc.edit.Goals as goal
 
 pub rescan-requires : goal.rescan-requires
@@ -66,27 +65,20 @@ returns-clause-changed c =
 
 pub returns-in_err-replace-clause-too_large : goal.returns-in_err-replace-clause-too_large
 returns-in_err-replace-clause-too_large c =
-    let p = err_from_is_err_and c.from_residual.result c.from_residual.ensures.1 in
-    let over = large_or_not _ (IsText-changed c.args.self.now.unit c.args.self.now.text c.args.range c.args.new.now c.len-before.ensures.characters c.utf8.new) in
-    let by = large_edit c.replace.result (c.span-from.ensures.edits (chars c.args.new.now)) c.replace.ensures.too_large in
-    passed_on c.replace.result _ _ by over _ c.in_err-replace.field-0.0 p.0 c.in_err-replace.was p.1 p.2
+    let by = large_edit c.replace.result (IsText-changed c.args.self.now.unit c.args.self.now.text c.args.range c.args.new.now c.len-before.ensures.characters c.utf8.new) (c.span-from.ensures.edits (chars c.args.new.now)) c.replace.ensures.too_large in
+    passed_on c.replace.result _ by _ c.in_err-replace.field-0.0 c.in_err-replace.was c.from_residual.ensures.1
 
 pub returns-in_err-splice-clause-too_large : goal.returns-in_err-splice-clause-too_large
 returns-in_err-splice-clause-too_large c =
-    let p = err_from_is_err_and c.from_residual-in_err-splice.result c.from_residual-in_err-splice.ensures.1 in
-    let over = large_or_not _ (IsText-changed c.args.self.now.unit c.args.self.now.text c.args.range c.args.new.now c.len-before.ensures.characters c.utf8.new) in
-    let by = large_edit c.replace.result (c.span-from.ensures.edits (chars c.args.new.now)) c.replace.ensures.too_large in
-    after_text c.replace.result _ _ by over _ c.in_ok-replace.field-0 p.0 c.in_ok-replace.was p.1 p.2
+    let by = large_edit c.replace.result (IsText-changed c.args.self.now.unit c.args.self.now.text c.args.range c.args.new.now c.len-before.ensures.characters c.utf8.new) (c.span-from.ensures.edits (chars c.args.new.now)) c.replace.ensures.too_large in
+    after_text c.replace.result _ by _ c.in_ok-replace.field-0 c.in_ok-replace.was c.from_residual-in_err-splice.ensures.1
 
 pub returns-in_err-reparse-clause-too_large : goal.returns-in_err-reparse-clause-too_large
 returns-in_err-reparse-clause-too_large c =
-    let p = err_from_is_err_and c.from_residual-in_err-reparse.result c.from_residual-in_err-reparse.ensures.1 in
-    let over = large_or_not _ (IsText-changed c.args.self.now.unit c.args.self.now.text c.args.range c.args.new.now c.len-before.ensures.characters c.utf8.new) in
-    let by = large_edit c.replace.result (c.span-from.ensures.edits (chars c.args.new.now)) c.replace.ensures.too_large in
-    after_text c.replace.result _ _ by over _ c.in_ok-replace.field-0 p.0 c.in_ok-replace.was p.1 p.2
+    let by = large_edit c.replace.result (IsText-changed c.args.self.now.unit c.args.self.now.text c.args.range c.args.new.now c.len-before.ensures.characters c.utf8.new) (c.span-from.ensures.edits (chars c.args.new.now)) c.replace.ensures.too_large in
+    after_text c.replace.result _ by _ c.in_ok-replace.field-0 c.in_ok-replace.was c.from_residual-in_err-reparse.ensures.1
 
 pub returns-clause-too_large : goal.returns-clause-too_large
 returns-clause-too_large c =
-    let over = large_or_not _ (IsText-changed c.args.self.now.unit c.args.self.now.text c.args.range c.args.new.now c.len-before.ensures.characters c.utf8.new) in
-    let by = large_edit c.replace.result (c.span-from.ensures.edits (chars c.args.new.now)) c.replace.ensures.too_large in
-    all_made c.replace.result _ _ by over _ c.in_ok-replace.field-0 _ c.in_ok-replace.was refl
+    let by = large_edit c.replace.result (IsText-changed c.args.self.now.unit c.args.self.now.text c.args.range c.args.new.now c.len-before.ensures.characters c.utf8.new) (c.span-from.ensures.edits (chars c.args.new.now)) c.replace.ensures.too_large in
+    all_made c.replace.result _ by _ c.in_ok-replace.field-0 _ c.in_ok-replace.was refl

@@ -1,23 +1,20 @@
 use Rattle.std.proofs.Common.{refl}
 use Rattle.std.specs.Str.{chars}
-use Rattle.std.proofs.lemmas.Result.{err_from_is_err_and}
 use Rattle.docs.specs.Texts.{fits}
-use Rattle.docs.proofs.Refusals.{unless, spelled_or_not, passed_on, text_made, after_text, all_made}
+use Rattle.docs.proofs.Refusals.{unless, large_text, passed_on, text_made, after_text, all_made}
 use Rattle.docs.proofs.doc.Doc.open.Goals as goal
 
 pub returns-in_err-text-clause-too_large : goal.returns-in_err-text-clause-too_large
 returns-in_err-text-clause-too_large c =
-    let p = err_from_is_err_and c.from_residual.result c.from_residual.ensures.1 in
-    passed_on c.open.result _ _ c.open.ensures.too_large (spelled_or_not c.args.text.now c.utf8.text) _ c.in_err-text.field-0.0 p.0 c.in_err-text.was p.1 p.2
+    passed_on c.open.result _ (large_text c.open.result c.args.text.now c.utf8.text c.open.ensures.too_large) _ c.in_err-text.field-0.0 c.in_err-text.was c.from_residual.ensures.1
 
 pub returns-in_err-of-clause-too_large : goal.returns-in_err-of-clause-too_large
 returns-in_err-of-clause-too_large c =
-    let p = err_from_is_err_and c.from_residual-in_err-of.result c.from_residual-in_err-of.ensures.1 in
-    after_text c.open.result _ _ c.open.ensures.too_large (spelled_or_not c.args.text.now c.utf8.text) _ c.in_ok-text.text p.0 c.in_ok-text.was p.1 p.2
+    after_text c.open.result _ (large_text c.open.result c.args.text.now c.utf8.text c.open.ensures.too_large) _ c.in_ok-text.text c.in_ok-text.was c.from_residual-in_err-of.ensures.1
 
 pub returns-clause-fits : goal.returns-clause-fits
-returns-clause-fits c = unless (fits (chars c.args.text.now)) (text_made c.open.result _ _ c.open.ensures.too_large (spelled_or_not c.args.text.now c.utf8.text) c.in_ok-text.text c.in_ok-text.was)
+returns-clause-fits c = unless (fits (chars c.args.text.now)) (text_made c.open.result _ (large_text c.open.result c.args.text.now c.utf8.text c.open.ensures.too_large) c.in_ok-text.text c.in_ok-text.was)
 
 pub returns-clause-too_large : goal.returns-clause-too_large
 returns-clause-too_large c =
-    all_made c.open.result _ _ c.open.ensures.too_large (spelled_or_not c.args.text.now c.utf8.text) _ c.in_ok-text.text _ c.in_ok-text.was refl
+    all_made c.open.result _ (large_text c.open.result c.args.text.now c.utf8.text c.open.ensures.too_large) _ c.in_ok-text.text _ c.in_ok-text.was refl

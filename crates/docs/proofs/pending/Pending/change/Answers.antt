@@ -1,7 +1,6 @@
 use Rattle.std.proofs.Common.{◌≡◌, ◌↔◌, ◌<◌, ◌≤◌, ◌+◌, ◌-◌, ◌∙◌, ℕ, List, true, false, length, sym, ap, subst, arith}
 use Rattle.std.specs.Prelude.{Option, Some, None, Err, MatchOption, encode_utf8_all}
 use Rattle.std.specs.Str.{chars}
-use Rattle.std.proofs.lemmas.Result.{err_from_is_err_and}
 use Rattle.definitions.specs.declared.Edit.{Edit}
 use Rattle.definitions.specs.Text.{IsText, changed, edit}
 use Rattle.definitions.proofs.TokensKept.{length-edit}
@@ -10,7 +9,7 @@ use Rattle.docs.specs.declared.doc.DocFault.TheVariants.{TooLarge, Memory}
 use Rattle.docs.specs.Pending.{LeadsTo, number_or}
 use Rattle.docs.specs.Texts.{fits}
 use Rattle.docs.proofs.JoinedEdits.{small_edit}
-use Rattle.docs.proofs.Refusals.{IsText-changed, large_edit, large_or_not, passed_on, text_made, unless}
+use Rattle.docs.proofs.Refusals.{IsText-changed, large_edit, passed_on, text_made, unless}
 use Rattle.docs.proofs.pending.Pending.change.Goals as goal
 
 -- of the pending edit, how it leads, and that its number is no earlier one
@@ -35,10 +34,8 @@ returns-in_err-replace-clause-memory c refused none =
     let s = chars c.args.new.now in
     let old = c.args.self.now.doc in
     let same = ap (λ t. edit t c.span-from.result.0 c.span-from.result.1 s) c.in_ok-settle_apart.ensures.text ∙ sym (c.span-from.ensures.edits s) in
-    let over = large_or_not _ (IsText-changed old.unit old.text c.args.range c.args.new.now (subst IsText c.in_ok-settle_apart.ensures.text c.len-before.ensures.characters) c.utf8.new) in
-    let by = large_edit c.replace.result (sym same) c.replace.ensures.too_large in
-    let p = err_from_is_err_and c.from_residual-in_err-replace.result c.from_residual-in_err-replace.ensures.1 in
-    let large = passed_on c.replace.result _ _ by over c.from_residual-in_err-replace.result c.in_err-replace.field-0.0 p.0 c.in_err-replace.was p.1 p.2 in
+    let by = large_edit c.replace.result (IsText-changed old.unit old.text c.args.range c.args.new.now (subst IsText c.in_ok-settle_apart.ensures.text c.len-before.ensures.characters) c.utf8.new) (sym same) c.replace.ensures.too_large in
+    let large = passed_on c.replace.result _ by c.from_residual-in_err-replace.result c.in_err-replace.field-0.0 c.in_err-replace.was c.from_residual-in_err-replace.ensures.1 in
     unless _ (λ f. let both : Err TooLarge ≡ Err Memory = sym (large.1 f) ∙ refused in let g : ⊥ = cc in g)
 
 pub returns-clause-text : goal.returns-clause-text
@@ -46,9 +43,8 @@ returns-clause-text c =
     let s = chars c.args.new.now in
     let old = c.args.self.now.doc in
     let same = ap (λ t. edit t c.span-from.result.0 c.span-from.result.1 s) c.in_ok-settle_apart.ensures.text ∙ sym (c.span-from.ensures.edits s) in
-    let over = large_or_not _ (IsText-changed old.unit old.text c.args.range c.args.new.now (subst IsText c.in_ok-settle_apart.ensures.text c.len-before.ensures.characters) c.utf8.new) in
-    let by = large_edit c.replace.result (sym same) c.replace.ensures.too_large in
-    (c.in_ok-replace.ensures.edited ∙ same, unless _ (text_made c.replace.result _ _ by over c.in_ok-replace.field-0 c.in_ok-replace.was))
+    let by = large_edit c.replace.result (IsText-changed old.unit old.text c.args.range c.args.new.now (subst IsText c.in_ok-settle_apart.ensures.text c.len-before.ensures.characters) c.utf8.new) (sym same) c.replace.ensures.too_large in
+    (c.in_ok-replace.ensures.edited ∙ same, unless _ (text_made c.replace.result _ by c.in_ok-replace.field-0 c.in_ok-replace.was))
 
 pub returns-clause-pending : goal.returns-clause-pending
 returns-clause-pending c =
