@@ -1,45 +1,38 @@
-use Rattle.std.proofs.Common.{◌≡◌, ◌≤◌, ◌+◌, [], Some, None, slice_index_or, sym, ap, ◌∙◌, subst, arith}
+use Rattle.std.proofs.Common.{◌≡◌, ◌<◌, ◌≤◌, ℕ, List, [], Option, Some, None, length, slice_index_or, sym, ap, ◌∙◌, subst, arith}
 use Rattle.std.proofs.lemmas.List.{get_or_default}
 use Rattle.definitions.specs.declared.Kind.TheVariants.{Rule as Token}
+use Rattle.first_sets.specs.Lookaheads.{rank}
+use Rattle.tables.specs.declared.decisions.Move.{Move}
 use Rattle.tables.specs.declared.decisions.Move.TheVariants.{Shift}
-use Rattle.tables.specs.Tables.{seen, IsAction, move_at}
+use Rattle.tables.specs.Tables.{Sets, seen, IsAction, move_at}
 use Rattle.tables.proofs.RowsOfPrefix.{right, far_move, shift_state}
 use Rattle.tables.proofs.tables.Tables.action.Goals as goal
+
+-- a move that was read in the row of a state is the one in the tables
+move_read : (t : Sets) (s : ℕ) (look : Option ℕ) {row : List (Option Move)} {move : Option Move} → row ≡ slice_index_or t.moves s row → move ≡ slice_index_or row (rank look) None → s < length t.moves → move ≡ move_at t s look
+move_read t s look {row} there read below = read ∙ ap (λ r. slice_index_or r (rank look) None) (there ∙ get_or_default t.moves s row [] below)
 
 pub returns-in-None-clause-is : goal.returns-in-None-clause-is
 returns-in-None-clause-is c =
     let inside = c.self.inside in
     let t = seen inside.productions.grammar inside.gotos.items inside.moves.items in
     let s = c.args.state in
-    rw (← c.self.view_is, c.in-None.is) (λ prefix h.
-    let row : c.index-moves.result.now ≡ slice_index_or t.moves s [] = c.index-moves.ensures ∙ get_or_default t.moves s c.index-moves.result.now [] h.below in
-    let at : c.at.result ≡ move_at t s None = c.at.ensures ∙ ap (λ r. slice_index_or r 0 None) row in
-    rw at ((right inside.productions.nonterminals t c.self.invariant prefix s h).moves None))
+    rw (← c.self.view_is, c.in-None.is) (λ prefix h. rw (move_read t s None c.index-moves.ensures c.at.ensures h.below) ((right inside.productions.nonterminals t c.self.invariant prefix s h).moves None))
 
-pub returns-then-a-rules-clause-is : goal.returns-then-a-rules-clause-is
-returns-then-a-rules-clause-is c =
+pub returns-then-a-rules : goal.returns-then-a-rules
+returns-then-a-rules c =
     let inside = c.self.inside in
     let t = seen inside.productions.grammar inside.gotos.items inside.moves.items in
     let s = c.args.state in
     let a = c.in-Rule.a in
     let look : c.args.look ≡ Some (Token a) = c.in-Some.is ∙ ap (λ k. Some k) c.in-Rule.is in
-    rw (← c.self.view_is, look) (λ prefix h.
-    let row : c.index-moves.result.now ≡ slice_index_or t.moves s [] = c.index-moves.ensures ∙ get_or_default t.moves s c.index-moves.result.now [] h.below in
-    let at : c.at-then-a-rules.result ≡ move_at t s (Some a) = c.at-then-a-rules.ensures ∙ ap (λ r. slice_index_or r (a + 1) None) row in
-    rw at ((right inside.productions.nonterminals t c.self.invariant prefix s h).moves (Some a)))
-
-pub returns-then-a-rules-clause-shifts : goal.returns-then-a-rules-clause-shifts
-returns-then-a-rules-clause-shifts c =
-    let inside = c.self.inside in
-    let t = seen inside.productions.grammar inside.gotos.items inside.moves.items in
-    let s = c.args.state in
-    let a = c.in-Rule.a in
-    let look : c.args.look ≡ Some (Token a) = c.in-Some.is ∙ ap (λ k. Some k) c.in-Rule.is in
-    rw (← c.self.view_is) (λ prefix b to h next shift.
-    let row : c.index-moves.result.now ≡ slice_index_or t.moves s [] = c.index-moves.ensures ∙ get_or_default t.moves s c.index-moves.result.now [] h.below in
-    let at : c.at-then-a-rules.result ≡ move_at t s (Some a) = c.at-then-a-rules.ensures ∙ ap (λ r. slice_index_or r (a + 1) None) row in
-    let same : a ≡ b = cc (look, next) in
-    shift_state inside.productions.nonterminals t c.self.invariant prefix s h b to (subst (λ n. move_at t s (Some n) ≡ Some (Shift to)) same (sym at ∙ shift)))
+    let read = move_read t s (Some a) c.index-moves.ensures c.at-then-a-rules.ensures in
+    record {
+      is = rw (← c.self.view_is, look) (λ prefix h. rw (read h.below) ((right inside.productions.nonterminals t c.self.invariant prefix s h).moves (Some a)));
+      shifts = rw (← c.self.view_is) (λ prefix b to h next shift.
+          let same : a ≡ b = cc (look, next) in
+          shift_state inside.productions.nonterminals t c.self.invariant prefix s h b to (subst (λ n. move_at t s (Some n) ≡ Some (Shift to)) same (sym (read h.below) ∙ shift)));
+    }
 
 pub returns-else-a-rules-clause-is : goal.returns-else-a-rules-clause-is
 returns-else-a-rules-clause-is c =
