@@ -1,6 +1,9 @@
 -- What a loop over the characters t of a text has yielded, and what is left.
-use Rattle.std.specs.Prelude.{◌≡◌, ℕ, ◌+◌, ◌<◌, ◌≤◌, List, [], ◌∷◌, ◌++◌, length, take, drop, map, slice_index_or}
+use Rattle.std.specs.Prelude.{◌≡◌, ℕ, ◌+◌, ◌<◌, ◌≤◌, List, [], ◌∷◌, ◌++◌, length, take, drop, slice_index_or, Option, Some, None}
 use Rattle.std.proofs.Common.{arith, sym, ap, ◌∙◌}
+use Rattle.std.specs.Iterator.{Yields}
+use Rattle.std.proofs.lemmas.Iterator.{YieldsList}
+use Rattle.std.proofs.lemmas.Iterator.Consumers.{YieldsList-so_far, YieldsList-turn, YieldsList-end}
 use Rattle.std.proofs.lemmas.List.{append_assoc, take_more, drop_more, take-append-drop, map-id}
 use Rattle.definitions.specs.declared.Unit.TheVariants.{Utf8}
 use Rattle.definitions.specs.Text.{units}
@@ -12,18 +15,25 @@ pub record IsTurn (t yielded : List ℕ) (c : ℕ) : Type 0 where
   pub within : length yielded < length t
   pub next : c ≡ slice_index_or t (length yielded) c
 
-pub turn-from : (t yielded : List ℕ) (c : ℕ) → map (λ x. x) yielded ≡ take (length yielded) t → (length yielded < length t) × (c ≡ slice_index_or t (length yielded) c) → IsTurn t yielded c
-turn-from t yielded c so_far h = record { so_far = sym (map-id yielded) ∙ so_far; within = h.0; next = h.1 }
+-- a turn of a `for` over the characters
+pub turn-from : {S : Type 0} {steps : S → Option ℕ → S → Type 0} {s : S} {t : List ℕ} → YieldsList steps (λ x. x) s t → (yielded : List ℕ) (now : S) → Yields steps s yielded now → (r : Option ℕ) (next : S) (c : ℕ) → r ≡ Some c → steps now r next → IsTurn t yielded c
+turn-from road yielded now so_far r next c is step =
+    let here = YieldsList-turn road yielded now so_far r next c is step in
+    record { so_far = sym (map-id yielded) ∙ YieldsList-so_far road yielded now so_far; within = here.0; next = here.1 }
 
-pub turn-more : (t yielded : List ℕ) (c : ℕ) → IsTurn t yielded c → yielded ++ c ∷ [] ≡ take (length yielded + 1) t
-turn-more t yielded c h =
+-- at its end all characters were yielded
+pub all-from : {S : Type 0} {steps : S → Option ℕ → S → Type 0} {s : S} {t : List ℕ} → YieldsList steps (λ x. x) s t → (yielded : List ℕ) (now : S) → Yields steps s yielded now → (r : Option ℕ) (next : S) → r ≡ None → steps now r next → yielded ≡ t
+all-from road yielded now so_far r next is step = sym (map-id yielded) ∙ (YieldsList-end road yielded now so_far r next is step).0
+
+pub turn-more : {t yielded : List ℕ} {c : ℕ} → IsTurn t yielded c → yielded ++ c ∷ [] ≡ take (length yielded + 1) t
+turn-more {t} {yielded} {c} h =
     (λ i. h.so_far i ++ h.next i ∷ []) ∙ sym (take_more t (length yielded) c h.within)
 
-pub turn-rest : (t yielded : List ℕ) (c : ℕ) → IsTurn t yielded c → c ∷ drop (length yielded + 1) t ≡ drop (length yielded) t
-turn-rest t yielded c h = ap (λ d. d ∷ drop (length yielded + 1) t) h.next ∙ sym (drop_more t (length yielded) c h.within)
+pub turn-rest : {t yielded : List ℕ} {c : ℕ} → IsTurn t yielded c → c ∷ drop (length yielded + 1) t ≡ drop (length yielded) t
+turn-rest {t} {yielded} {c} h = ap (λ d. d ∷ drop (length yielded + 1) t) h.next ∙ sym (drop_more t (length yielded) c h.within)
 
-pub turn-whole : (t yielded : List ℕ) (c : ℕ) → IsTurn t yielded c → yielded ++ c ∷ drop (length yielded + 1) t ≡ t
-turn-whole t yielded c h = (λ i. h.so_far i ++ turn-rest t yielded c h i) ∙ take-append-drop (length yielded) t
+pub turn-whole : {t yielded : List ℕ} {c : ℕ} → IsTurn t yielded c → yielded ++ c ∷ drop (length yielded + 1) t ≡ t
+turn-whole {t} {yielded} {c} h = (λ i. h.so_far i ++ turn-rest h i) ∙ take-append-drop (length yielded) t
 
 -- a prefix of what is small enough is so too
 pub few-take : (s t : List ℕ) (n m : ℕ) → units Utf8 (s ++ t) ≤ m → units Utf8 (s ++ take n t) ≤ m
@@ -32,6 +42,6 @@ few-take s t n m few =
     let part : units Utf8 t ≡ units Utf8 (take n t) + units Utf8 (drop n t) = ap (units Utf8) (sym (take-append-drop n t)) ∙ units-append Utf8 (take n t) (drop n t) in
     omega (arith, few, whole, part, units-append Utf8 s (take n t))
 
-pub few-turn : (s t yielded : List ℕ) (c m : ℕ) → IsTurn t yielded c → units Utf8 (s ++ t) ≤ m → units Utf8 ((s ++ yielded) ++ c ∷ []) ≤ m
-few-turn s t yielded c m h few =
-    omega (arith, few-take s t (length yielded + 1) m few, ap (units Utf8) (append_assoc s yielded (c ∷ []) ∙ ap (λ l. s ++ l) (turn-more t yielded c h)))
+pub few-turn : {t yielded : List ℕ} {c : ℕ} (s : List ℕ) (m : ℕ) → IsTurn t yielded c → units Utf8 (s ++ t) ≤ m → units Utf8 ((s ++ yielded) ++ c ∷ []) ≤ m
+few-turn {t} {yielded} {c} s m h few =
+    omega (arith, few-take s t (length yielded + 1) m few, ap (units Utf8) (append_assoc s yielded (c ∷ []) ∙ ap (λ l. s ++ l) (turn-more h)))

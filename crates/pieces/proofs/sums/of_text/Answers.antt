@@ -1,8 +1,6 @@
 use Rattle.std.proofs.Common.{◌≡◌, ◌≤◌, ℕ, List, [], ◌∷◌, ◌++◌, arith, refl, sym, ap, subst, ◌∙◌}
 use Rattle.std.specs.Str.{chars}
 use Rattle.std.proofs.lemmas.Iterator.{YieldsList-from_chars}
-use Rattle.std.proofs.lemmas.Iterator.Consumers.{YieldsList-so_far, YieldsList-turn, YieldsList-end}
-use Rattle.std.proofs.lemmas.List.{map-id}
 use Rattle.std.proofs.lemmas.Str.{chars-IsAscii}
 use Rattle.definitions.specs.Text.{units}
 use Rattle.definitions.specs.declared.Unit.TheVariants.{Utf8}
@@ -11,18 +9,16 @@ use Rattle.pieces.specs.Laws.{sums_laws}
 use Rattle.pieces.proofs.Joins.{sums_of-more, units-chars}
 use Rattle.pieces.proofs.Lines.{joined-line-more, line-room}
 use Rattle.pieces.proofs.KnownPrefix.{few_prefix}
-use Rattle.pieces.proofs.CharacterLoops.{IsTurn, turn-from, few-turn}
+use Rattle.pieces.proofs.CharacterLoops.{turn-from, all-from, few-turn}
 use Rattle.pieces.proofs.sums.of_text.Goals as goal
 
 pub with_character-line-requires : goal.with_character-line-requires
 with_character-line-requires c =
     let t : List ℕ = chars c.args.text.now in
     let whole : units Utf8 t ≤ most = omega (arith, units-chars c.args.text.now c.utf8.text, c.requires) in
-    let road = YieldsList-from_chars c.args.text.now c.utf8.text cc in
     let yielded : List ℕ = c.loop-c.yielded in
-    let turn : IsTurn t yielded c.in-Some.c =
-    turn-from t yielded c.in-Some.c (YieldsList-so_far road yielded _ c.loop-c.yielded_by) (YieldsList-turn road yielded _ c.loop-c.yielded_by _ _ c.in-Some.c c.in-Some.is c.next.ensures.steps) in
-    let fits : units Utf8 (yielded ++ c.in-Some.c ∷ []) ≤ most = few-turn [] t yielded c.in-Some.c most turn whole in
+    let turn = turn-from (YieldsList-from_chars c.args.text.now c.utf8.text cc) c.loop-c.yielded _ c.loop-c.yielded_by _ _ c.in-Some.c c.in-Some.is c.next.ensures.steps in
+    let fits : units Utf8 (yielded ++ c.in-Some.c ∷ []) ≤ most = few-turn [] most turn whole in
     line-room c.loop-c.sums c.loop-c.line yielded c.in-Some.c (c.loop-c.invariant (few_prefix yielded c.in-Some.c most fits)) fits
 
 pub loop-c-preserved : goal.loop-c-preserved
@@ -42,7 +38,6 @@ returns-then-is_ascii c = c.of_ascii.ensures ∙ ap sums_of (c.as_bytes.ensures.
 
 pub returns : goal.returns
 returns c =
-    let all = YieldsList-end (YieldsList-from_chars c.args.text.now c.utf8.text cc) c.loop-c.yielded _ c.loop-c.yielded_by _ _ c.in-None.is c.next.ensures.steps in
-    let whole : chars c.args.text.now ≡ c.loop-c.yielded = sym (sym (map-id c.loop-c.yielded) ∙ all.0) in
+    let whole : chars c.args.text.now ≡ c.loop-c.yielded = sym (all-from (YieldsList-from_chars c.args.text.now c.utf8.text cc) c.loop-c.yielded _ c.loop-c.yielded_by _ _ c.in-None.is c.next.ensures.steps) in
     let fits : units Utf8 c.loop-c.yielded ≤ most = subst (λ t. units Utf8 t ≤ most) whole (subst (λ n. n ≤ most) (sym (units-chars c.args.text.now c.utf8.text)) c.requires) in
     c.join-2.ensures ∙ ap (joined c.loop-c.sums) c.of_line-2.ensures ∙ c.loop-c.invariant fits ∙ ap sums_of (sym whole)
