@@ -49,7 +49,6 @@ fn placed_tokens(rt: &impl Abort, alloc: Global, tokens: &Tokens) -> Vec<Placed>
     let mut start: usize = 0;
     for i in 0..tokens.count() {
         if let Some(token) = tokens.token(i) {
-            let token = *token;
             all.push(Placed { start, token }).expect(rt, "memory");
             start = start.saturating_add(token.length as usize);
         }

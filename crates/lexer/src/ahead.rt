@@ -4,7 +4,7 @@ ghost use Rattle.std.specs.Prelude.{◌≡◌};
 ghost use Rattle.std.specs.Iterator.{YieldsFirst, item_count};
 ghost use Rattle.lexer.specs.Rescans.{significant_kinds};
 
-use crate::sums::Token;
+use crate::packed::PackedToken;
 use definitions::Kind;
 use runs::Iter;
 use std::marker::Model;
@@ -13,7 +13,7 @@ use std::marker::Model;
 #[derive(Drop)]
 pub struct KindsAhead<'a> {
     /// All tokens that are still ahead.
-    tokens: Iter<'a, Token>,
+    tokens: Iter<'a, PackedToken>,
 }
 
 impl<'a> Model for KindsAhead<'a> {
@@ -28,7 +28,7 @@ impl<'a> Model for KindsAhead<'a> {
 
 impl<'a> KindsAhead<'a> {
     /// The kinds of the significant ones of these tokens.
-    pub(crate) fn new(tokens: Iter<'a, Token>) -> KindsAhead<'a>
+    pub(crate) fn new(tokens: Iter<'a, PackedToken>) -> KindsAhead<'a>
         ensures { result ≡ significant_kinds tokens.entry }
     {
         KindsAhead { tokens }
@@ -44,7 +44,7 @@ impl<'a> Iterator for KindsAhead<'a> {
 
     fn next(&mut self) -> Option<Kind> {
         'skipped: while let Some(token) = self.tokens.next() {
-            if !token.skipped {
+            if !token.is_skipped() {
                 return Some(token.kind());
             }
         }

@@ -3,7 +3,8 @@
 //! `Scanner::new` joins a grammar with the automaton of its token rules. `Tokens::scan` scans a text by them; after an
 //! edit `rescan` changes the tokens to those of the new text, and returns the splice of the kinds. The source is `Whole(&text)`, or
 //! `Characters`, which has all characters in a vector and is faster for a whole scan. `token`, `start_of` and `count`
-//! are about all tokens, by their places; `kind`, `place` and `significant` about those that aren't skipped.
+//! are about all tokens, by their places; `kind`, `place` and `significant` about those that aren't skipped. `items` is
+//! the list, in which each token is a `PackedToken`, of 16 bytes.
 //!
 //! Words: a token's *stamp* is the number of the edit that made it; `scanned` counts the tokens made by the last edit.
 //!
@@ -25,6 +26,7 @@
 mod ahead;
 mod characters;
 mod laws;
+mod packed;
 mod scanner;
 mod sums;
 mod tokens;
@@ -36,6 +38,7 @@ pub use characters::Characters;
 pub use definitions::{Edit, Kind, KindSplice};
 pub use dfa::Source;
 pub use laws::{each_text_has_tokens, equal_tokens_are_the_same};
+pub use packed::PackedToken;
 pub use scanner::Scanner;
 pub use sums::{AfterCharacter, ShortKind, Sums, Token};
 pub use tokens::Tokens;

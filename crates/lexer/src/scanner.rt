@@ -8,6 +8,7 @@ ghost use Rattle.dfa.specs.declared.build.DfaFault.TheVariants.{TooManyStates};
 ghost use Rattle.lexer.specs.Tokens.{kind_in, plain};
 ghost use Rattle.lexer.specs.Scans.{AreNext};
 
+use crate::packed::PackedToken;
 use crate::sums::{ShortKind, Token};
 use dfa::{Automaton, DfaFault, Source};
 use grammar::Grammar;
@@ -114,7 +115,7 @@ impl<'a> Scan<'a> {
     }
 
     /// The token that starts at this offset.
-    pub fn token_at<S: Source>(&self, source: &S, at: usize, born: u64) -> Token
+    pub fn token_at<S: Source>(&self, source: &S, at: usize, born: u64) -> PackedToken
         requires small { length (S.text source.now) ≤ 1048576 }
         requires within { at < length (S.text source.now) }
         requires window { (i : ℕ) → IsWithinReach self.now.patterns (S.text source.now) at i
@@ -128,13 +129,13 @@ impl<'a> Scan<'a> {
     {
         let found = self.automaton.longest(source, at);
         let short_kind = ShortKind::of_rule(found.rule);
-        Token {
+        PackedToken::new(Token {
             born,
             length: found.length as u32,
             reach: found.reach as u32,
             short_kind,
             skipped: self.grammar.is_skipped(short_kind.long()),
-        }
+        })
     }
 
     /// The next tokens from an offset on, as many as a batch takes, and the offset after them.
@@ -143,7 +144,7 @@ impl<'a> Scan<'a> {
         alloc: Global,
         source: &S,
         from: usize,
-    ) -> Result<(Vec<Token>, usize), AllocError>
+    ) -> Result<(Vec<PackedToken>, usize), AllocError>
         requires small { length (S.text source.now) ≤ 1048576 }
         requires within { from < length (S.text source.now) }
         requires window { (i : ℕ) → i < length (S.text source.now) → S.in_window source.now i }
@@ -156,7 +157,7 @@ impl<'a> Scan<'a> {
         while at < source.len() && made.len() < BATCH_LEN {
             let token = self.token_at(source, at, 0);
             made.push(token)?;
-            at += token.length as usize;
+            at += token.length() as usize;
         }
         Ok((made, at))
     }

@@ -55,8 +55,6 @@ pub struct Token {
     pub skipped: bool,
 }
 
-const _: () = prove!(size_of::<Token>() == 24);
-
 impl Token {
     /// The rule that it matches, or that it matches none.
     pub fn kind(&self) -> Kind

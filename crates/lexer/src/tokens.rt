@@ -1,5 +1,5 @@
 //! The list of the tokens of a text, and its change by an edit.
-ghost use Rattle.std.specs.Prelude.{◌≡◌, ℕ, ◌+◌, ◌-◌, ◌<◌, ◌≤◌, ◌^◌, true, false, List, ◌∷◌, ◌++◌, length, take, drop, count_by, slice_get, slice_range, option_copied, IfOk, OnErr, OnOk, MatchOption, All};
+ghost use Rattle.std.specs.Prelude.{◌≡◌, ℕ, ◌+◌, ◌-◌, ◌<◌, ◌≤◌, ◌^◌, true, false, List, ◌∷◌, ◌++◌, length, take, drop, count_by, slice_get, slice_range, IfOk, OnErr, OnOk, MatchOption, All};
 ghost use Rattle.definitions.specs.declared.expression.Expression.{Expression};
 ghost use Rattle.definitions.specs.Tokens.{AreTokens};
 ghost use Rattle.dfa.specs.Table.{IsAutomaton};
@@ -9,6 +9,7 @@ ghost use Rattle.lexer.specs.Tokens.{is_significant, characters, Fits, AreTokens
 ghost use Rattle.lexer.specs.Rescans.{plain_all, significant_kinds, IsEdited, IsNeeded, IsRemade, AreTokensAfter, change};
 
 use crate::ahead::KindsAhead;
+use crate::packed::PackedToken;
 use crate::scanner::Scan;
 use crate::sums::{AfterSignificant, ReachesPast, Token};
 use crate::walk::Walk;
@@ -23,7 +24,7 @@ use std::marker::Model;
 #[derive(Drop)]
 pub struct Tokens {
     /// The tokens, in order.
-    items: Runs<Token>,
+    items: Runs<PackedToken>,
     /// How many of them the last scan or rescan made.
     scanned: usize,
 }
@@ -81,10 +82,10 @@ impl Tokens {
     }
 
     /// The token at this place among all.
-    pub fn token(&self, i: usize) -> Option<&Token>
-        ensures { option_copied result ≡ slice_get self.now.items i }
+    pub fn token(&self, i: usize) -> Option<Token>
+        ensures { result ≡ slice_get self.now.items i }
     {
-        self.items.get(i)
+        self.items.get(i).map(|token| token.unpack())
     }
 
     /// The offset at which the token at this place among all starts.
@@ -145,8 +146,8 @@ impl Tokens {
         self.scanned
     }
 
-    /// All tokens.
-    pub fn items(&self) -> &Runs<Token>
+    /// All tokens, in order.
+    pub fn items(&self) -> &Runs<PackedToken>
         ensures { result.now ≡ self.now.items }
     {
         &self.items
@@ -186,7 +187,11 @@ impl Tokens {
 }
 
 /// Puts tokens after those of a list.
-fn append(alloc: Global, list: &mut Runs<Token>, tokens: &[Token]) -> Result<(), AllocError>
+fn append(
+    alloc: Global,
+    list: &mut Runs<PackedToken>,
+    tokens: &[PackedToken],
+) -> Result<(), AllocError>
     requires { length list.old + length tokens.now < 2 ^ 64 }
     ensures { OnOk result (list.new ≡ list.old ++ tokens.now) }
 {
@@ -196,7 +201,7 @@ fn append(alloc: Global, list: &mut Runs<Token>, tokens: &[Token]) -> Result<(),
 }
 
 /// How many tokens the edit keeps at the start, and the offset after them.
-fn kept_prefix(items: &Runs<Token>, edit: Edit) -> (usize, usize)
+fn kept_prefix(items: &Runs<PackedToken>, edit: Edit) -> (usize, usize)
     requires { Fits items.now }
     ensures kept_before { (rules : List Expression) (t : List ℕ)
         → AreTokens rules t (plain_all items.now)
@@ -233,7 +238,7 @@ fn remake<S: Source>(
     source: &S,
     edit: Edit,
     mut old: Walk<'_>,
-) -> Result<(Vec<Token>, usize), AllocError>
+) -> Result<(Vec<PackedToken>, usize), AllocError>
     requires small { length (S.text source.now) ≤ 1048576 }
     requires edited { IsEdited scan.now edit old.items (S.text source.now) }
     requires window { (i : ℕ) → IsNeeded scan.now.patterns edit old.items (S.text source.now) i
@@ -252,18 +257,18 @@ fn remake<S: Source>(
         }
         let token = scan.token_at(source, at, edit.number);
         made.push(token)?;
-        at += token.length as usize;
+        at += token.length() as usize;
     }
     Ok((made, old.end()))
 }
 
 /// The kinds of the significant ones of these tokens.
-fn kinds_of(alloc: Global, tokens: &[Token]) -> Result<Vec<Kind>, AllocError>
+fn kinds_of(alloc: Global, tokens: &[PackedToken]) -> Result<Vec<Kind>, AllocError>
     ensures { IfOk result (λ v. v.items ≡ significant_kinds tokens.now) }
 {
     let mut kinds = Vec::new(alloc);
     for token in tokens {
-        if !token.skipped {
+        if !token.is_skipped() {
             kinds.push(token.kind())?;
         }
     }
@@ -271,7 +276,7 @@ fn kinds_of(alloc: Global, tokens: &[Token]) -> Result<Vec<Kind>, AllocError>
 }
 
 /// How many of the tokens before a place are significant.
-fn significant_before(items: &Runs<Token>, place: usize) -> usize
+fn significant_before(items: &Runs<PackedToken>, place: usize) -> usize
     requires { Fits items.now }
     ensures { result ≡ count_by is_significant (take place items.now) }
 {
@@ -285,13 +290,13 @@ fn is_same(a: Kind, b: Kind) -> bool
 }
 
 /// What is left of these kinds without that of the token, if it has one for a parser. None where they begin with another one.
-fn without_kind<'a>(token: &Token, kinds: &'a [Kind]) -> Option<&'a [Kind]>
+fn without_kind<'a>(token: &PackedToken, kinds: &'a [Kind]) -> Option<&'a [Kind]>
     ensures { (others : List Token)
         → let tokens = significant_kinds (token.now ∷ others) in
         MatchOption result (same_kinds tokens kinds.now ≡ false)
         (λ rest. same_kinds tokens kinds.now ≡ same_kinds (significant_kinds others) rest.now) }
 {
-    if token.skipped {
+    if token.is_skipped() {
         return Some(kinds);
     }
     match kinds.split_first() {
@@ -301,7 +306,7 @@ fn without_kind<'a>(token: &Token, kinds: &'a [Kind]) -> Option<&'a [Kind]>
 }
 
 /// Whether the significant ones of the tokens from one place up to another have these kinds.
-fn have_kinds(items: &Runs<Token>, from: usize, to: usize, kinds: &[Kind]) -> bool
+fn have_kinds(items: &Runs<PackedToken>, from: usize, to: usize, kinds: &[Kind]) -> bool
     requires within { to ≤ length items.now }
     ensures { result ≡ same_kinds (significant_kinds (slice_range items.now from to)) kinds.now }
 {
@@ -321,7 +326,12 @@ fn have_kinds(items: &Runs<Token>, from: usize, to: usize, kinds: &[Kind]) -> bo
 
 /// How the list of the significant kinds changes where the tokens from one place up to another give way to tokens of
 /// these kinds.
-fn splice_of(items: &Runs<Token>, kept_before: usize, to: usize, mut kinds: Vec<Kind>) -> KindSplice
+fn splice_of(
+    items: &Runs<PackedToken>,
+    kept_before: usize,
+    to: usize,
+    mut kinds: Vec<Kind>,
+) -> KindSplice
     requires fits { Fits items.now }
     requires within { to ≤ length items.now }
     ensures { plain_splice result ≡ change items.now kept_before to kinds.items }

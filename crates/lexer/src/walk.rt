@@ -4,16 +4,16 @@ ghost use Rattle.std.specs.Prelude.{◌≡◌, ◌≢◌, ◌⊎◌, ℕ, ◌<�
 ghost use Rattle.lexer.specs.Tokens.{characters, Fits};
 ghost use Rattle.lexer.specs.Walks.{Spot, IsPassed};
 
-use crate::sums::Token;
+use crate::packed::PackedToken;
 use runs::{Iter, Runs};
 use std::marker::Model;
 
 /// A place among tokens. A walk goes over each of them once, so that places of rising offsets are found without a search for each.
 #[derive(Drop)]
 pub struct Walk<'a> {
-    items: &'a Runs<Token>,
+    items: &'a Runs<PackedToken>,
     /// The tokens from the place on.
-    ahead: Iter<'a, Token>,
+    ahead: Iter<'a, PackedToken>,
     place: usize,
     /// The offset at which the token at the place starts.
     start: usize,
@@ -31,7 +31,7 @@ impl<'a> Model for Walk<'a> {
 
 impl<'a> Walk<'a> {
     /// The walk that begins at a place. The token there starts at the offset `start`.
-    pub fn new(items: &'a Runs<Token>, place: usize, start: usize) -> Walk<'a>
+    pub fn new(items: &'a Runs<PackedToken>, place: usize, start: usize) -> Walk<'a>
         requires fits { Fits items.now }
         requires within { place ≤ length items.now }
         requires start { start ≡ characters (take place items.now) }
@@ -89,7 +89,7 @@ impl<'a> Walk<'a> {
             let Some(token) = self.ahead.next() else {
                 return;
             };
-            self.start += token.length as usize;
+            self.start += token.length() as usize;
             self.place += 1;
         }
     }

@@ -58,8 +58,8 @@ fn lines_of(alloc: Global, text: &Text, tokens: &Tokens) -> Result<Vec<(u32, u32
     let mut places = text.places(Unit::Utf16);
     for token in tokens.items().iter_from(0) {
         let first = places.position().line;
-        places.advance(token.length as usize);
-        if token.skipped {
+        places.advance(token.length() as usize);
+        if token.is_skipped() {
             continue;
         }
         lines.push((first, places.position().line))?;

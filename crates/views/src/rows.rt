@@ -34,7 +34,7 @@ pub fn token_rows<'a>(
     let mut places = text.places(unit);
     for token in tokens.items().iter_from(0) {
         let start = places.position();
-        places.advance(token.length as usize);
+        places.advance(token.length() as usize);
         rows.push(Row {
             name: grammar.kind_name(token.kind()),
             range: Range {

@@ -48,7 +48,7 @@ loop-at-preserved g c =
     let x = c.token_at-token.result in
     let old = c.loop-at.invariant in
     let here : is_rejoined e (plain_all xs) c.loop-at.at ≡ false = subst (λ ys. is_rejoined e (plain_all ys) c.loop-at.at ≡ false) old.items (c.in_default.ensures.is old.passed) in
-    rw c.in_ok-push.ensures.items (record {
+    rw (c.in_ok-push.ensures.items, c.length.ensures) (record {
       inside = c.token_at-token.ensures.inside;
       sum = omega (arith, old.sum, characters-more c.loop-at.made.items x);
       leads = lead_one c.args.scan.now.patterns u (prefix_end e xs) c.loop-at.at c.loop-at.made.items x old.sum old.leads c.token_at-token.ensures.token;

@@ -1,7 +1,9 @@
 use Rattle.std.proofs.Common.{drop, subst, sym}
-use Rattle.definitions.specs.Tokens.{IsPiece}
+use Rattle.definitions.specs.Tokens.{IsPiece, IsToken}
 use Rattle.dfa.specs.Table.{IsAutomaton}
 use Rattle.grammar.specs.Grammars.{FileGrammar}
+use Rattle.lexer.specs.declared.sums.Token.{Token}
+use Rattle.lexer.specs.Tokens.{plain}
 use Rattle.lexer.proofs.Scans.{rule_fits}
 use Rattle.lexer.proofs.scanner.Scan.token_at.Goals as goal
 
@@ -17,7 +19,7 @@ returns-clause-token g c =
     let rules = c.args.self.now.patterns in
     let t = drop c.args.at (g.S.Source.text c.args.source.now) in
     let sound = subst (λ (f : FileGrammar). IsAutomaton f.patterns c.self.inside.automaton.now) c.self.view_is c.self.invariant.0 in
-    record {
+    subst (λ (x : Token). IsToken rules t (plain x)) (sym c.new.ensures) (record {
       piece = subst (λ k. IsPiece rules t k c.longest-found.result.length) (sym c.of_rule-short_kind.ensures) (c.longest-found.ensures.piece rules sound c.requires.within);
       reach = c.longest-found.ensures.reach rules sound;
-    }
+    })

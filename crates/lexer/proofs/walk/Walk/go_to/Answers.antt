@@ -21,8 +21,8 @@ loop-self-preserved c =
     let x = c.in-Some.token.now in
     let old = c.loop-self.invariant in
     let walk : IsWalk w.items.now (x ∷ c.next.new.self) w.place w.start = subst (λ ahead. IsWalk w.items.now ahead w.place w.start) c.in-Some.ensures.steps old.walk in
-    record {
+    rw c.length.ensures (record {
       walk = walk_on w.items.now c.next.new.self x w.place w.start walk;
       items = old.items;
       passed = λ h. passed_on w.items.now c.next.new.self x w.place w.start walk c.args.offset c.loop-self-test.true (old.passed h);
-    }
+    })
