@@ -14,7 +14,8 @@ use Rattle.definitions.specs.Text.{IsText, offset}
 use Rattle.definitions.specs.Tokens.{Token, AreTokens, kinds}
 use Rattle.definitions.specs.Trees.{HaveRoots, Tree, all_kinds}
 use Rattle.grammar.specs.Grammars.{FileGrammar}
-use Rattle.views.specs.Contents.{AreFoldsOf, IsDiagnosis, IsFaultAfter, IsSelectionOf}
+use Rattle.reports.specs.Contents.{AreFoldsOf, IsSelectionOf}
+use Rattle.views.specs.Diagnostics.{IsDiagnosis, IsFaultAfter}
 use Rattle.docs.specs.Texts.{fits}
 use Rattle.docs.specs.Answers.{Reading, IsReading, AreSelections, AlwaysAnswers}
 use Rattle.docs.proofs.Texts.{is_text}

@@ -14,7 +14,8 @@ use Rattle.definitions.specs.Text.{offset}
 use Rattle.definitions.specs.Tokens.{AreTokens, Placed, Token, kinds}
 use Rattle.definitions.specs.Trees.{Grammar, Tree}
 use Rattle.grammar.specs.Grammars.{FileGrammar}
-use Rattle.views.specs.Contents.{AreFoldsOf, IsDiagnosis, IsFaultAfter, IsSelectionOf, looks, placed_parts}
+use Rattle.reports.specs.Contents.{AreFoldsOf, IsSelectionOf, placed_parts}
+use Rattle.views.specs.Diagnostics.{IsDiagnosis, IsFaultAfter, looks}
 use Rattle.docs.specs.Answers.{Reading, IsReading, AreSelections, AnswersOnce}
 
 -- of each thing that an answer is made of there is one

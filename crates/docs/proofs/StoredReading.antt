@@ -30,10 +30,10 @@ use Rattle.trees.specs.Cells.{Cell, tree}
 use Rattle.trees.specs.declared.store.NodeId.{NodeId}
 use Rattle.trees.specs.declared.store.Child.TheVariants.{Node as NodeChild}
 use Rattle.definitions.specs.TreeEdits.{plain as plain_tree}
-use Rattle.views.specs.Views.{text_of}
+use Rattle.reports.specs.Views.{text_of}
 use Rattle.trees.specs.declared.store.Child.{Child}
-use Rattle.views.specs.Diagnostics.{shown as fault_of}
-use Rattle.views.specs.Contents.{IsDiagnosis, AreFoldsOf, AreRootsOf, IsSelectionOf, placed_parts, trees_of_roots}
+use Rattle.reports.specs.Contents.{AreFoldsOf, AreRootsOf, IsSelectionOf, placed_parts, trees_of_roots}
+use Rattle.views.specs.Diagnostics.{IsDiagnosis, shown as fault_of}
 use Rattle.docs.specs.declared.doc.Doc.{Doc}
 use Rattle.docs.specs.declared.doc.Outcome.TheVariants.{Fault as OutcomeFault}
 use Rattle.docs.specs.Docs.{IsCurrent}

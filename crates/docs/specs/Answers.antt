@@ -12,8 +12,8 @@ use Rattle.definitions.specs.Text.{offset}
 use Rattle.definitions.specs.Tokens.{Token, AreTokens, placed, kinds}
 use Rattle.definitions.specs.Trees.{Tree}
 use Rattle.grammar.specs.Grammars.{FileGrammar, lefts}
-use Rattle.views.specs.Diagnostics.{in_utf8, stored_diagnostic}
-use Rattle.views.specs.Contents.{AreFoldsOf, IsDiagnosis, IsSelectionOf}
+use Rattle.reports.specs.Contents.{AreFoldsOf, IsSelectionOf}
+use Rattle.views.specs.Diagnostics.{IsDiagnosis, in_utf8, stored_diagnostic}
 use Rattle.docs.specs.Texts.{fits}
 use Rattle.docs.specs.declared.doc.Outcome.{Outcome}
 use Rattle.docs.specs.declared.doc.Outcome.TheVariants as comes

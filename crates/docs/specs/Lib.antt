@@ -8,8 +8,8 @@ pub mod Edits
 pub mod Stamps
 pub mod Changes
 pub use Rattle.views.specs.Diagnostics
-pub use Rattle.views.specs.Contents
-pub use Rattle.views.specs.Views
+pub use Rattle.reports.specs.Contents
+pub use Rattle.reports.specs.Views
 pub use Rattle.definitions.specs.Nodes
 pub use Rattle.definitions.specs.Text
 pub use Rattle.grammar.specs.Grammars

@@ -8,8 +8,7 @@ use Rattle.docs.specs.Answers.{Reading, IsReported, Reads}
 use Rattle.docs.specs.Texts.{OpenDocument}
 use Rattle.docs.specs.Grammars.{FileGrammar}
 use Rattle.rpc.specs.Replies.{diagnostic_view, published_diagnostics}
-use Rattle.docs.specs.Diagnostics.{in_utf8, stored_diagnostic}
-use Rattle.docs.specs.Contents.{IsDiagnosis}
+use Rattle.docs.specs.Diagnostics.{in_utf8, stored_diagnostic, IsDiagnosis}
 use Rattle.server.specs.Answers.{IsPublished, shown}
 
 -- what a function answers, said in other words

@@ -16,7 +16,8 @@ use Rattle.rpc.specs.Reading.{received_in}
 use Rattle.rpc.specs.Replies.{Answer, tokens_reply, folds_reply, selections_reply, published_diagnostics, log_message}
 use Rattle.rpc.specs.declared.reply.Log.TheVariants.{Lost}
 use Rattle.rpc.specs.declared.reply.Loss.TheVariants.{TooLarge, MalformedChange, Memory}
-use Rattle.docs.specs.Contents.{AreFoldsOf, IsDiagnosis}
+use Rattle.docs.specs.Contents.{AreFoldsOf}
+use Rattle.docs.specs.Diagnostics.{IsDiagnosis}
 use Rattle.server.specs.declared.state.Phase.{Phase}
 use Rattle.server.specs.declared.state.Phase.TheVariants.{Ready}
 use Rattle.server.specs.Documents.{DocumentState, is_open, is_lost, Held, Becomes, edited, has_room}

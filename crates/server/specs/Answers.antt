@@ -12,7 +12,8 @@ use Rattle.rpc.specs.Messages.{Ident, Question, its_text, its_tokens, its_tree, 
 use Rattle.rpc.specs.Replies.{Answer, null_reply, text_reply, tokens_reply, tree_reply, stats_reply, folds_reply, selections_reply}
 use Rattle.rpc.specs.Replies.{error_reply}
 use Rattle.rpc.specs.Replies.{published_diagnostics}
-use Rattle.docs.specs.Contents.{AreFoldsOf, IsDiagnosis}
+use Rattle.docs.specs.Contents.{AreFoldsOf}
+use Rattle.docs.specs.Diagnostics.{IsDiagnosis}
 use Rattle.server.specs.declared.answers.Question.{Question as Put}
 use Rattle.server.specs.declared.answers.Question.TheVariants as put
 use Rattle.server.specs.Documents.{DocumentState, is_open, is_lost}

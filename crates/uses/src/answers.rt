@@ -1,14 +1,27 @@
 //! Examples of reports, of messages and of documents.
 
-use definitions::Unit;
+use definitions::{Kind, Unit};
 use docs::{Doc, Language};
 use grammar::Grammar;
 use lexer::Tokens;
+use reports::tree_text;
 use rpc::{Message, Reply, read, to_bytes};
 use std::alloc::Global;
 use text::Text;
+use trees::{Child, Store};
 use views::token_rows;
 use worked::SUMS;
+
+/// The example of `reports`.
+pub fn use_reports(rt: &HostRuntime, alloc: Global, grammar: &Grammar) -> Option<()> {
+    let mut store = Store::new(alloc);
+    let number = Child::Token(Kind::Rule(0));
+    let atom = store.branch(alloc, 2, &[number], 0).ok()?;
+    let text = tree_text(alloc, grammar, &store, atom).ok()?;
+    println!(rt; "{text}").ok()?;
+    // (Atom NUM)
+    Some(())
+}
 
 /// The example of `views`.
 pub fn use_views(

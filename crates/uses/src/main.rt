@@ -56,6 +56,7 @@ fn of_file(rt: &HostRuntime, alloc: Global) -> Option<()> {
 fn by_grammar(rt: &HostRuntime, alloc: Global, grammar: &Grammar) -> Option<()> {
     texts::use_dfa(rt, alloc, grammar)?;
     parses::use_tables(rt, alloc, grammar)?;
+    answers::use_reports(rt, alloc, grammar)?;
     with_tables(rt, alloc, grammar)
 }
 

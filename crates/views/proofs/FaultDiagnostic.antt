@@ -25,8 +25,9 @@ use Rattle.parser.specs.Parses.{AreExpectedAt, IsParseOf, Stop, verdict_in}
 use Rattle.tables.specs.Expected.{AreExpected, in_file_order}
 use Rattle.tables.specs.Tables.{Sets}
 use Rattle.trees.specs.Cells.{Cell}
-use Rattle.views.specs.Contents.{IsDiagnosis, IsFaultAfter, looks, placed_parts}
-use Rattle.views.proofs.Significant.{IsMarked, count_of_parts}
+use Rattle.reports.specs.Contents.{placed_parts}
+use Rattle.reports.proofs.Significant.{IsMarked, count_of_parts}
+use Rattle.views.specs.Diagnostics.{IsDiagnosis, IsFaultAfter, looks}
 
 -- the names of what could have stood at a fault
 abbrev pub names_of : List (List ℕ) → List (Option ℕ) → List (List ℕ)

@@ -1,6 +1,3 @@
-pub mod Around
 pub mod Diagnostics
-pub mod Folds
-pub mod NodesFrom
-pub mod Contents
-pub mod Views
+pub use Rattle.reports.specs.Contents
+pub use Rattle.reports.specs.Views

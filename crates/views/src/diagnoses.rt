@@ -8,14 +8,13 @@ ghost use Rattle.lexer.specs.Rescans.{significant_kinds};
 ghost use Rattle.lexer.specs.Tokens.{AreTokensOf, plain};
 ghost use Rattle.parser.specs.Parses.{IsParseOf, verdict_in};
 ghost use Rattle.trees.specs.Cells.{Cell};
-ghost use Rattle.views.specs.Diagnostics.{in_utf8, stored_diagnostic, shown};
-ghost use Rattle.views.specs.Contents.{IsDiagnosis};
+ghost use Rattle.views.specs.Diagnostics.{IsDiagnosis, in_utf8, stored_diagnostic, shown};
 
-use crate::parts::span_of;
 use definitions::{Diagnostic, Range, Unit};
 use grammar::Grammar;
 use lexer::{Kind, Tokens};
 use parser::{Parse, Verdict};
+use reports::span_of;
 use std::alloc::{AllocError, Global};
 use tables::{Expected, Tables};
 use text::Text;

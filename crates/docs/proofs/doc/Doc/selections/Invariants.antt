@@ -1,5 +1,5 @@
 use Rattle.std.proofs.Common.{map, take}
-use Rattle.views.specs.Contents.{trees_of_roots}
+use Rattle.reports.specs.Contents.{trees_of_roots}
 use Rattle.docs.specs.Answers.{AreSelections}
 use Rattle.docs.specs.Docs.{IsCurrent}
 use Rattle.docs.specs.Languages.{LanguageData}

@@ -3,7 +3,7 @@ use Rattle.definitions.specs.Sentences.{IsViable}
 use Rattle.definitions.specs.Trees.{Grammar, yield}
 use Rattle.tables.specs.Decidable.{AreMovesDecided}
 use Rattle.tables.specs.Tables.{IsAccepted}
-use Rattle.views.specs.Contents.{placed_parts}
+use Rattle.reports.specs.Contents.{placed_parts}
 use Rattle.docs.specs.Languages.{LanguageData}
 use Rattle.docs.specs.Answers.{AlwaysAnswers, AnswersOnce}
 use Rattle.docs.proofs.EachReadingExists.{LayersAnswer, always_answers}

@@ -1,0 +1,16 @@
+pub mod SignificantOrder
+pub mod BranchesAround
+pub mod Children
+pub mod FoldSteps
+pub mod FoldsExist
+pub mod LinesOfTokens
+pub mod LocatedOffset
+pub mod Nested
+pub mod NodesFrom
+pub mod SelectionOfOffset
+pub mod SpansAround
+pub mod Significant
+pub mod FoldsSorted
+pub mod RowsOfTokens
+pub mod WalkGathersFolds
+pub mod Writing

@@ -1,0 +1,16 @@
+use Rattle.std.proofs.Common.{◌≡◌, ◌++◌, length}
+use Rattle.std.specs.Prelude.{IfSome}
+use Rattle.reports.specs.Around.{spans_all}
+use Rattle.reports.specs.Contents.{trees_of_roots}
+use Rattle.reports.proofs.Children.{pending, IsNext}
+use Rattle.reports.proofs.selections.spans_around.Given as goal
+
+-- the spans so far, and those to come, are all
+abbrev pub invariant-loop-next : goal.invariant-loop-next
+invariant-loop-next l = record {
+  reported : l.spans.items ++ pending l.store l.point l.next ≡ spans_all l.point.reached l.point.first 0 (trees_of_roots l.store l.roots);
+  next : IfSome l.next (IsNext l.store l.point);
+}
+
+abbrev pub decreases-loop-next : goal.decreases-loop-next
+decreases-loop-next l = length (pending l.store l.point l.next)

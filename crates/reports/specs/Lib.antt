@@ -1,0 +1,5 @@
+pub mod Around
+pub mod Folds
+pub mod NodesFrom
+pub mod Contents
+pub mod Views

@@ -1,7 +1,0 @@
-use Rattle.std.proofs.Common.{◌≡◌, ◌++◌, map}
-use Rattle.std.specs.Prelude.{reverse}
-use Rattle.definitions.specs.Answers.{range_of}
-use Rattle.views.proofs.selections.ranges_of.Given as goal
-
-abbrev pub invariant-loop-start : goal.invariant-loop-start
-invariant-loop-start l = l.ranges.items ++ reverse (map (range_of l.unit l.text) l.start-iterator.iter.rest.now) ≡ reverse (map (range_of l.unit l.text) l.offsets)
