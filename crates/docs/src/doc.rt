@@ -173,7 +173,8 @@ impl Doc {
         // The read opens what a language says of its tables.
         let _tables = language.tables();
         let tokens = language.scan(alloc, &text)?;
-        let mut store = Store::new(alloc);
+        // Nearly every parse has fewer nodes than tokens, so that the store doesn't grow, and isn't copied, while it is filled.
+        let mut store = Store::with_capacity(alloc, tokens.significant())?;
         let parse = language.parse(alloc, &mut store, &tokens)?;
         Ok(Doc {
             unit,

@@ -67,7 +67,11 @@ fn assert_node(
 ) {
     let id = NodeId { index };
     assert!(rt; index < store.len());
-    let shown = (store.production(id), store.born(id), store.child_count(id));
+    let shown = (
+        store.production(id),
+        store.born(id),
+        store.children(id).count(),
+    );
     assert!(rt; shown == (production, 0, children.len()));
     for (k, child) in children.iter().enumerate() {
         assert!(rt; store.child(id, k) == Some(*child));

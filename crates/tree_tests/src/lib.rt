@@ -2,4 +2,6 @@
 #![tactic(auto)]
 
 #[cfg(test)]
+mod node_forms;
+#[cfg(test)]
 mod tree_stores;

@@ -66,8 +66,8 @@ fn check_children(rt: &impl Abort, store: &Store, whole: NodeId, second: NodeId)
         store.child(whole, 18_446_744_073_709_551_615),
     );
     assert!(rt; (store.child(whole, 2), after) == (last, (None, None)));
-    let counts = (store.child_count(whole), store.children(whole).count());
-    assert!(rt; (counts, store.children(whole).next_back()) == ((3, 3), last));
+    let count = store.children(whole).count();
+    assert!(rt; (count, store.children(whole).next_back()) == (3, last));
     for (k, child) in store.children(whole).enumerate() {
         assert!(rt; store.child(whole, k) == Some(child), "at {k}");
     }
@@ -152,25 +152,6 @@ fn counts_stop_at_the_greatest_number(rt: HostRuntime) {
     check_doubling(&rt, rt.alloc(), &mut store);
 }
 
-#[test]
-fn more_children_than_stand_inline(rt: HostRuntime) {
-    let mut store = Store::new(rt.alloc());
-    let mut children = [NUMBER; 40];
-    children[39] = PLUS;
-    let id = store
-        .branch(rt.alloc(), 1, &children, 0)
-        .expect(&rt, "memory");
-    assert!(rt; label(&rt, &store, id) == (1, 0, 40, 1));
-    for (k, child) in [
-        (4, Some(NUMBER)),
-        (38, Some(NUMBER)),
-        (39, Some(PLUS)),
-        (40, None),
-    ] {
-        assert!(rt; store.child(id, k) == child, "at {k}");
-    }
-}
-
 /// Makes a branch over a number and a token of each kind.
 fn check_kinds(rt: &impl Abort, alloc: Global, store: &mut Store) {
     for kind in [
@@ -185,7 +166,7 @@ fn check_kinds(rt: &impl Abort, alloc: Global, store: &mut Store) {
             .expect(rt, "memory");
         assert!(rt; label(rt, store, id) == (1, 2, 2, 1));
         assert!(rt; first_two(store, id) == (Some(NUMBER), Some(last)));
-        let after = (store.child_count(id), store.child(id, 2));
+        let after = (store.children(id).count(), store.child(id, 2));
         assert!(rt; (after, store.children(id).last()) == ((2, None), Some(last)));
     }
 }

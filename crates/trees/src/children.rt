@@ -1,6 +1,6 @@
 //! The children of nodes, in 32 bits each.
 
-ghost use Rattle.std.specs.Prelude.{◌≡◌, map, IfSome, IsSome};
+ghost use Rattle.std.specs.Prelude.{◌≡◌, map, slice_get, IfSome, IsSome};
 ghost use Rattle.std.specs.Iterator.{YieldsFirst, YieldsLast, item_count};
 ghost use Rattle.trees.specs.Packing.{unpack, HasNumber};
 
@@ -10,6 +10,9 @@ use std::marker::Model;
 
 /// The number of an invalid token: nodes have the numbers below it, and rules those above it.
 const HALF: usize = 2_147_483_648;
+
+/// The same number in 32 bits.
+pub(crate) const INVALID: u32 = 2_147_483_648;
 
 /// Children of a node, in order. It takes no memory.
 #[derive(Drop)]
@@ -43,6 +46,16 @@ impl<'a> Children<'a> {
     {
         Children {
             rest: Rest::Narrow(numbers),
+        }
+    }
+
+    /// Child number `k` of those that are still to come, counted from 0; none past the last one.
+    pub(crate) fn get(&self, k: usize) -> Option<Child>
+        ensures { result ≡ slice_get self.now k }
+    {
+        match self.rest {
+            Rest::Narrow(numbers) => numbers.get(k).map(|number| unpack(*number)),
+            Rest::Wide(children) => children.get(k).copied(),
         }
     }
 
@@ -105,7 +118,7 @@ pub(crate) fn pack(child: Child) -> Option<u32>
 {
     match child {
         Child::Node(id) if id.index < HALF => Some(id.index as u32),
-        Child::Token(Kind::Invalid) => Some(HALF as u32),
+        Child::Token(Kind::Invalid) => Some(INVALID),
         Child::Token(Kind::Rule(rule)) if rule < HALF - 1 => Some((rule + 1 + HALF) as u32),
         _ => None,
     }

@@ -7,8 +7,8 @@
 //!
 //! Words: a `Child` is a token's kind or a `NodeId`; `born` is the number of the edit that made a node.
 //!
-//! Limits: `tokens` and `size` saturate at the greatest `u64`; otherwise memory is the only limit. `branch` costs the
-//! number of children, and `compact` the number of nodes.
+//! Limits: `tokens` and `size` saturate at the greatest `u64`; otherwise memory is the only limit. A node takes 32 bytes
+//! with up to four children. `branch` costs the number of children, and `compact` that of nodes.
 //!
 //! ```
 //! let mut store = Store::new(alloc);

@@ -1,15 +1,14 @@
 //! Nodes in little room: 16 bits for the production, and 32 for each other number and each child, where they fit.
 
-ghost use Rattle.std.specs.Prelude.{◌≡◌, ◌<◌, ◌≤◌, ◌^◌, ℕ, [], true, None, length, map, slice_get, slice_index_or, IfOk, IfSome, IsSome};
+ghost use Rattle.std.specs.Prelude.{◌≡◌, ◌<◌, ◌≤◌, ◌^◌, ℕ, length, map, take, slice_index_or, IfOk, IfSome, IsSome};
 ghost use Rattle.std.specs.List.{All};
 ghost use Rattle.trees.specs.Cells.{AreBelow};
-ghost use Rattle.trees.specs.Forms.{cell_in, IsNarrow};
+ghost use Rattle.trees.specs.Forms.{label_of, IsFew, IsFilled, IsFormOf, IsPacked, IsSmall};
 ghost use Rattle.trees.specs.Packing.{unpack, HasNumber};
 ghost use Rattle.trees.specs.Slides.{renamed};
 
-use crate::children::{Children, pack, unpack};
+use crate::children::{Children, INVALID, pack, unpack};
 use crate::store::{Child, NodeId};
-use smallvec::SmallVec;
 use std::alloc::{AllocError, Global};
 use std::marker::Model;
 
@@ -18,6 +17,9 @@ const GREATEST_PRODUCTION: usize = 65_535;
 
 /// The greatest number of 32 bits.
 const GREATEST: u64 = 4_294_967_295;
+
+/// How many children lie in the node itself.
+const FEW: usize = 4;
 
 /// The numbers of a node.
 #[derive(Clone, Copy)]
@@ -38,23 +40,39 @@ pub(crate) struct Node {
     form: Form,
 }
 
-/// How a node lies in memory.
+/// How a node lies in memory. The production lies beside the tag, where a struct would begin 8 bytes later.
 #[derive(Drop)]
 enum Form {
-    /// A node whose numbers and children fit. The production lies beside the tag, where a struct would begin 8 bytes later.
-    Narrow {
+    /// A node whose numbers fit, over at most [`FEW`] children, each with a number.
+    Few {
+        count: u8,
         production: u16,
-        born: u32,
-        tokens: u32,
-        size: u32,
-        /// The packed number of each child.
-        children: SmallVec<u32, 4>,
+        numbers: Numbers,
+        /// The packed number of each child, and after them that of an invalid token.
+        children: [u32; FEW],
     },
+    /// One over any children that each have a number.
+    Many(Box<Many>),
     /// Any other one.
     Wide(Box<Wide>),
 }
 
-const _: () = prove!(size_of::<Node>() == 48);
+const _: () = prove!(size_of::<Node>() == 32);
+
+/// The numbers of a node, but for its production, where they fit.
+#[derive(Clone, Copy)]
+struct Numbers {
+    born: u32,
+    tokens: u32,
+    size: u32,
+}
+
+#[derive(Drop)]
+struct Many {
+    label: Label,
+    /// The packed number of each child.
+    children: Vec<u32>,
+}
 
 #[derive(Drop)]
 struct Wide {
@@ -64,22 +82,18 @@ struct Wide {
 
 impl Model for Node {
     ghost use Rattle.trees.specs.Cells.{Cell};
-    ghost use Rattle.trees.specs.Forms.{cell_in};
+    ghost use Rattle.trees.specs.Forms.{cell_in, IsForm};
 
     ghost Value = { Cell };
 
     ghost view = { λ n. cell_in n.form };
+
+    ghost invariant = { λ n. IsForm n.form };
 }
 
 impl Node {
-    /// The node of these numbers over these children, whose packed numbers are given where each has one.
-    pub fn new(
-        alloc: Global,
-        label: Label,
-        children: &[Child],
-        numbers: Option<SmallVec<u32, 4>>,
-    ) -> Result<Node, AllocError>
-        requires { IfSome numbers (λ ns. map unpack ns.items ≡ children.now) }
+    /// The node of these numbers over these children.
+    pub fn new(alloc: Global, label: Label, children: &[Child]) -> Result<Node, AllocError>
         ensures { IfOk result (λ node. node ≡ record {
           production = label.production;
           born = label.born;
@@ -88,14 +102,8 @@ impl Node {
           children = children.now;
         }) }
     {
-        if let Some(form) = narrow_form(label, numbers) {
-            return Ok(Node { form });
-        }
-        let children = Vec::from_slice(alloc, children)?;
-        let wide = Box::new(alloc, Wide { label, children })?;
-        Ok(Node {
-            form: Form::Wide(wide),
-        })
+        let form = form_of(alloc, label, children)?;
+        Ok(Node { form })
     }
 
     /// Its numbers.
@@ -106,18 +114,12 @@ impl Node {
         ensures size { result.size ≡ self.now.size }
     {
         match &self.form {
-            Form::Narrow {
+            Form::Few {
                 production,
-                born,
-                tokens,
-                size,
-                children: _,
-            } => Label {
-                production: *production as usize,
-                born: *born as u64,
-                tokens: *tokens as u64,
-                size: *size as u64,
-            },
+                numbers,
+                ..
+            } => numbers.label(*production),
+            Form::Many(many) => many.label,
             Form::Wide(wide) => wide.label,
         }
     }
@@ -127,28 +129,13 @@ impl Node {
         ensures { result ≡ self.now.children }
     {
         match &self.form {
-            Form::Narrow { children, .. } => Children::narrow(children.as_slice()),
+            Form::Few {
+                count,
+                children,
+                ..
+            } => Children::narrow(&children[..*count as usize]),
+            Form::Many(many) => Children::narrow(many.children.as_slice()),
             Form::Wide(wide) => Children::of(wide.children.as_slice()),
-        }
-    }
-
-    /// How many children it has.
-    pub fn child_count(&self) -> usize
-        ensures { result ≡ length self.now.children }
-    {
-        match &self.form {
-            Form::Narrow { children, .. } => children.len(),
-            Form::Wide(wide) => wide.children.len(),
-        }
-    }
-
-    /// Child number `k`, counted from 0; none past the last one.
-    pub fn child(&self, k: usize) -> Option<Child>
-        ensures { result ≡ slice_get self.now.children k }
-    {
-        match &self.form {
-            Form::Narrow { children, .. } => children.get(k).map(|number| unpack(*number)),
-            Form::Wide(wide) => wide.children.get(k).copied(),
         }
     }
 
@@ -165,8 +152,45 @@ impl Node {
         } }
     {
         match &mut self.form {
-            Form::Narrow { children, .. } => rename_numbers(children.as_mut_slice(), names),
+            Form::Few { children, .. } => rename_numbers(children, names),
+            Form::Many(many) => rename_numbers(&mut many.children, names),
             Form::Wide(wide) => rename_children(&mut wide.children, names),
+        }
+    }
+}
+
+impl Numbers {
+    /// The numbers of a label, but for its production, where each is one of 32 bits, and the production one of 16.
+    fn of(label: Label) -> Option<(u16, Numbers)>
+        ensures is { IfSome result (λ r. label_of r.0 r.1 ≡ label) }
+        ensures every { IsSmall label → IsSome result }
+    {
+        let Label {
+            production,
+            born,
+            tokens,
+            size,
+        } = label;
+        if production > GREATEST_PRODUCTION || born.max(tokens).max(size) > GREATEST {
+            return None;
+        }
+        let numbers = Numbers {
+            born: born as u32,
+            tokens: tokens as u32,
+            size: size as u32,
+        };
+        Some((production as u16, numbers))
+    }
+
+    /// The label of a node with these numbers and this production.
+    fn label(&self, production: u16) -> Label
+        ensures { result ≡ label_of production self.now }
+    {
+        Label {
+            production: production as usize,
+            born: self.born as u64,
+            tokens: self.tokens as u64,
+            size: self.size as u64,
         }
     }
 }
@@ -197,53 +221,72 @@ fn rename_children(children: &mut [Child], names: &[u32])
     }
 }
 
-/// The narrow form of a node with these numbers and packed children, where they fit.
-fn narrow_form(label: Label, children: Option<SmallVec<u32, 4>>) -> Option<Form>
-    ensures is { IfSome result (λ form. IfSome children (λ ns. cell_in form ≡ record {
-      production = label.production;
-      born = label.born;
-      tokens = label.tokens;
-      size = label.size;
-      children = map unpack ns.items;
-    })) }
-    ensures none { children ≡ None → result ≡ None }
-    ensures narrow { IfSome result IsNarrow }
-    ensures every { label.production < 2 ^ 16 → label.born < 2 ^ 32 → label.tokens < 2 ^ 32 →
-        label.size < 2 ^ 32 → IsSome children → IsSome result }
+/// The form of a node. It takes no more memory than its numbers and its children need.
+fn form_of(alloc: Global, label: Label, children: &[Child]) -> Result<Form, AllocError>
+    ensures is { IfOk result (IsFormOf label children.now) }
+    ensures few { IsSmall label → All HasNumber children.now → length children.now ≤ 4
+        → IfOk result IsFew }
+    ensures packed { All HasNumber children.now → IfOk result IsPacked }
 {
-    let Label {
-        production,
-        born,
-        tokens,
-        size,
-    } = label;
-    if production > GREATEST_PRODUCTION || born.max(tokens).max(size) > GREATEST {
-        return None;
+    if let Some(form) = few_form(label, children) {
+        return Ok(form);
     }
-    Some(Form::Narrow {
-        production: production as u16,
-        born: born as u32,
-        tokens: tokens as u32,
-        size: size as u32,
-        children: children?,
+    if let Some(children) = pack_all(alloc, children)? {
+        let many = Box::new(alloc, Many { label, children })?;
+        return Ok(Form::Many(many));
+    }
+    let children = Vec::from_slice(alloc, children)?;
+    let wide = Box::new(alloc, Wide { label, children })?;
+    Ok(Form::Wide(wide))
+}
+
+/// The form of a node with few children, where its numbers fit and each child has one.
+fn few_form(label: Label, children: &[Child]) -> Option<Form>
+    ensures is { IfSome result (IsFormOf label children.now) }
+    ensures few { IfSome result IsFew }
+    ensures every { IsSmall label → All HasNumber children.now → length children.now ≤ 4
+        → IsSome result }
+{
+    let (production, numbers) = Numbers::of(label)?;
+    let (count, children) = pack_few(children)?;
+    Some(Form::Few {
+        count,
+        production,
+        numbers,
+        children,
     })
 }
 
-/// Puts the packed numbers of the children into an empty list, and returns whether each has one.
-pub(crate) fn pack_all(
-    children: &[Child],
-    numbers: &mut SmallVec<u32, 4>,
-) -> Result<bool, AllocError>
-    requires { numbers.old.items ≡ [] }
-    ensures are { IfOk result (λ all. all ≡ true
-        → map unpack numbers.new.items ≡ children.now) }
-    ensures every { All HasNumber children.now → IfOk result (λ all. all ≡ true) }
+/// How many children there are, and the packed number of each, where there are few and each has one.
+fn pack_few(children: &[Child]) -> Option<(u8, [u32; FEW])>
+    ensures filled { IfSome result (λ r. IsFilled r.0 r.1) }
+    ensures are { IfSome result (λ r. map unpack (take r.0 r.1) ≡ children.now) }
+    ensures every { All HasNumber children.now → length children.now ≤ 4 → IsSome result }
 {
+    let mut packed = [INVALID; FEW];
+    let mut count = 0;
     for child in children {
-        match pack(*child) {
-            Some(number) => numbers.push(number)?,
-            None => return Ok(false),
+        let number = pack(*child)?;
+        if count == FEW {
+            return None;
         }
+        packed[count] = number;
+        count += 1;
     }
-    Ok(true)
+    Some((count as u8, packed))
+}
+
+/// The packed number of each of the children, where each has one.
+fn pack_all(alloc: Global, children: &[Child]) -> Result<Option<Vec<u32>>, AllocError>
+    ensures are { IfOk result (λ r. IfSome r (λ ns. map unpack ns.items ≡ children.now)) }
+    ensures every { All HasNumber children.now → IfOk result IsSome }
+{
+    let mut packed = Vec::new(alloc);
+    for child in children {
+        let Some(number) = pack(*child) else {
+            return Ok(None);
+        };
+        packed.push(number)?;
+    }
+    Ok(Some(packed))
 }

@@ -8,9 +8,8 @@ ghost use Rattle.trees.specs.declared.store.Child.{Child};
 ghost use Rattle.trees.specs.Cells.{cell_of, most, tree, forest_in, trees_from, forest_of, IsBelow, AreBelow, IsStore, IsGrown, KeepsTrees, tokens_below, branches_below};
 
 use crate::children::Children;
-use crate::node::{Label, Node, pack_all};
+use crate::node::{Label, Node};
 use definitions::Kind;
-use smallvec::SmallVec;
 use std::alloc::{AllocError, Global};
 use std::marker::Model;
 
@@ -32,7 +31,7 @@ pub enum Child {
 /// The nodes of trees, each after those of its children.
 ///
 /// A [`NodeId`] means one tree until the store is cut at or below it, or compacted. No calls but
-/// [`branch`](Store::branch) and [`compact`](Store::compact) take memory.
+/// [`with_capacity`](Store::with_capacity), [`branch`](Store::branch) and [`compact`](Store::compact) take memory.
 #[derive(Drop)]
 pub struct Store {
     pub(crate) nodes: Vec<Node>,
@@ -57,6 +56,14 @@ impl Store {
         Store {
             nodes: Vec::new(alloc),
         }
+    }
+
+    /// A store of no nodes, with room for so many.
+    pub fn with_capacity(alloc: Global, nodes: usize) -> Result<Store, AllocError>
+        ensures { IfOk result (λ store. store ≡ []) }
+    {
+        let nodes = Vec::with_capacity(alloc, nodes)?;
+        Ok(Store { nodes })
     }
 
     /// How many nodes there are. Each id below it names one.
@@ -116,7 +123,7 @@ impl Store {
             (result ≡ slice_get children k) }
         ensures store { IsStore self.now }
     {
-        self.nodes[id.index].child(k)
+        self.nodes[id.index].children().get(k)
     }
 
     /// The children of a node, in order.
@@ -129,14 +136,6 @@ impl Store {
             ≡ StampedBranch production born (forest_of (trees_from [] self.now) result)) }
     {
         self.nodes[id.index].children()
-    }
-
-    /// How many children a node has.
-    pub fn child_count(&self, id: NodeId) -> usize
-        requires { id.index < length self.now }
-        ensures { result ≡ length (cell_of self.now id).children }
-    {
-        self.nodes[id.index].child_count()
     }
 
     /// How many tokens the tree of a child has, or 18,446,744,073,709,551,615 where it has more.
@@ -195,10 +194,6 @@ impl Store {
         ensures count { OnOk result (length self.new ≡ length self.old + 1) }
         ensures err { OnErr result (self.new ≡ self.old) }
     {
-        // What is written in small parts is slow to be read as a whole right after, so the children are packed before they are
-        // counted.
-        let mut numbers = SmallVec::new(alloc);
-        let is_packed = pack_all(children, &mut numbers)?;
         let (tokens, size) = self.counts(children);
         let label = Label {
             production,
@@ -206,7 +201,7 @@ impl Store {
             tokens,
             size,
         };
-        let node = Node::new(alloc, label, children, is_packed.then_some(numbers))?;
+        let node = Node::new(alloc, label, children)?;
         let index = self.len();
         self.nodes.push(node)?;
         Ok(NodeId { index })

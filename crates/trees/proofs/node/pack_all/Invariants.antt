@@ -3,4 +3,4 @@ use Rattle.trees.specs.Packing.{unpack}
 use Rattle.trees.proofs.node.pack_all.Given as goal
 
 abbrev pub invariant-loop-child : goal.invariant-loop-child
-invariant-loop-child l = map unpack l.numbers.items ≡ take l.child-index l.children
+invariant-loop-child l = map unpack l.packed.items ≡ take l.child-index l.children

@@ -10,5 +10,5 @@ returns-clause-current c = record {
   born = All-weaker (λ x. x.born ≡ 0) (λ x. x.born ≤ c.in_ok-parse.parse.number) (λ x e. omega (arith, e)) c.in_ok-tokens.tokens.items c.in_ok-tokens.ensures.born;
   scanned = λ none. c.in_ok-tokens.ensures.scanned;
   built = λ none. c.in_ok-parse.ensures.built;
-  bounded = omega (arith, c.in_ok-parse.ensures.count, ap length c.new-store.ensures);
+  bounded = omega (arith, c.in_ok-parse.ensures.count, ap length c.in_ok-store.ensures);
 }
