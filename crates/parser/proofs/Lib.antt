@@ -24,3 +24,4 @@ pub mod Replaced
 pub mod Renaming
 pub mod CompactedParse
 pub mod Fits
+pub mod Edges

@@ -10,8 +10,9 @@ use Rattle.trees.specs.Cells.{Cell, AreBelow, all_trees, trees_from}
 use Rattle.theory.specs.Reuse.{Goes_on, Ends, Reuses, Takes_token, Makes, MakesAt}
 use Rattle.tables.specs.Tables.{Sets}
 use Rattle.parser.specs.Machine.{plain_of, HasStates}
-use Rattle.parser.specs.Input.{input_of, IsInput}
-use Rattle.parser.specs.FirstInput.{Offers}
+use Rattle.parser.specs.declared.machine.Edge.{Edge}
+use Rattle.parser.specs.Input.{input_of, BeginsWith, IsInput, IsOpened, Skips}
+use Rattle.parser.specs.FirstInput.{Offers, IsOffer}
 use Rattle.parser.specs.Parses.{AreUpTo, all_branches_by}
 use Rattle.parser.specs.Stamps.{AreOlder, all_numbered}
 
@@ -31,6 +32,20 @@ AreStampedBy g run number ts = (lefts : List Tree) (p born : ℕ) (us : StampedF
 abbrev pub ComeFrom : List Stamped → ℕ → List Stamped → Type 0
 ComeFrom old place ts = (lefts : List Tree) (p born : ℕ) (us : StampedForest) → StampedIn ts lefts p born us
     → (at : List Tree) × StampedIn old at p born us × (place_of at ≡ place + place_of lefts)
+
+-- `IsEdge t cells stack kinds read old new edge`: of the old input the trees of no kinds are gone from the start, and its left edge was
+-- opened until it offers this; what was there before it was opened is known by its first tree and its length
+pub record IsEdge (t : Sets) (cells : List Cell) (stack : List Tree) (kinds : List Kind) (read : ℕ) (old new : List Child) (edge : Edge)
+    : Type 0 where
+  pub full : List Child
+  pub skips : Skips cells old full
+  pub first : BeginsWith full edge.first
+  pub len : edge.len ≡ length full
+  pub input : IsInput t.grammar cells new kinds read
+  pub opened : IsOpened full new
+  pub offers : Offers t.grammar stack (input_of cells new kinds read) (input_of cells full kinds read)
+  pub came : ComeFrom (all_trees cells full) 0 (all_trees cells new)
+  pub offer : IsOffer t cells stack kinds read new edge.offer
 
 -- `MoveFrom s old trees`: each branch of nonempty yield is one of the old trees, at a place that the splice moves to its own
 abbrev pub MoveFrom : Splice → List Stamped → List Stamped → Type 0

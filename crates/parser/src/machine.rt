@@ -16,7 +16,7 @@ ghost use Rattle.tables.specs.Tables.{IsAccepted, IsStateOf};
 ghost use Rattle.parser.specs.Machine.{plain_of, HasStates, HasMade};
 ghost use Rattle.parser.specs.Input.{input_of, IsFull, IsInput, IsOpened};
 ghost use Rattle.parser.specs.FirstInput.{Offers, IsReusable, IsOffer};
-ghost use Rattle.parser.specs.Run.{CameFrom, ComeFrom, SoFar};
+ghost use Rattle.parser.specs.Run.{CameFrom, ComeFrom, IsEdge, SoFar};
 ghost use Rattle.parser.specs.Parses.{IsStoppedAt, verdict_of};
 
 use crate::input::Input;
@@ -33,6 +33,17 @@ pub enum FirstInput {
     Tree(NodeId, usize),
     /// A token of this kind, or the end.
     Next(Option<Kind>),
+}
+
+/// What stands at the start of the input, and what the input was before its left edge was opened.
+#[derive(Clone, Copy)]
+pub struct Edge {
+    /// What is offered now.
+    pub offer: FirstInput,
+    /// The first tree before, where there was one.
+    pub first: Option<Child>,
+    /// How many trees there were.
+    pub len: usize,
 }
 
 /// How the machine stopped.
@@ -206,6 +217,35 @@ impl Machine {
         Ok(FirstInput::Next(kinds.kind(self.read)))
     }
 
+    /// Passes over the trees of no tokens, and tries the next one.
+    fn edge<K: Kinds>(
+        &self,
+        tables: &Tables,
+        store: &Store,
+        kinds: &mut Reader<'_, K>,
+        input: &mut Input,
+    ) -> Result<Edge, AllocError>
+        requires states { HasStates tables.now (plain_of store.now self.now.stack.items)
+            self.now.states.items }
+        requires input { IsInput tables.now.grammar store.now input.old kinds.old self.now.read }
+        ensures edge { let stack = plain_of store.now self.now.stack.items in IfOk result
+            (IsEdge tables.now store.now stack kinds.old self.now.read input.old input.new) }
+        ensures same { kinds.new ≡ kinds.old }
+    {
+        if input.len() == 0 {
+            return Ok(Edge {
+                offer: FirstInput::Next(kinds.kind(self.read)),
+                first: None,
+                len: 0,
+            });
+        }
+        input.skip_empty(store);
+        let first = input.first();
+        let len = input.len();
+        let offer = self.first_input(tables, store, kinds, input)?;
+        Ok(Edge { offer, first, len })
+    }
+
     /// Puts a branch in the place of the last trees, as many as its production's right side has symbols.
     fn reduce(
         &mut self,
@@ -283,10 +323,8 @@ impl Machine {
     {
         let count = kinds.len();
         'moves: loop {
-            input.skip_empty(store);
-            let first = input.first();
-            let trees = input.len();
-            let look = match self.first_input(tables, store, kinds, &mut input)? {
+            let edge = self.edge(tables, store, kinds, &mut input)?;
+            let look = match edge.offer {
                 FirstInput::Tree(id, next) => {
                     input.take();
                     self.push(Child::Node(id), next)?;
@@ -306,7 +344,7 @@ impl Machine {
                 }
                 Some(Move::Reduce(production)) => {
                     // a node that fails the test on this stack may pass it on the next one
-                    input.close(first, trees)?;
+                    input.close(edge.first, edge.len)?;
                     self.reduce(alloc, tables, store, production, number)?;
                 }
                 Some(Move::Accept) => return Ok(Halt::Accepted),
