@@ -1,9 +1,9 @@
 -- Runs one after another.
-use Rattle.std.proofs.Common.{◌≡◌, ℕ, List, [], ◌∷◌, ◌++◌, refl, ap, sym, subst, ◌∙◌, append_assoc, append-nil, ◌+◌, ◌<◌, length, take, drop, get_or}
+use Rattle.std.proofs.Common.{◌≡◌, ℕ, List, [], ◌∷◌, ◌++◌, refl, ap, sym, subst, ◌∙◌, append_assoc, append-nil}
 use Rattle.std.specs.Prelude.{Option, Some, None, MatchOption, IfSome}
 use Rattle.std.specs.Io.KnownBytes.{Appends}
 use Rattle.std.proofs.lemmas.Grind.{flat_map-append}
-use Rattle.std.proofs.lemmas.List.{take_more, map-append, take-append-drop}
+use Rattle.std.proofs.lemmas.List.{map-append}
 use Rattle.rpc.specs.Written.{compact_text}
 use Rattle.frames.specs.Write.{frame}
 use Rattle.frames.specs.Contents.{contents}
@@ -87,14 +87,10 @@ appends_nothing (Some xs) = sym (append-nil xs)
 pub served_nothing : (o : Option (List ℕ)) (a : State) → Served o o a [] None a
 served_nothing o a = record { answers = []; run = (refl, refl, refl); written = appends_nothing o }
 
-pub contents_more : (frames : List Frame) (i : ℕ) (d : Frame) → i < length frames → d ≡ get_or frames i d → contents (take (i + 1) frames) ≡ contents (take i frames) ++ d.content.items ∷ []
-contents_more frames i d h e =
-    ap contents (take_more frames i d h ∙ ap (λ (f : Frame). take i frames ++ f ∷ []) (sym e)) ∙ map-append (λ (f : Frame). f.content.items) (take i frames) (d ∷ [])
+pub contents_more : (done : List Frame) (d : Frame) → contents (done ++ d ∷ []) ≡ contents done ++ d.content.items ∷ []
+contents_more done d = map-append (λ (f : Frame). f.content.items) done (d ∷ [])
 
-pub contents_all : (frames : List Frame) (n : ℕ) → contents (take n frames) ++ contents (drop n frames) ≡ contents frames
-contents_all frames n = sym (map-append (λ (f : Frame). f.content.items) (take n frames) (drop n frames)) ∙ ap contents (take-append-drop n frames)
-
--- the answers to the frames before one, and to it
-pub served_upto : (old between new : Option (List ℕ)) (first mid after : State) (frames : List Frame) (i : ℕ) (d : Frame) (stop : Option ℕ) → i < length frames → d ≡ get_or frames i d → Served old between first (contents (take i frames)) None mid → Served between new mid (d.content.items ∷ []) stop after → Served old new first (contents (take (i + 1) frames)) stop after
-served_upto old between new first mid after frames i d stop h e before here =
-    subst (λ (cs : List (List ℕ)). Served old new first cs stop after) (sym (contents_more frames i d h e)) (served_then old between new first mid after (contents (take i frames)) (d.content.items ∷ []) stop before here)
+-- the contents of the frames before one, its own, and those of the others
+pub contents_all : (frames done rest : List Frame) (d : Frame) → done ++ d ∷ rest ≡ frames → (contents done ++ d.content.items ∷ []) ++ contents rest ≡ contents frames
+contents_all frames done rest d e =
+    append_assoc (contents done) (d.content.items ∷ []) (contents rest) ∙ sym (map-append (λ (f : Frame). f.content.items) done (d ∷ rest)) ∙ ap contents e

@@ -1,11 +1,11 @@
 //! The loop from bytes to bytes.
 
-ghost use Rattle.std.specs.Prelude.{◌≡◌, ◌↔◌, ◌∷◌, [], ℕ, List, All, Err, map, IfOk, IfErr, OnOk, OnErr, IsErrOf};
+ghost use Rattle.std.specs.Prelude.{◌≡◌, ◌↔◌, ◌∷◌, [], ℕ, List, All, Err, map, IfOk, IfErr, IfSome, OnOk, OnErr, IsErrOf};
 ghost use Rattle.std.specs.Io.KnownBytes.{Appends, Keeps};
 ghost use Rattle.frames.specs.Contents.{contents};
 ghost use Rattle.frames.specs.Frames.{Open};
 ghost use Rattle.docs.specs.Answers.{AlwaysAnswers};
-ghost use Rattle.rpc.specs.Messages.{Received};
+ghost use Rattle.rpc.specs.Messages.{Received, received_of};
 ghost use Rattle.rpc.specs.Reading.{Receives};
 ghost use Rattle.rpc.specs.Replies.{reply_view};
 ghost use Rattle.rpc.specs.Texts.{IsSpelled, texts_of};
@@ -20,11 +20,11 @@ use crate::laws::{each_document_is_alone, each_text_is_its_edits, every_answer_i
 use crate::state::Server;
 use docs::Language;
 use frames::{Decoder, Frame, FrameFault, Input, Output, RunFault, write_frame};
-use rpc::{Reply, each_text_is_unicode, read, to_bytes};
+use rpc::{Message, Reply, RpcFault, each_text_is_unicode, read, to_bytes};
 use std::alloc::Global;
 
-/// How many bytes are read at once.
-const BUFFER_LEN: usize = 4096;
+/// How many bytes are read at once: as many as a pipe of Linux holds.
+const BUFFER_LEN: usize = 65_536;
 
 fn write_replies<W: Output>(
     alloc: Global,
@@ -49,22 +49,29 @@ fn write_replies<W: Output>(
     Ok(())
 }
 
+/// What a content is read as. The content is let go of before the message is answered, which may need as much memory.
+fn message_of(alloc: Global, content: Vec<u8>) -> Result<Message, RpcFault>
+    ensures { IfSome (received_of result) (λ received. Receives content.items received) }
+{
+    read(alloc, &content)
+}
+
 /// Answers one content.
 fn serve<W: Output>(
     alloc: Global,
     server: &mut Server,
     output: &mut W,
-    content: &[u8],
+    content: Vec<u8>,
 ) -> Result<Option<u8>, RunFault>
     requires output { W.failures output.old ≡ 0 }
     requires server { CanServe (state_view server.old) }
     ensures { let old = W.contents output.old in
         let new = W.contents output.new in
         let after = state_view server.new in
-        HasServed old new (W.failures output.new) (state_view server.old) (content.now ∷ [])
+        HasServed old new (W.failures output.new) (state_view server.old) (content.items ∷ [])
         result after }
 {
-    let message = read(alloc, content);
+    let message = message_of(alloc, content);
     let out = server.handle(alloc, message)?;
     write_replies(alloc, output, &out.replies)?;
     Ok(out.stop)
@@ -75,18 +82,18 @@ fn serve_all<W: Output>(
     alloc: Global,
     server: &mut Server,
     output: &mut W,
-    frames: &[Frame],
+    frames: Vec<Frame>,
 ) -> Result<Option<u8>, RunFault>
     requires output { W.failures output.old ≡ 0 }
     requires server { CanServe (state_view server.old) }
     ensures { let old = W.contents output.old in
         let new = W.contents output.new in
         let after = state_view server.new in
-        HasServed old new (W.failures output.new) (state_view server.old) (contents frames.now)
+        HasServed old new (W.failures output.new) (state_view server.old) (contents frames.items)
         result after }
 {
     for frame in frames {
-        if let Some(status) = serve(alloc, server, output, &frame.content)? {
+        if let Some(status) = serve(alloc, server, output, frame.content)? {
             return Ok(Some(status));
         }
     }
@@ -156,7 +163,7 @@ fn serve_input<R: Input, W: Output>(
         }
         match decoder.feed(alloc, &buffer[..count]) {
             Ok(frames) => {
-                let stop = serve_all(alloc, server, output, &frames)?;
+                let stop = serve_all(alloc, server, output, frames)?;
                 flush(output)?;
                 if let Some(status) = stop {
                     return Ok(status);

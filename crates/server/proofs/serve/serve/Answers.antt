@@ -15,11 +15,11 @@ returns g c =
     let answers = map reply_view c.in_ok-out.out.replies.items in
     let before = state_view c.args.server.now in
     let after = state_view c.handle.new.self in
-    let step = step_of_received (received_of c.read-message.result) (received_in c.args.content.now) before answers c.in_ok-out.out.stop after c.read-message.ensures c.in_ok-out.ensures.step in
+    let step = step_of_received (received_of c.message_of-message.result) (received_in c.args.content.items) before answers c.in_ok-out.out.stop after c.message_of-message.ensures c.in_ok-out.ensures.step in
     record {
       written = record {
         answers = answers;
-        run = one_run c.args.content.now before answers c.in_ok-out.out.stop after step;
+        run = one_run c.args.content.items before answers c.in_ok-out.out.stop after step;
         written = rw c.deref.ensures.value at c.in_ok-write_replies.ensures.written;
       };
       part = tt;
@@ -33,7 +33,7 @@ returns-in_err-out g c =
     let before = state_view c.args.server.now in
     let p = err_from_is_err_and c.from_residual.result c.from_residual.ensures.1 in
     let cut : IsCutShort p.0 failures = subst (λ (e : RunFault). IsCutShort e failures) (sym p.2) c.requires.output in
-    cut_off out_bytes out_bytes failures before (c.args.content.now ∷ []) _ _ p.0 p.1 cut (part_nothing out_bytes before c.requires.server (c.args.content.now ∷ []))
+    cut_off out_bytes out_bytes failures before (c.args.content.items ∷ []) _ _ p.0 p.1 cut (part_nothing out_bytes before c.requires.server (c.args.content.items ∷ []))
 
 pub returns-in_err-write_replies : goal.returns-in_err-write_replies
 returns-in_err-write_replies g c =
@@ -45,12 +45,12 @@ returns-in_err-write_replies g c =
     let after = state_view c.handle.new.self in
     let p = err_from_is_err_and c.from_residual-in_err-write_replies.result c.from_residual-in_err-write_replies.ensures.1 in
     let cut : IsCutShort p.0 failures = subst (λ (e : RunFault). IsCutShort e failures) (sym p.2) c.in_err-write_replies.ensures.fault in
-    let step = step_of_received (received_of c.read-message.result) (received_in c.args.content.now) before answers c.in_ok-out.out.stop after c.read-message.ensures c.in_ok-out.ensures.step in
-    let part : ServedInPart old new before (c.args.content.now ∷ []) = record {
+    let step = step_of_received (received_of c.message_of-message.result) (received_in c.args.content.items) before answers c.in_ok-out.out.stop after c.message_of-message.ensures c.in_ok-out.ensures.step in
+    let part : ServedInPart old new before (c.args.content.items ∷ []) = record {
       answers = answers;
       stop = c.in_ok-out.out.stop;
       after = after;
-      run = one_run c.args.content.now before answers c.in_ok-out.out.stop after step;
+      run = one_run c.args.content.items before answers c.in_ok-out.out.stop after step;
       written = rw c.deref.ensures.value at c.in_err-write_replies.ensures.prefix;
     } in
-    cut_off old new failures before (c.args.content.now ∷ []) _ _ p.0 p.1 cut part
+    cut_off old new failures before (c.args.content.items ∷ []) _ _ p.0 p.1 cut part
