@@ -47,7 +47,7 @@ impl Model for PackedToken {
 }
 
 impl PackedToken {
-    /// The packed form of a token.
+    /// The packed form of a token, whose length and reach must be below 2^21.
     pub fn new(token: Token) -> PackedToken
         requires short { token.length < 2 ^ 21 }
         requires near { token.reach < 2 ^ 21 }
