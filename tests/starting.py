@@ -58,9 +58,9 @@ echo "checked: no-answer: the program did not end" >&2
 echo "run=no-answer" >&2
 exit 6
 """
-# A program that prints its words, made by `rt run`.
+# A program that prints its words, made by `rt all test`.
 BUILDS = """#!/bin/sh
-[ "$1" != run ] || {
+[ "$1 $2" != "all test" ] || {
     mkdir -p out
     printf '#!/bin/sh\\necho "ran $*"\\nexit 7\\n' > out/lrls
     chmod +x out/lrls
