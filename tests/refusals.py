@@ -136,13 +136,15 @@ def places(count, most):
     return sorted({*range(1, third + 1), *between, *near_end, *range(count - third + 1, count + 2)})
 
 
-def run(words, text, **names):
-    """What the program prints on both streams and its status, with these names in its environment."""
+def run(words, path, **names):
+    """What the program prints on both streams and its status, with these names in its environment. Its input is a file, since how
+    many bytes a pipe has when it is read differs from run to run, and so do the allocations."""
     environment = {**os.environ, **names}
     try:
-        done = subprocess.run(
-            [PROGRAM, *words], input=text, capture_output=True, env=environment, timeout=PATIENCE, check=False
-        )
+        with open(path, "rb") as stdin:
+            done = subprocess.run(
+                [PROGRAM, *words], stdin=stdin, capture_output=True, env=environment, timeout=PATIENCE, check=False
+            )
     except subprocess.TimeoutExpired:
         return b"", b"", f"not ended after {PATIENCE} seconds"
     return done.stdout, done.stderr, done.returncode
@@ -162,7 +164,8 @@ def refuse(loaded, folder, row):
     """The ends of a row's runs: for each the number of the refused allocation, whether all later ones were refused, and the end."""
     _, words, text, allowed, status, most = row
     counted = os.path.join(folder, "counted")
-    whole = run(words, text, LD_PRELOAD=loaded, COUNTED=counted)
+    path = placed(folder, "input", text)
+    whole = run(words, path, LD_PRELOAD=loaded, COUNTED=counted)
     if end_of(whole, allowed, status) != "as ever" or not os.path.exists(counted):
         return 0, [(0, False, f"nothing refused: {end_of(whole, allowed, status)}")]
     count = int(read(counted))
@@ -171,7 +174,7 @@ def refuse(loaded, folder, row):
     def one(task):
         place, on = task
         names = {"REFUSED_ON": "1"} if on else {}
-        return place, on, end_of(run(words, text, LD_PRELOAD=loaded, REFUSED=str(place), **names), allowed, status)
+        return place, on, end_of(run(words, path, LD_PRELOAD=loaded, REFUSED=str(place), **names), allowed, status)
 
     tasks = [(place, on) for on in (False, True) for place in places(count, most)]
     with concurrent.futures.ThreadPoolExecutor(os.cpu_count()) as pool:
