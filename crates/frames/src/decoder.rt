@@ -127,12 +127,16 @@ fn found_in(
     split(alloc, bytes)
 }
 
-/// Lets go of the bytes before a place.
-fn discard(bytes: &mut Vec<u8>, until: usize)
+/// Lets go of the bytes before a place. Where none are left, the room that they took is given up, too: a message may be long.
+fn discard(alloc: Global, bytes: &mut Vec<u8>, until: usize)
     requires { until ≤ length bytes.old.items }
     ensures { bytes.new.items ≡ drop until bytes.old.items }
 {
-    bytes.drain(..until);
+    if until == bytes.len() {
+        *bytes = Vec::new(alloc);
+    } else {
+        bytes.drain(..until);
+    }
 }
 
 /// Puts a piece after the rest, and takes the whole frames off its start.
@@ -154,7 +158,7 @@ fn take_frames(
     rest.extend_from_slice(piece)?;
     match found_in(alloc, rest, awaited, searched) {
         Ok(found) => {
-            discard(rest, found.used);
+            discard(alloc, rest, found.used);
             Ok(found)
         }
         Err(refused) => {
