@@ -1,5 +1,5 @@
 //! The productions of a grammar with an added start production, and their FIRST sets: which symbols are nullable, and
-//! with which token rules each can begin.
+//! with which token rules each can begin. A type that holds a grammar copies its productions as a `ContextFree`.
 //!
 //! `Productions::new` begins the productions, and `push` adds one. `AugmentedGrammar::of` takes them and computes the
 //! sets; `may_follow` returns whether a lookahead can come after symbols, `right` and `left` the sides of a production,
@@ -8,9 +8,9 @@
 //! Words: a *rule* is a token rule, by its number; a *lookahead* is a rule, or `None` for the end; its *column* is its
 //! place among them, the end first; the *number* of a symbol counts the rules, and after them the nonterminals.
 //!
-//! Limits: none of its own. `of` requires that all numbers are below their counts, that each symbol is productive, and
-//! that no production is there twice. It goes over the productions at most (rules + 1) * (nonterminals + 1) times to
-//! find the sets. `may_follow` costs at most a step for each symbol, and doesn't allocate.
+//! Limits: `of` requires that all numbers are below their counts, that each symbol is productive, and that no
+//! production is there twice. It goes over the productions at most (rules + 1) * (nonterminals + 1) times to find the
+//! sets. `may_follow` costs at most a step for each symbol, and doesn't allocate.
 //!
 //! ```
 //! let (list, number) = (Symbol::Nonterminal(0), Symbol::Rule(0));
@@ -37,5 +37,5 @@ pub use augmented::AugmentedGrammar;
 pub use lookahead::lookahead_at;
 pub use marks::Marks;
 pub use production_number::ProductionNumber;
-pub use productions::Productions;
+pub use productions::{ContextFree, Productions};
 pub use symbols::{number_of, symbol_at};

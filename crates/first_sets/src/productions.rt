@@ -1,7 +1,7 @@
 //! The productions of a grammar.
-ghost use Rattle.std.specs.Prelude.{◌≡◌, ◌<◌, OnOk, OnErr, length};
-ghost use Rattle.definitions.specs.Trees.{left_of, right_of};
-ghost use Rattle.first_sets.specs.Productions.{no_productions, with_production};
+ghost use Rattle.std.specs.Prelude.{◌≡◌, ◌<◌, IfOk, OnOk, OnErr, length};
+ghost use Rattle.definitions.specs.Trees.{Grammar, left_of, right_of};
+ghost use Rattle.first_sets.specs.Productions.{no_productions, with_production, IsSound};
 
 use crate::production_number::ProductionNumber;
 use definitions::Symbol;
@@ -119,4 +119,15 @@ impl Productions {
     {
         &self.productions[p.index()].right
     }
+}
+
+/// A context-free grammar, whatever else its type holds.
+pub trait ContextFree {
+    /// The grammar.
+    ghost grammar: { Self → Grammar };
+
+    /// A copy of its productions. Refuses for memory alone.
+    fn copy_productions(&self, alloc: Global) -> Result<Productions, AllocError>
+        ensures grammar { IfOk result (λ p. p.grammar ≡ grammar self.now) }
+        ensures sound { IfOk result IsSound };
 }

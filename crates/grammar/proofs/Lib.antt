@@ -8,3 +8,4 @@ pub mod UsedMarks
 pub mod NotesOfUses
 pub mod FaultlessFile
 pub mod Refused
+pub mod ProductionsOfFile

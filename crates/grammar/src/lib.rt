@@ -18,6 +18,7 @@
 //! ```
 #![tactic(auto)]
 
+mod context_free;
 mod fault;
 mod grammar;
 pub mod laws;

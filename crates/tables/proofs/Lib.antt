@@ -1,4 +1,3 @@
-pub mod FromFile
 pub mod OneMoreItem
 pub mod DecisionOfPrefix
 pub mod LookaheadMarks

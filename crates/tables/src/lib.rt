@@ -21,7 +21,6 @@
 //! ```
 #![tactic(auto)]
 
-mod augmented;
 mod conflict;
 mod decisions;
 mod expected;

@@ -11,6 +11,7 @@ ghost use Rattle.definitions.specs.Sentences.{AllProductive};
 ghost use Rattle.definitions.specs.Trees.{HasProduction, HaveRoots, Tree};
 ghost use Rattle.theory.specs.Machine.{IsStackAfter};
 ghost use Rattle.tables.specs.Actions.{AreMade, IsClashAt};
+ghost use Rattle.first_sets.specs.Productions.{IsSound};
 ghost use Rattle.item_sets.specs.Collection.{AreStates};
 ghost use Rattle.tables.specs.Expected.{AreExpected};
 ghost use Rattle.tables.specs.Faults.{IsConflictOf, IsRight, RefutesLr1};
@@ -18,15 +19,13 @@ ghost use Rattle.tables.specs.Tables.{IsStateOf, IsAction, IsAccepted};
 ghost use Rattle.tables.specs.Decidable.{AreMovesDecided};
 ghost use Rattle.tables.specs.declared.tables.TableFault.TheVariants.{Memory};
 
-use crate::augmented::augmented;
 use crate::conflict::{Conflict, conflict_of};
 use crate::decisions::{Move, Moves};
 use crate::expected::Expected;
 use crate::progress::{ClashAt, Progress, advance};
 use crate::rows::Gotos;
 use definitions::Kind;
-use first_sets::{AugmentedGrammar, ProductionNumber, Productions};
-use grammar::Grammar;
+use first_sets::{AugmentedGrammar, ContextFree, ProductionNumber, Productions};
 use item_sets::States;
 use std::alloc::{AllocError, Global};
 use std::marker::Model;
@@ -141,6 +140,14 @@ fn finish(grammar: AugmentedGrammar, _states: &States, made: Progress) -> Tables
     }
 }
 
+/// The grammar, with the added start production.
+fn augmented<G: ContextFree>(alloc: Global, grammar: &G) -> Result<AugmentedGrammar, AllocError>
+    ensures grammar { IfOk result (λ g. g.grammar ≡ G.grammar grammar.now) }
+    ensures sound { IfOk result IsSound }
+{
+    AugmentedGrammar::of(alloc, grammar.copy_productions(alloc)?)
+}
+
 /// The tables of a grammar.
 fn tables_of(alloc: Global, grammar: AugmentedGrammar) -> Result<Tables, TableFault>
     ensures grammar { IfOk result (λ t. t.grammar ≡ grammar.grammar) }
@@ -157,14 +164,14 @@ fn tables_of(alloc: Global, grammar: AugmentedGrammar) -> Result<Tables, TableFa
 impl Tables {
     /// The canonical tables of a grammar. A grammar with more than 8,192 sets is refused as `TooManySets`, one with fewer
     /// whose sets have a conflict with one of its conflicts.
-    pub fn build(alloc: Global, grammar: &Grammar) -> Result<Tables, TableFault>
-        ensures grammar { IfOk result (λ t. t.grammar ≡ grammar.now.grammar) }
-        ensures free { IfOk result (λ _. HasNoConflict grammar.now.grammar) }
-        ensures lr1 { IfOk result (λ _. IsLr1 grammar.now.grammar) }
-        ensures one_tree { IfOk result (λ _. HasOneTreeEach grammar.now.grammar) }
-        ensures few { IfOk result (λ _. HasMoreSetsThan grammar.now.grammar 8192 → ⊥) }
-        ensures refused { IfErr result (IsRight grammar.now.grammar 8192) }
-        ensures refuted { IfErr result (RefutesLr1 grammar.now.grammar) }
+    pub fn build<G: ContextFree>(alloc: Global, grammar: &G) -> Result<Tables, TableFault>
+        ensures grammar { IfOk result (λ t. t.grammar ≡ G.grammar grammar.now) }
+        ensures free { IfOk result (λ _. HasNoConflict (G.grammar grammar.now)) }
+        ensures lr1 { IfOk result (λ _. IsLr1 (G.grammar grammar.now)) }
+        ensures one_tree { IfOk result (λ _. HasOneTreeEach (G.grammar grammar.now)) }
+        ensures few { IfOk result (λ _. HasMoreSetsThan (G.grammar grammar.now) 8192 → ⊥) }
+        ensures refused { IfErr result (IsRight (G.grammar grammar.now) 8192) }
+        ensures refuted { IfErr result (RefutesLr1 (G.grammar grammar.now)) }
     {
         let augmented = augmented(alloc, grammar)?;
         tables_of(alloc, augmented)

@@ -9,7 +9,7 @@ use Rattle.tables.proofs.Finishing.{refutes}
 use Rattle.tables.proofs.tables.Tables.build.Goals as goal
 
 pub returns : goal.returns
-returns c =
+returns g c =
     let g = c.in_ok-augmented.augmented.grammar in
     let e = c.in_ok-augmented.ensures in
     let t = c.tables_of.ensures in

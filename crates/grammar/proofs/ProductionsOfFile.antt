@@ -1,4 +1,4 @@
--- The grammar of a file is one that tables can be made of.
+-- The productions of a grammar file are sound.
 use Rattle.std.proofs.Common.{◌≡◌, ℕ, length, slice_index_or, take, refl, sym, ap, ◌∙◌, arith}
 use Rattle.std.proofs.Math.Seq.{take-length}
 use Rattle.definitions.specs.declared.Kind.TheVariants.{Rule as Token}
