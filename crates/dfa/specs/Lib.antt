@@ -1,5 +1,6 @@
 pub mod Alphabet
 pub mod Built
+pub mod Lexicon
 pub mod Marks
 pub mod Sets
 pub mod Matches

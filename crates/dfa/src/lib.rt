@@ -28,11 +28,13 @@ mod automaton;
 mod build;
 pub mod laws;
 mod positions;
+mod rules;
 mod states;
 mod tree;
 
 pub use automaton::{Automaton, Match};
 pub use build::DfaFault;
+pub use rules::TokenRules;
 
 /// A text that is read by offsets of characters. Only the offsets in its window may be asked for.
 pub trait Source {
