@@ -1,10 +1,11 @@
 -- What a grammar file defines.
-use Rattle.std.specs.Prelude.{◌≡◌, ℕ, ◌<◌, ◌≤◌, Bool, false, List, [], All, length, map, slice_index_or}
+use Rattle.std.specs.Prelude.{◌≡◌, ℕ, ◌<◌, ◌≤◌, Bool, false, List, All, length, map, slice_index_or}
 use Rattle.definitions.specs.declared.Symbol.{Symbol}
 use Rattle.definitions.specs.declared.Symbol.TheVariants.{Rule as Terminal, Nonterminal}
 use Rattle.definitions.specs.declared.expression.Expression.{Expression}
 use Rattle.definitions.specs.Trees.{Grammar, HasProduction, HasDistinctProductions}
 use Rattle.definitions.specs.Sentences.{IsProductive}
+use Rattle.dfa.specs.Lexicon.{Lexicon}
 
 -- what a file defines: the token and skip rules, numbered in file order, with their names, their patterns and whether they are skipped; the
 -- nonterminals, numbered by their first productions, with their names and whether they fold; the grammar in these numbers; and all defined
@@ -17,6 +18,10 @@ pub record FileGrammar : Type 0 where
   pub folds : List Bool
   pub grammar : Grammar
   pub defined : List Symbol
+
+-- the token and skip rules of what a file defines
+abbrev pub lexicon_of : FileGrammar → Lexicon
+lexicon_of f = record { patterns = f.patterns; skips = f.skips }
 
 -- `IsKnown f s`: the symbol's number is one that the file defines
 abbrev pub IsKnown : FileGrammar → Symbol → Type 0

@@ -26,6 +26,7 @@ mod notes;
 mod numbers;
 mod productive;
 mod read;
+mod token_rules;
 mod unproductive;
 mod used;
 
