@@ -17,7 +17,7 @@ use Rattle.definitions.specs.Sentences.{Verdict as Answered}
 use Rattle.definitions.specs.Text.{offset}
 use Rattle.definitions.specs.Tokens.{Placed, is_skipped, kinds}
 use Rattle.definitions.specs.Trees.{Grammar, Tree, HaveRoots, all_kinds}
-use Rattle.grammar.specs.Grammars.{FileGrammar}
+use Rattle.grammar.specs.Grammars.{FileGrammar, lexicon_of}
 use Rattle.lexer.specs.declared.sums.Token.{Token}
 use Rattle.lexer.specs.Rescans.{significant_kinds}
 use Rattle.lexer.specs.Tokens.{kind_in, plain, is_significant, AreTokensOf}
@@ -168,7 +168,7 @@ selection_shown encoding l d o ranges current has is = (is.0, selection_by d.tex
 
 -- what a walk down the stack finds around a position
 pub selection_answered : {E : Type 0} (encoding : Encoding) (l : LanguageData) (d : Doc) (roots : List Child) (result : Result (Vec Range Global) E) (at : ℕ) (position : Position) → IsCurrent l d → HasTheNodes l d → roots ≡ d.parse.stack → at ≡ offset encoding d.text position
-    → (AreTokensOf l.file d.text d.tokens.items → AreRootsOf l.file d.store (map plain d.tokens.items) roots → IfOk result (λ ranges. IsSelectionOf encoding l.file d.text (map plain d.tokens.items) (trees_of_roots d.store roots) at ranges.items))
+    → (AreTokensOf (lexicon_of l.file) d.text d.tokens.items → AreRootsOf l.file d.store (map plain d.tokens.items) roots → IfOk result (λ ranges. IsSelectionOf encoding l.file d.text (map plain d.tokens.items) (trees_of_roots d.store roots) at ranges.items))
     → IfOk result (λ ranges. IsSelectionOf encoding l.file d.text (map plain d.tokens.items) (trees_of_roots d.store d.parse.stack) (offset encoding d.text position) ranges.items)
 selection_answered encoding l d roots result at position current has stack same found =
     let is = found current.tokens (roots_found l d l.file roots current has refl stack) in

@@ -1,5 +1,6 @@
 -- A document, as its callers see it.
 use Rattle.std.specs.Prelude.{◌≡◌, ◌≤◌, ◌==◌, if◌then◌else◌, length, All, Option, Some, None}
+use Rattle.grammar.specs.Grammars.{lexicon_of}
 use Rattle.lexer.specs.Rescans.{significant_kinds}
 use Rattle.lexer.specs.Tokens.{AreTokensOf}
 use Rattle.parser.specs.Compact.{bound}
@@ -22,7 +23,7 @@ open_document d = record { unit = d.unit; version = d.version; text = d.text; la
 -- the tokens and the parse that a document keeps are those of its text, by this language; no token was made by an edit after the last one,
 -- and the nodes in memory are bounded
 pub record IsCurrent (language : LanguageData) (d : Doc) : Type 0 where
-  pub tokens : AreTokensOf language.file d.text d.tokens.items
+  pub tokens : AreTokensOf (lexicon_of language.file) d.text d.tokens.items
   pub parse : IsParseOf language.tables (significant_kinds d.tokens.items) d.store d.parse
   pub grammar : language.tables.grammar ≡ language.file.grammar
   pub born : All (λ x. x.born ≤ d.parse.number) d.tokens.items

@@ -3,6 +3,7 @@
 ghost use Rattle.std.specs.Prelude.{◌≡◌, ◌+◌, List, length, All, IfOk, IfErr};
 ghost use Rattle.definitions.specs.declared.Kind.{Kind};
 ghost use Rattle.definitions.specs.TokenEdits.{IsSpliced, plain_splice};
+ghost use Rattle.grammar.specs.Grammars.{lexicon_of};
 ghost use Rattle.lexer.specs.Rescans.{AreTokensAfter, IsEdited, significant_kinds};
 ghost use Rattle.lexer.specs.Tokens.{AreTokensOf};
 ghost use Rattle.parser.specs.Changes.{IsParseAfter};
@@ -16,8 +17,8 @@ use crate::significant::Significant;
 use definitions::laws::{expected_unique, folds_unique, selection_unique, tokens_unique};
 use definitions::{Edit, KindSplice};
 use dfa::DfaFault;
-use grammar::{Grammar, GrammarCause, GrammarFault};
-use lexer::{Characters, Scanner, Tokens, Whole, each_text_has_tokens};
+use grammar::{Grammar, GrammarCause, GrammarFault, Scanner};
+use lexer::{Characters, Tokens, Whole, each_text_has_tokens};
 use parser::Parse;
 use parser::laws::{each_list_has_a_verdict, each_viable_list_has_expected};
 use std::alloc::{AllocError, Global};
@@ -144,7 +145,8 @@ impl Language {
 
     /// The tokens of a text. Refuses for memory alone.
     pub(crate) fn scan(&self, alloc: Global, text: &Text) -> Result<Tokens, AllocError>
-        ensures tokens { IfOk result (λ r. AreTokensOf self.now.file text.now r.items) }
+        ensures tokens { IfOk result
+            (λ r. AreTokensOf (lexicon_of self.now.file) text.now r.items) }
         ensures born { IfOk result (λ r. All (λ x. x.born ≡ 0) r.items) }
         ensures scanned { IfOk result (λ r. r.scanned ≡ length r.items) }
     {
@@ -180,9 +182,9 @@ impl Language {
         text: &Text,
         edit: Edit,
     ) -> Result<KindSplice, AllocError>
-        requires { IsEdited self.now.file edit tokens.old.items text.now }
-        ensures { IfOk result (λ s. AreTokensAfter self.now.file edit text.now (plain_splice s)
-            tokens.old tokens.new) }
+        requires { IsEdited (lexicon_of self.now.file) edit tokens.old.items text.now }
+        ensures { IfOk result (λ s. AreTokensAfter (lexicon_of self.now.file) edit text.now
+            (plain_splice s) tokens.old tokens.new) }
     {
         // The read opens the invariant of the text.
         let _length = text.len();

@@ -2,13 +2,14 @@
 
 ghost use Rattle.std.specs.Prelude.{◌≡◌, ◌+◌, ◌≤◌, drop, length};
 ghost use Rattle.definitions.specs.TokenEdits.{IsSpliced, plain_splice};
+ghost use Rattle.grammar.specs.Grammars.{lexicon_of};
 ghost use Rattle.lexer.specs.Tokens.{AreTokensOf};
 ghost use Rattle.lexer.specs.Rescans.{significant_kinds};
 ghost use Rattle.parser.specs.Parses.{IsParseOf};
 
 use definitions::{Edit, Kind, KindSplice};
-use grammar::Grammar;
-use lexer::{KindsAhead, Scanner, Tokens, Whole};
+use grammar::{Grammar, Scanner};
+use lexer::{KindsAhead, Tokens, Whole};
 use parser::{Parse, Verdict};
 use std::alloc::Global;
 use std::process::Abort;
@@ -70,7 +71,7 @@ pub struct Document {
 
 /// Scans and parses a whole text.
 pub fn open(rt: &impl Abort, alloc: Global, language: &Language, text: &str) -> Document
-    ensures tokens { AreTokensOf language.now.scanner result.text result.tokens.items }
+    ensures tokens { AreTokensOf (lexicon_of language.now.scanner) result.text result.tokens.items }
     ensures parse { IsParseOf language.now.tables (significant_kinds result.tokens.items)
         result.store result.parse }
 {
@@ -123,9 +124,9 @@ pub fn rescan(
     tokens: &mut Tokens,
     change: &Change<'_>,
 ) -> KindSplice
-    requires tokens { AreTokensOf language.now.scanner text.old tokens.old.items }
+    requires tokens { AreTokensOf (lexicon_of language.now.scanner) text.old tokens.old.items }
     requires inside { change.now.at + change.now.removed ≤ length text.old }
-    ensures tokens { AreTokensOf language.now.scanner text.new tokens.new.items }
+    ensures tokens { AreTokensOf (lexicon_of language.now.scanner) text.new tokens.new.items }
     ensures kinds { IsSpliced (plain_splice result) (significant_kinds tokens.old.items)
         (significant_kinds tokens.new.items) }
 {
@@ -154,10 +155,12 @@ pub fn apply(
     document: &mut Document,
     change: &Change<'_>,
 )
-    requires tokens { AreTokensOf language.now.scanner document.old.text document.old.tokens.items }
+    requires tokens { let d = document.old in
+        AreTokensOf (lexicon_of language.now.scanner) d.text d.tokens.items }
     requires parse { IsParseOf language.now.tables (significant_kinds document.old.tokens.items)
         document.old.store document.old.parse }
-    ensures tokens { AreTokensOf language.now.scanner document.new.text document.new.tokens.items }
+    ensures tokens { let d = document.new in
+        AreTokensOf (lexicon_of language.now.scanner) d.text d.tokens.items }
     ensures parse { IsParseOf language.now.tables (significant_kinds document.new.tokens.items)
         document.new.store document.new.parse }
 {

@@ -1,6 +1,7 @@
 //! How many kinds a change of a parse reads, and how often it looks for one among all.
 
 ghost use Rattle.std.specs.Prelude.{◌≡◌, ◌+◌, ◌≤◌, drop, length};
+ghost use Rattle.grammar.specs.Grammars.{lexicon_of};
 ghost use Rattle.lexer.specs.Tokens.{AreTokensOf};
 ghost use Rattle.lexer.specs.Rescans.{significant_kinds};
 ghost use Rattle.parser.specs.Parses.{IsParseOf};
@@ -62,7 +63,8 @@ fn reads_for(
     document: &mut Document,
     change: &Change<'_>,
 ) -> (usize, usize)
-    requires tokens { AreTokensOf language.now.scanner document.old.text document.old.tokens.items }
+    requires tokens { let d = document.old in
+        AreTokensOf (lexicon_of language.now.scanner) d.text d.tokens.items }
     requires parse { IsParseOf language.now.tables (significant_kinds document.old.tokens.items)
         document.old.store document.old.parse }
     requires inside { change.now.at + change.now.removed ≤ length document.old.text }

@@ -1,6 +1,7 @@
 //! Worked edits, with the counts of what they make.
 
 ghost use Rattle.std.specs.Prelude.{◌≡◌, ◌+◌, ◌≤◌, length};
+ghost use Rattle.grammar.specs.Grammars.{lexicon_of};
 ghost use Rattle.lexer.specs.Tokens.{AreTokensOf};
 ghost use Rattle.lexer.specs.Rescans.{significant_kinds};
 ghost use Rattle.parser.specs.Parses.{IsParseOf};
@@ -48,10 +49,12 @@ fn check_row(
     document: &mut Document,
     row: &Row<'_>,
 )
-    requires tokens { AreTokensOf language.now.scanner document.old.text document.old.tokens.items }
+    requires tokens { let d = document.old in
+        AreTokensOf (lexicon_of language.now.scanner) d.text d.tokens.items }
     requires parse { IsParseOf language.now.tables (significant_kinds document.old.tokens.items)
         document.old.store document.old.parse }
-    ensures tokens { AreTokensOf language.now.scanner document.new.text document.new.tokens.items }
+    ensures tokens { let d = document.new in
+        AreTokensOf (lexicon_of language.now.scanner) d.text d.tokens.items }
     ensures parse { IsParseOf language.now.tables (significant_kinds document.new.tokens.items)
         document.new.store document.new.parse }
 {

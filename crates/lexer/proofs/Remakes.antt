@@ -15,7 +15,7 @@ use Rattle.definitions.specs.Tokens.{Token as PlainToken, Placed, IsToken, AreTo
 use Rattle.definitions.specs.TokenEdits.{kept_before, is_rejoined}
 use Rattle.definitions.proofs.TokensKept.{boundaries-end, length-boundaries}
 use Rattle.dfa.specs.Windows.{IsWithinReach}
-use Rattle.grammar.specs.Grammars.{FileGrammar}
+use Rattle.dfa.specs.Lexicon.{Lexicon}
 use Rattle.lexer.specs.declared.sums.Token.{Token}
 use Rattle.lexer.specs.Tokens.{plain, characters, Fits}
 use Rattle.lexer.specs.Rescans.{plain_all, prefix_end, IsEdited, IsNeeded, IsReachedByMade}
@@ -40,18 +40,18 @@ tokens_length rules t xs p =
     let end : slice_index_or (boundaries 0 (plain_all xs)) (length (plain_all xs)) 0 ≡ 0 + length t = boundaries-end rules t 0 0 (plain_all xs) p in
     sym (ap characters whole) ∙ sym (boundary_at xs (length xs) 0 (omega arith)) ∙ ap (λ n. slice_index_or (boundaries 0 (plain_all xs)) n 0) (sym (length-plain xs)) ∙ end ∙ omega arith
 
-module _ (file : FileGrammar) (e : Edit) (items : List Token) (u : List ℕ) (h : IsEdited file e items u) where
+module _ (lexicon : Lexicon) (e : Edit) (items : List Token) (u : List ℕ) (h : IsEdited lexicon e items u) where
   pub removed_fits : Fits items → e.at + e.removed ≤ 2 ^ 30
-  removed_fits f = omega (arith, tokens_length file.patterns h.text items h.tokens.tokens, f.short, h.inside)
+  removed_fits f = omega (arith, tokens_length lexicon.patterns h.text items h.tokens.tokens, f.short, h.inside)
 
-  prefix_all : Leads file.patterns u (plain_all (take (kept_before e (plain_all items)) items))
+  prefix_all : Leads lexicon.patterns u (plain_all (take (kept_before e (plain_all items)) items))
   prefix_all =
-      subst (λ v. Leads file.patterns v (plain_all (take (kept_before e (plain_all items)) items))) (sym h.new_text)
-      (subst (λ xs. Leads file.patterns (edit h.text e.at (e.at + e.removed) h.piece) xs) (sym (plain-take (kept_before e (plain_all items)) items))
-      (prefix_leads file.patterns h.text h.piece e (plain_all items) h.inside h.tokens.tokens))
+      subst (λ v. Leads lexicon.patterns v (plain_all (take (kept_before e (plain_all items)) items))) (sym h.new_text)
+      (subst (λ xs. Leads lexicon.patterns (edit h.text e.at (e.at + e.removed) h.piece) xs) (sym (plain-take (kept_before e (plain_all items)) items))
+      (prefix_leads lexicon.patterns h.text h.piece e (plain_all items) h.inside h.tokens.tokens))
 
   pub prefix_inside : prefix_end e items ≤ length u
-  prefix_inside = subst (λ n. n ≤ length u) (chars-plain (take (kept_before e (plain_all items)) items)) (leads_inside file.patterns u (plain_all (take (kept_before e (plain_all items)) items)) prefix_all)
+  prefix_inside = subst (λ n. n ≤ length u) (chars-plain (take (kept_before e (plain_all items)) items)) (leads_inside lexicon.patterns u (plain_all (take (kept_before e (plain_all items)) items)) prefix_all)
 
   pub kept_before-le : kept_before e (plain_all items) ≤ length items
   kept_before-le = omega (arith, prefix_len-le-length {X = Placed}, length-placed 0 (plain_all items), length-plain items)
@@ -61,21 +61,21 @@ module _ (file : FileGrammar) (e : Edit) (items : List Token) (u : List ℕ) (h 
   prefix_passed place at same j l =
       let inside : j < kept_before e (plain_all items) = omega (arith, same) in
       let start = boundary_at items j 0 (omega (arith, kept_before-le)) in
-      omega (arith, prefix_before file.patterns h.text e (plain_all items) j h.tokens.tokens inside, start)
+      omega (arith, prefix_before lexicon.patterns h.text e (plain_all items) j h.tokens.tokens inside, start)
 
-  pub all_lead : (made : List Token) → Leads file.patterns (drop (prefix_end e items) u) (plain_all made) → Leads file.patterns u (plain_all (take (kept_before e (plain_all items)) items) ++ plain_all made)
-  all_lead made m = leads_join file.patterns u (plain_all (take (kept_before e (plain_all items)) items)) (plain_all made) prefix_all (subst (λ n. Leads file.patterns (drop n u) (plain_all made)) (sym (chars-plain (take (kept_before e (plain_all items)) items))) m)
+  pub all_lead : (made : List Token) → Leads lexicon.patterns (drop (prefix_end e items) u) (plain_all made) → Leads lexicon.patterns u (plain_all (take (kept_before e (plain_all items)) items) ++ plain_all made)
+  all_lead made m = leads_join lexicon.patterns u (plain_all (take (kept_before e (plain_all items)) items)) (plain_all made) prefix_all (subst (λ n. Leads lexicon.patterns (drop n u) (plain_all made)) (sym (chars-plain (take (kept_before e (plain_all items)) items))) m)
 
   pub end_rejoins : is_rejoined e (plain_all items) (length u) ≡ true
   end_rejoins =
       let long : length u + (e.at + e.removed) ≡ length h.text + e.at + length h.piece = ap (λ v. length v + (e.at + e.removed)) h.new_text ∙ length-edit h.text h.piece e.at (e.at + e.removed) (omega arith) h.inside in
-      let sum : characters (take (length items) items) ≡ length h.text = ap characters (take_all (length items) items (omega arith)) ∙ tokens_length file.patterns h.text items h.tokens.tokens in
+      let sum : characters (take (length items) items) ≡ length h.text = ap characters (take_all (length items) items (omega arith)) ∙ tokens_length lexicon.patterns h.text items h.tokens.tokens in
       is_rejoined_at e items (length u) (length items) (omega (arith, long, h.inserted, h.inside)) (omega arith) (omega (arith, long, sum, h.inserted))
 
   pub end_moved : characters (take (length items) items) + e.inserted ≡ length u + e.removed
   end_moved =
       let long : length u + (e.at + e.removed) ≡ length h.text + e.at + length h.piece = ap (λ v. length v + (e.at + e.removed)) h.new_text ∙ length-edit h.text h.piece e.at (e.at + e.removed) (omega arith) h.inside in
-      let sum : characters (take (length items) items) ≡ length h.text = ap characters (take_all (length items) items (omega arith)) ∙ tokens_length file.patterns h.text items h.tokens.tokens in
+      let sum : characters (take (length items) items) ≡ length h.text = ap characters (take_all (length items) items (omega arith)) ∙ tokens_length lexicon.patterns h.text items h.tokens.tokens in
       omega (arith, long, sum, h.inserted)
 
   abbrev pub kept : List Token
@@ -93,7 +93,7 @@ module _ (file : FileGrammar) (e : Edit) (items : List Token) (u : List ℕ) (h 
         let prefix_only : take i (kept ++ made) ≡ take i kept = take-append-le i kept made fits in
         let shorter : take i kept ≡ take i items = take-take i (kept_before e (plain_all items)) items (omega (arith, many)) in
         let at : slice_index_or (boundaries 0 (plain_all items)) i 0 ≡ characters (take i items) = boundary_at items i 0 (omega (arith, many, kept_before-le)) in
-        let low : slice_index_or (boundaries 0 (plain_all items)) i 0 < e.at = prefix_before file.patterns h.text e (plain_all items) i h.tokens.tokens (omega (arith, many)) in
+        let low : slice_index_or (boundaries 0 (plain_all items)) i 0 < e.at = prefix_before lexicon.patterns h.text e (plain_all items) i h.tokens.tokens (omega (arith, many)) in
         not_after e items (characters (take i (kept ++ made))) (omega (arith, low, at, ap characters prefix_only, ap characters shorter))
     | inr ge ↦
         let j = i - length kept in
@@ -104,7 +104,7 @@ module _ (file : FileGrammar) (e : Edit) (items : List Token) (u : List ℕ) (h 
   ]
 
   -- Neither is that place itself.
-  module _ (made : List Token) (m : Leads file.patterns (drop (prefix_end e items) u) (plain_all made))
+  module _ (made : List Token) (m : Leads lexicon.patterns (drop (prefix_end e items) u) (plain_all made))
       (earlier : (k : ℕ) → k < length made → is_rejoined e (plain_all items) (prefix_end e items + characters (take k made)) ≡ false)
       (here : is_rejoined e (plain_all items) (prefix_end e items + characters made) ≡ false) where
     not_here : (i : ℕ) → i ≤ length (kept ++ made) → is_rejoined e (plain_all items) (characters (take i (kept ++ made))) ≡ false
@@ -119,21 +119,21 @@ module _ (file : FileGrammar) (e : Edit) (items : List Token) (u : List ℕ) (h 
     joined = map-append plain kept made
 
     -- after them stands a token whose reach holds what is within the reach there
-    reached_by : (i : ℕ) → prefix_end e items + characters made < length u → IsWithinReach file.patterns u (prefix_end e items + characters made) i
-        → (new : List PlainToken) → AreTokens file.patterns u new → IsReachedByMade e (plain_all items) new i
+    reached_by : (i : ℕ) → prefix_end e items + characters made < length u → IsWithinReach lexicon.patterns u (prefix_end e items + characters made) i
+        → (new : List PlainToken) → AreTokens lexicon.patterns u new → IsReachedByMade e (plain_all items) new i
     reached_by i lt w new p = go later.rest later.joined later.tokens
       where
-        later : GoOn file.patterns u (plain_all kept ++ plain_all made) new
-        later = leads_split file.patterns u (plain_all kept ++ plain_all made) new (all_lead made m) p
+        later : GoOn lexicon.patterns u (plain_all kept ++ plain_all made) new
+        later = leads_split lexicon.patterns u (plain_all kept ++ plain_all made) new (all_lead made m) p
 
         sum : chars (plain_all kept ++ plain_all made) ≡ prefix_end e items + characters made
         sum = ap chars (sym joined) ∙ chars-plain (kept ++ made) ∙ sum_by-append (λ x. x.length) kept made
 
-        go : (rest : List PlainToken) → new ≡ (plain_all kept ++ plain_all made) ++ rest → AreTokens file.patterns (drop (chars (plain_all kept ++ plain_all made)) u) rest → IsReachedByMade e (plain_all items) new i
+        go : (rest : List PlainToken) → new ≡ (plain_all kept ++ plain_all made) ++ rest → AreTokens lexicon.patterns (drop (chars (plain_all kept ++ plain_all made)) u) rest → IsReachedByMade e (plain_all items) new i
         go [] is q = absurd (omega (arith, ap length q, length-drop (chars (plain_all kept ++ plain_all made)) u, sum, lt))
         go (y ∷ ys) is q =
-            let at : IsToken file.patterns (drop (prefix_end e items + characters made) u) y = subst (λ n. IsToken file.patterns (drop n u) y) sum q.0 in
-            let past : i < prefix_end e items + characters made + y.reach = within_token file.patterns u (prefix_end e items + characters made) i y.reach (omega arith) w at.reach in
+            let at : IsToken lexicon.patterns (drop (prefix_end e items + characters made) u) y = subst (λ n. IsToken lexicon.patterns (drop n u) y) sum q.0 in
+            let past : i < prefix_end e items + characters made + y.reach = within_token lexicon.patterns u (prefix_end e items + characters made) i y.reach (omega arith) w at.reach in
             let k = length (plain_all kept ++ plain_all made) in
             let size : k ≡ length (kept ++ made) = ap length (sym joined) ∙ length-plain (kept ++ made) in
             let long : length new ≡ k + length (y ∷ ys) = ap length is ∙ length-append (plain_all kept ++ plain_all made) (y ∷ ys) in (
@@ -148,7 +148,7 @@ module _ (file : FileGrammar) (e : Edit) (items : List Token) (u : List ℕ) (h 
                   (placed_at 0 (plain_all kept ++ plain_all made) y ys (λ x. i < x.start + x.token.reach) (omega (arith, sum, past))),
             )
 
-    pub needed : (i : ℕ) → prefix_end e items + characters made < length u → IsWithinReach file.patterns u (prefix_end e items + characters made) i → IsNeeded file.patterns e items u i
+    pub needed : (i : ℕ) → prefix_end e items + characters made < length u → IsWithinReach lexicon.patterns u (prefix_end e items + characters made) i → IsNeeded lexicon.patterns e items u i
     needed i lt w = record { past = omega (arith, w.after); inside = w.inside; reached = reached_by i lt w }
 
 pub earlier_one : (e : Edit) (items : List Token) (from : ℕ) (made : List Token) (x : Token)

@@ -11,7 +11,7 @@ use Rattle.definitions.specs.Text.{edit}
 use Rattle.definitions.specs.Tokens.{AreTokens, boundaries, is_skipped, kinds}
 use Rattle.definitions.specs.TokenEdits.{kept_before, is_rejoined, rejoin, same_kinds, gone, made as made_by, IsSpliced, Splice, splice}
 use Rattle.definitions.proofs.TokensKept.{length-boundaries, AreTokens-drop, drop-edit}
-use Rattle.grammar.specs.Grammars.{FileGrammar}
+use Rattle.dfa.specs.Lexicon.{Lexicon}
 use Rattle.lexer.specs.declared.sums.Token.{Token}
 use Rattle.lexer.specs.Tokens.{kind_in, plain, is_significant, characters, Fits}
 use Rattle.lexer.specs.Rescans.{plain_all, prefix_end, significant_kinds, change, IsEdited, IsRemade, AreRescanned, AreTokensAfter}
@@ -29,7 +29,7 @@ plain-drop (suc n) (x ∷ xs) = plain-drop n xs
 abbrev replaced : ℕ → ℕ → List Kind → List Kind → Splice
 replaced from to before after = if same_kinds before after then record { from = from; to = from; kinds = [] } else record { from = from; to = to; kinds = after }
 
-module _ (file : FileGrammar) (e : Edit) (items : List Token) (u : List ℕ) (h : IsEdited file e items u) (made : List Token) (to : ℕ) (r : IsRemade file e items u made to) where
+module _ (lexicon : Lexicon) (e : Edit) (items : List Token) (u : List ℕ) (h : IsEdited lexicon e items u) (made : List Token) (to : ℕ) (r : IsRemade lexicon e items u made to) where
   abbrev kept : List Token
   kept = take (kept_before e (plain_all items)) items
 
@@ -37,7 +37,7 @@ module _ (file : FileGrammar) (e : Edit) (items : List Token) (u : List ℕ) (h 
   new = kept ++ (made ++ drop to items)
 
   many : length kept ≡ kept_before e (plain_all items)
-  many = kept_length file e items u h
+  many = kept_length lexicon e items u h
 
   sum : chars (plain_all kept ++ plain_all made) ≡ prefix_end e items + characters made
   sum = ap chars (sym (map-append plain kept made)) ∙ chars-plain (kept ++ made) ∙ sum_by-append (λ x. x.length) kept made
@@ -53,23 +53,23 @@ module _ (file : FileGrammar) (e : Edit) (items : List Token) (u : List ℕ) (h 
       let there : e.at + e.removed + k ≡ characters (take to items) = omega (arith, past, r.moved) in
       ap (λ v. drop (prefix_end e items + characters made) v) h.new_text ∙ ap (λ n. drop n (edit h.text e.at (e.at + e.removed) h.piece)) here ∙ drop-edit h.text h.piece e.at (e.at + e.removed) k (omega (arith, h.inside)) ∙ ap (λ n. drop n h.text) there
 
-  tail_tokens : AreTokens file.patterns (drop (prefix_end e items + characters made) u) (plain_all (drop to items))
+  tail_tokens : AreTokens lexicon.patterns (drop (prefix_end e items + characters made) u) (plain_all (drop to items))
   tail_tokens =
-      let old : AreTokens file.patterns (drop (slice_index_or (boundaries 0 (plain_all items)) to 0) h.text) (drop to (plain_all items)) = AreTokens-drop file.patterns h.text 0 0 to (plain_all items) h.tokens.tokens (omega (arith, length-plain items, r.within)) in
-      let placed : AreTokens file.patterns (drop (characters (take to items)) h.text) (drop to (plain_all items)) = subst (λ n. AreTokens file.patterns (drop n h.text) (drop to (plain_all items))) (boundary_at items to 0 r.within) old in
-      subst (λ v. AreTokens file.patterns v (plain_all (drop to items))) (sym same_tail) (subst (λ xs. AreTokens file.patterns (drop (characters (take to items)) h.text) xs) (sym (plain-drop to items)) placed)
+      let old : AreTokens lexicon.patterns (drop (slice_index_or (boundaries 0 (plain_all items)) to 0) h.text) (drop to (plain_all items)) = AreTokens-drop lexicon.patterns h.text 0 0 to (plain_all items) h.tokens.tokens (omega (arith, length-plain items, r.within)) in
+      let placed : AreTokens lexicon.patterns (drop (characters (take to items)) h.text) (drop to (plain_all items)) = subst (λ n. AreTokens lexicon.patterns (drop n h.text) (drop to (plain_all items))) (boundary_at items to 0 r.within) old in
+      subst (λ v. AreTokens lexicon.patterns v (plain_all (drop to items))) (sym same_tail) (subst (λ xs. AreTokens lexicon.patterns (drop (characters (take to items)) h.text) xs) (sym (plain-drop to items)) placed)
 
   -- they are the tokens of the new text
-  pub remade_tokens : AreTokens file.patterns u (plain_all new)
+  pub remade_tokens : AreTokens lexicon.patterns u (plain_all new)
   remade_tokens =
       let parts : (plain_all kept ++ plain_all made) ++ plain_all (drop to items) ≡ plain_all new =
       append_assoc (plain_all kept) (plain_all made) (plain_all (drop to items)) ∙ ap (λ ys. plain_all kept ++ ys) (sym (map-append plain made (drop to items))) ∙ sym (map-append plain kept (made ++ drop to items)) in
-      subst (λ xs. AreTokens file.patterns u xs) parts
-      (leads_tokens file.patterns u (plain_all kept ++ plain_all made) (plain_all (drop to items)) (all_lead file e items u h made r.leads) (subst (λ n. AreTokens file.patterns (drop n u) (plain_all (drop to items))) (sym sum) tail_tokens))
+      subst (λ xs. AreTokens lexicon.patterns u xs) parts
+      (leads_tokens lexicon.patterns u (plain_all kept ++ plain_all made) (plain_all (drop to items)) (all_lead lexicon e items u h made r.leads) (subst (λ n. AreTokens lexicon.patterns (drop n u) (plain_all (drop to items))) (sym sum) tail_tokens))
 
-  pub remade_marked : All (λ x. x.skipped ≡ is_skipped file.skips (kind_in x)) new
+  pub remade_marked : All (λ x. x.skipped ≡ is_skipped lexicon.skips (kind_in x)) new
   remade_marked =
-      let P = λ (x : Token). x.skipped ≡ is_skipped file.skips (kind_in x) in
+      let P = λ (x : Token). x.skipped ≡ is_skipped lexicon.skips (kind_in x) in
       All-append P kept (made ++ drop to items) (All-take P (kept_before e (plain_all items)) items h.tokens.marked) (All-append P made (drop to items) r.anew.marked (All-drop P to items h.tokens.marked))
 
   split_new : new ≡ (kept ++ made) ++ drop to items
@@ -90,7 +90,7 @@ module _ (file : FileGrammar) (e : Edit) (items : List Token) (u : List ℕ) (h 
       go : (rejoin e (plain_all items) (plain_all new) < length (kept ++ made)) ⊎ (length (kept ++ made) ≤ rejoin e (plain_all items) (plain_all new)) → (length (kept ++ made) < rejoin e (plain_all items) (plain_all new)) ⊎ (rejoin e (plain_all items) (plain_all new) ≤ length (kept ++ made)) → rejoin e (plain_all items) (plain_all new) ≡ length (kept ++ made)
       go (inl lt) _ =
           let found : is_rejoined e (plain_all items) (slice_index_or (boundaries 0 (plain_all new)) (rejoin e (plain_all items) (plain_all new)) 0) ≡ true = passes_at_first (is_rejoined e (plain_all items)) (boundaries 0 (plain_all new)) 0 (omega (arith, long)) in
-          let none : is_rejoined e (plain_all items) (slice_index_or (boundaries 0 (plain_all new)) (rejoin e (plain_all items) (plain_all new)) 0) ≡ false = subst (λ n. is_rejoined e (plain_all items) n ≡ false) (sym (boundary_new (rejoin e (plain_all items) (plain_all new)) (omega arith))) (not_before file e items u h made r.earlier (rejoin e (plain_all items) (plain_all new)) lt) in
+          let none : is_rejoined e (plain_all items) (slice_index_or (boundaries 0 (plain_all new)) (rejoin e (plain_all items) (plain_all new)) 0) ≡ false = subst (λ n. is_rejoined e (plain_all items) n ≡ false) (sym (boundary_new (rejoin e (plain_all items) (plain_all new)) (omega arith))) (not_before lexicon e items u h made r.earlier (rejoin e (plain_all items) (plain_all new)) lt) in
           absurd (false≢true (sym none ∙ found))
       go (inr _) (inl lt) =
           let none : is_rejoined e (plain_all items) (slice_index_or (boundaries 0 (plain_all new)) (length (kept ++ made)) 0) ≡ false = fails_before_first (is_rejoined e (plain_all items)) (boundaries 0 (plain_all new)) (length (kept ++ made)) 0 lt in
@@ -106,7 +106,7 @@ module _ (file : FileGrammar) (e : Edit) (items : List Token) (u : List ℕ) (h 
   pub prefix_to : Fits items → kept_before e (plain_all items) ≤ to
   prefix_to f = elim (cases_lt to (kept_before e (plain_all items))) [
     | inl lt ↦
-        let before_it : slice_index_or (boundaries 0 (plain_all items)) to 0 < e.at = prefix_before file.patterns h.text e (plain_all items) to h.tokens.tokens lt in
+        let before_it : slice_index_or (boundaries 0 (plain_all items)) to 0 < e.at = prefix_before lexicon.patterns h.text e (plain_all items) to h.tokens.tokens lt in
         let at : slice_index_or (boundaries 0 (plain_all items)) to 0 ≡ characters (take to items) = boundary_at items to 0 r.within in
         absurd (omega (arith, before_it, at, past, r.moved))
     | inr le ↦ le
@@ -129,7 +129,7 @@ module _ (file : FileGrammar) (e : Edit) (items : List Token) (u : List ℕ) (h 
   -- and their sums fit
   pub remade_fits : Fits items → length u ≤ 1048576 → Fits new
   remade_fits f l = record {
-    short = omega (arith, tokens_length file.patterns u new remade_tokens, l);
+    short = omega (arith, tokens_length lexicon.patterns u new remade_tokens, l);
     nonempty =
         let P = λ (x : Token). 1 ≤ x.length in
         All-append P kept (made ++ drop to items) (All-take P (kept_before e (plain_all items)) items f.nonempty) (All-append P made (drop to items) r.anew.nonempty (All-drop P to items f.nonempty));
@@ -144,32 +144,32 @@ module _ (file : FileGrammar) (e : Edit) (items : List Token) (u : List ℕ) (h 
       ∙ omega (arith, length-drop (kept_before e (plain_all items)) (plain_all new), rejoin_is, length-plain new, ap length split_new, length-append (kept ++ made) (drop to items), length-append kept made, many))
 
   -- the kinds of the tokens gone give way to those of the tokens made
-  pub spliced : Fits items → change items (kept_before e (plain_all items)) to (significant_kinds made) ≡ splice file.skips e (plain_all items) (plain_all new)
+  pub spliced : Fits items → change items (kept_before e (plain_all items)) to (significant_kinds made) ≡ splice lexicon.skips e (plain_all items) (plain_all new)
   spliced f =
-      let P = λ (x : Token). x.skipped ≡ is_skipped file.skips (kind_in x) in
+      let P = λ (x : Token). x.skipped ≡ is_skipped lexicon.skips (kind_in x) in
       let place = kept_before e (plain_all items) in
       let rest = rejoin e (plain_all items) (plain_all new) in
-      let before_it : kinds file.skips (take place (plain_all items)) ≡ significant_kinds (take place items) =
-      ap (kinds file.skips) (sym (plain-take place items)) ∙ kinds_plain file.skips (take place items) (All-take P place items h.tokens.marked) in
-      let from : length (kinds file.skips (take place (plain_all items))) ≡ count_by is_significant (take place items) = ap length before_it ∙ length-kinds (take place items) in
+      let before_it : kinds lexicon.skips (take place (plain_all items)) ≡ significant_kinds (take place items) =
+      ap (kinds lexicon.skips) (sym (plain-take place items)) ∙ kinds_plain lexicon.skips (take place items) (All-take P place items h.tokens.marked) in
+      let from : length (kinds lexicon.skips (take place (plain_all items))) ≡ count_by is_significant (take place items) = ap length before_it ∙ length-kinds (take place items) in
       let end : length (plain_all items) - (length (plain_all new) - rest) ≡ to = omega (arith, to_is, length-plain items, length-plain new) in
-      let before : kinds file.skips (gone e (plain_all items) (plain_all new)) ≡ significant_kinds (slice_range items place to) =
-      ap (λ n. kinds file.skips (slice_range (plain_all items) place n)) end
-      ∙ ap (kinds file.skips) (ap (take (to - place)) (sym (plain-drop place items)) ∙ sym (plain-take (to - place) (drop place items)))
-      ∙ kinds_plain file.skips (slice_range items place to) (All-take P (to - place) (drop place items) (All-drop P place items h.tokens.marked)) in
-      let after : kinds file.skips (made_by e (plain_all items) (plain_all new)) ≡ significant_kinds made =
-      ap (kinds file.skips) (ap (take (rest - place)) (sym (plain-drop place new)) ∙ sym (plain-take (rest - place) (drop place new)) ∙ ap plain_all range_made)
-      ∙ kinds_plain file.skips made r.anew.marked in
-      let sum : count_by is_significant (take to items) ≡ length (kinds file.skips (take place (plain_all items))) + length (kinds file.skips (gone e (plain_all items) (plain_all new))) =
+      let before : kinds lexicon.skips (gone e (plain_all items) (plain_all new)) ≡ significant_kinds (slice_range items place to) =
+      ap (λ n. kinds lexicon.skips (slice_range (plain_all items) place n)) end
+      ∙ ap (kinds lexicon.skips) (ap (take (to - place)) (sym (plain-drop place items)) ∙ sym (plain-take (to - place) (drop place items)))
+      ∙ kinds_plain lexicon.skips (slice_range items place to) (All-take P (to - place) (drop place items) (All-drop P place items h.tokens.marked)) in
+      let after : kinds lexicon.skips (made_by e (plain_all items) (plain_all new)) ≡ significant_kinds made =
+      ap (kinds lexicon.skips) (ap (take (rest - place)) (sym (plain-drop place new)) ∙ sym (plain-take (rest - place) (drop place new)) ∙ ap plain_all range_made)
+      ∙ kinds_plain lexicon.skips made r.anew.marked in
+      let sum : count_by is_significant (take to items) ≡ length (kinds lexicon.skips (take place (plain_all items))) + length (kinds lexicon.skips (gone e (plain_all items) (plain_all new))) =
       omega (arith, from, ap length before, count_range items place to (prefix_to f)) in
       ap (λ n. replaced n (count_by is_significant (take to items)) (significant_kinds (slice_range items place to)) (significant_kinds made)) (sym from)
-      ∙ ap (λ n. replaced (length (kinds file.skips (take place (plain_all items)))) n (significant_kinds (slice_range items place to)) (significant_kinds made)) sum
-      ∙ ap (λ ks. replaced (length (kinds file.skips (take place (plain_all items)))) (length (kinds file.skips (take place (plain_all items))) + length (kinds file.skips (gone e (plain_all items) (plain_all new)))) ks (significant_kinds made)) (sym before)
-      ∙ ap (λ ks. replaced (length (kinds file.skips (take place (plain_all items)))) (length (kinds file.skips (take place (plain_all items))) + length (kinds file.skips (gone e (plain_all items) (plain_all new)))) (kinds file.skips (gone e (plain_all items) (plain_all new))) ks) (sym after)
+      ∙ ap (λ n. replaced (length (kinds lexicon.skips (take place (plain_all items)))) n (significant_kinds (slice_range items place to)) (significant_kinds made)) sum
+      ∙ ap (λ ks. replaced (length (kinds lexicon.skips (take place (plain_all items)))) (length (kinds lexicon.skips (take place (plain_all items))) + length (kinds lexicon.skips (gone e (plain_all items) (plain_all new)))) ks (significant_kinds made)) (sym before)
+      ∙ ap (λ ks. replaced (length (kinds lexicon.skips (take place (plain_all items)))) (length (kinds lexicon.skips (take place (plain_all items))) + length (kinds lexicon.skips (gone e (plain_all items) (plain_all new)))) (kinds lexicon.skips (gone e (plain_all items) (plain_all new))) ks) (sym after)
 
   -- so they are the tokens after the edit
   pub remade_after : (n : ℕ) (s : Splice) → Fits items → s ≡ change items (kept_before e (plain_all items)) to (significant_kinds made)
-      → AreTokensAfter file e u s (record { items = items; scanned = n }) (record { items = new; scanned = length made })
+      → AreTokensAfter lexicon e u s (record { items = items; scanned = n }) (record { items = new; scanned = length made })
   remade_after n s f shown = record {
     tokens = record { tokens = remade_tokens; marked = remade_marked };
     kept = remade_kept;

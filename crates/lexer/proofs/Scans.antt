@@ -11,7 +11,7 @@ use Rattle.definitions.specs.Patterns.{Matches}
 use Rattle.definitions.specs.Tokens.{IsPiece, IsToken, AreTokens, Leads, is_skipped}
 use Rattle.definitions.proofs.TokensLead.{chars, leads_join, leads_more, leads_tokens}
 use Rattle.dfa.specs.Table.{kind_of}
-use Rattle.grammar.specs.Grammars.{FileGrammar}
+use Rattle.dfa.specs.Lexicon.{Lexicon}
 use Rattle.lexer.specs.declared.sums.Token.{Token}
 use Rattle.lexer.specs.Tokens.{kind_in, plain, characters}
 use Rattle.lexer.specs.Scans.{AreMade, AreNext}
@@ -68,34 +68,34 @@ lead_one rules t from at made x is l p =
     subst (λ xs. Leads rules (drop from t) xs) (sym (map-append plain made (x ∷ [])))
     (leads_more rules (drop from t) (map plain made) (plain x) l (subst (λ v. IsToken rules v (plain x)) (place t from at made is) p))
 
-module _ (file : FileGrammar) (t : List ℕ) where
-  pub next_none : (from : ℕ) → from ≤ length t → AreNext file t from [] from
-  next_none from l = record { leads = tt; made = made_none file.skips 0; end_is = omega arith; inside = l }
+module _ (lexicon : Lexicon) (t : List ℕ) where
+  pub next_none : (from : ℕ) → from ≤ length t → AreNext lexicon t from [] from
+  next_none from l = record { leads = tt; made = made_none lexicon.skips 0; end_is = omega arith; inside = l }
 
-  pub next_one : (from at : ℕ) (xs : List Token) (x : Token) → AreNext file t from xs at → IsToken file.patterns (drop at t) (plain x) → AreMade file.skips 0 (xs ++ x ∷ []) → at + x.length ≤ length t → AreNext file t from (xs ++ x ∷ []) (at + x.length)
+  pub next_one : (from at : ℕ) (xs : List Token) (x : Token) → AreNext lexicon t from xs at → IsToken lexicon.patterns (drop at t) (plain x) → AreMade lexicon.skips 0 (xs ++ x ∷ []) → at + x.length ≤ length t → AreNext lexicon t from (xs ++ x ∷ []) (at + x.length)
   next_one from at xs x h p made l = record {
-    leads = lead_one file.patterns t from at xs x h.end_is h.leads p;
+    leads = lead_one lexicon.patterns t from at xs x h.end_is h.leads p;
     made = made;
     end_is = omega (arith, h.end_is, characters-more xs x);
     inside = l;
   }
 
-  pub next_join : (from at end : ℕ) (xs ys : List Token) → AreNext file t from xs at → AreNext file t at ys end → AreNext file t from (xs ++ ys) end
+  pub next_join : (from at end : ℕ) (xs ys : List Token) → AreNext lexicon t from xs at → AreNext lexicon t at ys end → AreNext lexicon t from (xs ++ ys) end
   next_join from at end xs ys h k = record {
     leads =
-        subst (λ zs. Leads file.patterns (drop from t) zs) (sym (map-append plain xs ys))
-        (leads_join file.patterns (drop from t) (map plain xs) (map plain ys) h.leads (subst (λ v. Leads file.patterns v (map plain ys)) (place t from at xs h.end_is) k.leads));
-    made = made_join file.skips 0 xs ys h.made k.made;
+        subst (λ zs. Leads lexicon.patterns (drop from t) zs) (sym (map-append plain xs ys))
+        (leads_join lexicon.patterns (drop from t) (map plain xs) (map plain ys) h.leads (subst (λ v. Leads lexicon.patterns v (map plain ys)) (place t from at xs h.end_is) k.leads));
+    made = made_join lexicon.skips 0 xs ys h.made k.made;
     end_is = omega (arith, h.end_is, k.end_is, sum_by-append (λ x. x.length) xs ys);
     inside = k.inside;
   }
 
   -- no more tokens than characters
-  pub next_few : (from at : ℕ) (xs : List Token) → AreNext file t from xs at → from + length xs ≤ at
+  pub next_few : (from at : ℕ) (xs : List Token) → AreNext lexicon t from xs at → from + length xs ≤ at
   next_few from at xs h = omega (arith, h.end_is, length-le-characters xs h.made.nonempty)
 
   -- up to the end of the text they are all of its tokens
-  pub next_all : (xs : List Token) → AreNext file t 0 xs (length t) → AreTokens file.patterns t (map plain xs)
+  pub next_all : (xs : List Token) → AreNext lexicon t 0 xs (length t) → AreTokens lexicon.patterns t (map plain xs)
   next_all xs h =
       let end : length t ≤ chars (map plain xs) = omega (arith, h.end_is, chars-plain xs) in
-      subst (λ ys. AreTokens file.patterns t ys) (append-nil (map plain xs)) (leads_tokens file.patterns t (map plain xs) [] h.leads (drop_all (chars (map plain xs)) t end))
+      subst (λ ys. AreTokens lexicon.patterns t ys) (append-nil (map plain xs)) (leads_tokens lexicon.patterns t (map plain xs) [] h.leads (drop_all (chars (map plain xs)) t end))

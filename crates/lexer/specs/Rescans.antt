@@ -8,7 +8,7 @@ use Rattle.definitions.specs.Text.{edit}
 use Rattle.definitions.specs.Tokens.{Token as PlainToken, AreTokens, Leads, placed}
 use Rattle.definitions.specs.TokenEdits.{kept_before, is_rejoined, rejoin, same_kinds, IsSpliced, Splice}
 use Rattle.definitions.specs.TokenEdits.{made as made_by, splice as splice_by}
-use Rattle.grammar.specs.Grammars.{FileGrammar}
+use Rattle.dfa.specs.Lexicon.{Lexicon}
 use Rattle.lexer.specs.declared.sums.Token.{Token}
 use Rattle.lexer.specs.Scans.{AreMade}
 use Rattle.lexer.specs.Tokens.{kind_in, plain, is_significant, characters, AreTokensOf, TokenList}
@@ -18,10 +18,10 @@ abbrev pub plain_all : List Token → List PlainToken
 plain_all items = map plain items
 
 -- `u` is the text of these tokens after the edit
-pub record IsEdited (file : FileGrammar) (e : Edit) (items : List Token) (u : List ℕ) : Type 0 where
+pub record IsEdited (lexicon : Lexicon) (e : Edit) (items : List Token) (u : List ℕ) : Type 0 where
   pub text : List ℕ
   pub piece : List ℕ
-  pub tokens : AreTokensOf file text items
+  pub tokens : AreTokensOf lexicon text items
   pub inside : e.at + e.removed ≤ length text
   pub inserted : e.inserted ≡ length piece
   pub new_text : u ≡ edit text e.at (e.at + e.removed) piece
@@ -54,10 +54,10 @@ significant_kinds items = map kind_in (filter is_significant items)
 
 -- `new` are the tokens of `u`, the text of the tokens `old` after the edit. Those that the edit keeps are as they were; counted are those
 -- that it doesn't, and `s` is the change of the significant kinds
-pub record AreTokensAfter (file : FileGrammar) (e : Edit) (u : List ℕ) (s : Splice) (old new : TokenList) : Type 0 where
-  pub tokens : AreTokensOf file u new.items
+pub record AreTokensAfter (lexicon : Lexicon) (e : Edit) (u : List ℕ) (s : Splice) (old new : TokenList) : Type 0 where
+  pub tokens : AreTokensOf lexicon u new.items
   pub kept : AreRescanned e old.items new.items
-  pub splice : s ≡ splice_by file.skips e (plain_all old.items) (plain_all new.items)
+  pub splice : s ≡ splice_by lexicon.skips e (plain_all old.items) (plain_all new.items)
   pub kinds : IsSpliced s (significant_kinds old.items) (significant_kinds new.items)
   pub scanned : new.scanned ≡ length (made_by e (plain_all old.items) (plain_all new.items))
 
@@ -71,9 +71,9 @@ change items kept_before to after =
 
 -- these tokens are made after those that are kept before the edit, up to the first place of rejoining, which is that of the old token
 -- numbered `to`
-pub record IsRemade (file : FileGrammar) (e : Edit) (items : List Token) (u : List ℕ) (made : List Token) (to : ℕ) : Type 0 where
-  pub leads : Leads file.patterns (drop (prefix_end e items) u) (plain_all made)
-  pub anew : AreMade file.skips e.number made
+pub record IsRemade (lexicon : Lexicon) (e : Edit) (items : List Token) (u : List ℕ) (made : List Token) (to : ℕ) : Type 0 where
+  pub leads : Leads lexicon.patterns (drop (prefix_end e items) u) (plain_all made)
+  pub anew : AreMade lexicon.skips e.number made
   pub earlier : (k : ℕ) → k < length made → is_rejoined e (plain_all items) (prefix_end e items + characters (take k made)) ≡ false
   pub rejoins : is_rejoined e (plain_all items) (prefix_end e items + characters made) ≡ true
   pub within : to ≤ length items

@@ -3,7 +3,7 @@ use Rattle.std.specs.Prelude.{◌≡◌, ℕ, ◌≤◌, ◌^◌, Bool, not, Lis
 use Rattle.definitions.specs.declared.Kind.{Kind}
 use Rattle.definitions.specs.declared.Kind.TheVariants.{Rule, Invalid}
 use Rattle.definitions.specs.Tokens.{Token as PlainToken, AreTokens, is_skipped}
-use Rattle.grammar.specs.Grammars.{FileGrammar}
+use Rattle.dfa.specs.Lexicon.{Lexicon}
 use Rattle.lexer.specs.declared.sums.ShortKind.{ShortKind}
 use Rattle.lexer.specs.declared.sums.ShortKind.TheVariants.{Rule as ShortRule, Invalid as ShortInvalid}
 use Rattle.lexer.specs.declared.sums.Token.{Token}
@@ -31,9 +31,9 @@ pub record TokenList : Type 0 where
   pub scanned : ℕ
 
 -- these are the tokens of `t`, marked where their kind is skipped
-pub record AreTokensOf (file : FileGrammar) (t : List ℕ) (items : List Token) : Type 0 where
-  pub tokens : AreTokens file.patterns t (map plain items)
-  pub marked : All (λ x. x.skipped ≡ is_skipped file.skips (kind_in x)) items
+pub record AreTokensOf (lexicon : Lexicon) (t : List ℕ) (items : List Token) : Type 0 where
+  pub tokens : AreTokens lexicon.patterns t (map plain items)
+  pub marked : All (λ x. x.skipped ≡ is_skipped lexicon.skips (kind_in x)) items
 
 -- how many characters the tokens have in all
 abbrev pub characters : List Token → ℕ

@@ -1,16 +1,16 @@
 //! The tokens of a text by longest matches, and what an edit changes of them.
 //!
-//! `Scanner::new` joins a grammar with the automaton of its token rules. `Tokens::scan` scans a text by them; after an
-//! edit `rescan` changes the tokens to those of the new text, and returns the splice of the kinds. The source is `Whole(&text)`, or
-//! `Characters`, which has all characters in a vector and is faster for a whole scan. `token`, `start_of` and `count`
-//! are about all tokens, by their places; `kind`, `place` and `significant` about those that aren't skipped. `items` is
-//! the list, in which each token is a `PackedToken`, of 16 bytes.
+//! `Tokens::scan` scans a text by token rules and their automaton; after an edit `rescan` changes the tokens to those of
+//! the new text, and returns the splice of the kinds. The rules are any `TokenRules`, as a grammar is. The source is
+//! `Whole(&text)`, or `Characters`, which has all characters in a vector and is faster for a whole scan. `token`,
+//! `start_of` and `count` are about all tokens, by their places; `kind`, `place` and `significant` about those that
+//! aren't skipped. `items` is the list, in which each token is a `PackedToken`, of 16 bytes.
 //!
 //! Words: a token's *stamp* is the number of the edit that made it; `scanned` counts the tokens made by the last edit.
 //!
-//! Limits: those of `text`, and of `dfa` for the grammar. A rescan reads from the first token whose reach the edit meets
-//! to the first place where an old token begins again; the other tokens stay. In the example `scanner` is that of the
-//! grammar file in README.md.
+//! Limits: those of `text`, and of `dfa` for the rules. A rescan reads from the first token whose reach the edit meets
+//! to the first place where an old token begins again; the other tokens stay. In the example `scanner` is the
+//! `grammar::Scanner` of the grammar file in README.md.
 //!
 //! ```
 //! let text = Text::open(alloc, "1 + 2").ok()?;
@@ -36,10 +36,9 @@ mod whole;
 pub use ahead::KindsAhead;
 pub use characters::Characters;
 pub use definitions::{Edit, Kind, KindSplice};
-pub use dfa::Source;
+pub use dfa::{Source, TokenRules};
 pub use laws::{each_text_has_tokens, equal_tokens_are_the_same};
 pub use packed::PackedToken;
-pub use scanner::Scanner;
 pub use sums::{AfterCharacter, ShortKind, Sums, Token};
 pub use tokens::Tokens;
 pub use whole::Whole;

@@ -1,117 +1,52 @@
-//! What a scan goes by: a grammar, with the automaton of its token rules.
-ghost use Rattle.std.specs.Prelude.{◌≡◌, ℕ, ◌+◌, ◌<◌, ◌≤◌, length, drop, IfOk, IfErr};
+//! What a scan goes by: token rules, with their automaton.
+ghost use Rattle.std.specs.Prelude.{◌≡◌, ℕ, ◌+◌, ◌<◌, ◌≤◌, length, drop, IfOk};
 ghost use Rattle.definitions.specs.Tokens.{IsToken, is_skipped};
-ghost use Rattle.dfa.specs.Positions.{HasMoreStatesThan};
-ghost use Rattle.dfa.specs.Table.{Table, IsAutomaton};
+ghost use Rattle.dfa.specs.Table.{IsAutomaton};
 ghost use Rattle.dfa.specs.Windows.{IsWithinReach};
-ghost use Rattle.dfa.specs.declared.build.DfaFault.TheVariants.{TooManyStates};
 ghost use Rattle.lexer.specs.Tokens.{kind_in, plain};
 ghost use Rattle.lexer.specs.Scans.{AreNext};
 
 use crate::packed::PackedToken;
 use crate::sums::{ShortKind, Token};
-use dfa::{Automaton, DfaFault, Source};
-use grammar::Grammar;
+use dfa::{Automaton, Source, TokenRules};
 use std::alloc::{AllocError, Global};
 use std::marker::Model;
 
 /// How many tokens are scanned before they are put into the list, so that they are still in the processor's cache then.
 const BATCH_LEN: usize = 1024;
 
-/// A grammar, with the automaton of its token rules. A contract sees the grammar.
-///
-/// Its two parts are what the calls of [`Tokens`](crate::Tokens) are handed.
+/// Token rules, with their automaton, while tokens are found by them. A contract sees the rules.
 #[derive(Drop)]
-pub struct Scanner {
-    grammar: Grammar,
-    automaton: Automaton,
-}
-
-impl Model for Scanner {
-    ghost use Rattle.std.specs.Coded.{codes};
-    ghost use Rattle.definitions.specs.contracts.expression.Expression as e;
-    ghost use Rattle.dfa.specs.Table.{IsAutomaton};
-    ghost use Rattle.grammar.specs.Grammars.{FileGrammar};
-
-    ghost Value = { FileGrammar };
-
-    ghost coded = { Prim.hlevel (codes, e.the_row.coded) };
-
-    ghost view = { λ s. s.grammar };
-
-    ghost invariant = { λ s. IsAutomaton s.grammar.patterns s.automaton };
-}
-
-impl Scanner {
-    /// The scanner of a grammar. Refuses one whose automaton would have more than 4,096 states with `TooManyStates`. `Memory`
-    /// says that memory was refused.
-    pub fn new(alloc: Global, grammar: Grammar) -> Result<Scanner, DfaFault>
-        ensures grammar { IfOk result (λ s. s ≡ grammar) }
-        ensures few { IfOk result (λ _. HasMoreStatesThan grammar.patterns 4096 → ⊥) }
-        ensures many { IfErr result (λ e.
-            e ≡ TooManyStates → HasMoreStatesThan grammar.patterns 4096) }
-    {
-        match Automaton::build(alloc, grammar.patterns()) {
-            Ok(automaton) => Ok(Scanner { grammar, automaton }),
-            Err(fault) => Err(fault),
-        }
-    }
-
-    /// The grammar.
-    pub fn grammar(&self) -> &Grammar
-        ensures is { result.now ≡ self.now }
-        ensures automaton { (table : Table) × IsAutomaton self.now.patterns table }
-    {
-        &self.grammar
-    }
-
-    /// The automaton of its token rules.
-    pub fn automaton(&self) -> &Automaton
-        ensures { IsAutomaton self.now.patterns result.now }
-    {
-        &self.automaton
-    }
-
-    /// The grammar, without the automaton.
-    pub fn into_grammar(self) -> Grammar
-        ensures { result ≡ self }
-    {
-        self.grammar
-    }
-}
-
-/// A grammar, with the automaton of its token rules, while tokens are found by them. A contract sees the grammar.
-#[derive(Drop)]
-pub(crate) struct Scan<'a> {
-    grammar: &'a Grammar,
+pub(crate) struct Scan<'a, R: TokenRules> {
+    rules: &'a R,
     automaton: &'a Automaton,
 }
 
-impl<'a> Model for Scan<'a> {
+impl<'a, R: TokenRules> Model for Scan<'a, R> {
     ghost use Rattle.std.specs.Prelude.{◌≤◌, length};
     ghost use Rattle.std.specs.Coded.{codes};
     ghost use Rattle.definitions.specs.contracts.expression.Expression as e;
     ghost use Rattle.dfa.specs.Table.{IsAutomaton};
-    ghost use Rattle.grammar.specs.Grammars.{FileGrammar};
+    ghost use Rattle.dfa.specs.Lexicon.{Lexicon};
 
-    ghost Value = { FileGrammar };
+    ghost Value = { Lexicon };
 
     ghost coded = { Prim.hlevel (codes, e.the_row.coded) };
 
-    ghost view = { λ s. s.grammar.now };
+    ghost view = { λ s. R.lexicon s.rules.now };
 
-    ghost invariant = { λ s. IsAutomaton s.grammar.now.patterns s.automaton.now × (length s.grammar.now.patterns ≤ 256) };
+    ghost invariant = { λ s. IsAutomaton (R.lexicon s.rules.now).patterns s.automaton.now × (length (R.lexicon s.rules.now).patterns ≤ 256) };
 }
 
-impl<'a> Scan<'a> {
-    /// A scan by this grammar, of whose token rules this is the automaton.
-    pub fn new(grammar: &'a Grammar, automaton: &'a Automaton) -> Scan<'a>
-        requires { IsAutomaton grammar.now.patterns automaton.now }
-        ensures { result ≡ grammar.now }
+impl<'a, R: TokenRules> Scan<'a, R> {
+    /// A scan by these rules, of which this is the automaton.
+    pub fn new(rules: &'a R, automaton: &'a Automaton) -> Scan<'a, R>
+        requires { IsAutomaton (R.lexicon rules.now).patterns automaton.now }
+        ensures { result ≡ R.lexicon rules.now }
     {
         // The read says that there are few rules.
-        let _patterns = grammar.patterns();
-        Scan { grammar, automaton }
+        let _patterns = rules.patterns();
+        Scan { rules, automaton }
     }
 
     /// The token that starts at this offset.
@@ -134,7 +69,7 @@ impl<'a> Scan<'a> {
             length: found.length as u32,
             reach: found.reach as u32,
             short_kind,
-            skipped: self.grammar.is_skipped(short_kind.long()),
+            skipped: self.rules.is_skipped(short_kind.long()),
         })
     }
 

@@ -14,8 +14,7 @@ use crate::scanner::Scan;
 use crate::sums::{AfterSignificant, ReachesPast, Token};
 use crate::walk::Walk;
 use definitions::{Edit, Kind, KindSplice};
-use dfa::{Automaton, Source};
-use grammar::Grammar;
+use dfa::{Automaton, Source, TokenRules};
 use runs::Runs;
 use std::alloc::{AllocError, Global};
 use std::marker::Model;
@@ -41,21 +40,21 @@ impl Model for Tokens {
 
 impl Tokens {
     /// All tokens of a text, made by edit 0.
-    pub fn scan<S: Source>(
+    pub fn scan<R: TokenRules, S: Source>(
         alloc: Global,
-        grammar: &Grammar,
+        rules: &R,
         automaton: &Automaton,
         source: &S,
     ) -> Result<Tokens, AllocError>
-        requires sound { IsAutomaton grammar.now.patterns automaton.now }
+        requires sound { IsAutomaton (R.lexicon rules.now).patterns automaton.now }
         requires small { length (S.text source.now) ≤ 1048576 }
         requires window { (i : ℕ) → i < length (S.text source.now) → S.in_window source.now i }
         ensures tokens { IfOk result
-            (λ r. AreTokensOf grammar.now (S.text source.now) r.items) }
+            (λ r. AreTokensOf (R.lexicon rules.now) (S.text source.now) r.items) }
         ensures born { IfOk result (λ r. All (λ x. x.born ≡ 0) r.items) }
         ensures scanned { IfOk result (λ r. r.scanned ≡ length r.items) }
     {
-        let scan = Scan::new(grammar, automaton);
+        let scan = Scan::new(rules, automaton);
         let mut items = Runs::new();
         let mut at = 0;
         while at < source.len() {
@@ -156,27 +155,27 @@ impl Tokens {
     /// Brings the tokens to the text after an edit: keeps those whose reach the edit leaves alone, makes the others with
     /// the edit's number, and returns how the list of the significant kinds changes. After a refusal nothing has
     /// changed.
-    pub fn rescan<S: Source>(
+    pub fn rescan<R: TokenRules, S: Source>(
         &mut self,
         alloc: Global,
-        grammar: &Grammar,
+        rules: &R,
         automaton: &Automaton,
         source: &S,
         edit: Edit,
     ) -> Result<KindSplice, AllocError>
-        requires sound { IsAutomaton grammar.now.patterns automaton.now }
+        requires sound { IsAutomaton (R.lexicon rules.now).patterns automaton.now }
         requires small { length (S.text source.now) ≤ 1048576 }
-        requires edited { IsEdited grammar.now edit self.old.items (S.text source.now) }
+        requires edited { IsEdited (R.lexicon rules.now) edit self.old.items (S.text source.now) }
         requires window { (i : ℕ)
-            → IsNeeded grammar.now.patterns edit self.old.items (S.text source.now) i
+            → IsNeeded (R.lexicon rules.now).patterns edit self.old.items (S.text source.now) i
             → S.in_window source.now i }
-        ensures after { IfOk result (λ s. AreTokensAfter grammar.now edit (S.text source.now)
-            (plain_splice s) self.old self.new) }
+        ensures after { IfOk result (λ s. AreTokensAfter (R.lexicon rules.now) edit
+            (S.text source.now) (plain_splice s) self.old self.new) }
         ensures err { OnErr result (self.new ≡ self.old) }
     {
         let (kept_before, end) = kept_prefix(&self.items, edit);
         let old = Walk::new(&self.items, kept_before, end);
-        let scan = Scan::new(grammar, automaton);
+        let scan = Scan::new(rules, automaton);
         let (made, to) = remake(alloc, &scan, source, edit, old)?;
         let kinds = kinds_of(alloc, &made)?;
         let splice = splice_of(&self.items, kept_before, to, kinds);
@@ -232,9 +231,9 @@ fn rejoin_place(old: &mut Walk<'_>, edit: Edit, at: usize) -> Option<usize>
 }
 
 /// The tokens from where the old ones are no longer kept to the place of rejoining, and the place of the first old token after it.
-fn remake<S: Source>(
+fn remake<R: TokenRules, S: Source>(
     alloc: Global,
-    scan: &Scan<'_>,
+    scan: &Scan<'_, R>,
     source: &S,
     edit: Edit,
     mut old: Walk<'_>,

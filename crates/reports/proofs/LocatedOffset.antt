@@ -9,7 +9,7 @@ use Rattle.definitions.specs.declared.expression.Expression.{Expression}
 use Rattle.definitions.specs.Tokens.{AreTokens, is_skipped, kinds, placed, significant}
 use Rattle.definitions.proofs.TokensLead.{chars}
 use Rattle.definitions.proofs.TokensUnique.{IsPiece-inside}
-use Rattle.grammar.specs.Grammars.{FileGrammar}
+use Rattle.grammar.specs.Grammars.{FileGrammar, lexicon_of}
 use Rattle.lexer.specs.declared.sums.Sums.{Sums}
 use Rattle.lexer.specs.declared.sums.Token.{Token}
 use Rattle.lexer.specs.Rescans.{plain_all}
@@ -51,7 +51,7 @@ count_none [] (suc p) e = refl
 count_none (y ∷ xs) zero e = absurd (cc)
 count_none (y ∷ xs) (suc p) e = ap (λ ys. y ∷ ys) (count_none xs p e)
 
-module _ (file : FileGrammar) (t : List ℕ) (items : List Token) (h : AreTokensOf file t items) (short : length t ≤ 2 ^ 30) where
+module _ (file : FileGrammar) (t : List ℕ) (items : List Token) (h : AreTokensOf (lexicon_of file) t items) (short : length t ≤ 2 ^ 30) where
   long : characters items ≡ length t
   long = tokens_length file.patterns t items h.tokens
 

@@ -11,7 +11,7 @@ use Rattle.definitions.specs.Answers.{range_of, shortened}
 use Rattle.definitions.specs.Tokens.{Placed, Token, AreTokens, kinds}
 use Rattle.definitions.specs.Trees.{Tree, HaveRoots, all_kinds}
 use Rattle.definitions.proofs.Significant.{map-significant}
-use Rattle.grammar.specs.Grammars.{FileGrammar}
+use Rattle.grammar.specs.Grammars.{FileGrammar, lexicon_of}
 use Rattle.lexer.specs.declared.sums.Token.{Token as Stored}
 use Rattle.lexer.specs.Tokens.{AreTokensOf, is_significant, plain}
 use Rattle.trees.specs.declared.store.Child.{Child}
@@ -48,7 +48,7 @@ module _ (encoding : Encoding) (file : FileGrammar) (t : List ℕ) (tokens : Lis
       (reverse (map (range_of encoding t) (reported reached first)), selected o reached first (places_around file.patterns file.skips o 0 t tokens p.0 h p.1))
 
 -- the same of stored tokens and of roots in a store
-module _ (encoding : Encoding) (file : FileGrammar) (t : List ℕ) (items : List Stored) (cells : List Cell) (roots : List Child) (h : AreTokensOf file t items) (r : AreRootsOf file cells (map plain items) roots) where
+module _ (encoding : Encoding) (file : FileGrammar) (t : List ℕ) (items : List Stored) (cells : List Cell) (roots : List Child) (h : AreTokensOf (lexicon_of file) t items) (r : AreRootsOf file cells (map plain items) roots) where
   counted : length (placed_parts file (map plain items)) ≡ count_by is_significant items
   counted = count_of_parts file.skips items h.marked
 

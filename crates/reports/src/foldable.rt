@@ -4,6 +4,7 @@ ghost use Rattle.std.specs.Prelude.{◌≡◌, ℕ, ◌<◌, ◌≤◌, Bool, fa
 ghost use Rattle.definitions.specs.declared.Symbol.{Symbol};
 ghost use Rattle.definitions.specs.Tokens.{is_skipped, placed, significant};
 ghost use Rattle.definitions.specs.Trees.{HaveRoots, all_kinds, left_of};
+ghost use Rattle.grammar.specs.Grammars.{lexicon_of};
 ghost use Rattle.lexer.specs.Tokens.{kind_in, plain, AreTokensOf};
 ghost use Rattle.trees.specs.Cells.{AreBelow};
 ghost use Rattle.reports.specs.Folds.{lines_of, SpanLines, AreAscending, AreSpanned, with_own};
@@ -34,7 +35,7 @@ pub fn folds(
     store: &Store,
     roots: &[Child],
 ) -> Result<Vec<(u32, u32)>, AllocError>
-    requires tokens { AreTokensOf grammar.now text.now tokens.now.items }
+    requires tokens { AreTokensOf (lexicon_of grammar.now) text.now tokens.now.items }
     requires roots { AreRootsOf grammar.now store.now (map plain tokens.now.items) roots.now }
     ensures { IfOk result (λ pairs.
         AreFoldsOf grammar.now text.now (map plain tokens.now.items)

@@ -5,7 +5,7 @@ ghost use Rattle.std.specs.List.{dedup};
 ghost use Rattle.definitions.specs.Answers.{range_of, shortened};
 ghost use Rattle.definitions.specs.Tokens.{is_skipped, placed, significant};
 ghost use Rattle.definitions.specs.Trees.{all_kinds};
-ghost use Rattle.grammar.specs.Grammars.{FileGrammar};
+ghost use Rattle.grammar.specs.Grammars.{FileGrammar, lexicon_of};
 ghost use Rattle.lexer.specs.Tokens.{kind_in, plain, is_significant, AreTokensOf};
 ghost use Rattle.trees.specs.Cells.{AreBelow};
 ghost use Rattle.reports.specs.Around.{IsAround, IsBranchAround, IsSpanOf, inside, is_same, spans_all};
@@ -51,9 +51,9 @@ pub fn selection(
     roots: &[Child],
     offset: usize,
 ) -> Result<Vec<Range>, AllocError>
-    requires { (file : FileGrammar) × AreTokensOf file text.now tokens.now.items
+    requires { (file : FileGrammar) × AreTokensOf (lexicon_of file) text.now tokens.now.items
         × AreRootsOf file store.now (map plain tokens.now.items) roots.now }
-    ensures { (file : FileGrammar) → AreTokensOf file text.now tokens.now.items
+    ensures { (file : FileGrammar) → AreTokensOf (lexicon_of file) text.now tokens.now.items
         → AreRootsOf file store.now (map plain tokens.now.items) roots.now
         → IfOk result (λ ranges. IsSelectionOf unit file text.now (map plain tokens.now.items)
         (trees_of_roots store.now roots.now) offset ranges.items) }
@@ -67,7 +67,7 @@ pub fn selection(
 /// The two places of an offset.
 fn point_of(tokens: &Tokens, offset: usize) -> Point
     ensures around { (file : FileGrammar) (t : List ℕ)
-        → AreTokensOf file t tokens.now.items → length t ≤ 2 ^ 30
+        → AreTokensOf (lexicon_of file) t tokens.now.items → length t ≤ 2 ^ 30
         → IsAround (significant file.skips (placed 0 (map plain tokens.now.items))) offset
         result.reached result.first }
     ensures near { result.reached ≤ result.first + 1 }

@@ -2,10 +2,11 @@
 
 ghost use Rattle.std.specs.Prelude.{◌≡◌, ◌+◌, ◌<◌, ◌≤◌, drop, length};
 ghost use Rattle.std.specs.Str.{chars};
+ghost use Rattle.grammar.specs.Grammars.{lexicon_of};
 ghost use Rattle.lexer.specs.Tokens.{AreTokensOf};
 
-use grammar::Grammar;
-use lexer::{Edit, Kind, KindSplice, Scanner, Source, Tokens, Whole};
+use grammar::{Grammar, Scanner};
+use lexer::{Edit, Kind, KindSplice, Source, Tokens, Whole};
 use std::alloc::Global;
 use std::cell::Cell;
 use std::process::Abort;
@@ -26,7 +27,7 @@ fn load(rt: &impl Abort, alloc: Global, text: &str) -> Scanner {
 
 /// The tokens of a whole text.
 fn scan(rt: &impl Abort, alloc: Global, scanner: &Scanner, text: &Text) -> Tokens
-    ensures { AreTokensOf scanner.now text.now result.items }
+    ensures { AreTokensOf (lexicon_of scanner.now) text.now result.items }
 {
     let _length = text.len();
     let (grammar, automaton) = (scanner.grammar(), scanner.automaton());
@@ -100,9 +101,9 @@ fn change(
     tokens: &mut Tokens,
     step: &Step<'_>,
 ) -> Rescan
-    requires tokens { AreTokensOf scanner.now text.old tokens.old.items }
+    requires tokens { AreTokensOf (lexicon_of scanner.now) text.old tokens.old.items }
     requires inside { step.now.at + step.now.removed ≤ length text.old }
-    ensures { AreTokensOf scanner.now text.new tokens.new.items }
+    ensures { AreTokensOf (lexicon_of scanner.now) text.new tokens.new.items }
 {
     let piece = Text::open(alloc, step.piece).expect(rt, "a piece");
     let edit = Edit {
@@ -149,8 +150,8 @@ fn check_step(
     tokens: &mut Tokens,
     step: &Step<'_>,
 ) -> usize
-    requires tokens { AreTokensOf scanner.now text.old tokens.old.items }
-    ensures { AreTokensOf scanner.now text.new tokens.new.items }
+    requires tokens { AreTokensOf (lexicon_of scanner.now) text.old tokens.old.items }
+    ensures { AreTokensOf (lexicon_of scanner.now) text.new tokens.new.items }
 {
     let length = text.len();
     assert!(rt; step.at <= length);

@@ -11,8 +11,8 @@ mod programs;
 mod sets;
 mod texts;
 
-use grammar::Grammar;
-use lexer::{Scanner, Tokens, Whole};
+use grammar::{Grammar, Scanner};
+use lexer::{Tokens, Whole};
 use std::alloc::Global;
 use std::process::ExitCode;
 use tables::Tables;

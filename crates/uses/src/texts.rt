@@ -1,8 +1,8 @@
 //! Examples of texts and of their tokens.
 
 use dfa::Automaton;
-use grammar::Grammar;
-use lexer::{Scanner, Tokens, Whole};
+use grammar::{Grammar, Scanner};
+use lexer::{Tokens, Whole};
 use std::alloc::Global;
 use text::{Text, Unit};
 

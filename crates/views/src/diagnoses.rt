@@ -4,6 +4,7 @@ ghost use Rattle.std.specs.Prelude.{◌≡◌, ◌++◌, List, Option, IfOk, map
 ghost use Rattle.std.specs.Str.{chars};
 ghost use Rattle.definitions.specs.Answers.{listed, message, name_or_end};
 ghost use Rattle.definitions.specs.declared.Kind.TheVariants.{Rule};
+ghost use Rattle.grammar.specs.Grammars.{lexicon_of};
 ghost use Rattle.lexer.specs.Rescans.{significant_kinds};
 ghost use Rattle.lexer.specs.Tokens.{AreTokensOf, plain};
 ghost use Rattle.parser.specs.Parses.{IsParseOf, verdict_in};
@@ -33,7 +34,7 @@ pub fn diagnostic(
     parse: &Parse,
 ) -> Result<Option<Diagnostic>, AllocError>
     requires tables { tables.now.grammar ≡ grammar.now.grammar }
-    requires tokens { AreTokensOf grammar.now text.now tokens.now.items }
+    requires tokens { AreTokensOf (lexicon_of grammar.now) text.now tokens.now.items }
     requires parse { (cells : List Cell)
         × IsParseOf tables.now (significant_kinds tokens.now.items) cells parse.now }
     ensures reported { IfOk result (λ reported. (cells : List Cell)

@@ -1,3 +1,4 @@
+use Rattle.grammar.specs.Grammars.{lexicon_of}
 use Rattle.lexer.specs.Rescans.{significant_kinds}
 use Rattle.lexer.specs.Tokens.{AreTokensOf}
 use Rattle.parser.specs.Parses.{IsParseOf}
@@ -5,6 +6,6 @@ use Rattle.edit_tests.proofs.rows.check.Given as goal
 
 abbrev pub invariant-rows : goal.invariant-rows
 invariant-rows g l = record {
-  tokens : AreTokensOf l.language.scanner l.document.text l.document.tokens.items;
+  tokens : AreTokensOf (lexicon_of l.language.scanner) l.document.text l.document.tokens.items;
   parse : IsParseOf l.language.tables (significant_kinds l.document.tokens.items) l.document.store l.document.parse;
 }

@@ -15,17 +15,17 @@ rejoin_place-requires-clause-removed g c = removed_fits c.args.scan.now c.args.e
 pub loop-at-init : goal.loop-at-init
 loop-at-init g c =
     let xs = c.args.old.items in
-    let file = c.args.scan.now in
+    let lexicon = c.args.scan.now in
     let u = g.S.Source.text c.args.source.now in
-    let kept = c.requires.kept_before file.patterns c.requires.edited.text c.requires.edited.tokens.tokens in
+    let kept = c.requires.kept_before lexicon.patterns c.requires.edited.text c.requires.edited.tokens.tokens in
     let start : c.start-at.result ≡ prefix_end c.args.edit xs = c.start-at.ensures.is ∙ ap (λ n. characters (take n xs)) kept in
     rw c.new-made.ensures.items (record {
-      inside = omega (arith, start, prefix_inside file c.args.edit xs u c.requires.edited);
+      inside = omega (arith, start, prefix_inside lexicon c.args.edit xs u c.requires.edited);
       sum = omega (arith, start);
       leads = tt;
       made = made_none _ _;
       items = refl;
-      passed = prefix_passed file c.args.edit xs u c.requires.edited c.args.old.place c.start-at.result kept;
+      passed = prefix_passed lexicon c.args.edit xs u c.requires.edited c.args.old.place c.start-at.result kept;
       earlier = λ k l. absurd (omega arith);
     })
 

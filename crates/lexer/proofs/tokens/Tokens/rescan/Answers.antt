@@ -2,7 +2,7 @@ use Rattle.std.proofs.Common.{arith, rules, vec_len, sym, ap, subst, ◌≡◌, 
 use Rattle.std.proofs.lemmas.List.{length-take, append_assoc}
 use Rattle.definitions.specs.declared.Edit.{Edit}
 use Rattle.definitions.specs.TokenEdits.{plain_splice, Splice}
-use Rattle.grammar.specs.Grammars.{FileGrammar}
+use Rattle.dfa.specs.Lexicon.{Lexicon}
 use Rattle.lexer.specs.declared.sums.Token.{Token}
 use Rattle.lexer.specs.Tokens.{Fits, TokenList}
 use Rattle.lexer.specs.Rescans.{change, significant_kinds, IsEdited, IsRemade, AreTokensAfter}
@@ -15,27 +15,27 @@ abbrev next_of : List Token → ℕ → TokenList
 next_of items scanned = record { items = items; scanned = scanned }
 
 -- the tokens `made` may take the place of the old ones from number `n` up to `to`, and with them the list is that after the edit
-record IsReplacement (file : FileGrammar) (e : Edit) (xs : List Token) (u : List ℕ) (made : List Token) (to n : ℕ) : Type 0 where
+record IsReplacement (lexicon : Lexicon) (e : Edit) (xs : List Token) (u : List ℕ) (made : List Token) (to n : ℕ) : Type 0 where
   ordered : n ≤ to
   within : to ≤ length xs
   fits : Fits (take n xs ++ (made ++ drop to xs))
-  after : (scanned : ℕ) (s : Splice) → s ≡ change xs n to (significant_kinds made) → AreTokensAfter file e u s (next_of xs scanned) (next_of (take n xs ++ (made ++ drop to xs)) (length made))
+  after : (scanned : ℕ) (s : Splice) → s ≡ change xs n to (significant_kinds made) → AreTokensAfter lexicon e u s (next_of xs scanned) (next_of (take n xs ++ (made ++ drop to xs)) (length made))
 
-replacement : (g : _) (c : In_ok-made g) → IsReplacement c.args.grammar.now c.args.edit c.self.inside.items (g.S.Source.text c.args.source.now) c.in_ok-made.made.items c.in_ok-made.to c.kept_prefix-kept_before.result.0
+replacement : (g : _) (c : In_ok-made g) → IsReplacement (g.R.TokenRules.lexicon c.args.rules.now) c.args.edit c.self.inside.items (g.S.Source.text c.args.source.now) c.in_ok-made.made.items c.in_ok-made.to c.kept_prefix-kept_before.result.0
 replacement g c =
     let xs = c.self.inside.items in
     let e = c.args.edit in
-    let file = c.args.grammar.now in
+    let lexicon = g.R.TokenRules.lexicon c.args.rules.now in
     let u = g.S.Source.text c.args.source.now in
     let made = c.in_ok-made.made.items in
     let to = c.in_ok-made.to in
-    let h : IsEdited file e xs u = subst (λ d. IsEdited file e d.items u) (sym c.self.view_is) c.requires.edited in
-    let r : IsRemade file e xs u made to = subst (λ f. IsRemade f e xs u made to) c.new-scan.ensures (subst (λ s. IsRemade c.new-scan.result e s.items u made to) c.new-old.ensures c.in_ok-made.ensures) in
-    subst (IsReplacement file e xs u made to) (sym (c.kept_prefix-kept_before.ensures.kept_before file.patterns h.text h.tokens.tokens)) (record {
-      ordered = prefix_to file e xs u h made to r c.self.invariant;
+    let h : IsEdited lexicon e xs u = subst (λ d. IsEdited lexicon e d.items u) (sym c.self.view_is) c.requires.edited in
+    let r : IsRemade lexicon e xs u made to = subst (λ f. IsRemade f e xs u made to) c.new-scan.ensures (subst (λ s. IsRemade c.new-scan.result e s.items u made to) c.new-old.ensures c.in_ok-made.ensures) in
+    subst (IsReplacement lexicon e xs u made to) (sym (c.kept_prefix-kept_before.ensures.kept_before lexicon.patterns h.text h.tokens.tokens)) (record {
+      ordered = prefix_to lexicon e xs u h made to r c.self.invariant;
       within = r.within;
-      fits = remade_fits file e xs u h made to r c.self.invariant c.requires.small;
-      after = λ scanned s shown. remade_after file e xs u h made to r scanned s c.self.invariant shown;
+      fits = remade_fits lexicon e xs u h made to r c.self.invariant c.requires.small;
+      after = λ scanned s shown. remade_after lexicon e xs u h made to r scanned s c.self.invariant shown;
     })
 
 -- the list with these tokens in it
@@ -67,15 +67,15 @@ returns g c =
     let at = goal.at.returns g c in
     let xs = c.self.inside.items in
     let made = c.in_ok-made.made.items in
-    let file = c.args.grammar.now in
+    let lexicon = g.R.TokenRules.lexicon c.args.rules.now in
     let u = g.S.Source.text c.args.source.now in
     let count : vec_len c.in_ok-made.made ≡ length made = search rules in
     let splice = plain_splice c.splice_of-splice.result in
     let shown = c.splice_of-splice.ensures ∙ ap (change xs c.kept_prefix-kept_before.result.0 c.in_ok-made.to) (c.in_ok-kinds.ensures ∙ ap significant_kinds c.deref.ensures.value) in
     let next = ap (λ items. next_of items (length made)) (sym (list g at.In_ok-replace)) ∙ ap (next_of c.replace.new.self) (sym (c.len-self-inside.ensures ∙ count)) in
     record {
-      after = subst (λ (old : TokenList). AreTokensAfter file c.args.edit u splice old (next_of c.replace.new.self c.len-self-inside.result)) c.self.view_is
-          (subst (AreTokensAfter file c.args.edit u splice (next_of xs c.self.inside.scanned)) next
+      after = subst (λ (old : TokenList). AreTokensAfter lexicon c.args.edit u splice old (next_of c.replace.new.self c.len-self-inside.result)) c.self.view_is
+          (subst (AreTokensAfter lexicon c.args.edit u splice (next_of xs c.self.inside.scanned)) next
           ((replacement g at.In_ok-made).after c.self.inside.scanned splice shown));
       err = tt;
     }
