@@ -1,13 +1,11 @@
 -- Of each edit an answer is given: whether a node is kept can be decided, so that those that lie in no kept one can be counted.
-use Rattle.std.proofs.Common.{◌≡◌, ◌≢◌, ◌<◌, ◌≤◌, ℕ, zero, suc, ◌+◌, List, [], ◌∷◌, length, refl, sym, ap, subst, ◌∙◌, ◌⊎◌, inl, inr, ⊎_elim, true, arith}
+use Rattle.std.proofs.Common.{◌≡◌, ◌<◌, ◌≤◌, ℕ, ◌+◌, List, [], ◌∷◌, length, refl, sym, ap, subst, ◌∙◌, ◌⊎◌, inl, inr, ⊎_elim, arith}
 use Rattle.std.proofs.lemmas.Bool.{cases_lt, cases_eq}
 use mathlib.Core.List.{head-eq_of_cons-eq, tail-eq_of_cons-eq}
 use Rattle.std.specs.Prelude.{Option}
 use Rattle.definitions.specs.declared.Edit.{Edit}
 use Rattle.definitions.specs.declared.Kind.{Kind}
 use Rattle.definitions.specs.declared.Kind.TheVariants.{Rule as Terminal, Invalid}
-use Rattle.definitions.specs.declared.Range.{Range}
-use Rattle.definitions.specs.declared.Unit.{Unit as Encoding}
 use Rattle.definitions.specs.Nodes.{StandsIn, Top, Below, Past, place_of, all_branches}
 use Rattle.definitions.specs.Text.{changed}
 use Rattle.definitions.specs.TokenEdits.{Splice, made, splice}
@@ -18,8 +16,8 @@ use Rattle.theory.proofs.ReuseIsExact.{stands_split}
 use Rattle.theory.proofs.MadeIsBuilt.{not_in_leaf}
 use Rattle.theory.proofs.Stack.{nowhere, stands_in_prefix}
 use Rattle.docs.specs.Answers.{Reading, AlwaysAnswers}
-use Rattle.docs.specs.Edits.{IsNext, Makes, AlwaysCounts, IsAbove, number_after, edit_of}
-use Rattle.docs.specs.Texts.{LastEdit, fits}
+use Rattle.docs.specs.Edits.{Makes, AlwaysCounts, IsAbove, number_after, edit_of}
+use Rattle.docs.specs.Texts.{LastEdit}
 use Rattle.docs.proofs.Edits.{above_or_not}
 
 -- ---- what can be decided

@@ -1,5 +1,5 @@
 -- Edits that follow each other, as one edit.
-use Rattle.std.proofs.Common.{◌≡◌, ◌≤◌, ◌+◌, ◌-◌, ℕ, List, [], ◌++◌, length, take, drop, refl, sym, ap, subst, ◌∙◌, arith}
+use Rattle.std.proofs.Common.{◌≡◌, ◌≤◌, ◌+◌, ◌-◌, ℕ, List, ◌++◌, length, take, drop, sym, ap, ◌∙◌, arith}
 use Rattle.std.proofs.lemmas.List.{append_assoc, drop-drop, drop-take, length-append, length-drop, length-take, take_at, take-append-drop, take-take}
 use Rattle.definitions.specs.declared.Edit.{Edit}
 use Rattle.definitions.specs.Text.{edit}

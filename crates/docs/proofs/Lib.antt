@@ -8,3 +8,4 @@ mod Edits
 mod Countable
 mod Stamps
 mod JoinedEdits
+mod AsciiTexts

@@ -173,8 +173,9 @@ impl Doc {
         // The read opens what a language says of its tables.
         let _tables = language.tables();
         let tokens = language.scan(alloc, &text)?;
-        // Nearly every parse has fewer nodes than tokens, so that the store doesn't grow, and isn't copied, while it is filled.
-        let mut store = Store::with_capacity(alloc, tokens.significant())?;
+        // With this room a store of few nodes for each token doesn't grow, and isn't copied, while it is filled. A sum has one node
+        // more than tokens.
+        let mut store = Store::with_capacity(alloc, tokens.significant().saturating_add(1))?;
         let parse = language.parse(alloc, &mut store, &tokens)?;
         Ok(Doc {
             unit,

@@ -18,7 +18,7 @@ use definitions::laws::{expected_unique, folds_unique, selection_unique, tokens_
 use definitions::{Edit, KindSplice};
 use dfa::DfaFault;
 use grammar::{Grammar, GrammarCause, GrammarFault, Scanner};
-use lexer::{Characters, Tokens, Whole, each_text_has_tokens};
+use lexer::{Bytes, Characters, Tokens, Whole, each_text_has_tokens};
 use parser::Parse;
 use parser::laws::{each_list_has_a_verdict, each_viable_list_has_expected};
 use std::alloc::{AllocError, Global};
@@ -150,10 +150,13 @@ impl Language {
         ensures born { IfOk result (λ r. All (λ x. x.born ≡ 0) r.items) }
         ensures scanned { IfOk result (λ r. r.scanned ≡ length r.items) }
     {
-        // The read opens the invariant of the text.
-        let _length = text.len();
-        let characters = text.characters(alloc)?;
         let (grammar, automaton) = (self.scanner.grammar(), self.scanner.automaton());
+        // Where there are no more bytes than characters, all are ASCII.
+        if text.bytes() == text.len() {
+            let characters = text.to_string(alloc)?;
+            return Tokens::scan(alloc, grammar, automaton, &Bytes(characters.as_bytes()));
+        }
+        let characters = text.characters(alloc)?;
         Tokens::scan(alloc, grammar, automaton, &Characters(&characters))
     }
 

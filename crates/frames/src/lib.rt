@@ -8,7 +8,8 @@
 //! Words: a *frame* is a header part and a content of as many bytes as its `Content-Length` says.
 //!
 //! Limits: a header part has at most 4,096 bytes, and a content at most 16,777,216. A `feed` costs the size of the
-//! piece, and of the rest of a frame that it completes; `write_frame` doesn't allocate.
+//! piece, and of the rest of a frame that it completes; where it leaves no bytes to keep, the decoder keeps no room for
+//! any. `write_frame` doesn't allocate.
 //!
 //! ```
 //! let mut decoder = Decoder::new(alloc);

@@ -1,4 +1,4 @@
-//! A list of characters as a source.
+//! Lists of characters as sources.
 
 ghost use Rattle.std.specs.Prelude.{⊤, ◌<◌, length};
 
@@ -25,6 +25,37 @@ impl<'a> Source for Characters<'a> {
 
     fn get(&self, i: usize) -> char {
         self.0[i]
+    }
+
+    fn ahead(&self, _i: usize) {}
+
+    fn next(&self, _ahead: &mut (), i: usize) -> char {
+        self.get(i)
+    }
+
+    ghost inside = { λ s i h. h };
+}
+
+/// Characters with codes below 256, each in a byte, whose window is the whole of them.
+#[derive(Clone, Copy)]
+pub struct Bytes<'a>(pub &'a [u8]);
+
+impl<'a> Source for Bytes<'a> {
+    /// An offset is place enough.
+    type Ahead = ();
+
+    ghost text = { λ s. s.0.now };
+
+    ghost in_window = { λ s i. i < length s.0.now };
+
+    ghost is_before = { λ s i ahead. ⊤ };
+
+    fn len(&self) -> usize {
+        self.0.len()
+    }
+
+    fn get(&self, i: usize) -> char {
+        char::from(self.0[i])
     }
 
     fn ahead(&self, _i: usize) {}

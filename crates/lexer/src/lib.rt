@@ -2,7 +2,7 @@
 //!
 //! `Tokens::scan` scans a text by token rules and their automaton; after an edit `rescan` changes the tokens to those of
 //! the new text, and returns the splice of the kinds. The rules are any `TokenRules`, as a grammar is. The source is
-//! `Whole(&text)`, or `Characters`, which has all characters in a vector and is faster for a whole scan. `token`,
+//! `Whole(&text)`; for a whole scan it is faster to read `Characters` out of a vector, or ASCII out of `Bytes`. `token`,
 //! `start_of` and `count` are about all tokens, by their places; `kind`, `place` and `significant` about those that
 //! aren't skipped. `items` is the list, in which each token is a `PackedToken`, of 16 bytes.
 //!
@@ -34,7 +34,7 @@ mod walk;
 mod whole;
 
 pub use ahead::KindsAhead;
-pub use characters::Characters;
+pub use characters::{Bytes, Characters};
 pub use definitions::{Edit, Kind, KindSplice};
 pub use dfa::{Source, TokenRules};
 pub use laws::{each_text_has_tokens, equal_tokens_are_the_same};

@@ -1,10 +1,10 @@
 //! What is reported of a document's tokens and trees, for which neither its parse nor tables are needed: the rows of its
 //! tokens, the text of a tree, the lines that can be folded, and what can be selected.
 //!
-//! Each call makes one report, from the text, its tokens, its trees and their nodes; `views` has these calls too, beside
-//! that for the fault. `token_rows` are the names and ranges of all tokens, `tree_text` is the text of a tree, `folds`
-//! are the first and last lines of the nodes that fold, and `selection` the ranges around an offset, from inner to
-//! outer. `span_of` finds a significant token.
+//! Each call makes one report, from the text, its tokens, its trees and their nodes: `token_rows` are the names and
+//! ranges of all tokens, `tree_text` is the text of a tree, `folds` are the first and last lines of the nodes that fold,
+//! and `selection` the ranges around an offset, from inner to outer. `views` has these calls too, beside that for the
+//! fault. `span_of`, which it has not, finds a significant token.
 //!
 //! Words: positions count in the *unit* that the caller gives.
 //!

@@ -7,15 +7,18 @@ ghost use Rattle.lexer.specs.Tokens.{kind_in, is_significant, plain};
 
 use lexer::{Kind, Tokens};
 
-/// A significant token: the offsets at which it starts and ends, and its kind.
+/// A significant token, with the offsets between which it lies, in characters.
 #[derive(Clone, Copy)]
 pub struct Part {
+    /// The offset of its first character.
     pub start: usize,
+    /// The offset after its last character.
     pub end: usize,
+    /// The rule that it matches, or that it matches none.
     pub kind: Kind,
 }
 
-/// The k-th significant token.
+/// Significant token number `k`, counted from 0.
 pub fn span_of(tokens: &Tokens, k: usize) -> Part
     requires { k < count_by is_significant tokens.now.items }
     ensures { (skips : List Bool)

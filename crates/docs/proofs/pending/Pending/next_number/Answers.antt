@@ -1,4 +1,4 @@
-use Rattle.std.proofs.Common.{◌+◌, ◌∙◌, ap, arith, min}
+use Rattle.std.proofs.Common.{arith}
 use Rattle.docs.proofs.Edits.{next_later, next_positive}
 use Rattle.docs.proofs.pending.Pending.next_number.Goals as goal
 

@@ -1,0 +1,13 @@
+use Rattle.std.proofs.Common.{◌≡◌, IfOk, length, ap, subst, sym, ◌∙◌}
+use Rattle.std.specs.Prelude.{encode_utf8_all}
+use Rattle.grammar.specs.Grammars.{lexicon_of}
+use Rattle.lexer.specs.Tokens.{AreTokensOf}
+use Rattle.docs.proofs.AsciiTexts.{its_bytes}
+use Rattle.docs.proofs.language.Language.scan.Goals as goal
+
+pub returns-then-bytes-len-clause-tokens : goal.returns-then-bytes-len-clause-tokens
+returns-then-bytes-len-clause-tokens c =
+    let text = c.args.text.now in
+    let narrow : length (encode_utf8_all text) ≡ length text = sym c.bytes.ensures.count ∙ c.if-bytes-len.true ∙ c.len.ensures.count in
+    let same = c.as_bytes.ensures.value ∙ c.in_ok-characters.ensures ∙ its_bytes text narrow in
+    subst (λ t. IfOk c.scan.result (λ r. AreTokensOf (lexicon_of c.args.self.now.file) t r.items)) same c.scan.ensures.tokens
