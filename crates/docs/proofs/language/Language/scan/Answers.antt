@@ -10,4 +10,6 @@ returns-then-bytes-len-clause-tokens c =
     let text = c.args.text.now in
     let narrow : length (encode_utf8_all text) ≡ length text = sym c.bytes.ensures.count ∙ c.if-bytes-len.true ∙ c.len.ensures.count in
     let same = c.as_bytes.ensures.value ∙ c.in_ok-characters.ensures ∙ its_bytes text narrow in
-    subst (λ t. IfOk c.scan.result (λ r. AreTokensOf (lexicon_of c.args.self.now.file) t r.items)) same c.scan.ensures.tokens
+    let file = c.grammar-grammar.ensures.is ∙ ap (λ l. l.file) c.self.view_is in
+    subst (λ f. IfOk c.scan.result (λ r. AreTokensOf (lexicon_of f) text r.items)) file
+    (subst (λ t. IfOk c.scan.result (λ r. AreTokensOf (lexicon_of c.grammar-grammar.result.now) t r.items)) same c.scan.ensures.tokens)
