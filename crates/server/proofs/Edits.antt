@@ -1,16 +1,20 @@
 -- A text that is edited by changes in turn.
 use Rattle.std.proofs.Common.{◌≡◌, ◌<◌, ◌+◌, ℕ, ℤ, Bool, true, false, cond, List, [], ◌∷◌, ◌++◌, length, map, take, drop, get_or, refl, sym, ap, subst, ◌∙◌}
 use Rattle.std.proofs.lemmas.List.{drop_more, take_more, map-append, take-append-drop}
-use Rattle.std.specs.Prelude.{Option, Some, None}
+use Rattle.std.specs.Prelude.{Option, Some, None, Result, Err}
 use Rattle.std.specs.Str.{chars}
 use Rattle.docs.specs.Text.{changed}
 use Rattle.rpc.specs.Unit.{Unit as Encoding}
 use Rattle.docs.specs.Edits.{IsNext}
 use Rattle.docs.specs.Texts.{LastEdit, OpenDocument, fits}
 use Rattle.docs.specs.Grammars.{FileGrammar}
+use Rattle.docs.specs.declared.doc.DocFault.{DocFault}
+use Rattle.docs.specs.declared.doc.DocFault.TheVariants as fault
 use Rattle.rpc.specs.Messages.{TextChange, change_view}
 use Rattle.rpc.specs.declared.message.Change.{Change}
+use Rattle.rpc.specs.declared.reply.Loss.{Loss}
 use Rattle.rpc.specs.declared.reply.Loss.TheVariants.{TooLarge, Memory}
+use Rattle.server.specs.Changes.{loss_of}
 use Rattle.server.specs.Documents.{DocumentState, is_open, is_lost, edited, Becomes, IsLastAfter}
 
 module _ (encoding : Encoding) where
@@ -111,3 +115,8 @@ module _ (changes : List Change) (i : ℕ) (c : Change) (within : i < length cha
 
     pub may_lose : (version : ℤ) → fits (after d.unit mid (change_view c)) ≡ true → Becomes file version d (map change_view changes) (is_lost Memory)
     may_lose version fit = (before, following, change_view c, all_changes, (after d.unit mid (change_view c), edited_more d.unit d.text before (change_view c) mid edits fit))
+
+-- by how a change is refused
+pub either_fault : {T : Type 0} (P : Loss → Type 0) (result : Result T DocFault) (f : DocFault) → result ≡ Err f → (result ≡ Err fault.TooLarge → P TooLarge) → (result ≡ Err fault.Memory → P Memory) → P (loss_of f)
+either_fault P result fault.TooLarge refused over memory = over refused
+either_fault P result fault.Memory refused over memory = memory refused

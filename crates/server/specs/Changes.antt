@@ -3,8 +3,17 @@ use Rattle.std.specs.Prelude.{◌≡◌, ◌⊎◌, ℕ, ◌<◌, List, Option, 
 use Rattle.docs.specs.Edits.{number_of}
 use Rattle.docs.specs.Grammars.{FileGrammar}
 use Rattle.docs.specs.Texts.{LastEdit, OpenDocument}
+use Rattle.docs.specs.declared.doc.DocFault.{DocFault}
+use Rattle.docs.specs.declared.doc.DocFault.TheVariants.{TooLarge, Memory}
 use Rattle.rpc.specs.Messages.{TextChange}
+use Rattle.rpc.specs.declared.reply.Loss.{Loss}
+use Rattle.rpc.specs.declared.reply.Loss.TheVariants as loss
 use Rattle.server.specs.Documents.{edited, IsLastAfter}
+
+-- `loss_of fault`: how a document is lost by a change that is refused so
+abbrev pub loss_of : DocFault → Loss
+loss_of TooLarge = loss.TooLarge
+loss_of Memory = loss.Memory
 
 -- the next edit makes the same after either of these: they are the same, or have one number, which isn't the greatest
 abbrev pub AreAlikeForNext : Option LastEdit → Option LastEdit → Type 0

@@ -4,7 +4,7 @@ ghost use Rattle.std.specs.Prelude.{◌≡◌, ◌+◌, ◌<◌, ℤ, length, ma
 ghost use Rattle.docs.specs.Docs.{last_edit, open_document, IsCurrent};
 ghost use Rattle.docs.specs.Edits.{number_of};
 ghost use Rattle.rpc.specs.Messages.{change_view};
-ghost use Rattle.server.specs.Changes.{IsAfter};
+ghost use Rattle.server.specs.Changes.{loss_of, IsAfter};
 ghost use Rattle.server.specs.Documents.{is_lost, Becomes};
 ghost use Rattle.server.specs.Holding.{entry_view, IsEntryOf};
 
@@ -12,6 +12,16 @@ use crate::documents::Entry;
 use docs::{Doc, DocFault, Language, Pending};
 use rpc::{Change, Loss};
 use std::alloc::Global;
+
+/// How a document is lost by a change that is refused so.
+fn loss_of(fault: DocFault) -> Loss
+    ensures { result ≡ loss_of fault }
+{
+    match fault {
+        DocFault::TooLarge => Loss::TooLarge,
+        DocFault::Memory => Loss::Memory,
+    }
+}
 
 /// The document of this version after the changes in turn, each scanned and parsed by itself, or how it is lost by the first
 /// of them that is refused.
@@ -30,8 +40,7 @@ fn apply_each(
     for change in changes {
         match doc.change(alloc, language, change.range, change.text.as_str()) {
             Ok(next) => doc = next,
-            Err(DocFault::TooLarge) => return Entry::Lost(Loss::TooLarge),
-            Err(DocFault::Memory) => return Entry::Lost(Loss::Memory),
+            Err(fault) => return Entry::Lost(loss_of(fault)),
         }
     }
     doc.set_version(version);
@@ -61,8 +70,7 @@ fn apply_uncounted(
     for change in changes {
         match pending.change(alloc, language, change.range, change.text.as_str()) {
             Ok(()) => {}
-            Err(DocFault::TooLarge) => return Err(Loss::TooLarge),
-            Err(DocFault::Memory) => return Err(Loss::Memory),
+            Err(fault) => return Err(loss_of(fault)),
         }
     }
     match pending.finish(alloc, language) {

@@ -9,8 +9,9 @@ use Rattle.docs.specs.Texts.{LastEdit, OpenDocument, fits}
 use Rattle.docs.specs.declared.doc.DocFault.{DocFault}
 use Rattle.docs.specs.declared.doc.DocFault.TheVariants.{TooLarge, Memory}
 use Rattle.rpc.specs.Messages.{change_view}
-use Rattle.server.specs.Documents.{IsLastAfter}
-use Rattle.server.proofs.Edits.{after, ends_there, goes_on, last_goes_on, may_lose}
+use Rattle.rpc.specs.declared.reply.Loss.TheVariants as loss
+use Rattle.server.specs.Documents.{is_lost, Becomes, IsLastAfter}
+use Rattle.server.proofs.Edits.{after, either_fault, ends_there, goes_on, last_goes_on, may_lose}
 use Rattle.server.proofs.changes.apply_each.Goals as goal
 
 -- a test that doesn't fail holds
@@ -22,23 +23,22 @@ unless false never = absurd (never refl)
 fits_then : {T : Type 0} (result : Result T DocFault) (text spelled : List ℕ) → text ≡ spelled → ((result ≡ Err TooLarge) ↔ (fits text ≡ false)) → (result ≡ Err TooLarge → ⊥) → fits spelled ≡ true
 fits_then result text spelled same large never = subst (λ t. fits t ≡ true) same (unless (fits text) (λ over. never (large.1 over)))
 
-pub returns-in-Err-TooLarge-clause-becomes : goal.returns-in-Err-TooLarge-clause-becomes
-returns-in-Err-TooLarge-clause-becomes c =
+pub returns-in-Err-clause-becomes : goal.returns-in-Err-clause-becomes
+returns-in-Err-clause-becomes c =
     let doc = c.loop-change.doc in
     let change = c.change-item.result in
+    let changes = c.args.changes.now in
+    let index = c.loop-change.change-index in
+    let file = c.args.language.now.file in
+    let d = open_document c.args.doc in
     let same = ap (λ (e : Encoding). changed e doc.text change.range (chars c.as_str.result.now)) c.loop-change.invariant.unit ∙ ap (λ b. changed c.args.doc.unit doc.text change.range (chars b)) c.as_str.ensures.value in
-    let refused : c.change.result ≡ Err TooLarge = c.in-Err-TooLarge.is ∙ ap (λ (e : DocFault). Err e) c.in-Err-TooLarge.field-0-is in
-    let over : fits (after c.args.doc.unit doc.text (change_view change)) ≡ false = subst (λ t. fits t ≡ false) same (c.change.ensures.too_large.0 refused) in
-    ends_there c.args.changes.now c.loop-change.change-index change c.loop-change-test.true c.change-item.is c.args.language.now.file (open_document c.args.doc) doc.text c.loop-change.invariant.edits over
-
-pub returns-in-Err-Memory-clause-becomes : goal.returns-in-Err-Memory-clause-becomes
-returns-in-Err-Memory-clause-becomes c =
-    let doc = c.loop-change.doc in
-    let change = c.change-item.result in
-    let same = ap (λ (e : Encoding). changed e doc.text change.range (chars c.as_str.result.now)) c.loop-change.invariant.unit ∙ ap (λ b. changed c.args.doc.unit doc.text change.range (chars b)) c.as_str.ensures.value in
-    let refused : c.change.result ≡ Err Memory = c.in-Err-Memory.is ∙ ap (λ (e : DocFault). Err e) c.in-Err-Memory.field-0-is in
+    let over : c.change.result ≡ Err TooLarge → Becomes file c.args.version d (map change_view changes) (is_lost loss.TooLarge) =
+    λ refused. ends_there changes index change c.loop-change-test.true c.change-item.is file d doc.text c.loop-change.invariant.edits (subst (λ t. fits t ≡ false) same (c.change.ensures.too_large.0 refused)) in
+    let memory : c.change.result ≡ Err Memory → Becomes file c.args.version d (map change_view changes) (is_lost loss.Memory) =
+    λ refused.
     let fit = fits_then c.change.result _ (after c.args.doc.unit doc.text (change_view change)) same c.change.ensures.too_large (λ wrong. let both : Err TooLarge ≡ Err Memory = sym wrong ∙ refused in let f : ⊥ = cc in f) in
-    may_lose c.args.changes.now c.loop-change.change-index change c.loop-change-test.true c.change-item.is c.args.language.now.file (open_document c.args.doc) doc.text c.loop-change.invariant.edits c.args.version fit
+    may_lose changes index change c.loop-change-test.true c.change-item.is file d doc.text c.loop-change.invariant.edits c.args.version fit in
+    subst (λ l. Becomes file c.args.version d (map change_view changes) (is_lost l)) (sym c.loss_of.ensures) (either_fault (λ l. Becomes file c.args.version d (map change_view changes) (is_lost l)) c.change.result c.in-Err.fault c.in-Err.is over memory)
 
 pub loop-change-preserved : goal.loop-change-preserved
 loop-change-preserved c =

@@ -13,21 +13,12 @@ use Rattle.rpc.specs.Messages.{TextChange, change_view}
 use Rattle.rpc.specs.Unit.{Unit as Encoding}
 use Rattle.rpc.specs.declared.reply.Loss.TheVariants as loss
 use Rattle.server.specs.Documents.{is_lost, Becomes}
-use Rattle.server.proofs.Edits.{after, all_changes, ends_there, goes_on, last_goes_on, may_lose}
+use Rattle.server.proofs.Edits.{after, all_changes, either_fault, ends_there, goes_on, last_goes_on, may_lose}
 use Rattle.server.proofs.UncountedChanges.{lost_on_the_way}
 use Rattle.server.proofs.changes.apply_uncounted.Goals as goal
 
-pub returns-in-Err-TooLarge-clause-lost : goal.returns-in-Err-TooLarge-clause-lost
-returns-in-Err-TooLarge-clause-lost c v =
-    let text = pending_text c.loop-change.pending in
-    let change = c.change-item.result in
-    let same = ap (λ (e : Encoding). changed e text change.range (chars c.as_str.result.now)) c.loop-change.invariant.unit ∙ ap (λ b. changed c.args.doc.unit text change.range (chars b)) c.as_str.ensures.value in
-    let refused : c.change.result ≡ Err TooLarge = c.in-Err-TooLarge.is ∙ ap (λ (e : DocFault). Err e) c.in-Err-TooLarge.field-0-is in
-    let over : fits (after c.args.doc.unit text (change_view change)) ≡ false = subst (λ t. fits t ≡ false) same (c.change.ensures.too_large refused) in
-    ends_there c.args.changes.now c.loop-change.change-index change c.loop-change-test.true c.change-item.is c.args.language.now.file (open_document c.args.doc) text c.loop-change.invariant.edits over
-
-pub returns-in-Err-Memory-clause-lost : goal.returns-in-Err-Memory-clause-lost
-returns-in-Err-Memory-clause-lost c v =
+pub returns-in-Err-clause-lost : goal.returns-in-Err-clause-lost
+returns-in-Err-clause-lost c v =
     let text = pending_text c.loop-change.pending in
     let change = c.change-item.result in
     let changes = c.args.changes.now in
@@ -36,11 +27,15 @@ returns-in-Err-Memory-clause-lost c v =
     let d = open_document c.args.doc in
     let before : List TextChange = map change_view (take index changes) in
     let same = ap (λ (e : Encoding). changed e text change.range (chars c.as_str.result.now)) c.loop-change.invariant.unit ∙ ap (λ b. changed c.args.doc.unit text change.range (chars b)) c.as_str.ensures.value in
-    let refused : c.change.result ≡ Err Memory = c.in-Err-Memory.is ∙ ap (λ (e : DocFault). Err e) c.in-Err-Memory.field-0-is in
     let all = all_changes changes index change c.loop-change-test.true c.change-item.is in
     let first : before ≡ [] → index ≡ 0 = λ none. omega (arith, ap length none, length-map (take index changes) change_view, length-take index changes, c.loop-change-test.true) in
-    let fit : before ≡ [] → fits (after c.args.doc.unit text (change_view change)) ≡ true = λ none. subst (λ t. fits t ≡ true) same (c.change.ensures.memory refused (c.loop-change.invariant.first (first none))) in
-    subst (λ l. Becomes file v d l (is_lost loss.Memory)) (sym all) (lost_on_the_way file v d before _ text c.loop-change.invariant.edits (λ none. subst (λ l. Becomes file v d l (is_lost loss.Memory)) all (may_lose changes index change c.loop-change-test.true c.change-item.is file d text c.loop-change.invariant.edits v (fit none))))
+    let over : c.change.result ≡ Err TooLarge → Becomes file v d (map change_view changes) (is_lost loss.TooLarge) =
+    λ refused. ends_there changes index change c.loop-change-test.true c.change-item.is file d text c.loop-change.invariant.edits (subst (λ t. fits t ≡ false) same (c.change.ensures.too_large refused)) in
+    let fit : c.change.result ≡ Err Memory → before ≡ [] → fits (after c.args.doc.unit text (change_view change)) ≡ true =
+    λ refused none. subst (λ t. fits t ≡ true) same (c.change.ensures.memory refused (c.loop-change.invariant.first (first none))) in
+    let memory : c.change.result ≡ Err Memory → Becomes file v d (map change_view changes) (is_lost loss.Memory) =
+    λ refused. subst (λ l. Becomes file v d l (is_lost loss.Memory)) (sym all) (lost_on_the_way file v d before _ text c.loop-change.invariant.edits (λ none. subst (λ l. Becomes file v d l (is_lost loss.Memory)) all (may_lose changes index change c.loop-change-test.true c.change-item.is file d text c.loop-change.invariant.edits v (fit refused none)))) in
+    subst (λ l. Becomes file v d (map change_view changes) (is_lost l)) (sym c.loss_of.ensures) (either_fault (λ l. Becomes file v d (map change_view changes) (is_lost l)) c.change.result c.in-Err.fault c.in-Err.is over memory)
 
 pub loop-change-preserved : goal.loop-change-preserved
 loop-change-preserved c =
@@ -64,8 +59,8 @@ loop-change-preserved c =
       first = λ none. absurd (omega (arith, none));
     }
 
-pub returns-in-Err-clause-lost : goal.returns-in-Err-clause-lost
-returns-in-Err-clause-lost c v =
+pub returns-in-Err-finish-clause-lost : goal.returns-in-Err-finish-clause-lost
+returns-in-Err-finish-clause-lost c v =
     let changes = c.args.changes.now in
     let index = c.loop-change.change-index in
     let file = c.args.language.now.file in
@@ -73,5 +68,5 @@ returns-in-Err-clause-lost c v =
     let whole : take index changes ≡ changes = take_all index changes (omega (arith, c.loop-change-test.false)) in
     let before : List TextChange = map change_view (take index changes) in
     let first : before ≡ [] → index ≡ 0 = λ none. omega (arith, ap length none, length-map (take index changes) change_view, ap length whole, c.loop-change.auto.change-index-end, c.loop-change-test.false) in
-    let lost = lost_on_the_way file v d before [] (pending_text c.loop-change.pending) c.loop-change.invariant.edits (λ none. absurd (c.in-Err.ensures.refused (c.loop-change.invariant.first (first none)))) in
+    let lost = lost_on_the_way file v d before [] (pending_text c.loop-change.pending) c.loop-change.invariant.edits (λ none. absurd (c.in-Err-finish.ensures.refused (c.loop-change.invariant.first (first none)))) in
     subst (λ l. Becomes file v d l (is_lost loss.Memory)) (append-nil before ∙ ap (map change_view) whole) lost
