@@ -1,5 +1,5 @@
 -- What is answered, from what a document holds.
-use Rattle.std.proofs.Common.{◌≡◌, ℕ, List, Bool, true, false, refl, ap, subst}
+use Rattle.std.proofs.Common.{◌≡◌, ℕ, List, Bool, true, false, refl, ap}
 use Rattle.std.specs.Prelude.{Option, Some, None, option_map, Result, Ok, Err, IfOk, OnOk, OnErr}
 use Rattle.std.specs.Result.{is_err}
 use Rattle.rpc.specs.Diagnostic.{Diagnostic as Stored}
@@ -15,13 +15,6 @@ use Rattle.server.specs.Answers.{IsPublished, shown}
 pub if_ok : {T E : Type 0} {P Q : T → Type 0} (r : Result T E) → ((x : T) → P x → Q x) → IfOk r P → IfOk r Q
 if_ok (Ok x) f p = f x p
 if_ok (Err e) f p = tt
-
--- what holds of what was answered
-pub if_ok_is : {T E : Type 0} (P : T → Type 0) (r : Result T E) (x : T) → r ≡ Ok x → IfOk r P → P x
-if_ok_is P r x is h = subst (λ s. IfOk s P) is h
-
-pub on_ok_is : {T E : Type 0} (P : Type 0) (r : Result T E) (x : T) → r ≡ Ok x → OnOk r P → P
-on_ok_is P r x is h = subst (λ s. OnOk s P) is h
 
 -- so, with what is answered first
 pub if_ok_then : {T E : Type 0} {P Q : T → Type 0} (r : Result T E) → IfOk r P → ((x : T) → P x → Q x) → IfOk r Q

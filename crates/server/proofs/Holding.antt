@@ -1,7 +1,7 @@
 -- A document that came to stand otherwise.
-use Rattle.std.proofs.Common.{◌≡◌, ◌⊎◌, inl, inr, ℕ, ℤ, Bool, true, List, [], ◌∷◌, ap, ◌∙◌, sym, subst}
+use Rattle.std.proofs.Common.{◌≡◌, ℕ, ℤ, Bool, true, List, [], ◌∷◌, ap, ◌∙◌, sym, subst}
 use Rattle.std.specs.Prelude.{Option, Some, None}
-use Rattle.std.specs.FinMap.{get, insert}
+use Rattle.std.specs.FinMap.{get, insert, remove}
 use Rattle.docs.specs.Docs.{open_document}
 use Rattle.docs.specs.declared.doc.Doc.{Doc}
 use Rattle.docs.specs.Grammars.{FileGrammar}
@@ -15,7 +15,7 @@ use Rattle.rpc.specs.Messages.{TextChange}
 use Rattle.server.specs.Documents.{DocumentState, Held, is_open, is_lost, Becomes}
 use Rattle.server.specs.Holding.{entry_view}
 use Rattle.server.specs.Steps.{State, Changes, Closes, Holds, Opens}
-use Rattle.server.proofs.LookUps.{inserted_again}
+use Rattle.server.proofs.LookUps.{inserted_again, inserted_removed}
 
 abbrev pub state_of : FileGrammar → Phase → Held → State
 state_of file phase documents = record { file = file; phase = phase; documents = documents }
@@ -29,20 +29,21 @@ holds_open old uri made d e published answers stop new is sends stays same =
     let here : new ≡ state_of old.file old.phase (insert old.documents uri (entry_view (entry.Open d))) = same ∙ ap (λ (x : Entry). state_of old.file old.phase (insert old.documents uri (entry_view x))) e in
     subst (λ (x : Entry). Holds old uri (entry_view x) answers stop new) (sym e) (published, is, sends, (stays, here))
 
+-- where other documents are held in between, but the same are held then
+holds_from : (old mid : State) (documents : Held) (uri : List ℕ) (state : DocumentState) (answers : List Answer) (stop : Option ℕ) (new : State) → mid ≡ state_of old.file old.phase documents → insert documents uri state ≡ insert old.documents uri state → Holds mid uri state answers stop new → Holds old uri state answers stop new
+holds_from old mid documents uri state answers stop new same put h = by state put (subst (λ (m : State). Holds m uri state answers stop new) same h)
+  where
+    by : (s : DocumentState) → insert documents uri s ≡ insert old.documents uri s → Holds (state_of old.file old.phase documents) uri s answers stop new → Holds old uri s answers stop new
+    by (is_open d) e g = (g.0, g.1, g.2, (g.3.0, g.3.1 ∙ ap (λ (x : Held). state_of old.file old.phase x) e))
+    by (is_lost loss) e g = (g.0, (g.1.0, g.1.1 ∙ ap (λ (x : Held). state_of old.file old.phase x) e))
+
 -- one that stood otherwise in between
 pub holds_again : (old mid : State) (uri : List ℕ) (before state : DocumentState) (answers : List Answer) (stop : Option ℕ) (new : State) → mid ≡ state_of old.file old.phase (insert old.documents uri before) → Holds mid uri state answers stop new → Holds old uri state answers stop new
-holds_again old mid uri before state answers stop new same h = by state (subst (λ (m : State). Holds m uri state answers stop new) same h)
-  where
-    by : (s : DocumentState) → Holds (state_of old.file old.phase (insert old.documents uri before)) uri s answers stop new → Holds old uri s answers stop new
-    by (is_open d) g = (g.0, g.1, g.2, (g.3.0, g.3.1 ∙ ap (λ (x : Held). state_of old.file old.phase x) (inserted_again old.documents uri before (is_open d))))
-    by (is_lost loss) g = (g.0, (g.1.0, g.1.1 ∙ ap (λ (x : Held). state_of old.file old.phase x) (inserted_again old.documents uri before (is_lost loss))))
+holds_again old mid uri before state answers stop new same = holds_from old mid (insert old.documents uri before) uri state answers stop new same (inserted_again old.documents uri before state)
 
--- one that was let go of, if anything was held
-pub holds_let_go : (old : State) (file : FileGrammar) (documents : Held) (uri : List ℕ) (before state : DocumentState) (answers : List Answer) (stop : Option ℕ) (new : State) → file ≡ old.file → (documents ≡ insert old.documents uri before) ⊎ (documents ≡ old.documents) → Holds (state_of file old.phase documents) uri state answers stop new → Holds old uri state answers stop new
-holds_let_go old file documents uri before state answers stop new e (inl put) h =
-    holds_again old (state_of file old.phase documents) uri before state answers stop new (state_same old.file file old.phase (insert old.documents uri before) documents e put) h
-holds_let_go old file documents uri before state answers stop new e (inr same) h =
-    subst (λ (m : State). Holds m uri state answers stop new) (state_same old.file file old.phase old.documents documents e same) h
+-- one that was removed before
+pub holds_removed : (old mid : State) (uri : List ℕ) (state : DocumentState) (answers : List Answer) (stop : Option ℕ) (new : State) → mid ≡ state_of old.file old.phase (remove old.documents uri) → Holds mid uri state answers stop new → Holds old uri state answers stop new
+holds_removed old mid uri state answers stop new same = holds_from old mid (remove old.documents uri) uri state answers stop new same (inserted_removed old.documents uri state)
 
 -- a change of an open document
 pub changes_open : (old mid : State) (uri : List ℕ) (before : DocumentState) (d : Doc) (version : ℤ) (changes : List TextChange) (state : DocumentState) (answers : List Answer) (stop : Option ℕ) (new : State) → get old.documents uri ≡ Some (is_open (open_document d)) → mid ≡ state_of old.file old.phase (insert old.documents uri before) → Becomes old.file version (open_document d) changes state → Holds mid uri state answers stop new → Changes (get old.documents uri) old uri version changes answers stop new

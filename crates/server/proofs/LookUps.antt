@@ -44,6 +44,17 @@ inserted_again documents uri before state = same_map nat_list_cmp_total (slice_c
     twice true o = refl
     twice false o = refl
 
+-- what is put in the place of one that was removed
+pub inserted_removed : (documents : Held) (uri : List ℕ) (state : DocumentState) → insert (remove documents uri) uri state ≡ insert documents uri state
+inserted_removed documents uri state = same_map nat_list_cmp_total (slice_cmp-IsAntisymmetric nat_cmp-IsAntisymmetric) _ _ (λ q.
+    get-insert nat_list_cmp_total (remove documents uri) uri state q
+    ∙ (ap (cond (eq_by_cmp (slice_cmp nat_cmp) q uri) (Some state)) (get-remove nat_list_cmp_total documents uri q)
+    ∙ (twice (eq_by_cmp (slice_cmp nat_cmp) q uri) (get documents q) ∙ sym (get-insert nat_list_cmp_total documents uri state q))))
+  where
+    twice : (b : Bool) (o : Option DocumentState) → cond b (Some state) (cond b None o) ≡ cond b (Some state) o
+    twice true o = refl
+    twice false o = refl
+
 -- where nothing was found
 pub none_is : {A : Type 0} (o : Option A) → is_some o ≡ false → o ≡ None
 none_is None e = refl

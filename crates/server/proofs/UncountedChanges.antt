@@ -1,5 +1,5 @@
 -- What a document is after changes of whose counts none are reported, and what it becomes by those after them.
-use Rattle.std.proofs.Common.{◌≡◌, ◌<◌, ◌+◌, ℕ, ℤ, Bool, true, false, cond, List, [], ◌∷◌, ◌++◌, length, map, take, drop, min, refl, sym, ap, subst, ◌∙◌, ◌⊎◌, inl, inr, arith}
+use Rattle.std.proofs.Common.{◌≡◌, ◌<◌, ◌+◌, ℕ, ℤ, Bool, true, false, cond, List, [], ◌∷◌, ◌++◌, length, map, take, drop, min, refl, sym, ap, subst, ◌∙◌, inl, inr, arith}
 use Rattle.std.proofs.Math.Nat.{min-eq_left}
 use Rattle.std.proofs.lemmas.List.{append_assoc, length-drop, map-append, take-append-drop}
 use Rattle.std.specs.Prelude.{Option, Some, None}
@@ -8,7 +8,6 @@ use Rattle.docs.specs.declared.Range.{Range}
 use Rattle.docs.specs.declared.Stats.{Stats}
 use Rattle.docs.specs.Edits.{IsAbove, IsNext, Makes, ReportsLast, edit_of, number_after, number_of}
 use Rattle.docs.specs.Grammars.{FileGrammar}
-use Rattle.docs.specs.Text.{changed}
 use Rattle.docs.specs.Texts.{LastEdit, OpenDocument, fits}
 use Rattle.rpc.specs.Messages.{TextChange, change_view}
 use Rattle.rpc.specs.declared.message.Change.{Change}

@@ -1,5 +1,5 @@
 -- What a document is after changes of whose counts none are reported.
-use Rattle.std.specs.Prelude.{◌≡◌, ◌⊎◌, ℕ, ◌<◌, List, Option, Some}
+use Rattle.std.specs.Prelude.{◌≡◌, ◌⊎◌, ◌<◌, List, Option, Some}
 use Rattle.docs.specs.Edits.{number_of}
 use Rattle.docs.specs.Grammars.{FileGrammar}
 use Rattle.docs.specs.Texts.{LastEdit, OpenDocument}

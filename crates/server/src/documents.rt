@@ -1,6 +1,6 @@
 //! The documents that a server holds.
 
-ghost use Rattle.std.specs.Prelude.{◌≡◌, ◌⊎◌, ◌||◌, Some, None, nat_lt, is_some, option_map, IfSome, IfOk, IfErr, OnOk, OnErr, string_bytes};
+ghost use Rattle.std.specs.Prelude.{◌≡◌, ◌||◌, None, nat_lt, is_some, option_map, IfSome, OnOk, OnErr, string_bytes};
 ghost use Rattle.std.specs.FinMap as map;
 ghost use Rattle.rpc.specs.declared.reply.Loss.TheVariants.{Memory};
 ghost use Rattle.server.specs.Documents.{has_room, is_lost};
@@ -101,44 +101,29 @@ impl Documents {
         Ok(())
     }
 
-    /// Holds the entry in the place of what is held under this URI, and hands that back; where nothing is, the entry comes back.
-    /// It takes no memory.
-    pub fn replace(&mut self, uri: &str, entry: Entry) -> Result<Entry, Entry>
-        requires { IsEntryOf self.old.language entry }
-        ensures held { let held = map.get self.old.documents uri.now in
-            IfOk result (λ e. held ≡ Some (entry_view e)) }
-        ensures current { IfOk result (IsEntryOf self.old.language) }
-        ensures documents { let held = map.insert self.old.documents uri.now (entry_view entry) in
-            OnOk result (self.new.documents ≡ held) }
-        ensures absent { IfErr result (λ e. e ≡ entry) }
-        ensures nothing { OnErr result ((map.get self.old.documents uri.now ≡ None)
-            × (self.new.documents ≡ self.old.documents)) }
+    /// Takes out what is held under this URI, if anything is. Until another entry is held there, it counts as lost for memory. It
+    /// takes no memory.
+    pub fn take(&mut self, uri: &str) -> Option<Entry>
+        ensures is { option_map entry_view result ≡ map.get self.old.documents uri.now }
+        ensures current { IfSome result (λ e. IsEntryOf self.old.language e) }
+        ensures documents { let held = map.insert self.old.documents uri.now (is_lost Memory) in
+            IfSome result (λ _. self.new.documents ≡ held) }
+        ensures nothing { result ≡ None → self.new.documents ≡ self.old.documents }
         ensures language { self.new.language ≡ self.old.language }
     {
         match self.by_uri.get_mut(uri) {
-            Some(held) => Ok(replace(held, entry)),
-            None => Err(entry),
+            Some(held) => Some(replace(held, Entry::Lost(Loss::Memory))),
+            None => None,
         }
     }
 
-    /// Lets go of what is held under this URI, if anything is, so that its memory is free for another entry. Until that is held,
-    /// it counts as lost for memory. It takes no memory.
-    pub fn let_go(&mut self, uri: &str)
-        ensures documents { let held = map.insert self.old.documents uri.now (is_lost Memory) in
-            (self.new.documents ≡ held) ⊎ (self.new.documents ≡ self.old.documents) }
-        ensures language { self.new.language ≡ self.old.language }
-    {
-        let _ = self.replace(uri, Entry::Lost(Loss::Memory));
-    }
-
-    /// Takes out what is held under this URI, if anything is.
-    pub fn remove(&mut self, uri: &str) -> Option<Entry>
-        ensures is { option_map entry_view result ≡ map.get self.old.documents uri.now }
-        ensures current { IfSome result (λ e. IsEntryOf self.old.language e) }
+    /// Removes what is held under this URI, and says whether anything was.
+    pub fn remove(&mut self, uri: &str) -> bool
+        ensures is { result ≡ map.contains_key self.old.documents uri.now }
         ensures documents { self.new.documents ≡ map.remove self.old.documents uri.now }
         ensures language { self.new.language ≡ self.old.language }
     {
-        self.by_uri.remove(uri)
+        self.by_uri.remove(uri).is_some()
     }
 
     /// Whether something is held under this URI already, or one more document may be held.

@@ -78,9 +78,9 @@ impl Server {
             let old = state_view self.old in
             Holds old (string_bytes uri) state (sent out) out.stop (state_view self.new)) }
     {
-        let out = self.announce(alloc, uri.as_str(), &entry)?;
+        let out = self.announce(alloc, uri.as_str(), &entry);
         self.documents.insert(uri, entry)?;
-        Ok(out)
+        out
     }
 
     /// `textDocument/didOpen`, where positions count this unit.
@@ -102,7 +102,7 @@ impl Server {
             return one_log(alloc, Log::TooManyDocuments);
         }
         // The document that this one replaces goes first, since the two may not both have room.
-        self.documents.let_go(uri.as_str());
+        self.documents.remove(uri.as_str());
         let language = self.documents.language();
         let entry = new_document(alloc, language, unit, version, text.as_str())?;
         self.hold(alloc, uri, entry)
@@ -114,11 +114,11 @@ impl Server {
         alloc: Global,
         uri: String,
         version: i32,
-        changes: Vec<Change>,
+        changes: &[Change],
     ) -> Result<Out, AllocError>
         ensures { let old = state_view self.old in
             let uri = string_bytes uri in
-            let changes = map change_view changes.items in
+            let changes = map change_view changes.now in
             IfOk result (λ out.
             Changes (get old.documents uri) old uri version changes (sent out) out.stop
             (state_view self.new)) }
@@ -129,11 +129,10 @@ impl Server {
             Some(Entry::Open(_)) => {}
         }
         // what is held stays under its URI, so that no memory is needed for the document that comes back
-        let lost = Entry::Lost(Loss::Memory);
-        let Ok(Entry::Open(doc)) = self.documents.replace(uri.as_str(), lost) else {
+        let Some(Entry::Open(doc)) = self.documents.take(uri.as_str()) else {
             unreachable!();
         };
-        let entry = apply_changes(alloc, self.documents.language(), doc, version, &changes);
+        let entry = apply_changes(alloc, self.documents.language(), doc, version, changes);
         self.hold(alloc, uri, entry)
     }
 
@@ -158,7 +157,7 @@ impl Server {
             IfOk result (λ out.
             Closes (get old.documents uri) old uri (sent out) out.stop (state_view self.new)) }
     {
-        if self.documents.remove(uri.as_str()).is_none() {
+        if !self.documents.remove(uri.as_str()) {
             return one_log(alloc, Log::CloseNotOpen);
         }
         one_reply(alloc, no_diagnostics(alloc, uri.as_str())?)
@@ -199,7 +198,7 @@ impl Server {
                     version,
                     changes,
                 },
-            ) => self.change(alloc, uri, version, changes),
+            ) => self.change(alloc, uri, version, &changes),
             (Phase::Ready(_), Note::DidClose { uri }) => self.close(alloc, uri),
             (Phase::Ready(_), Note::Malformed(malformed)) => self.on_malformed(alloc, malformed),
             _ => Ok(nothing(alloc)),

@@ -1,7 +1,7 @@
-use Rattle.std.proofs.Common.{◌-◌, ◌∙◌, ℤ, List, w32, map, drop, take, length, ap, sym, subst, arith}
+use Rattle.std.proofs.Common.{◌-◌, ℤ, w32, map, length, subst, arith}
 use Rattle.std.proofs.lemmas.Int.{to_z-of_z}
 use Rattle.docs.specs.Docs.{open_document}
-use Rattle.rpc.specs.Messages.{TextChange, change_view}
+use Rattle.rpc.specs.Messages.{change_view}
 use Rattle.server.specs.Changes.{IsAfter}
 use Rattle.server.specs.Documents.{is_lost, Becomes}
 use Rattle.server.specs.Holding.{entry_view}

@@ -1,4 +1,4 @@
-use Rattle.std.proofs.Common.{◌≡◌, ◌∙◌, ◌+◌, ap, sym, subst, List, [], ◌++◌, map, take, length, min, ℕ, true, false, arith}
+use Rattle.std.proofs.Common.{◌≡◌, ◌∙◌, ◌+◌, ap, sym, subst, List, [], map, take, length, min, true, false, arith}
 use Rattle.std.proofs.Math.Nat.{min-eq_left}
 use Rattle.std.proofs.lemmas.List.{append-nil, length-map, length-take, take_all}
 use Rattle.std.specs.Prelude.{Some, Err}
@@ -7,7 +7,6 @@ use Rattle.docs.specs.Docs.{open_document}
 use Rattle.docs.specs.Pending.{pending_text}
 use Rattle.docs.specs.Text.{changed}
 use Rattle.docs.specs.Texts.{fits}
-use Rattle.docs.specs.declared.doc.DocFault.{DocFault}
 use Rattle.docs.specs.declared.doc.DocFault.TheVariants.{TooLarge, Memory}
 use Rattle.rpc.specs.Messages.{TextChange, change_view}
 use Rattle.rpc.specs.Unit.{Unit as Encoding}

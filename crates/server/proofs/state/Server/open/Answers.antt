@@ -1,13 +1,12 @@
-use Rattle.std.proofs.Common.{◌≡◌, ◌⊎◌, List, ℕ, ℤ, w32, ap, subst, sym, ◌∙◌, string_bytes}
+use Rattle.std.proofs.Common.{◌≡◌, List, ℕ, ℤ, w32, ap, sym, ◌∙◌, string_bytes}
 use Rattle.std.proofs.lemmas.Int.{to_z-of_z}
-use Rattle.std.specs.FinMap.{insert}
+use Rattle.std.specs.FinMap.{remove}
 use Rattle.std.specs.Str.{chars}
 use Rattle.docs.specs.Languages.{LanguageData}
-use Rattle.rpc.specs.declared.reply.Loss.TheVariants.{Memory}
-use Rattle.server.specs.Documents.{has_room, is_lost}
+use Rattle.server.specs.Documents.{has_room}
 use Rattle.server.specs.Holding.{entry_view}
 use Rattle.server.specs.Steps.{state_view, new_document}
-use Rattle.server.proofs.Holding.{holds_let_go, opens_room}
+use Rattle.server.proofs.Holding.{holds_removed, opens_room, state_same}
 use Rattle.server.proofs.AnswersFromDocuments.{if_ok_then}
 use Rattle.server.proofs.state.Server.open.Goals as goal
 
@@ -16,13 +15,12 @@ returns c =
     let old = c.args.self.now in
     let uri = string_bytes c.args.uri in
     let documents = old.documents.documents in
-    let left = c.let_go.new.self.documents in
     let made = entry_view c.in_ok-entry.entry in
     let state = new_document c.args.unit c.args.version (chars (string_bytes c.args.text)) in
     let by_version = ap (λ (v : ℤ). new_document c.args.unit v (chars c.as_str-3.result.now)) (to_z-of_z w32 c.args.version c.ranges.version) in
     let by_text = ap (λ (t : List ℕ). new_document c.args.unit c.args.version (chars t)) c.as_str-3.ensures.value in
     let same : made ≡ state = c.in_ok-entry.ensures.is ∙ (by_version ∙ by_text) in
     let spelled = ap (λ (u : List ℕ). has_room u documents) (sym c.as_str.ensures.value) in
-    let file = ap (λ (l : LanguageData). l.file) c.let_go.ensures.language in
-    let gone : (left ≡ insert documents uri (is_lost Memory)) ⊎ (left ≡ documents) = subst (λ (u : List ℕ). (left ≡ insert documents u (is_lost Memory)) ⊎ (left ≡ documents)) c.as_str-2.ensures.value c.let_go.ensures.documents in
-    if_ok_then c.hold.result c.hold.ensures (λ out holds. opens_room _ (state_view old) uri made state _ _ _ (holds_let_go (state_view old) _ left uri (is_lost Memory) made _ _ _ file gone holds) same (spelled ∙ (sym c.has_room.ensures ∙ c.if-not-has_room.false)))
+    let removed = c.remove.ensures.documents ∙ ap (remove documents) c.as_str-2.ensures.value in
+    let mid = state_same _ _ old.phase _ _ (ap (λ (l : LanguageData). l.file) c.remove.ensures.language) removed in
+    if_ok_then c.hold.result c.hold.ensures (λ out holds. opens_room _ (state_view old) uri made state _ _ _ (holds_removed (state_view old) _ uri made _ _ _ mid holds) same (spelled ∙ (sym c.has_room.ensures ∙ c.if-not-has_room.false)))
