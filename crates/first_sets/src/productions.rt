@@ -1,5 +1,5 @@
 //! The productions of a grammar.
-ghost use Rattle.std.specs.Prelude.{◌≡◌, ◌<◌, IfOk, OnOk, OnErr, length};
+ghost use Rattle.std.specs.Prelude.{◌≡◌, ℕ, ◌<◌, IfOk, OnOk, OnErr, length};
 ghost use Rattle.definitions.specs.Trees.{Grammar, left_of, right_of};
 ghost use Rattle.first_sets.specs.Productions.{no_productions, with_production, IsSound};
 
@@ -126,8 +126,12 @@ pub trait ContextFree {
     /// The grammar.
     ghost grammar: { Self → Grammar };
 
+    /// How many nonterminals there are.
+    ghost nonterminals: { Self → ℕ };
+
     /// A copy of its productions. Refuses for memory alone.
     fn copy_productions(&self, alloc: Global) -> Result<Productions, AllocError>
         ensures grammar { IfOk result (λ p. p.grammar ≡ grammar self.now) }
+        ensures count { IfOk result (λ p. p.nonterminals ≡ nonterminals self.now) }
         ensures sound { IfOk result IsSound };
 }

@@ -1,5 +1,5 @@
 //! The productions, as sets of items are made by them.
-ghost use Rattle.std.specs.Prelude.{◌≡◌, IfOk};
+ghost use Rattle.std.specs.Prelude.{◌≡◌, length, IfOk};
 ghost use Rattle.first_sets.specs.Productions.{IsSound};
 
 use crate::grammar::Grammar;
@@ -8,6 +8,8 @@ use std::alloc::{AllocError, Global};
 
 impl ContextFree for Grammar {
     ghost grammar = { λ file. file.grammar };
+
+    ghost nonterminals = { λ file. length file.nonterminals };
 
     fn copy_productions(&self, alloc: Global) -> Result<Productions, AllocError> {
         let start = self.start();
