@@ -1,14 +1,14 @@
 -- Steps of a search for the longest match.
-use Rattle.std.specs.Prelude.{◌≡◌, ℕ, ◌+◌, ◌<◌, ◌≤◌, ◌⊎◌, min, List, [], ◌∷◌, ◌++◌, length, take, drop, slice_index_or, Option, Some, None, MatchOption}
-use Rattle.std.proofs.Common.{arith, refl, sym, ap, subst, inl, inr, ◌∙◌}
+use Rattle.std.specs.Prelude.{◌≡◌, ℕ, zero, suc, ◌+◌, ◌<◌, ◌≤◌, ◌⊎◌, min, All, List, [], ◌∷◌, ◌++◌, length, take, drop, slice_index_or, Option, Some, None, MatchOption}
+use Rattle.std.proofs.Common.{arith, refl, sym, ap, subst, inl, inr, ◌∙◌, length-drop}
 use Rattle.std.proofs.lemmas.Bool.{cases_lt}
-use Rattle.std.proofs.lemmas.List.{take_more, length-take}
-use Rattle.std.proofs.lemmas.List.Elements.{All-push}
+use Rattle.std.proofs.lemmas.List.{take_more, length-take, get_or-take, get_or-drop, drop-drop}
+use Rattle.std.proofs.lemmas.List.Elements.{All-push, All-get_or}
 use Rattle.definitions.specs.declared.expression.Expression.{Expression}
 use Rattle.definitions.specs.Text.{IsText, IsCharacter}
 use Rattle.definitions.specs.Tokens.{RuleMatches, IsRulePrefix, IsPiece, IsReach}
 use Rattle.definitions.proofs.TokensLocal.{IsRulePrefix-take}
-use Rattle.dfa.specs.Table.{Table, next_state, follower, state_from, state_after, IsFirst, IsAutomaton, kind_of}
+use Rattle.dfa.specs.Table.{Table, next_state, follower, state_from, state_after, IsFirst, IsAutomaton, Stays, kind_of}
 use Rattle.dfa.specs.declared.automaton.Match.{Match}
 use Rattle.dfa.specs.Matches.{IsBest, IsNoted}
 use Rattle.dfa.specs.Windows.{IsWithinReach}
@@ -129,6 +129,72 @@ read_anew rules t n s r len h f = record {
   best = h;
   first = λ m p q. let e : n + 1 ≡ m = omega arith in subst (λ (y : ℕ). IsFirst rules (take y t) s) e f;
 }
+
+-- `Keeps table t s n k`: the `k` characters of `t` behind the first `n` lead from state `s` to itself
+pub record Keeps (table : Table) (t : List ℕ) (s n k : ℕ) : Type 0 where
+  pub inside : n + k ≤ length t
+  pub each : (j : ℕ) → j < k → Stays table s (slice_index_or t (n + j) 0)
+
+keeps_fewer : (table : Table) (t : List ℕ) (s n k : ℕ) → Keeps table t s n (suc k) → Keeps table t s n k
+keeps_fewer table t s n k h = record { inside = omega (arith, h.inside); each = λ j lt. h.each j (omega arith) }
+
+-- Characters that keep the state, after `n` others.
+module _ (rules : List Expression) (table : Table) (a : IsAutomaton rules table) (t : List ℕ) (s n : ℕ) (text : IsText (take n t)) (stands : state_after table (take n t) ≡ Some s) where
+  pub kept_text : (k : ℕ) → Keeps table t s n k → IsText (take (n + k) t) × (state_after table (take (n + k) t) ≡ Some s)
+  kept_text zero h =
+      let e : n ≡ n + 0 = omega arith in
+      subst (λ (m : ℕ). IsText (take m t) × (state_after table (take m t) ≡ Some s)) e (text, stands)
+  kept_text (suc k) h =
+      let old = kept_text k (keeps_fewer table t s n k h) in
+      let one = h.each k (omega arith) in
+      let lt : n + k < length t = omega (arith, h.inside) in
+      let e : n + k + 1 ≡ n + suc k = omega arith in
+      subst (λ (m : ℕ). IsText (take m t) × (state_after table (take m t) ≡ Some s)) e (more_text rules table a t (n + k) s (slice_index_or t (n + k) 0) old.0 one.0 lt refl old.1, more_state rules table a t (n + k) s (slice_index_or t (n + k) 0) old.0 one.0 lt refl old.1 (Some s) one.1)
+
+  pub kept_prefixes : (k : ℕ) → Keeps table t s n k → ((m : ℕ) → 1 ≤ m → m ≤ n → IsRulePrefix rules (take m t)) → (m : ℕ) → 1 ≤ m → m ≤ n + k → IsRulePrefix rules (take m t)
+  kept_prefixes zero h old m p q = old m p (omega (arith, q))
+  kept_prefixes (suc k) h old m p q =
+      let fewer = keeps_fewer table t s n k h in
+      let before = kept_text k fewer in
+      let one = h.each k (omega arith) in
+      let lt : n + k < length t = omega (arith, h.inside) in
+      prefixes_more rules t (n + k) (kept_prefixes k fewer old) (more_prefix rules table a t (n + k) s (slice_index_or t (n + k) 0) before.0 one.0 lt refl before.1 s one.1) m p (omega (arith, q))
+
+  pub kept_noted : (k : ℕ) → Keeps table t s n k → (r best : Option ℕ) (len : ℕ) → slice_index_or table.accepts s None ≡ r → IsNoted rules t n r best len → IsNoted rules t (n + k) r best len
+  kept_noted zero h r best len e old =
+      let same : n ≡ n + 0 = omega arith in
+      subst (λ (m : ℕ). IsNoted rules t m r best len) same old
+  kept_noted (suc k) h r best len e old =
+      let fewer = keeps_fewer table t s n k h in
+      let before = kept_text k fewer in
+      let one = h.each k (omega arith) in
+      let lt : n + k < length t = omega (arith, h.inside) in
+      let same : n + k + 1 ≡ n + suc k = omega arith in
+      subst (λ (m : ℕ). IsNoted rules t m r best len) same (read_on rules t (n + k) r best len (kept_noted k fewer r best len e old) (more_first rules table a t (n + k) s (slice_index_or t (n + k) 0) before.0 one.0 lt refl before.1 s r one.1 e))
+
+-- of the characters that follow
+passed_each : (P : ℕ → Type 0) (t : List ℕ) (i k : ℕ) → i + k ≤ length t → All P (take k (drop i t)) → (j : ℕ) → j < k → P (slice_index_or t (i + j) 0)
+passed_each P t i k inside h j lt =
+    let many : j < length (take k (drop i t)) = omega (arith, length-take k (drop i t), length-drop i t) in
+    subst P (get_or-take k (drop i t) j 0 lt ∙ get_or-drop i t j 0) (All-get_or P (take k (drop i t)) j 0 many h)
+
+-- a character at offset `o + n` that keeps the state, and those that were passed after it
+pub keeps_on : (table : Table) (t : List ℕ) (o n k s c : ℕ) → o + (n + 1) + k ≤ length t → IsCharacter c → c ≡ slice_index_or (drop o t) n 0 → follower table s c ≡ Some s → All (Stays table s) (take k (drop (o + (n + 1)) t)) → Keeps table (drop o t) s n (suc k)
+keeps_on table t o n k s c inside character read next all = record { inside = omega (arith, within); each = each }
+  where
+    within : n + 1 + k ≤ length (drop o t)
+    within = omega (arith, length-drop o t, inside)
+
+    those : All (Stays table s) (take k (drop (n + 1) (drop o t)))
+    those = subst (λ (u : List ℕ). All (Stays table s) (take k u)) (sym (drop-drop (n + 1) o t)) all
+
+    each : (j : ℕ) → j < suc k → Stays table s (slice_index_or (drop o t) (n + j) 0)
+    each zero lt =
+        let e : n ≡ n + 0 = omega arith in
+        subst (λ (m : ℕ). Stays table s (slice_index_or (drop o t) m 0)) e (subst (Stays table s) read (character, next))
+    each (suc i) lt =
+        let e : n + 1 + i ≡ n + suc i = omega arith in
+        subst (λ (m : ℕ). Stays table s (slice_index_or (drop o t) m 0)) e (passed_each (Stays table s) (drop o t) (n + 1) k within those i (omega (arith, lt)))
 
 -- the best match among no characters, and among one more
 pub best_none : (rules : List Expression) (t : List ℕ) (len : ℕ) → len ≡ min (length t) 1 → IsBest rules t 0 None len

@@ -1,12 +1,12 @@
 -- Tests on numbers, and numbers as lists give them.
-use Rattle.std.proofs.Common.{◌≡◌, ℕ, zero, suc, ◌+◌, ◌*◌, ◌<◌, ◌≤◌, true, nat_le, List, length, slice_index_or, Option, Some, IfSome, arith, sym, refl}
-use Rattle.std.proofs.lemmas.List.{get_or_default}
+use Rattle.std.proofs.Common.{◌≡◌, ℕ, zero, suc, ◌+◌, ◌*◌, ◌<◌, ◌≤◌, true, nat_le, List, drop, length, length-drop, ap, ◌∙◌, slice_index_or, Option, Some, IfSome, arith, sym, refl}
+use Rattle.std.proofs.lemmas.List.{get_or_default, get_or-drop}
 use Rattle.std.proofs.lemmas.Bool.Decides.{nat_tests}
 use Rattle.std.proofs.lemmas.List.Sums.{prefix_len-le-length}
 use Rattle.std.proofs.lemmas.Nat.{mul-add-lt}
 use Rattle.std.proofs.Math.Nat.{mul_comm}
 use Rattle.dfa.specs.declared.automaton.State.{State}
-use Rattle.dfa.specs.Stored.{table_of, IsState}
+use Rattle.dfa.specs.Stored.{table_of, IsState, IsStored}
 use Rattle.dfa.specs.Table.{IsAscending, IsTable, follower, numbered, part}
 
 -- what is at or below c comes before what is not
@@ -26,6 +26,10 @@ pub numbered_some : (n : ℕ) → 0 < n → numbered n ≡ Some n
 numbered_some zero h = absurd (omega arith)
 numbered_some (suc n) h = refl
 
+pub numbered_positive : (n : ℕ) → IfSome (numbered n) (λ x. 0 < x)
+numbered_positive zero = tt
+numbered_positive (suc n) = omega arith
+
 -- the place of an entry lies in the table
 pub entry_within : (starts next : List ℕ) (accepts : List (Option ℕ)) → IsTable (table_of starts next accepts) → (s : State) (p c : ℕ) → IsState (table_of starts next accepts) s → p ≡ part starts c → s.row + p < length next
 entry_within starts next accepts t s p c h f =
@@ -40,3 +44,14 @@ entry_is starts next accepts s p c h f = λ i. numbered (slice_index_or next (sy
 pub row_within : (starts next : List ℕ) (accepts : List (Option ℕ)) → IsTable (table_of starts next accepts) → (n : ℕ) → n < length accepts → n * (length starts + 1) ≤ length next
 row_within starts next accepts t n l =
     omega (arith, mul-add-lt n (length starts + 1) 0 (length accepts) l (omega arith), mul_comm (length starts + 1) (length accepts), t.filled)
+
+-- A row that is read by the parts of the first 128 characters.
+module _ (starts ascii next : List ℕ) (accepts : List (Option ℕ)) (h : IsStored starts ascii next accepts) (s : State) (is : IsState (table_of starts next accepts) s) where
+  pub row_wide : (i : ℕ) → i < 128 → slice_index_or ascii i 0 < length (drop s.row next)
+  row_wide i lt = omega (arith, entry_within starts next accepts h.table s (slice_index_or ascii i 0) i is (h.parts i lt), length-drop s.row next)
+
+  pub row_follower : (number c : ℕ) → 0 < number → c < 128 → slice_index_or (drop s.row next) (slice_index_or ascii c 0) 0 ≡ number → follower (table_of starts next accepts) s.number c ≡ Some number
+  row_follower number c some lt e =
+      entry_is starts next accepts s (slice_index_or ascii c 0) c is (h.parts c lt)
+      ∙ ap numbered (sym (get_or-drop s.row next (slice_index_or ascii c 0) 0) ∙ e)
+      ∙ numbered_some number some

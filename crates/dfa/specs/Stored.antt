@@ -17,3 +17,17 @@ pub record IsState (table : Table) (s : State) : Type 0 where
   pub inside : s.number < length table.accepts
   pub row : s.row ≡ s.number * width table
   pub rule : s.rule ≡ slice_index_or table.accepts s.number None
+
+-- a row, and the parts of the first 128 characters
+pub record AsciiRow : Type 0 where
+  pub ascii : List ℕ
+  pub entries : List ℕ
+
+-- the entry for a character in ASCII
+abbrev pub ascii_entry : AsciiRow → ℕ → ℕ
+ascii_entry row c = slice_index_or row.entries (slice_index_or row.ascii c 0) 0
+
+-- there is one for each such character
+pub record IsAsciiRow (row : AsciiRow) : Type 0 where
+  pub full : length row.ascii ≡ 128
+  pub wide : (c : ℕ) → c < 128 → slice_index_or row.ascii c 0 < length row.entries

@@ -5,7 +5,7 @@ use Rattle.std.specs.List.{prefix_len}
 use Rattle.definitions.specs.declared.expression.Expression.{Expression}
 use Rattle.definitions.specs.declared.Kind.{Kind}
 use Rattle.definitions.specs.declared.Kind.TheVariants.{Rule, Invalid}
-use Rattle.definitions.specs.Text.{IsText}
+use Rattle.definitions.specs.Text.{IsCharacter, IsText}
 use Rattle.definitions.specs.Tokens.{RuleMatches, IsRulePrefix}
 
 -- an automaton as callers see it. The characters lie in parts, one below the first of `starts` and one from each of them on. `next` has a
@@ -36,6 +36,10 @@ numbered (suc s) = Some (suc s)
 -- the state after state `s` at the character `c`, if there is one
 abbrev pub follower : Table → ℕ → ℕ → Option ℕ
 follower table s c = numbered (slice_index_or table.next (s * width table + part table.starts c) 0)
+
+-- the character leads from state `s` to itself
+abbrev pub Stays : Table → ℕ → ℕ → Type 0
+Stays table s c = IsCharacter c × (follower table s c ≡ Some s)
 
 -- `next_state table s c`: the state after `s` at the character `c`, if there is one and `s` is one
 abbrev pub next_state : Table → Option ℕ → ℕ → Option ℕ

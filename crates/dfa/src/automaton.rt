@@ -1,15 +1,19 @@
 //! The table of an automaton, and its longest matches.
-ghost use Rattle.std.specs.Prelude.{◌≡◌, ◌⊎◌, ℕ, ◌+◌, ◌-◌, ◌^◌, ◌<◌, ◌≤◌, drop, slice_index_or, length, List, IfSome};
+ghost use Rattle.std.specs.Prelude.{◌≡◌, ◌⊎◌, ℕ, ◌+◌, ◌-◌, ◌^◌, ◌<◌, ◌≤◌, All, take, drop, slice_index_or, length, List, IfSome, IsTrue, Some};
 ghost use Rattle.definitions.specs.declared.expression.Expression.{Expression};
 ghost use Rattle.definitions.specs.Tokens.{IsPiece, IsReach};
-ghost use Rattle.dfa.specs.Table.{part, follower, kind_of, IsAutomaton};
+ghost use Rattle.dfa.specs.Table.{part, follower, kind_of, IsAutomaton, Stays};
 ghost use Rattle.dfa.specs.Matches.{IsBest, IsNoted};
-ghost use Rattle.dfa.specs.Stored.{table_of, IsState, IsStored};
+ghost use Rattle.dfa.specs.Stored.{ascii_entry, table_of, IsState, IsStored};
 ghost use Rattle.dfa.specs.Windows.{IsWithinReach};
 
 use crate::Source;
 use crate::alphabet::part_of;
 use std::marker::Model;
+
+/// After so many characters a token is long: its source passes over those that keep the state. Most tokens are shorter, and a call
+/// would cost them more than it saves.
+const LONG: usize = 16;
 
 /// An automaton that finds the longest match of a list of rules.
 #[derive(Drop)]
@@ -79,6 +83,34 @@ impl Match {
     }
 }
 
+/// The row of a state, with the part of each of the first 128 characters.
+#[derive(Drop)]
+struct Row<'a> {
+    ascii: &'a [usize],
+    /// The entries of the row, and what stands after them.
+    entries: &'a [u16],
+}
+
+impl<'a> Model for Row<'a> {
+    ghost use Rattle.dfa.specs.Stored.{AsciiRow, IsAsciiRow};
+
+    ghost Value = { AsciiRow };
+
+    ghost view = { λ r. record { ascii = r.ascii.now; entries = r.entries.now } };
+
+    ghost invariant = { λ r. IsAsciiRow (record { ascii = r.ascii.now; entries = r.entries.now }) };
+}
+
+impl<'a> Row<'a> {
+    /// Whether the character is in ASCII, and the next state there has this number.
+    fn leads_to(&self, number: usize, c: char) -> bool
+        ensures ascii { IsTrue result → c < 128 }
+        ensures led { IsTrue result → ascii_entry self.now c ≡ number }
+    {
+        c.is_ascii() && usize::from(self.entries[self.ascii[c as usize]]) == number
+    }
+}
+
 impl Automaton {
     /// The automaton with this table.
     pub(crate) fn new(
@@ -132,6 +164,18 @@ impl Automaton {
         self.state(0)
     }
 
+    /// The row of a state.
+    fn row(&self, state: State) -> Row<'_>
+        requires { IsState self.now state }
+        ensures { (number c : ℕ) → 0 < number → c < 128 → ascii_entry result c ≡ number
+            → follower self.now state.number c ≡ Some number }
+    {
+        Row {
+            ascii: self.ascii.as_slice(),
+            entries: &self.next[state.row..],
+        }
+    }
+
     /// The number of the next state at the character, if there is one.
     fn next(&self, state: State, c: char) -> Option<usize>
         requires { IsState self.now state }
@@ -144,6 +188,26 @@ impl Automaton {
         } else {
             Some(usize::from(next))
         }
+    }
+
+    /// How many characters from an offset on keep the state, as far as the source passes over them. The place moves on with them.
+    #[cold]
+    #[inline(never)]
+    fn stay<S: Source>(&self, source: &S, ahead: &mut S::Ahead, at: usize, state: State) -> usize
+        requires is { IsState self.now state }
+        requires entered { 0 < state.number }
+        requires within { at ≤ length (S.text source.now) }
+        requires before { S.is_before source.now at ahead.old }
+        requires window { (n : ℕ) → at + n < length (S.text source.now)
+            → All (Stays self.now state.number) (take n (drop at (S.text source.now)))
+            → S.in_window source.now (at + n) }
+        ensures inside { at + result ≤ length (S.text source.now) }
+        ensures kept { All (Stays self.now state.number)
+            (take result (drop at (S.text source.now))) }
+        ensures moved { S.is_before source.now (at + result) ahead.new }
+    {
+        let row = self.row(state);
+        source.pass(ahead, at, |c| row.leads_to(state.number, c))
     }
 
     /// The token that starts at the offset `from`: the longest match, of equal lengths the earlier rule. Where nothing
@@ -182,11 +246,16 @@ impl Automaton {
                 break;
             };
             // Within a long token most characters keep the state, and nothing else is done for them.
-            if next != state.number {
+            if next == state.number {
+                read += 1;
+                if read >= LONG && c.is_ascii() {
+                    read += self.stay(source, &mut ahead, from + read, state);
+                }
+            } else {
                 best = best.or_longer(state.rule, read);
                 state = self.state(next);
+                read += 1;
             }
-            read += 1;
         }
         best = best.or_longer(state.rule, read);
         best.reach = read + 1;

@@ -22,7 +22,8 @@
 //! ```
 #![tactic(auto)]
 
-ghost use Rattle.std.specs.Prelude.{◌≡◌, ℕ, ◌+◌, ◌<◌, ◌≤◌, List, length, slice_index_or};
+ghost use Rattle.std.specs.Prelude.{◌≡◌, ℕ, ◌+◌, ◌<◌, ◌≤◌, All, List, length, take, drop, slice_index_or, true};
+ghost use Rattle.definitions.specs.Text.{IsCharacter};
 
 mod alphabet;
 mod automaton;
@@ -71,6 +72,23 @@ pub trait Source {
         requires before { is_before self.now i ahead.old }
         ensures is { result ≡ slice_index_or (text self.now) i 0 }
         ensures moved { is_before self.now (i + 1) ahead.new };
+
+    /// Moves the place, which is before the character at an offset, on over characters that pass the test, and returns how
+    /// many they are. It asks for them one after another, each only if all before it pass, and may stop at any of them.
+    fn pass<F: Fn(char) -> bool>(&self, ahead: &mut Self::Ahead, i: usize, test: F) -> usize
+        requires callable { F.IsAlwaysCallable test }
+        requires within { i ≤ length (text self.now) }
+        requires before { is_before self.now i ahead.old }
+        requires window { (n : ℕ) → i + n < length (text self.now)
+            → All (λ c. IsCharacter c × F.post test c true) (take n (drop i (text self.now)))
+            → in_window self.now (i + n) }
+        ensures inside { i + result ≤ length (text self.now) }
+        ensures passed { All (λ c. IsCharacter c × F.post test c true)
+            (take result (drop i (text self.now))) }
+        ensures moved { is_before self.now (i + result) ahead.new }
+    {
+        0
+    }
 
     /// The window lies within the text.
     ghost inside: { (s : Self) (i : ℕ) → in_window s i → i < length (text s) };

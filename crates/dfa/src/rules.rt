@@ -6,7 +6,7 @@ ghost use Rattle.dfa.specs.Lexicon.{Lexicon};
 use definitions::Kind;
 use patterns::Pattern;
 
-/// Token rules in file order, of which some are skipped, whatever else the type holds.
+/// Token rules in order, of which some are skipped, whatever else the type holds.
 pub trait TokenRules {
     /// The rules.
     ghost lexicon: { Self → Lexicon };

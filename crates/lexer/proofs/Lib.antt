@@ -3,6 +3,7 @@ pub mod Boundaries
 pub mod SignificantKinds
 pub mod Ends
 pub mod WithinReach
+pub mod Passes
 pub mod Remakes
 pub mod Rescanned
 pub mod Scans

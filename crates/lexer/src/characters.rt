@@ -33,6 +33,14 @@ impl<'a> Source for Characters<'a> {
         self.get(i)
     }
 
+    fn pass<F: Fn(char) -> bool>(&self, _ahead: &mut (), i: usize, test: F) -> usize {
+        let mut end = i;
+        while end < self.0.len() && test(self.0[end]) {
+            end += 1;
+        }
+        end - i
+    }
+
     ghost inside = { λ s i h. h };
 }
 
@@ -62,6 +70,14 @@ impl<'a> Source for Bytes<'a> {
 
     fn next(&self, _ahead: &mut (), i: usize) -> char {
         self.get(i)
+    }
+
+    fn pass<F: Fn(char) -> bool>(&self, _ahead: &mut (), i: usize, test: F) -> usize {
+        let mut end = i;
+        while end < self.0.len() && test(char::from(self.0[end])) {
+            end += 1;
+        }
+        end - i
     }
 
     ghost inside = { λ s i h. h };

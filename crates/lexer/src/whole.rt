@@ -38,5 +38,9 @@ impl<'a> Source for Whole<'a> {
         c
     }
 
+    fn pass<F: Fn(char) -> bool>(&self, ahead: &mut Chars<'a>, _i: usize, test: F) -> usize {
+        ahead.pass(test)
+    }
+
     ghost inside = { λ s i h. h };
 }

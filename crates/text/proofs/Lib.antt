@@ -1,3 +1,4 @@
+pub mod AsciiStart
 mod Lines
 mod Sizes
 mod NextPosition

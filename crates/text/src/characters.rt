@@ -1,7 +1,8 @@
 //! The characters of a text, one after another.
 
-ghost use Rattle.std.specs.Prelude.{◌≡◌, [], ◌∷◌, ◌++◌, length, slice_get, MatchOption};
+ghost use Rattle.std.specs.Prelude.{◌≡◌, ◌<◌, ◌≤◌, [], ◌∷◌, ◌++◌, All, length, take, drop, slice_get, true, MatchOption};
 ghost use Rattle.std.specs.Iterator.{YieldsFirst, item_count};
+ghost use Rattle.definitions.specs.Text.{IsCharacter};
 ghost use Rattle.pieces.specs.Pieces.{text_in};
 ghost use Rattle.std.specs.Str.{chars};
 
@@ -39,6 +40,20 @@ impl<'a> Chars<'a> {
         Chars { present, pieces }
     }
 
+    /// Goes on over characters that pass the test, and returns how many they are. It stops at the first that doesn't or that
+    /// isn't in ASCII, and where a piece ends.
+    pub fn pass<F: Fn(char) -> bool>(&mut self, test: F) -> usize
+        requires { F.IsAlwaysCallable test }
+        ensures inside { result ≤ length self.old }
+        ensures left { self.new ≡ drop result self.old }
+        ensures passed { All (λ c. IsCharacter c × F.post test c true) (take result self.old) }
+    {
+        let count = passed(self.present.as_bytes(), test);
+        let (_, left) = self.present.split_at(count);
+        self.present = refill(left, &mut self.pieces);
+        count
+    }
+
     /// The next character, which stays.
     pub(crate) fn peek(&self) -> Option<char>
         ensures { result ≡ slice_get self.now 0 }
@@ -59,6 +74,19 @@ impl<'a> Iterator for Chars<'a> {
         self.present = refill(rest, &mut self.pieces);
         Some(first)
     }
+}
+
+/// How many bytes from the first one on are in ASCII, and pass the test as characters.
+fn passed<F: Fn(char) -> bool>(bytes: &[u8], test: F) -> usize
+    requires { F.IsAlwaysCallable test }
+    ensures inside { result ≤ length bytes.now }
+    ensures passed { All (λ c. (c < 128) × F.post test c true) (take result bytes.now) }
+{
+    let mut count = 0;
+    while count < bytes.len() && bytes[count].is_ascii() && test(char::from(bytes[count])) {
+        count += 1;
+    }
+    count
 }
 
 /// The first character and what comes after it.

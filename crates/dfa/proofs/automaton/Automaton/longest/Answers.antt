@@ -1,18 +1,18 @@
-use Rattle.std.proofs.Common.{arith, ◌≡◌, ◌⊎◌, ℕ, List, Option, ◌+◌, ◌-◌, ◌<◌, ◌≤◌, Some, None, drop, length, length-drop, slice_index_or, subst, sym, ◌∙◌, inl, inr, refl, ap}
+use Rattle.std.proofs.Common.{arith, ◌≡◌, ◌⊎◌, ℕ, List, Option, take, suc, IfSome, ◌+◌, ◌*◌, ◌-◌, ◌<◌, ◌≤◌, Some, None, drop, length, length-drop, slice_index_or, subst, sym, ◌∙◌, inl, inr, refl, ap}
 use Rattle.std.proofs.lemmas.List.{get_or-drop}
 use Rattle.std.proofs.lemmas.List.Elements.{All-nil}
+use Rattle.dfa.proofs.Numbers.{numbered_positive}
 use Rattle.definitions.specs.declared.expression.Expression.{Expression}
-use Rattle.definitions.specs.Text.{IsCharacter}
+use Rattle.definitions.specs.Text.{IsCharacter, IsText}
 use Rattle.definitions.proofs.TextLaws.{IsCharacter-from_scalar}
 use Rattle.dfa.specs.declared.automaton.Match.{Match}
-use Rattle.dfa.specs.declared.automaton.State.{State}
-use Rattle.dfa.specs.Stored.{IsState}
 use Rattle.dfa.specs.Matches.{IsNoted}
-use Rattle.dfa.specs.Table.{follower, IsAutomaton}
-use Rattle.dfa.proofs.LongestMatch.{AreBounds, read_none, read_on, read_anew, state_after-none, within_reach, Ends, piece_of, reach_of, more_state, more_text, more_prefix, more_first, more_dead, prefixes_more}
+use Rattle.dfa.specs.Table.{Table, follower, part, state_after, width, IsAutomaton}
+use Rattle.dfa.specs.Windows.{IsWithinReach}
+use Rattle.dfa.proofs.LongestMatch.{AreBounds, read_none, read_anew, read_on, kept_noted, kept_prefixes, kept_text, keeps_on, state_after-none, within_reach, Ends, piece_of, reach_of, more_state, more_text, more_prefix, more_first, more_dead, prefixes_more}
 use Rattle.dfa.proofs.automaton.Automaton.longest.Given.{Over}
 use Rattle.dfa.proofs.automaton.Automaton.longest.Goals as goal
-use Rattle.dfa.proofs.automaton.Automaton.longest.Goals.{else-loop-read-test, else-next-state, then-loop-read-test+in_default, then-next-state}
+use Rattle.dfa.proofs.automaton.Automaton.longest.Goals.{else-loop-read-test, then-loop-read-test+in_default}
 
 pub loop-read-init : goal.loop-read-init
 loop-read-init g c =
@@ -42,50 +42,112 @@ longer_is rest read old new within (inr e) h = record {
   at_end = λ none. absurd (omega (arith, e));
 }
 
+-- no state leads to the first one
+positive : (table : Table) (s x t : ℕ) → follower table s x ≡ Some t → 0 < t
+positive table s x t e = subst (λ (o : Option ℕ). IfSome o (λ n. 0 < n)) e (numbered_positive (slice_index_or table.next (s * width table + part table.starts x) 0))
+
+pub stay-read-requires-clause-entered : goal.stay-read-requires-clause-entered
+stay-read-requires-clause-entered g c = positive c.args.self.now c.loop-read.state.number c.next-c.result c.loop-read.state.number cc
+
+pub stay-read-requires-clause-window : goal.stay-read-requires-clause-window
+stay-read-requires-clause-window g c = λ n lt passed.
+    let table = c.args.self.now in
+    let old = c.loop-read in
+    let ps = c.requires.window.0 in
+    let text = g.S.Source.text c.args.source.now in
+    let t = drop c.args.from text in
+    let read : c.next-c.result ≡ slice_index_or t old.read 0 = c.next-c.ensures.is ∙ sym (get_or-drop c.args.from text old.read 0) in
+    let character : IsCharacter c.next-c.result = IsCharacter-from_scalar c.next-c.result c.next-c.type_inv.1.1 in
+    let next : follower table old.state.number c.next-c.result ≡ Some old.state.number = cc in
+    let keeps = keeps_on table text c.args.from old.read n old.state.number c.next-c.result (omega (arith, lt)) character read next passed in
+    let prefixes = kept_prefixes ps table c.requires.window.1 t old.state.number old.read old.invariant.text old.invariant.stands (suc n) keeps (old.invariant.so_far ps c.requires.window.1).0 in
+    let e : c.args.from + (old.read + suc n) ≡ c.args.from + (old.read + 1) + n = omega arith in
+    c.requires.window.2 (c.args.from + (old.read + 1) + n) (subst (IsWithinReach ps text c.args.from) e (within_reach ps text c.args.from (old.read + suc n) (omega (arith, lt)) prefixes))
+
+pub loop-read-preserved-then-is_ascii : goal.loop-read-preserved-then-is_ascii
+loop-read-preserved-then-is_ascii g c =
+    let table = c.args.self.now in
+    let old = c.loop-read in
+    let s = old.state.number in
+    let k = c.stay-read.result in
+    let text = g.S.Source.text c.args.source.now in
+    let t = drop c.args.from text in
+    let read : c.next-c.result ≡ slice_index_or t old.read 0 = c.next-c.ensures.is ∙ sym (get_or-drop c.args.from text old.read 0) in
+    let character : IsCharacter c.next-c.result = IsCharacter-from_scalar c.next-c.result c.next-c.type_inv.1.1 in
+    let next : follower table s c.next-c.result ≡ Some s = cc in
+    let keeps = keeps_on table text c.args.from old.read k s c.next-c.result c.stay-read.ensures.inside character read next c.stay-read.ensures.kept in
+    let e : old.read + suc k ≡ old.read + 1 + k = omega arith in
+    let kept = kept_text c.requires.window.0 table c.requires.window.1 t s old.read old.invariant.text old.invariant.stands (suc k) keeps in
+    record {
+      in_text = omega (arith, c.stay-read.ensures.inside);
+      state_is = old.invariant.state_is;
+      before = subst (λ i. g.S.Source.is_before c.args.source.now i c.stay-read.new.ahead) (let h : c.args.from + (old.read + 1) + k ≡ c.args.from + (old.read + 1 + k) = omega arith in h) c.stay-read.ensures.moved;
+      bounds = old.invariant.bounds;
+      stands = subst (λ (m : ℕ). state_after table (take m t) ≡ Some s) e kept.1;
+      text = subst (λ (m : ℕ). IsText (take m t)) e kept.0;
+      so_far = λ ps a.
+          let h = old.invariant.so_far ps a in (
+            λ m p q. kept_prefixes ps table a t s old.read old.invariant.text old.invariant.stands (suc k) keeps h.0 m p (omega (arith, q)),
+            subst (λ (m : ℕ). IsNoted ps t m old.state.rule old.best.rule old.best.length) e (kept_noted ps table a t s old.read old.invariant.text old.invariant.stands (suc k) keeps old.state.rule old.best.rule old.best.length (sym old.invariant.state_is.rule) h.1),
+          );
+    }
+
+pub loop-read-preserved-else-read-ge-LONG : goal.loop-read-preserved-else-read-ge-LONG
+loop-read-preserved-else-read-ge-LONG g c =
+    let table = c.args.self.now in
+    let old = c.loop-read in
+    let s = old.state.number in
+    let x = c.next-c.result in
+    let text = g.S.Source.text c.args.source.now in
+    let t = drop c.args.from text in
+    let lt : old.read < length t = omega (arith, length-drop c.args.from text) in
+    let read : x ≡ slice_index_or t old.read 0 = c.next-c.ensures.is ∙ sym (get_or-drop c.args.from text old.read 0) in
+    let character : IsCharacter x = IsCharacter-from_scalar x c.next-c.type_inv.1.1 in
+    let next : follower table s x ≡ Some s = cc in
+    let is = old.invariant.stands in
+    record {
+      in_text = omega arith;
+      state_is = old.invariant.state_is;
+      before = subst (λ i. g.S.Source.is_before c.args.source.now i c.next-c.new.ahead) (let h : c.args.from + old.read + 1 ≡ c.args.from + (old.read + 1) = omega arith in h) c.next-c.ensures.moved;
+      bounds = old.invariant.bounds;
+      stands = more_state c.requires.window.0 table c.requires.window.1 t old.read s x old.invariant.text character lt read is (Some s) next;
+      text = more_text c.requires.window.0 table c.requires.window.1 t old.read s x old.invariant.text character lt read is;
+      so_far = λ ps a.
+          let h = old.invariant.so_far ps a in
+          let first = more_first ps table a t old.read s x old.invariant.text character lt read is s old.state.rule next (sym old.invariant.state_is.rule) in (
+            prefixes_more ps t old.read h.0 (more_prefix ps table a t old.read s x old.invariant.text character lt read is s next),
+            read_on ps t old.read old.state.rule old.best.rule old.best.length h.1 first,
+          );
+    }
+
 pub loop-read-preserved : goal.loop-read-preserved
 loop-read-preserved g c =
     let table = c.args.self.now in
     let old = c.loop-read in
-    let new = c.if-next-state in
+    let best = c.or_longer-best in
     let rest = c.len.result - c.args.from in
-    let t = drop c.args.from (g.S.Source.text c.args.source.now) in
-    let many : length t ≡ rest = length-drop c.args.from (g.S.Source.text c.args.source.now) ∙ omega arith in
+    let text = g.S.Source.text c.args.source.now in
+    let t = drop c.args.from text in
+    let many : length t ≡ rest = length-drop c.args.from text ∙ omega arith in
     let lt : old.read < length t = omega arith in
     let within : old.read ≤ rest = omega arith in
-    let read : c.next-c.result ≡ slice_index_or t old.read 0 = c.next-c.ensures.is ∙ sym (get_or-drop c.args.from (g.S.Source.text c.args.source.now) old.read 0) in
+    let read : c.next-c.result ≡ slice_index_or t old.read 0 = c.next-c.ensures.is ∙ sym (get_or-drop c.args.from text old.read 0) in
     let character : IsCharacter c.next-c.result = IsCharacter-from_scalar c.next-c.result c.next-c.type_inv.1.1 in
     let next : follower table old.state.number c.next-c.result ≡ Some c.in-Some.next = cc in
-    let same : new.state.number ≡ c.in-Some.next = elim new.branch [
-      | then-next-state w ↦ ap (λ (s : State). s.number) w.state-is ∙ w.state-state.ensures.number
-      | else-next-state w ↦ cc (w.state-is, w.if-next-state.false)
-    ] in
-    let state_is : IsState table new.state = elim new.branch [
-      | then-next-state w ↦ subst (IsState table) (sym w.state-is) w.state-state.ensures.is
-      | else-next-state w ↦ subst (IsState table) (sym w.state-is) old.invariant.state_is
-    ] in
-    let bounds : AreBounds rest new.best = elim new.branch [
-      | then-next-state w ↦ subst (AreBounds rest) (sym w.best-is) (longer_is rest old.read old.best w.or_longer-best.result within w.or_longer-best.ensures.either old.invariant.bounds)
-      | else-next-state w ↦ subst (AreBounds rest) (sym w.best-is) old.invariant.bounds
-    ] in
-    let rule : slice_index_or table.accepts c.in-Some.next None ≡ new.state.rule = ap (λ n. slice_index_or table.accepts n None) (sym same) ∙ sym state_is.rule in
+    let rule : slice_index_or table.accepts c.in-Some.next None ≡ c.state-state.result.rule = ap (λ n. slice_index_or table.accepts n None) (sym c.state-state.ensures.number) ∙ sym c.state-state.ensures.is.rule in
     record {
       in_text = omega arith;
-      state_is = state_is;
+      state_is = c.state-state.ensures.is;
       before = subst (λ i. g.S.Source.is_before c.args.source.now i c.next-c.new.ahead) (let h : c.args.from + old.read + 1 ≡ c.args.from + (old.read + 1) = omega arith in h) c.next-c.ensures.moved;
-      bounds = bounds;
-      stands = more_state c.requires.window.0 _ c.requires.window.1 t old.read old.state.number c.next-c.result old.invariant.text character lt read old.invariant.stands (Some c.in-Some.next) next ∙ ap (λ n. Some n) (sym same);
+      bounds = longer_is rest old.read old.best best.result within best.ensures.either old.invariant.bounds;
+      stands = more_state c.requires.window.0 _ c.requires.window.1 t old.read old.state.number c.next-c.result old.invariant.text character lt read old.invariant.stands (Some c.in-Some.next) next ∙ ap (λ n. Some n) (sym c.state-state.ensures.number);
       text = more_text c.requires.window.0 _ c.requires.window.1 t old.read old.state.number c.next-c.result old.invariant.text character lt read old.invariant.stands;
       so_far = λ ps a.
           let h = old.invariant.so_far ps a in
           let is = old.invariant.stands in
-          let first = more_first ps _ a t old.read old.state.number c.next-c.result old.invariant.text character lt read is c.in-Some.next new.state.rule next rule in (
+          let first = more_first ps _ a t old.read old.state.number c.next-c.result old.invariant.text character lt read is c.in-Some.next c.state-state.result.rule next rule in (
             prefixes_more ps t old.read h.0 (more_prefix ps _ a t old.read old.state.number c.next-c.result old.invariant.text character lt read is c.in-Some.next next),
-            elim new.branch [
-              | then-next-state w ↦ subst (λ (m : Match). IsNoted ps t (old.read + 1) new.state.rule m.rule m.length) (sym w.best-is) (read_anew ps t old.read new.state.rule w.or_longer-best.result.rule w.or_longer-best.result.length (w.or_longer-best.ensures.best ps t h.1) first)
-              | else-next-state w ↦
-                  let kept : old.state.rule ≡ new.state.rule = ap (λ (s : State). s.rule) (sym w.state-is) in
-                  subst (λ (m : Match). IsNoted ps t (old.read + 1) new.state.rule m.rule m.length) (sym w.best-is) (read_on ps t old.read new.state.rule old.best.rule old.best.length (subst (λ (r : Option ℕ). IsNoted ps t old.read r old.best.rule old.best.length) kept h.1) first)
-            ],
+            read_anew ps t old.read c.state-state.result.rule best.result.rule best.result.length (best.ensures.best ps t h.1) first,
           );
     }
 
