@@ -99,8 +99,8 @@ impl Doc {
         ensures current { IfOk result (IsCurrent language.now) }
         ensures too_large { (result ≡ Err DocFault.TooLarge) ↔ (fits (chars text.now) ≡ false) }
     {
-        let text = Text::open(alloc, text)?;
-        Ok(Doc::of(alloc, language, unit, version, text)?)
+        let made = Text::open(alloc, text)?;
+        Ok(Doc::of(alloc, language, unit, version, made, text)?)
     }
 
     /// The document after a change (LSP 3.17, "TextDocumentContentChangeEvent"): `new` stands in the place of the range, or of
@@ -157,14 +157,16 @@ impl Doc {
         Ok(())
     }
 
-    /// Scans and parses a text. Refuses for memory alone.
+    /// Scans and parses a text, of which this is the UTF-8. Refuses for memory alone.
     fn of(
         alloc: Global,
         language: &Language,
         unit: Unit,
         version: i32,
         text: Text,
+        utf8: &str,
     ) -> Result<Doc, AllocError>
+        requires { text ≡ chars utf8.now }
         ensures is { IfOk result (λ d.
             open_document d
             ≡ record { unit = unit; version = version; text = text; last = None }) }
@@ -172,7 +174,7 @@ impl Doc {
     {
         // The read opens what a language says of its tables.
         let _tables = language.tables();
-        let tokens = language.scan(alloc, &text)?;
+        let tokens = language.scan(alloc, &text, utf8)?;
         // With this room a store of few nodes for each token doesn't grow, and isn't copied, while it is filled. A sum has one node
         // more than tokens.
         let mut store = Store::with_capacity(alloc, tokens.significant().saturating_add(1))?;

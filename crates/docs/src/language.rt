@@ -1,6 +1,7 @@
 //! The language of a grammar file: its scanner and its tables.
 
 ghost use Rattle.std.specs.Prelude.{◌≡◌, ◌+◌, List, length, All, IfOk, IfErr};
+ghost use Rattle.std.specs.Str.{chars};
 ghost use Rattle.definitions.specs.declared.Kind.{Kind};
 ghost use Rattle.definitions.specs.TokenEdits.{IsSpliced, plain_splice};
 ghost use Rattle.grammar.specs.Grammars.{lexicon_of};
@@ -143,8 +144,9 @@ impl Language {
         &self.tables
     }
 
-    /// The tokens of a text. Refuses for memory alone.
-    pub(crate) fn scan(&self, alloc: Global, text: &Text) -> Result<Tokens, AllocError>
+    /// The tokens of a text, of which this is the UTF-8. Refuses for memory alone.
+    pub(crate) fn scan(&self, alloc: Global, text: &Text, utf8: &str) -> Result<Tokens, AllocError>
+        requires { text.now ≡ chars utf8.now }
         ensures tokens { IfOk result
             (λ r. AreTokensOf (lexicon_of self.now.file) text.now r.items) }
         ensures born { IfOk result (λ r. All (λ x. x.born ≡ 0) r.items) }
@@ -152,9 +154,8 @@ impl Language {
     {
         let (grammar, automaton) = (self.scanner.grammar(), self.scanner.automaton());
         // Where there are no more bytes than characters, all are ASCII.
-        if text.bytes() == text.len() {
-            let characters = text.to_string(alloc)?;
-            return Tokens::scan(alloc, grammar, automaton, &Bytes(characters.as_bytes()));
+        if utf8.len() == text.len() {
+            return Tokens::scan(alloc, grammar, automaton, &Bytes(utf8.as_bytes()));
         }
         let characters = text.characters(alloc)?;
         Tokens::scan(alloc, grammar, automaton, &Characters(&characters))
