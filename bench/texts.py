@@ -35,6 +35,11 @@ def nested(size):
     return "(" * depth + "1" + ")" * depth
 
 
+def mixed(size):
+    block = "12+(3+(45+6))+7+\n"
+    return block * ((size - 1) // len(block)) + "1"
+
+
 def repeated(block):
     """Makes a text of a block as often as it fits."""
     return lambda size: block * max(1, size // len(block))
@@ -67,6 +72,7 @@ Text = namedtuple("Text", "grammar make character item mark")
 TEXTS = {
     "flat sum": Text("grammars/g0.lr", flat_sum, "1", "1+", "+"),
     "nested": Text("grammars/g0.lr", nested, " ", "1+", None),
+    "mixed": Text("grammars/g0.lr", mixed, "1", "9+\n", "\n"),
     "lines": Text("bench/lines.lr", repeated("12+34+5+678;\n"), "1", "9;\n", "\n"),
     "JSON": Text("grammars/json.lr", json_of(RECORD), " ", "null,\n", "\n"),
     "wide JSON": Text("grammars/json.lr", json_of(WIDE_RECORD), " ", "null,\n", "\n"),
