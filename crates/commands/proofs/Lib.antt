@@ -1,5 +1,0 @@
-mod Cases
-mod Commands
-mod Flags
-mod Lines
-mod Read

@@ -1,7 +1,3 @@
-pub mod Arguments
-pub mod CommandLines
-pub mod Conflicts
+pub mod Refusals
 pub mod Parsing
 pub mod Reporting
-pub mod Status
-pub mod Texts

@@ -18,12 +18,8 @@
 //! ```
 #![tactic(auto)]
 
-mod command_line;
-mod conflicts;
-mod fault;
-mod printed;
-mod texts;
+mod tasks;
 
 pub use command_line::{Task, words};
-pub use fault::Fault;
-pub use printed::{Printed, check, load, parse};
+pub use faults::{Fault, Printed};
+pub use tasks::{check, load, parse};

@@ -14,12 +14,10 @@ use Rattle.definitions.specs.Text.{changed, span}
 use Rattle.definitions.specs.TokenEdits.{Splice, made, splice}
 use Rattle.definitions.specs.TreeEdits.{IsKept, Built, Nothing, Token, Kept, New, Stamped, StampedLeaf, StampedBranch, StampedForest, StampedNil, StampedCons, plain, plain_all, plain_trees}
 use Rattle.definitions.specs.Trees.{Tree, Forest, Leaf, Branch}
-use Rattle.grammar.specs.Grammars.{FileGrammar}
 use Rattle.lexer.specs.Rescans.{significant_kinds}
 use Rattle.lexer.specs.Tokens.{plain as plain_token}
 use Rattle.parser.specs.Machine.{AreMadeBy, IsMadeBy, plain_of}
 use Rattle.parser.specs.Stamps.{AreOlder}
-use Rattle.parser.proofs.Built.{one_built}
 use Rattle.parser.proofs.Counts.{none_by, older_by}
 use Rattle.parser.specs.Parses.{AreUpTo, before_fault, last_leaf, branches_by, branches_of_by, all_branches_by, verdict_in}
 use Rattle.theory.proofs.ReuseIsExact.{stands_split}
@@ -28,11 +26,11 @@ use Rattle.theory.proofs.Stack.{nowhere, stands_in_prefix}
 use Rattle.trees.specs.declared.store.Child.{Child}
 use Rattle.trees.specs.Cells.{all_trees, forest_in, forest_of, trees_of, tree_of}
 use Rattle.docs.specs.declared.doc.Doc.{Doc}
-use Rattle.docs.specs.Answers.{Reading, IsReading, AnswersOnce}
-use Rattle.docs.specs.Edits.{IsNext, Makes, AreStats, ReportsLast, CountsOnce, IsAbove, number_of, number_after, edit_of, without_nodes}
+use Rattle.readings.specs.Answers.{IsReading}
+use Rattle.readings.specs.Edits.{IsNext, AreStats, ReportsLast, IsAbove, number_of, number_after, edit_of}
 use Rattle.docs.specs.Docs.{last_edit, open_document, IsCurrent}
 use Rattle.docs.specs.Languages.{LanguageData}
-use Rattle.docs.specs.Texts.{LastEdit, OpenDocument}
+use Rattle.readings.specs.Texts.{LastEdit}
 use Rattle.docs.proofs.StoredReading.{reading_of, stacked_reading, stacked_trees}
 
 -- ---- a last leaf is no node
@@ -253,70 +251,3 @@ stats_are l d current stats edit scanned tokens branches built nodes = record {
     by : (n : ℕ) → d.parse.number ≡ n → ReportsLast (edit_shown n d.tokens.scanned d.parse.built) stats
     by zero none = (edit ∙ none, scanned ∙ (current.scanned none ∙ sym tokens), built ∙ (current.built none ∙ sym branches))
     by (suc n) some = subst (λ (last : Option LastEdit). ReportsLast last stats) (sym (shown_last (suc n) d.tokens.scanned d.parse.built (omega arith))) (edit ∙ some, scanned, built)
-
--- ---- there is one answer
-
-pub above_or_not : (last : Option LastEdit) (number : ℕ) → IsAbove last number ⊎ (¬ IsAbove last number)
-above_or_not None number = ⊎_elim (λ some. inl some) (λ none. inr (λ some. omega (arith, none, some))) (cases_lt 0 number)
-above_or_not (Some last) number =
-    ⊎_elim
-    (λ less. inl (inl less))
-    (λ more. ⊎_elim
-    (λ apart. inr (λ above. ⊎_elim (λ less. omega (arith, less, more)) (λ same. omega (arith, same.0, apart)) above))
-    (λ most. ⊎_elim
-    (λ some. inr (λ above. ⊎_elim (λ less. omega (arith, less, more)) (λ same. omega (arith, same.1, some)) above))
-    (λ none. inl (inr (omega (arith, more, most), omega (arith, none))))
-    (cases_lt 0 last.built))
-    (cases_lt number last.number))
-    (cases_lt last.number number)
-
-made_once : (encoding : Encoding) (file : FileGrammar) (t : List ℕ) (range : Option Range) (s : List ℕ) (last : Option LastEdit) (r q : Reading) (one other : LastEdit)
-    → Makes file (edit_of encoding t range s (number_after last)) last r q one → Makes file (edit_of encoding t range s (number_after last)) last r q other → other ≡ one
-made_once encoding file t range s last r q one other a b =
-    same (b.number ∙ sym a.number) (b.scanned ∙ sym a.scanned) (built (above_or_not last (number_after last)))
-  where
-    same : other.number ≡ one.number → other.scanned ≡ one.scanned → other.built ≡ one.built → other ≡ one
-    same number scanned built =
-        ap (λ n. record { number = n; scanned = other.scanned; built = other.built }) number
-        ∙ (ap (λ n. record { number = one.number; scanned = n; built = other.built }) scanned
-        ∙ ap (λ n. record { number = one.number; scanned = one.scanned; built = n }) built)
-
-    built : IsAbove last (number_after last) ⊎ (¬ IsAbove last (number_after last)) → other.built ≡ one.built
-    built (inl above) = one_built (b.built above) (a.built above)
-    built (inr below) = b.all_built below ∙ sym (a.all_built below)
-
-edits_once : (file : FileGrammar) → AnswersOnce file → (encoding : Encoding) (t : List ℕ) (range : Option Range) (s : List ℕ) (last : Option LastEdit) (one other : LastEdit)
-    → IsNext encoding file t range s last one → IsNext encoding file t range s last other → other ≡ one
-edits_once file once encoding t range s last one other a b =
-    let e = edit_of encoding t range s (number_after last) in
-    let old : b.old ≡ a.old = once.readings t a.old b.old a.was b.was in
-    let new : b.new ≡ a.new = once.readings _ a.new b.new a.is b.is in
-    let here : Makes file e last a.old a.new other = subst (λ (q : Reading). Makes file e last a.old q other) new (subst (λ (r : Reading). Makes file e last r b.new other) old b.makes) in
-    made_once encoding file t range s last a.old a.new one other a.makes here
-
-same_stats : (one other : Stats) → other.edit ≡ one.edit → other.scanned ≡ one.scanned → other.tokens ≡ one.tokens → other.branches ≡ one.branches → other.built ≡ one.built → without_nodes other ≡ without_nodes one
-same_stats one other edit scanned tokens branches built =
-    ap (λ n. record { edit = n; scanned = other.scanned; tokens = other.tokens; branches = other.branches; built = other.built; nodes = 0 }) edit
-    ∙ (ap (λ n. record { edit = one.edit; scanned = n; tokens = other.tokens; branches = other.branches; built = other.built; nodes = 0 }) scanned
-    ∙ (ap (λ n. record { edit = one.edit; scanned = one.scanned; tokens = n; branches = other.branches; built = other.built; nodes = 0 }) tokens
-    ∙ (ap (λ n. record { edit = one.edit; scanned = one.scanned; tokens = one.tokens; branches = n; built = other.built; nodes = 0 }) branches
-    ∙ ap (λ n. record { edit = one.edit; scanned = one.scanned; tokens = one.tokens; branches = one.branches; built = n; nodes = 0 }) built)))
-
-stats_alike : (file : FileGrammar) → AnswersOnce file → (d : OpenDocument) (one other : Stats) → AreStats file d one → AreStats file d other → without_nodes other ≡ without_nodes one
-stats_alike file once d one other a b = by d.last a.last b.last
-  where
-    reading : b.reading ≡ a.reading
-    reading = once.readings d.text a.reading b.reading a.is b.is
-
-    tokens : other.tokens ≡ one.tokens
-    tokens = b.tokens ∙ (ap (λ (r : Reading). length r.tokens) reading ∙ sym a.tokens)
-
-    nodes : other.branches ≡ one.branches
-    nodes = b.branches ∙ (ap (λ (r : Reading). all_branches r.trees) reading ∙ sym a.branches)
-
-    by : (last : Option LastEdit) → ReportsLast last one → ReportsLast last other → without_nodes other ≡ without_nodes one
-    by None p q = same_stats one other (q.0 ∙ sym p.0) (q.1 ∙ (tokens ∙ sym p.1)) tokens nodes (q.2 ∙ (nodes ∙ sym p.2))
-    by (Some last) p q = same_stats one other (q.0 ∙ sym p.0) (q.1 ∙ sym p.1) tokens nodes (q.2 ∙ sym p.2)
-
-pub counts_once : (file : FileGrammar) → AnswersOnce file → CountsOnce file
-counts_once file once = record { edits = edits_once file once; stats = stats_alike file once }

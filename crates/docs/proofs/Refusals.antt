@@ -13,8 +13,8 @@ use Rattle.text.specs.declared.document.TextFault.TheVariants as text
 use Rattle.docs.specs.declared.doc.DocFault.{DocFault}
 use Rattle.docs.specs.declared.doc.DocFault.TheVariants.{TooLarge, Memory}
 use Rattle.docs.specs.Faults.{doc_fault}
-use Rattle.docs.specs.Texts.{fits}
-use Rattle.docs.proofs.Texts.{fits_from, too_long, spelled_large, large_from}
+use Rattle.readings.specs.Texts.{fits}
+use Rattle.readings.proofs.Texts.{fits_from, too_long, spelled_large, large_from}
 
 -- a test that doesn't fail holds
 pub unless : (b : Bool) → (b ≡ false → ⊥) → b ≡ true

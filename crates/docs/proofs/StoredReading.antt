@@ -33,12 +33,13 @@ use Rattle.definitions.specs.TreeEdits.{plain as plain_tree}
 use Rattle.reports.specs.Views.{text_of}
 use Rattle.trees.specs.declared.store.Child.{Child}
 use Rattle.reports.specs.Contents.{AreFoldsOf, AreRootsOf, IsSelectionOf, placed_parts, trees_of_roots}
-use Rattle.views.specs.Diagnostics.{IsDiagnosis, shown as fault_of}
+use Rattle.readings.specs.Diagnostics.{IsDiagnosis, shown as fault_of}
 use Rattle.docs.specs.declared.doc.Doc.{Doc}
 use Rattle.docs.specs.declared.doc.Outcome.TheVariants.{Fault as OutcomeFault}
 use Rattle.docs.specs.Docs.{IsCurrent}
 use Rattle.docs.specs.Languages.{LanguageData}
-use Rattle.docs.specs.Answers.{Reading, IsReading, Reads, rows, written_tree, AreSelections, IsReported, IsOutcome}
+use Rattle.docs.specs.Outcomes.{IsOutcome}
+use Rattle.readings.specs.Answers.{Reading, IsReading, Reads, rows, written_tree, AreSelections, IsReported}
 
 -- what a function answers, said in other words
 pub if_ok : {T E : Type 0} {P Q : T → Type 0} (r : Result T E) → ((x : T) → P x → Q x) → IfOk r P → IfOk r Q

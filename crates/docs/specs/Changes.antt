@@ -3,10 +3,10 @@ use Rattle.std.specs.Prelude.{◌≡◌, ℕ, List, Option, Some}
 use Rattle.definitions.specs.declared.Range.{Range}
 use Rattle.definitions.specs.Text.{changed}
 use Rattle.docs.specs.Docs.{IsCurrent, last_edit, open_document}
-use Rattle.docs.specs.Edits.{IsNext}
+use Rattle.readings.specs.Edits.{IsNext}
 use Rattle.docs.specs.Languages.{LanguageData}
 use Rattle.docs.specs.Stamps.{AreStamped, next_edit}
-use Rattle.docs.specs.Texts.{LastEdit}
+use Rattle.readings.specs.Texts.{LastEdit}
 use Rattle.docs.specs.declared.doc.Doc.{Doc}
 
 -- `IsChanged language range s old new`: the new document is the old one after a change: the same but for its text and its last edit, which

@@ -6,7 +6,7 @@ use Rattle.lexer.specs.Tokens.{AreTokensOf}
 use Rattle.parser.specs.Compact.{bound}
 use Rattle.parser.specs.Parses.{IsParseOf}
 use Rattle.docs.specs.Languages.{LanguageData}
-use Rattle.docs.specs.Texts.{LastEdit, OpenDocument}
+use Rattle.readings.specs.Texts.{LastEdit, OpenDocument}
 use Rattle.docs.specs.declared.doc.Doc.{Doc}
 
 -- the last edit of a document of the code; none where it is as it was opened

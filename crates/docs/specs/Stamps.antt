@@ -10,7 +10,7 @@ use Rattle.parser.specs.Machine.{AreMadeBy, plain_of}
 use Rattle.parser.specs.Stamps.{AreOlder, KeepStamps}
 use Rattle.trees.specs.Cells.{all_trees, forest_in}
 use Rattle.docs.specs.Docs.{last_edit}
-use Rattle.docs.specs.Edits.{edit_of, number_after}
+use Rattle.readings.specs.Edits.{edit_of, number_after}
 use Rattle.docs.specs.declared.doc.Doc.{Doc}
 
 -- a change of a document's text, as the edit after its last one

@@ -9,13 +9,14 @@ ghost use Rattle.parser.specs.declared.parse.Verdict.TheVariants as Verdict;
 ghost use Rattle.trees.specs.declared.store.NodeId.{NodeId};
 ghost use Rattle.reports.specs.Contents.{AreFoldsOf, IsSelectionOf, trees_of_roots};
 ghost use Rattle.reports.specs.Views.{row_bytes};
-ghost use Rattle.views.specs.Diagnostics.{IsDiagnosis};
-ghost use Rattle.docs.specs.Answers.{AreSelections, IsOutcome, IsReported, Reads, rows, written_tree};
+ghost use Rattle.readings.specs.Diagnostics.{IsDiagnosis};
+ghost use Rattle.readings.specs.Answers.{AreSelections, IsReported, Reads, rows, written_tree};
 ghost use Rattle.docs.specs.Changes.{IsChanged};
 ghost use Rattle.docs.specs.Docs.{last_edit, open_document, IsCurrent};
-ghost use Rattle.docs.specs.Edits.{AreStats};
+ghost use Rattle.readings.specs.Edits.{AreStats};
 ghost use Rattle.docs.specs.Languages.{LanguageData};
-ghost use Rattle.docs.specs.Texts.{fits};
+ghost use Rattle.docs.specs.Outcomes.{IsOutcome};
+ghost use Rattle.readings.specs.Texts.{fits};
 ghost use Rattle.docs.specs.declared.doc.DocFault.TheVariants.{Memory};
 ghost use Rattle.docs.specs.Faults.{doc_fault};
 

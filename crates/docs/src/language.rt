@@ -11,23 +11,25 @@ ghost use Rattle.parser.specs.Changes.{IsParseAfter};
 ghost use Rattle.parser.specs.Parses.{IsParseOf};
 ghost use Rattle.docs.specs.Languages.{IsLanguageOf, IsLoadFault};
 ghost use Rattle.docs.specs.declared.language.LoadFault.TheVariants.{Memory};
-ghost use Rattle.docs.specs.Answers.{AlwaysAnswers, AnswersOnce};
-ghost use Rattle.docs.specs.Edits.{AlwaysCounts, CountsOnce};
+ghost use Rattle.readings.specs.Answers.{AlwaysAnswers, AnswersOnce};
+ghost use Rattle.readings.specs.Edits.{AlwaysCounts, CountsOnce};
 
 use crate::significant::Significant;
-use definitions::laws::{expected_unique, folds_unique, selection_unique, tokens_unique};
 use definitions::{Edit, KindSplice};
 use dfa::DfaFault;
 use grammar::{Grammar, GrammarCause, GrammarFault, Scanner};
 use lexer::{Bytes, Characters, Tokens, Whole, each_text_has_tokens};
 use parser::Parse;
 use parser::laws::{each_list_has_a_verdict, each_viable_list_has_expected};
+use readings::laws::{
+    answers_are_unique, answers_exist, edits_are_counted, edits_are_counted_once,
+};
 use std::alloc::{AllocError, Global};
 use std::fmt;
 use std::marker::Model;
 use tables::{Conflict, TableFault, Tables};
 use text::Text;
-use theory::laws::{document_trees_unique, settled_unique, verdict_unique};
+use theory::laws::settled_unique;
 use thiserror::Error;
 use trees::Store;
 use views::{each_offset_has_a_selection, trees_have_folds};
@@ -239,12 +241,10 @@ impl Language {
         settled_unique();
         trees_have_folds();
         each_offset_has_a_selection();
-        tokens_unique();
-        verdict_unique();
-        document_trees_unique();
-        expected_unique();
-        folds_unique();
-        selection_unique();
+        answers_exist();
+        answers_are_unique();
+        edits_are_counted();
+        edits_are_counted_once();
         self.tables.moves_are_decided();
         // The reads open the invariants of the tables and of the scanner.
         let _start = self.tables.start();

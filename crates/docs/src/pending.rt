@@ -4,10 +4,10 @@ ghost use Rattle.std.specs.Prelude.{◌≡◌, ◌+◌, ◌<◌, ◌≤◌, ◌^
 ghost use Rattle.std.specs.Str.{chars};
 ghost use Rattle.definitions.specs.Text.{changed, edit};
 ghost use Rattle.docs.specs.Docs.{last_edit, open_document, IsCurrent};
-ghost use Rattle.docs.specs.Edits.{number_of};
+ghost use Rattle.readings.specs.Edits.{number_of};
 ghost use Rattle.docs.specs.Languages.{LanguageData};
 ghost use Rattle.docs.specs.Pending.{HasNone, IsPending, LeadsTo, pending_number, pending_text, pending_unit, pending_version};
-ghost use Rattle.docs.specs.Texts.{fits};
+ghost use Rattle.readings.specs.Texts.{fits};
 ghost use Rattle.docs.specs.declared.doc.DocFault.TheVariants.{Memory};
 
 use crate::doc::{Doc, DocFault};

@@ -126,13 +126,3 @@ built_counts s old number new shows =
       kept = λ below p born us w e. lies_within s old (trees (plain_all f)) (plain_trees new) below (Branch p (plain_all us)) plain_is ((shows below p born us (subst (λ l. StampedIn l below p born us) same w)).1 e);
     } in
     subst (λ n. Built s old 0 (plain_trees new) n) (sym (by-forest number f) ∙ ap (all_branches_by number) same) (subst (λ l. Built s old 0 l (branches_of_by number f)) plain_is (all_built s old number f 0 shown))
-
--- one number is built
-pub one_built : {s : Splice} {old new : List Tree} {place m n : ℕ} → Built s old place new m → Built s old place new n → m ≡ n
-one_built Nothing Nothing = refl
-one_built (Token a) (Token b) = one_built a b
-one_built (Kept kept a) (Kept other b) = one_built a b
-one_built (Kept kept a) (New never below b) = absurd (never kept)
-one_built (New never below a) (Kept kept b) = absurd (never kept)
-one_built (New {m = m} {n = n} never below a) (New {m = i} {n = j} other beside b) =
-    ap (λ k. 1 + k + n) (one_built below beside) ∙ ap (λ k. 1 + i + k) (one_built a b)

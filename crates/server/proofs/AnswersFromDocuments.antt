@@ -9,7 +9,7 @@ use Rattle.docs.specs.Texts.{OpenDocument}
 use Rattle.docs.specs.Grammars.{FileGrammar}
 use Rattle.rpc.specs.Replies.{diagnostic_view, published_diagnostics}
 use Rattle.docs.specs.Diagnostics.{in_utf8, stored_diagnostic, IsDiagnosis}
-use Rattle.server.specs.Answers.{IsPublished, shown}
+use Rattle.sessions.specs.Answers.{IsPublished, shown}
 
 -- what a function answers, said in other words
 pub if_ok : {T E : Type 0} {P Q : T → Type 0} (r : Result T E) → ((x : T) → P x → Q x) → IfOk r P → IfOk r Q

@@ -9,13 +9,13 @@ use Rattle.rpc.specs.Replies.{Answer, log_message}
 use Rattle.rpc.specs.declared.reply.Log.TheVariants.{CloseNotOpen}
 use Rattle.server.specs.declared.documents.Entry.{Entry}
 use Rattle.server.specs.declared.documents.Entry.TheVariants as entry
-use Rattle.server.specs.declared.state.Phase.{Phase}
-use Rattle.server.specs.Answers.{IsPublished}
+use Rattle.sessions.specs.declared.phase.Phase.{Phase}
+use Rattle.sessions.specs.Answers.{IsPublished}
 use Rattle.rpc.specs.Messages.{TextChange}
-use Rattle.server.specs.Documents.{DocumentState, Held, is_open, is_lost, Becomes}
+use Rattle.sessions.specs.Documents.{DocumentState, Held, is_open, is_lost, Becomes}
 use Rattle.server.specs.Holding.{entry_view}
-use Rattle.server.specs.Steps.{State, Changes, Closes, Holds, Opens}
-use Rattle.server.proofs.LookUps.{inserted_again, inserted_removed}
+use Rattle.sessions.specs.Steps.{State, Changes, Closes, Holds, Opens}
+use Rattle.sessions.proofs.LookUps.{inserted_again, inserted_removed}
 
 abbrev pub state_of : FileGrammar → Phase → Held → State
 state_of file phase documents = record { file = file; phase = phase; documents = documents }

@@ -1,15 +1,5 @@
+mod Refusals
 mod MapEntries
-mod LookUps
-mod Edits
 mod UncountedChanges
-mod Effects
-mod Fits
-mod Totals
-mod Runs
-mod CutSessions
-mod Loop
 mod AnswersFromDocuments
 mod Holding
-mod Fresh
-mod Alone
-mod Histories

@@ -14,7 +14,7 @@ use Rattle.std.proofs.lemmas.Cmp.{nat_list_cmp_total}
 use Rattle.std.proofs.lemmas.Map.Text.{is_eq-slice_cmp}
 use Rattle.docs.specs.Languages.{LanguageData}
 use Rattle.server.specs.declared.documents.Entry.{Entry}
-use Rattle.server.specs.Documents.{DocumentState}
+use Rattle.sessions.specs.Documents.{DocumentState}
 use Rattle.server.specs.Holding.{entry_view, documents_of, entry_at, IsEntryOf, AreCurrent}
 
 map_cond : {A B : Type 0} (f : A → B) (b : Bool) (x : A) (o : Option A) → option_map f (cond b (Some x) o) ≡ cond b (Some (f x)) (option_map f o)

@@ -15,8 +15,8 @@ use Rattle.rpc.specs.Unit.{Unit as Encoding}
 use Rattle.rpc.specs.declared.reply.Loss.{Loss}
 use Rattle.rpc.specs.declared.reply.Loss.TheVariants.{TooLarge, MalformedChange, Memory}
 use Rattle.server.specs.Changes.{AreAlikeForNext, IsAfter}
-use Rattle.server.specs.Documents.{DocumentState, is_open, is_lost, edited, Becomes, IsLastAfter}
-use Rattle.server.proofs.Edits.{after, edited_after, edited_fitting}
+use Rattle.sessions.specs.Documents.{DocumentState, is_open, is_lost, edited, Becomes, IsLastAfter}
+use Rattle.sessions.proofs.Edits.{after, edited_after, edited_fitting}
 
 -- the number that the counts report
 pub reported_number : (last : Option LastEdit) (stats : Stats) → ReportsLast last stats → stats.edit ≡ number_of last

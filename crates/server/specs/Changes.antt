@@ -8,7 +8,7 @@ use Rattle.docs.specs.declared.doc.DocFault.TheVariants.{TooLarge, Memory}
 use Rattle.rpc.specs.Messages.{TextChange}
 use Rattle.rpc.specs.declared.reply.Loss.{Loss}
 use Rattle.rpc.specs.declared.reply.Loss.TheVariants as loss
-use Rattle.server.specs.Documents.{edited, IsLastAfter}
+use Rattle.sessions.specs.Documents.{edited, IsLastAfter}
 
 -- `loss_of fault`: how a document is lost by a change that is refused so
 abbrev pub loss_of : DocFault → Loss

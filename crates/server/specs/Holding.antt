@@ -9,7 +9,7 @@ use Rattle.docs.specs.Docs.{open_document, IsCurrent}
 use Rattle.docs.specs.Languages.{LanguageData}
 use Rattle.server.specs.declared.documents.Entry.{Entry}
 use Rattle.server.specs.declared.documents.Entry.TheVariants as entry
-use Rattle.server.specs.Documents.{DocumentState, is_open, is_lost, Held}
+use Rattle.sessions.specs.Documents.{DocumentState, is_open, is_lost, Held}
 
 -- the language, and the documents that are held
 pub record Holding : Type 0 where

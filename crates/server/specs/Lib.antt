@@ -1,12 +1,4 @@
-pub mod Documents
 pub mod Changes
-pub mod Stored
 pub mod Holding
-pub mod Answers
-pub mod Steps
-pub mod Runs
-pub mod Sessions
-pub mod Loop
-pub mod Fresh
-pub mod Alone
-pub mod Sent
+pub mod Questions
+pub mod States

@@ -5,7 +5,8 @@ ghost use Rattle.docs.specs.Answers.{Reads, rows};
 ghost use Rattle.docs.specs.Docs.{open_document, IsCurrent};
 ghost use Rattle.rpc.specs.Messages.{id_view};
 ghost use Rattle.rpc.specs.Replies.{reply_view, row_view, published_diagnostics};
-ghost use Rattle.server.specs.Answers.{question_view, IsAnswerOf, IsPublished};
+ghost use Rattle.sessions.specs.Answers.{IsAnswerOf, IsPublished};
+ghost use Rattle.server.specs.Questions.{question_view};
 
 use docs::{Doc, Language};
 use rpc::{Id, Position, Reply, Row};

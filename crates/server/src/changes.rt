@@ -5,7 +5,7 @@ ghost use Rattle.docs.specs.Docs.{last_edit, open_document, IsCurrent};
 ghost use Rattle.docs.specs.Edits.{number_of};
 ghost use Rattle.rpc.specs.Messages.{change_view};
 ghost use Rattle.server.specs.Changes.{loss_of, IsAfter};
-ghost use Rattle.server.specs.Documents.{is_lost, Becomes};
+ghost use Rattle.sessions.specs.Documents.{is_lost, Becomes};
 ghost use Rattle.server.specs.Holding.{entry_view, IsEntryOf};
 
 use crate::documents::Entry;

@@ -3,7 +3,7 @@
 ghost use Rattle.std.specs.Prelude.{◌≡◌, ◌||◌, None, nat_lt, is_some, option_map, IfSome, OnOk, OnErr, string_bytes};
 ghost use Rattle.std.specs.FinMap as map;
 ghost use Rattle.rpc.specs.declared.reply.Loss.TheVariants.{Memory};
-ghost use Rattle.server.specs.Documents.{has_room, is_lost};
+ghost use Rattle.sessions.specs.Documents.{has_room, is_lost};
 ghost use Rattle.server.specs.Holding.{entry_view, IsEntryOf};
 
 use docs::{Doc, Language};
@@ -37,7 +37,7 @@ impl Model for Documents {
     ghost use Rattle.std.specs.Coded.{codes};
     ghost use Rattle.docs.specs.Expression as e;
     ghost use Rattle.server.specs.Holding.{Holding, documents_of, AreCurrent};
-    ghost use Rattle.server.specs.Stored.{held_code};
+    ghost use Rattle.sessions.specs.Stored.{held_code};
 
     ghost Value = { Holding };
 

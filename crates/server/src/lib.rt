@@ -23,16 +23,14 @@
 mod answers;
 mod changes;
 mod documents;
-mod laws;
 mod notifications;
 mod out;
 mod requests;
-mod serve;
+mod session;
 mod state;
 
 pub use docs::{Doc, DocFault, Language, LoadFault, Outcome};
 pub use frames::RunFault;
-pub use laws::{each_document_is_alone, each_text_is_its_edits, every_answer_is_fresh};
-pub use out::Out;
-pub use serve::run;
-pub use state::{Phase, Server};
+pub use session::run;
+pub use sessions::{Out, Phase};
+pub use state::Server;

@@ -5,18 +5,20 @@ ghost use Rattle.std.specs.Str.{chars};
 ghost use Rattle.std.specs.FinMap.{get, insert};
 ghost use Rattle.docs.specs.Docs.{open_document};
 ghost use Rattle.rpc.specs.Messages.{note_view, malformed_view, change_view};
-ghost use Rattle.server.specs.Documents.{has_room, Becomes};
+ghost use Rattle.sessions.specs.Documents.{has_room, Becomes};
 ghost use Rattle.server.specs.Holding.{entry_view, IsEntryOf};
-ghost use Rattle.server.specs.Sent.{sent};
-ghost use Rattle.server.specs.Steps.{State, state_view, new_document, exit_status, Changes, Closes, Holds, OnMalformed, Opens, Spoils, OnNotification};
+ghost use Rattle.sessions.specs.Sent.{sent};
+ghost use Rattle.sessions.specs.Steps.{State, new_document, exit_status, Changes, Closes, Holds, OnMalformed, Opens, Spoils, OnNotification};
+ghost use Rattle.server.specs.States.{state_view};
 
 use crate::answers::{no_diagnostics, publish};
 use crate::changes::apply_changes;
 use crate::documents::Entry;
-use crate::out::{Out, nothing, one_log, one_reply, reply_and_log};
-use crate::state::{Phase, Server};
+use crate::out::{nothing, one_log, one_reply, reply_and_log};
+use crate::state::Server;
 use docs::{Doc, DocFault, Language};
 use rpc::{Change, Log, Loss, Malformed, Note, Unit};
+use sessions::{Out, Phase};
 use std::alloc::{AllocError, Global};
 
 fn exit_status(phase: Phase) -> u8

@@ -1,19 +1,13 @@
-//! What a message is answered with.
+//! The answers to a message, as they are made.
 
 ghost use Rattle.std.specs.Prelude.{◌≡◌, [], ◌∷◌, None, option_map, IfOk};
 ghost use Rattle.rpc.specs.Messages.{id_view};
 ghost use Rattle.rpc.specs.Replies.{reply_view, error_reply, log_message};
-ghost use Rattle.server.specs.Sent.{sent};
+ghost use Rattle.sessions.specs.Sent.{sent};
 
 use rpc::{Id, Log, Refusal, Reply};
+use sessions::Out;
 use std::alloc::{AllocError, Global};
-
-/// What a message is answered with, in order, and the status with which the session stops, if it does.
-#[derive(Debug, Drop)]
-pub struct Out {
-    pub replies: Vec<Reply>,
-    pub stop: Option<u8>,
-}
 
 /// No answers.
 pub(crate) fn nothing(alloc: Global) -> Out

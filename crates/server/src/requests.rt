@@ -5,17 +5,20 @@ ghost use Rattle.std.specs.FinMap.{get};
 ghost use Rattle.docs.specs.Docs.{open_document, IsCurrent};
 ghost use Rattle.rpc.specs.Messages.{Ident, Question as Asking, id_view, call_view};
 ghost use Rattle.rpc.specs.Replies.{reply_view, error_reply};
-ghost use Rattle.server.specs.Answers.{question_view, IsAnswer, IsCount};
-ghost use Rattle.server.specs.Documents.{is_open};
-ghost use Rattle.server.specs.Sent.{sent};
-ghost use Rattle.server.specs.Steps.{state_view, OnRequest};
+ghost use Rattle.sessions.specs.Answers.{IsAnswer, IsCount};
+ghost use Rattle.server.specs.Questions.{question_view};
+ghost use Rattle.sessions.specs.Documents.{is_open};
+ghost use Rattle.sessions.specs.Sent.{sent};
+ghost use Rattle.sessions.specs.Steps.{OnRequest};
+ghost use Rattle.server.specs.States.{state_view};
 
 use crate::answers::{Question, answer};
 use crate::documents::Entry;
-use crate::out::{Out, one_error, one_reply};
-use crate::state::{Phase, Server};
+use crate::out::{one_error, one_reply};
+use crate::state::Server;
 use docs::Doc;
 use rpc::{Call, Id, Refusal, Reply};
+use sessions::{Out, Phase};
 use std::alloc::{AllocError, Global};
 
 impl Server {

@@ -2,25 +2,16 @@
 
 ghost use Rattle.std.specs.Prelude.{◌≡◌, true, false, IfOk, OnOk, OnErr, IsErr};
 ghost use Rattle.rpc.specs.Messages.{received_of};
-ghost use Rattle.server.specs.Sent.{sent};
-ghost use Rattle.server.specs.Steps.{state_view, first_state, unknown_in, params_in, StepOn};
+ghost use Rattle.sessions.specs.Sent.{sent};
+ghost use Rattle.sessions.specs.Steps.{first_state, unknown_in, params_in, StepOn};
+ghost use Rattle.server.specs.States.{state_view};
 
 use crate::documents::Documents;
-use crate::out::{Out, nothing, one_error};
+use crate::out::{nothing, one_error};
 use docs::Language;
-use rpc::{Message, Refusal, RpcFault, Unit};
+use rpc::{Message, Refusal, RpcFault};
+use sessions::{Handler, Out, Phase};
 use std::alloc::{AllocError, Global};
-
-/// Where the session stands (LSP 3.17, "Server lifecycle").
-#[derive(Clone, Copy, Debug, PartialEq, Eq)]
-pub enum Phase {
-    /// Before the first accepted `initialize`.
-    New,
-    /// Positions count the unit that was chosen then.
-    Ready(Unit),
-    /// After `shutdown`.
-    Down,
-}
 
 /// A server between two messages.
 #[derive(Drop)]
@@ -103,5 +94,19 @@ impl Server {
         let outcome = self.step(alloc, message);
         self.has_failed = outcome.is_err();
         outcome
+    }
+}
+
+impl Handler for Server {
+    ghost use Rattle.server.specs.States.{state_view};
+
+    ghost state = { λ s. state_view s };
+
+    fn on_message(
+        &mut self,
+        alloc: Global,
+        message: Result<Message, RpcFault>,
+    ) -> Result<Out, AllocError> {
+        self.handle(alloc, message)
     }
 }

@@ -23,6 +23,7 @@ use worked::SUMS;
 fn of_values(rt: &HostRuntime, alloc: Global) -> Option<()> {
     plain::use_definitions(rt)?;
     plain::use_theory();
+    plain::use_readings();
     plain::use_frames(rt, alloc)?;
     lists::use_seqtree(rt, alloc)?;
     lists::use_chunks(rt, alloc)?;
@@ -32,6 +33,8 @@ fn of_values(rt: &HostRuntime, alloc: Global) -> Option<()> {
     lists::use_trees(rt, alloc)?;
     texts::use_text(rt, alloc)?;
     answers::use_rpc(rt, alloc)?;
+    programs::use_command_line(rt, alloc)?;
+    programs::use_faults(rt)?;
     grammars::use_grammar_line(rt, alloc)?;
     grammars::use_grammar_file(rt, alloc)?;
     grammars::use_grammar(rt, alloc)
@@ -85,6 +88,7 @@ fn with_tokens(rt: &HostRuntime, alloc: Global, scanner: &Scanner) -> Option<()>
 /// The examples that load a language.
 fn of_language(rt: &HostRuntime, alloc: Global) -> Option<()> {
     answers::use_docs(rt, alloc)?;
+    programs::use_sessions(rt, alloc)?;
     programs::use_server(rt, alloc)?;
     programs::use_commands(rt, alloc)
 }

@@ -1,7 +1,8 @@
-//! Examples of plain values, of the theory and of frames.
+//! Examples of plain values, of laws and of frames.
 
 use definitions::{Position, Range};
 use frames::Decoder;
+use readings::laws::answers_are_unique;
 use std::alloc::Global;
 use theory::laws::one_tree_of_used;
 
@@ -20,6 +21,11 @@ pub fn use_definitions(rt: &HostRuntime) -> Option<()> {
 /// The example of `theory`.
 pub fn use_theory() {
     one_tree_of_used();
+}
+
+/// The example of `readings`.
+pub fn use_readings() {
+    answers_are_unique();
 }
 
 /// The example of `frames`.

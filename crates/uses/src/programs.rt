@@ -1,11 +1,44 @@
 //! Examples of the server and of what the program prints.
 
+use command_line::words;
 use commands::{load, parse};
 use docs::Language;
+use faults::Fault;
+use frames::{ReadInput, WriteOutput};
 use rpc::read;
 use server::Server;
+use sessions::serve;
 use std::alloc::Global;
 use worked::SUMS;
+
+/// The example of `command_line`.
+pub fn use_command_line(rt: &HostRuntime, alloc: Global) -> Option<()> {
+    let check = String::from_str(alloc, "check").ok()?;
+    let path = String::from_str(alloc, "sums.lr").ok()?;
+    let task = words(alloc, &[check, path]).ok()?;
+    println!(rt; "{task:?}").ok()
+    // Some(Check("sums.lr"))
+}
+
+/// The example of `faults`.
+pub fn use_faults(rt: &HostRuntime) -> Option<()> {
+    let fault = Fault::TooManySets;
+    println!(rt; "{fault}; status {}", fault.status()).ok()
+    // lrls: over 8192 table states; status 2
+}
+
+/// The example of `sessions`.
+pub fn use_sessions(rt: &HostRuntime, alloc: Global) -> Option<()> {
+    let language = Language::load(alloc, SUMS).ok()?;
+    language.always_answers();
+    let mut server = Server::new(alloc, language);
+    let exit = b"Content-Length: 33\r\n\r\n{\"jsonrpc\":\"2.0\",\"method\":\"exit\"}";
+    let mut input = ReadInput::new(&exit[..]);
+    let mut output = WriteOutput::new(Vec::new(alloc));
+    let status = serve(alloc, &mut server, &mut input, &mut output).ok()?;
+    println!(rt; "status {status}").ok()
+    // status 1
+}
 
 /// The example of `server`.
 pub fn use_server(rt: &HostRuntime, alloc: Global) -> Option<()> {

@@ -27,7 +27,7 @@ use Rattle.tables.specs.Tables.{Sets}
 use Rattle.trees.specs.Cells.{Cell}
 use Rattle.reports.specs.Contents.{placed_parts}
 use Rattle.reports.proofs.Significant.{IsMarked, count_of_parts}
-use Rattle.views.specs.Diagnostics.{IsDiagnosis, IsFaultAfter, looks}
+use Rattle.readings.specs.Diagnostics.{IsDiagnosis, IsFaultAfter, looks}
 
 -- the names of what could have stood at a fault
 abbrev pub names_of : List (List ℕ) → List (Option ℕ) → List (List ℕ)

@@ -1,3 +1,2 @@
-pub mod Diagnostics
 pub use Rattle.reports.specs.Contents
 pub use Rattle.reports.specs.Views

@@ -9,7 +9,7 @@ ghost use Rattle.lexer.specs.Rescans.{significant_kinds};
 ghost use Rattle.lexer.specs.Tokens.{AreTokensOf, plain};
 ghost use Rattle.parser.specs.Parses.{IsParseOf, verdict_in};
 ghost use Rattle.trees.specs.Cells.{Cell};
-ghost use Rattle.views.specs.Diagnostics.{IsDiagnosis, in_utf8, stored_diagnostic, shown};
+ghost use Rattle.readings.specs.Diagnostics.{IsDiagnosis, in_utf8, stored_diagnostic, shown};
 
 use definitions::{Diagnostic, Range, Unit};
 use grammar::Grammar;

@@ -1,4 +1,5 @@
-use Rattle.parser.proofs.Built.{built_counts, one_built}
+use Rattle.theory.proofs.TreeEditLemmas.{one_built}
+use Rattle.parser.proofs.Built.{built_counts}
 use Rattle.parser.proofs.laws.built_nodes_lie_in_no_kept_one.Goals as goal
 
 pub returns-clause-count : goal.returns-clause-count

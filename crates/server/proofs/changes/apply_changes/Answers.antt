@@ -3,7 +3,7 @@ use Rattle.std.proofs.lemmas.Int.{to_z-of_z}
 use Rattle.docs.specs.Docs.{open_document}
 use Rattle.rpc.specs.Messages.{change_view}
 use Rattle.server.specs.Changes.{IsAfter}
-use Rattle.server.specs.Documents.{is_lost, Becomes}
+use Rattle.sessions.specs.Documents.{is_lost, Becomes}
 use Rattle.server.specs.Holding.{entry_view}
 use Rattle.server.proofs.UncountedChanges.{becomes_by_parts, lost_by_parts}
 use Rattle.server.proofs.changes.apply_changes.Goals as goal

@@ -10,8 +10,9 @@ use Rattle.docs.specs.declared.doc.DocFault.{DocFault}
 use Rattle.docs.specs.declared.doc.DocFault.TheVariants.{TooLarge, Memory}
 use Rattle.rpc.specs.Messages.{change_view}
 use Rattle.rpc.specs.declared.reply.Loss.TheVariants as loss
-use Rattle.server.specs.Documents.{is_lost, Becomes, IsLastAfter}
-use Rattle.server.proofs.Edits.{after, either_fault, ends_there, goes_on, last_goes_on, may_lose}
+use Rattle.sessions.specs.Documents.{is_lost, Becomes, IsLastAfter}
+use Rattle.sessions.proofs.Edits.{after, ends_there, goes_on, last_goes_on, may_lose}
+use Rattle.server.proofs.Refusals.{either_fault}
 use Rattle.server.proofs.changes.apply_each.Goals as goal
 
 -- a test that doesn't fail holds

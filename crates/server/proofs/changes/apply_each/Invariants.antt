@@ -2,7 +2,7 @@ use Rattle.std.proofs.Common.{◌≡◌, map, take}
 use Rattle.std.specs.Prelude.{Some}
 use Rattle.docs.specs.Docs.{last_edit, IsCurrent}
 use Rattle.rpc.specs.Messages.{change_view}
-use Rattle.server.specs.Documents.{edited, IsLastAfter}
+use Rattle.sessions.specs.Documents.{edited, IsLastAfter}
 use Rattle.server.proofs.changes.apply_each.Given as goal
 
 abbrev pub invariant-loop-change : goal.invariant-loop-change

@@ -11,8 +11,9 @@ use Rattle.docs.specs.declared.doc.DocFault.TheVariants.{TooLarge, Memory}
 use Rattle.rpc.specs.Messages.{TextChange, change_view}
 use Rattle.rpc.specs.Unit.{Unit as Encoding}
 use Rattle.rpc.specs.declared.reply.Loss.TheVariants as loss
-use Rattle.server.specs.Documents.{is_lost, Becomes}
-use Rattle.server.proofs.Edits.{after, all_changes, either_fault, ends_there, goes_on, last_goes_on, may_lose}
+use Rattle.sessions.specs.Documents.{is_lost, Becomes}
+use Rattle.sessions.proofs.Edits.{after, all_changes, ends_there, goes_on, last_goes_on, may_lose}
+use Rattle.server.proofs.Refusals.{either_fault}
 use Rattle.server.proofs.UncountedChanges.{lost_on_the_way}
 use Rattle.server.proofs.changes.apply_uncounted.Goals as goal
 

@@ -5,7 +5,7 @@ use Rattle.docs.specs.Edits.{number_of}
 use Rattle.docs.specs.Pending.{HasNone, IsPending, pending_number, pending_text, pending_unit}
 use Rattle.docs.specs.Texts.{LastEdit, fits}
 use Rattle.rpc.specs.Messages.{change_view}
-use Rattle.server.specs.Documents.{edited, IsLastAfter}
+use Rattle.sessions.specs.Documents.{edited, IsLastAfter}
 use Rattle.server.proofs.changes.apply_uncounted.Given as goal
 
 abbrev pub invariant-loop-change : goal.invariant-loop-change

@@ -7,8 +7,8 @@ use Rattle.docs.specs.Texts.{OpenDocument, fits}
 use Rattle.docs.specs.declared.doc.DocFault.{DocFault}
 use Rattle.rpc.specs.Unit.{Unit as Encoding}
 use Rattle.rpc.specs.declared.reply.Loss.TheVariants.{TooLarge}
-use Rattle.server.specs.Documents.{is_open, is_lost}
-use Rattle.server.specs.Steps.{new_document}
+use Rattle.sessions.specs.Documents.{is_open, is_lost}
+use Rattle.sessions.specs.Steps.{new_document}
 use Rattle.server.proofs.notifications.new_document.Goals as goal
 
 abbrev first : Encoding → ℤ → List ℕ → OpenDocument

@@ -6,7 +6,7 @@ use Rattle.definitions.proofs.Characters.{encodes-chars}
 use Rattle.lexer.specs.Rescans.{significant_kinds}
 use Rattle.lexer.proofs.SignificantKinds.{length-kinds}
 use Rattle.parser.specs.declared.parse.Verdict.TheVariants.{FaultAt, FaultAtEnd}
-use Rattle.views.specs.Diagnostics.{shown}
+use Rattle.readings.specs.Diagnostics.{shown}
 use Rattle.views.proofs.FaultDiagnostic.{diagnosis_at, diagnosis_at_end, fault_within}
 use Rattle.views.proofs.diagnoses.diagnostic.Goals as goal
 

@@ -7,9 +7,9 @@ use Rattle.parser.specs.Machine.{AreMadeBy}
 use Rattle.parser.specs.Stamps.{AreOlder}
 use Rattle.trees.specs.Cells.{all_trees, forest_in}
 use Rattle.docs.specs.Docs.{last_edit, IsCurrent}
-use Rattle.docs.specs.Texts.{OpenDocument}
+use Rattle.readings.specs.Texts.{OpenDocument}
 use Rattle.docs.specs.declared.doc.Doc.{Doc}
-use Rattle.docs.specs.Edits.{edit_of}
+use Rattle.readings.specs.Edits.{edit_of}
 use Rattle.docs.proofs.Edits.{next_is, next_later, next_positive, number_after_edit, same_edit}
 use Rattle.docs.proofs.Stamps.{born_on, stamped_so}
 use Rattle.docs.proofs.Refusals.{IsText-changed, large_edit, passed_on, after_text, all_made}

@@ -3,7 +3,7 @@ use Rattle.std.proofs.lemmas.List.{take_more, map-append, take_all}
 use Rattle.definitions.specs.declared.Position.{Position}
 use Rattle.definitions.specs.declared.Range.{Range}
 use Rattle.reports.specs.Contents.{trees_of_roots}
-use Rattle.docs.specs.Answers.{AreSelections}
+use Rattle.readings.specs.Answers.{AreSelections}
 use Rattle.docs.proofs.StoredReading.{has_the_nodes, reading_of, selections_more, selections_read}
 use Rattle.docs.proofs.doc.Doc.selections.Goals as goal
 

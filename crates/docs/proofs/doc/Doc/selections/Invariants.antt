@@ -1,6 +1,6 @@
 use Rattle.std.proofs.Common.{map, take}
 use Rattle.reports.specs.Contents.{trees_of_roots}
-use Rattle.docs.specs.Answers.{AreSelections}
+use Rattle.readings.specs.Answers.{AreSelections}
 use Rattle.docs.specs.Docs.{IsCurrent}
 use Rattle.docs.specs.Languages.{LanguageData}
 use Rattle.docs.proofs.StoredReading.{reading_of}

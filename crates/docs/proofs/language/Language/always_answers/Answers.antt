@@ -5,11 +5,8 @@ use Rattle.tables.specs.Decidable.{AreMovesDecided}
 use Rattle.tables.specs.Tables.{IsAccepted}
 use Rattle.reports.specs.Contents.{placed_parts}
 use Rattle.docs.specs.Languages.{LanguageData}
-use Rattle.docs.specs.Answers.{AlwaysAnswers, AnswersOnce}
-use Rattle.docs.proofs.EachReadingExists.{LayersAnswer, always_answers}
-use Rattle.docs.proofs.Countable.{always_counts}
-use Rattle.docs.proofs.Edits.{counts_once}
-use Rattle.docs.proofs.EachReadingIsUnique.{answers_once}
+use Rattle.readings.specs.Answers.{AlwaysAnswers, AnswersOnce}
+use Rattle.readings.specs.Layers.{LayersAnswer}
 use Rattle.docs.proofs.language.Language.always_answers.Goals as goal
 
 pub returns-clause-always : goal.returns-clause-always
@@ -30,25 +27,17 @@ returns-clause-always c =
       folds = λ t tokens trees. c.trees_have_folds.ensures file.grammar trees t (placed_parts file tokens) file.folds;
       selections = λ encoding t tokens trees symbols is roots few. c.each_offset_has_a_selection.ensures encoding file t tokens trees symbols is roots few;
     } in
-    subst (λ (l : LanguageData). AlwaysAnswers l.file) c.self.view_is (always_answers file always)
+    subst (λ (l : LanguageData). AlwaysAnswers l.file) c.self.view_is (c.answers_exist.ensures file always)
 
 pub returns-clause-once : goal.returns-clause-once
 returns-clause-once c =
     let file = c.self.inside.scanner in
     let accepted : IsAccepted file.grammar = subst (λ (g : Grammar). IsAccepted g) c.self.invariant c.start-start.ensures.accepted in
-    let once : AnswersOnce file = answers_once (record {
-      tokens = c.tokens_unique.ensures;
-      verdicts = c.verdict_unique.ensures;
-      trees = c.document_trees_unique.ensures;
-      rules = c.expected_unique.ensures.rules;
-      ends = c.expected_unique.ensures.ends;
-      folds = c.folds_unique.ensures;
-      selections = c.selection_unique.ensures;
-    }) file accepted.free in
+    let once = c.answers_are_unique.ensures file accepted.free in
     subst (λ (l : LanguageData). AnswersOnce l.file) c.self.view_is once
 
 pub returns-clause-counts : goal.returns-clause-counts
-returns-clause-counts c = counts_once c.args.self.now.file (returns-clause-once c)
+returns-clause-counts c = c.edits_are_counted_once.ensures c.args.self.now.file (returns-clause-once c)
 
 pub returns-clause-counted : goal.returns-clause-counted
-returns-clause-counted c = always_counts c.args.self.now.file (returns-clause-always c)
+returns-clause-counted c = c.edits_are_counted.ensures c.args.self.now.file (returns-clause-always c)

@@ -5,7 +5,7 @@ use Rattle.std.specs.FinMap as map
 use Rattle.std.proofs.lemmas.Map.Text.{btree_map_updates_text}
 use Rattle.rpc.specs.declared.reply.Loss.TheVariants.{Memory}
 use Rattle.server.specs.declared.documents.Entry.{Entry}
-use Rattle.server.specs.Documents.{is_lost}
+use Rattle.sessions.specs.Documents.{is_lost}
 use Rattle.server.specs.Holding.{documents_of, entry_view, AreCurrent, IsEntryOf}
 use Rattle.server.proofs.MapEntries.{get_held, insert_held, insert_current}
 use Rattle.server.proofs.documents.Documents.take.Goals.{in-Some, in-None}

@@ -2,8 +2,8 @@ use Rattle.std.proofs.Common.{subst, refl}
 use Rattle.docs.specs.Docs.{open_document}
 use Rattle.docs.specs.Languages.{LanguageData}
 use Rattle.rpc.specs.Replies.{reply_view}
-use Rattle.server.specs.Answers.{IsPublished}
-use Rattle.server.specs.Steps.{state_view}
+use Rattle.sessions.specs.Answers.{IsPublished}
+use Rattle.server.specs.States.{state_view}
 use Rattle.server.proofs.Holding.{holds_open}
 use Rattle.server.proofs.AnswersFromDocuments.{if_ok_both}
 use Rattle.server.proofs.state.Server.announce.Goals as goal

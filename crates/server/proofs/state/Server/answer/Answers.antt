@@ -1,5 +1,5 @@
 use Rattle.rpc.specs.Messages.{id_view}
-use Rattle.server.specs.Answers.{question_view}
+use Rattle.server.specs.Questions.{question_view}
 use Rattle.server.proofs.state.Server.answer.Goals as goal
 
 pub returns-in-Err : goal.returns-in-Err

@@ -7,9 +7,9 @@ use Rattle.docs.specs.Languages.{LanguageData}
 use Rattle.rpc.specs.Messages.{change_view}
 use Rattle.rpc.specs.declared.reply.Loss.TheVariants.{Memory}
 use Rattle.server.specs.declared.documents.Entry.{Entry}
-use Rattle.server.specs.Documents.{is_open, is_lost, Becomes}
+use Rattle.sessions.specs.Documents.{is_open, is_lost, Becomes}
 use Rattle.server.specs.Holding.{entry_view}
-use Rattle.server.specs.Steps.{state_view}
+use Rattle.server.specs.States.{state_view}
 use Rattle.server.proofs.Holding.{changes_open, state_same}
 use Rattle.server.proofs.AnswersFromDocuments.{if_ok}
 use Rattle.server.proofs.state.Server.change.Goals as goal

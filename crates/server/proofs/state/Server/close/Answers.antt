@@ -2,9 +2,9 @@ use Rattle.std.proofs.Common.{◌≡◌, ap, sym, ◌∙◌, string_bytes}
 use Rattle.std.specs.Prelude.{None}
 use Rattle.std.specs.FinMap.{get}
 use Rattle.docs.specs.Languages.{LanguageData}
-use Rattle.server.specs.Steps.{state_view}
+use Rattle.server.specs.States.{state_view}
 use Rattle.server.proofs.Holding.{closes_none, state_same}
-use Rattle.server.proofs.LookUps.{none_is, removed_none}
+use Rattle.sessions.proofs.LookUps.{none_is, removed_none}
 use Rattle.server.proofs.AnswersFromDocuments.{if_ok_both}
 use Rattle.server.proofs.state.Server.close.Goals as goal
 

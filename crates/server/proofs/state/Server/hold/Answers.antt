@@ -2,8 +2,9 @@ use Rattle.std.proofs.Common.{List, ℕ, string_bytes, ap, sym, subst}
 use Rattle.std.specs.FinMap.{insert}
 use Rattle.docs.specs.Languages.{LanguageData}
 use Rattle.server.specs.Holding.{entry_view}
-use Rattle.server.specs.Sent.{sent}
-use Rattle.server.specs.Steps.{State, state_view, Holds}
+use Rattle.sessions.specs.Sent.{sent}
+use Rattle.sessions.specs.Steps.{State, Holds}
+use Rattle.server.specs.States.{state_view}
 use Rattle.server.proofs.Holding.{state_of, state_same}
 use Rattle.server.proofs.AnswersFromDocuments.{if_ok}
 use Rattle.server.proofs.state.Server.hold.Goals as goal

@@ -3,9 +3,10 @@ use Rattle.std.proofs.lemmas.Int.{to_z-of_z}
 use Rattle.std.specs.FinMap.{remove}
 use Rattle.std.specs.Str.{chars}
 use Rattle.docs.specs.Languages.{LanguageData}
-use Rattle.server.specs.Documents.{has_room}
+use Rattle.sessions.specs.Documents.{has_room}
 use Rattle.server.specs.Holding.{entry_view}
-use Rattle.server.specs.Steps.{state_view, new_document}
+use Rattle.sessions.specs.Steps.{new_document}
+use Rattle.server.specs.States.{state_view}
 use Rattle.server.proofs.Holding.{holds_removed, opens_room, state_same}
 use Rattle.server.proofs.AnswersFromDocuments.{if_ok_then}
 use Rattle.server.proofs.state.Server.open.Goals as goal

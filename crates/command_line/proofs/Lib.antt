@@ -1,0 +1,4 @@
+mod Flags
+mod Commands
+mod Lines
+mod Read

@@ -1,0 +1,11 @@
+use Rattle.std.proofs.Common.{◌≡◌, ◌++◌, List, map, string_bytes}
+use Rattle.definitions.specs.declared.Symbol.{Symbol}
+use Rattle.grammar.specs.Notes.{AreNotes, symbol_name}
+use Rattle.commands.specs.Reporting.{report}
+use Rattle.commands.proofs.tasks.check.Given as goal
+
+-- what is printed so far, and the lines of the names that are left
+abbrev pub invariant-loop-name : goal.invariant-loop-name
+invariant-loop-name l =
+    (notes : List Symbol) × AreNotes l.language.file l.language.file.defined notes
+    × (string_bytes l.out ++ report l.name-iterator ≡ report (map (symbol_name l.language.file) notes))

@@ -1,0 +1,3 @@
+pub mod Conflicts
+pub mod Status
+pub mod Texts

@@ -1,0 +1,9 @@
+pub mod Texts
+pub mod Diagnostics
+pub mod Answers
+pub mod Layers
+pub mod Edits
+pub use Rattle.definitions.specs.Nodes
+pub use Rattle.definitions.specs.Text
+pub use Rattle.grammar.specs.Grammars
+pub use Rattle.reports.specs.Contents

@@ -1,0 +1,11 @@
+pub mod LookUps
+pub mod Edits
+mod Effects
+mod Fits
+mod Totals
+mod Runs
+mod CutSessions
+mod Loop
+mod Fresh
+mod Alone
+mod Histories

@@ -1,0 +1,15 @@
+use Rattle.std.proofs.Common.{◌≡◌, ◌++◌}
+use Rattle.std.specs.Prelude.{None}
+use Rattle.std.specs.Vec.Iter.{into_iter_items}
+use Rattle.frames.specs.Contents.{contents}
+use Rattle.sessions.specs.Loop.{Served}
+use Rattle.sessions.proofs.stream.serve_all.Given as goal
+
+abbrev pub invariant-loop-frame : goal.invariant-loop-frame
+invariant-loop-frame g l =
+    let out_bytes = g.W.Output.contents in
+    record {
+      served : Served (out_bytes l.fn.output) (out_bytes l.output) (g.H.Handler.state l.fn.server) (contents l.yielded) None (g.H.Handler.state l.server);
+      works : g.W.Output.failures l.output ≡ 0;
+      all : l.yielded ++ into_iter_items l.frame-iterator ≡ l.fn.frames.items;
+    }

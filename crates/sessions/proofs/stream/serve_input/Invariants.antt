@@ -1,0 +1,12 @@
+use Rattle.sessions.proofs.Loop.{IsReady}
+use Rattle.sessions.proofs.stream.serve_input.Given as goal
+
+abbrev pub invariant-loop-count : goal.invariant-loop-count
+invariant-loop-count g l =
+    let read = g.R.Input.remaining in
+    let out_bytes = g.W.Output.contents in
+    let works = g.R.Input.failures l.input in
+    IsReady (g.H.Handler.state l.fn.server).file (read l.fn.input) (read l.input) works (out_bytes l.fn.output) (out_bytes l.output) (g.W.Output.failures l.output) l.decoder (g.H.Handler.state l.server)
+
+abbrev pub decreases-loop-count : goal.decreases-loop-count
+decreases-loop-count g l = g.R.Input.reads_left l.input

@@ -1,0 +1,13 @@
+use Rattle.std.proofs.Common.{◌≡◌, take, map}
+use Rattle.std.specs.Io.KnownBytes.{Appends}
+use Rattle.rpc.specs.Replies.{reply_view}
+use Rattle.sessions.specs.Runs.{bytes_of}
+use Rattle.sessions.proofs.stream.write_replies.Given as goal
+
+abbrev pub invariant-loop-reply : goal.invariant-loop-reply
+invariant-loop-reply g l =
+    let out_bytes = g.W.Output.contents in
+    record {
+      written : Appends (out_bytes l.fn.output) (out_bytes l.output) (bytes_of (map reply_view (take l.reply-index l.replies)));
+      works : g.W.Output.failures l.output ≡ 0;
+    }

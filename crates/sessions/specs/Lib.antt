@@ -1,0 +1,10 @@
+pub mod Documents
+pub mod Stored
+pub mod Answers
+pub mod Steps
+pub mod Sent
+pub mod Runs
+pub mod Sessions
+pub mod Loop
+pub mod Fresh
+pub mod Alone

@@ -1,0 +1,35 @@
+//! What is proved of sessions, as contracts of functions that do nothing.
+
+ghost use Rattle.readings.specs.Answers.{AlwaysAnswers, AnswersOnce};
+ghost use Rattle.readings.specs.Edits.{CountsOnce};
+ghost use Rattle.readings.specs.Grammars.{FileGrammar};
+ghost use Rattle.sessions.specs.Alone.{EachDocumentIsAlone, EachRunHasAHistory, HistoriesDecide};
+ghost use Rattle.sessions.specs.Fresh.{EveryAnswerIsFresh, EachTextIsItsEdits};
+
+/// In a session by a file that has one answer to each question, whatever was read before: there is a fresh server for each
+/// open document, and to each question about the document it and the server have one answer, the same; and the
+/// diagnostics that it published are those that the server published last.
+pub fn every_answer_is_fresh()
+    ensures { (file : FileGrammar) → AlwaysAnswers file → AnswersOnce file
+        → EveryAnswerIsFresh file }
+{}
+
+/// A document's text after a change is its text before, edited by the changes in turn, unless memory was refused.
+pub fn each_text_is_its_edits()
+    ensures { EachTextIsItsEdits }
+{}
+
+/// In a session by a file that has at most one answer to each question, whatever is held: a message that does not name a
+/// document leaves it as it was, and sends no diagnostics of it. What is sent on one that names it, and what the document
+/// becomes, depends on the phase, on what is held under its URI, on the room for it where it is opened, and on whether
+/// memory was refused within its changes.
+///
+/// So what a run sends about a document is a function of what it receives about it: of the messages that name it, the phase at
+/// each, whether there was room for it where it was opened, and whether memory was refused in its changes.
+pub fn each_document_is_alone()
+    ensures alone { (file : FileGrammar) → AnswersOnce file → CountsOnce file
+        → EachDocumentIsAlone file }
+    ensures histories { EachRunHasAHistory }
+    ensures by_history { (file : FileGrammar) → AnswersOnce file → CountsOnce file
+        → HistoriesDecide file }
+{}
