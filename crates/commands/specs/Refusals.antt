@@ -1,9 +1,9 @@
 -- What is printed of a grammar file that defines no language.
 use Rattle.std.specs.Prelude.{◌≡◌, ◌⊎◌, ℕ, List, []}
 use Rattle.std.specs.Str.{IsUtf8}
-use Rattle.docs.specs.Languages.{IsLoadFault}
-use Rattle.docs.specs.declared.language.LoadFault.{LoadFault}
-use Rattle.docs.specs.declared.language.LoadFault.TheVariants as load
+use Rattle.languages.specs.Languages.{IsLoadFault}
+use Rattle.languages.specs.declared.language.LoadFault.{LoadFault}
+use Rattle.languages.specs.declared.language.LoadFault.TheVariants as load
 use Rattle.faults.specs.Conflicts.{conflict_text}
 use Rattle.faults.specs.Texts.{PrintsFault}
 use Rattle.faults.specs.declared.fault.Fault.TheVariants.{Grammar, TooManyStates, TooManySets, NotUtf8}

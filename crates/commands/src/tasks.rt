@@ -4,7 +4,7 @@ ghost use Rattle.std.specs.Prelude.{◌≡◌, ℕ, ◌++◌, List, [], IfOk, If
 ghost use Rattle.std.specs.Str.{IsUtf8, chars};
 ghost use Rattle.docs.specs.Outcomes.{IsOutcome};
 ghost use Rattle.docs.specs.Docs.{IsCurrent};
-ghost use Rattle.docs.specs.Languages.{IsLanguageOf, IsLoadFault};
+ghost use Rattle.languages.specs.Languages.{IsLanguageOf, IsLoadFault};
 ghost use Rattle.docs.specs.declared.doc.Outcome.{Outcome};
 ghost use Rattle.commands.specs.Refusals.{IsRefused, Reports};
 ghost use Rattle.commands.specs.Parsing.{IsParsed, Prints, fault_line, place_text};

@@ -29,7 +29,7 @@ use Rattle.docs.specs.declared.doc.Doc.{Doc}
 use Rattle.readings.specs.Answers.{IsReading}
 use Rattle.readings.specs.Edits.{IsNext, AreStats, ReportsLast, IsAbove, number_of, number_after, edit_of}
 use Rattle.docs.specs.Docs.{last_edit, open_document, IsCurrent}
-use Rattle.docs.specs.Languages.{LanguageData}
+use Rattle.languages.specs.Languages.{LanguageData}
 use Rattle.readings.specs.Texts.{LastEdit}
 use Rattle.docs.proofs.StoredReading.{reading_of, stacked_reading, stacked_trees}
 

@@ -3,4 +3,3 @@ mod StoredReading
 mod Edits
 mod Stamps
 mod JoinedEdits
-mod AsciiTexts

@@ -37,7 +37,7 @@ use Rattle.readings.specs.Diagnostics.{IsDiagnosis, shown as fault_of}
 use Rattle.docs.specs.declared.doc.Doc.{Doc}
 use Rattle.docs.specs.declared.doc.Outcome.TheVariants.{Fault as OutcomeFault}
 use Rattle.docs.specs.Docs.{IsCurrent}
-use Rattle.docs.specs.Languages.{LanguageData}
+use Rattle.languages.specs.Languages.{LanguageData}
 use Rattle.docs.specs.Outcomes.{IsOutcome}
 use Rattle.readings.specs.Answers.{Reading, IsReading, Reads, rows, written_tree, AreSelections, IsReported}
 

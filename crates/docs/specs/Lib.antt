@@ -1,10 +1,10 @@
-pub mod Languages
 pub mod Pending
 pub mod Faults
 pub mod Docs
 pub mod Outcomes
 pub mod Stamps
 pub mod Changes
+pub use Rattle.languages.specs.Languages
 pub use Rattle.readings.specs.Answers
 pub use Rattle.readings.specs.Diagnostics
 pub use Rattle.readings.specs.Edits

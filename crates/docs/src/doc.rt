@@ -14,14 +14,15 @@ ghost use Rattle.readings.specs.Answers.{AreSelections, IsReported, Reads, rows,
 ghost use Rattle.docs.specs.Changes.{IsChanged};
 ghost use Rattle.docs.specs.Docs.{last_edit, open_document, IsCurrent};
 ghost use Rattle.readings.specs.Edits.{AreStats};
-ghost use Rattle.docs.specs.Languages.{LanguageData};
+ghost use Rattle.languages.specs.Languages.{LanguageData};
 ghost use Rattle.docs.specs.Outcomes.{IsOutcome};
 ghost use Rattle.readings.specs.Texts.{fits};
 ghost use Rattle.docs.specs.declared.doc.DocFault.TheVariants.{Memory};
 ghost use Rattle.docs.specs.Faults.{doc_fault};
 
-use crate::language::Language;
+use crate::parses::{parse, reparse};
 use definitions::{Diagnostic, Edit, Position, Range, Stats, Unit};
+use languages::Language;
 use lexer::Tokens;
 use parser::laws::stack_has_the_nodes_of_the_document;
 use parser::{Parse, Verdict};
@@ -147,8 +148,9 @@ impl Doc {
             number: self.parse.number().saturating_add(1),
         };
         let splice = language.rescan(alloc, &mut self.tokens, &self.text, edit)?;
-        language.reparse(
+        reparse(
             alloc,
+            language,
             &mut self.parse,
             &mut self.store,
             &self.tokens,
@@ -179,7 +181,7 @@ impl Doc {
         // With this room a store of few nodes for each token doesn't grow, and isn't copied, while it is filled. A sum has one node
         // more than tokens.
         let mut store = Store::with_capacity(alloc, tokens.significant().saturating_add(1))?;
-        let parse = language.parse(alloc, &mut store, &tokens)?;
+        let parse = parse(alloc, language, &mut store, &tokens)?;
         Ok(Doc {
             unit,
             version,

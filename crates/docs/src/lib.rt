@@ -26,12 +26,12 @@
 #![tactic(auto)]
 
 mod doc;
-mod language;
+mod parses;
 mod pending;
 mod significant;
 
 pub use definitions::{Diagnostic, Position, Range, Stats};
 pub use doc::{Doc, DocFault, Outcome};
-pub use language::{Language, LoadFault};
+pub use languages::{Language, LoadFault};
 pub use pending::Pending;
 pub use views::Row;

@@ -3,8 +3,6 @@ pub mod Moves
 pub mod Stamps
 pub mod StopDecides
 pub mod Expecting
-pub mod Total
-pub mod Expectable
 pub mod Counts
 pub mod Lists
 pub mod Inputs

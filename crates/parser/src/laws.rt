@@ -17,20 +17,6 @@ ghost use Rattle.parser.specs.declared.parse.Verdict.{Verdict as Answer};
 
 use theory::laws::{document_trees_unique, verdict_unique};
 
-/// For a grammar that has tables, and where the moves of every prefix are decided, each list of kinds has a verdict: a
-/// tree, or a fault.
-pub fn each_list_has_a_verdict()
-    ensures { (g : Grammar) → IsAccepted g → AreMovesDecided g → (kinds : List Kind) → (v : Verdict)
-        × IsVerdict g kinds v }
-{}
-
-/// For a grammar that has tables, and where the moves of every prefix are decided, each list of kinds with which a
-/// sentence begins has a list of what may follow it.
-pub fn each_viable_list_has_expected()
-    ensures { (g : Grammar) → IsAccepted g → AreMovesDecided g → (x : List Kind) → IsViable g x
-        → (rules : List ℕ) × (at_end : Bool) × IsExpected g x rules at_end }
-{}
-
 /// The parser's verdicts are equal by `==` exactly where they are the same: no part of them is left out.
 pub fn equal_verdicts_are_the_same()
     ensures { (a b : Answer) → IsTrue (⟦<crate::Verdict as PartialEq>⟧.eq a b) ↔ (a ≡ b) }

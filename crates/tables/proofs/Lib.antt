@@ -11,3 +11,5 @@ pub mod SetCount
 pub mod RowsOfPrefix
 pub mod Expecting
 pub mod StateDecides
+pub mod Total
+pub mod Expectable

@@ -1,8 +1,9 @@
 //! Examples of reports, of messages and of documents.
 
 use definitions::{Kind, Unit};
-use docs::{Doc, Language};
+use docs::Doc;
 use grammar::Grammar;
+use languages::Language;
 use lexer::Tokens;
 use reports::tree_text;
 use rpc::{Message, Reply, read, to_bytes};
@@ -47,6 +48,13 @@ pub fn use_rpc(rt: &HostRuntime, alloc: Global) -> Option<()> {
     let bytes = to_bytes(alloc, &Reply::Null { id }).ok()?;
     println!(rt; "{}", str::from_utf8(&bytes).unwrap_or("")).ok()
     // {"id":7,"jsonrpc":"2.0","result":null}
+}
+
+/// The example of `languages`.
+pub fn use_languages(rt: &HostRuntime, alloc: Global) -> Option<()> {
+    let language = Language::load(alloc, SUMS).ok()?;
+    println!(rt; "{} rules", language.grammar().rules()).ok()
+    // 5 rules
 }
 
 /// The example of `docs`.

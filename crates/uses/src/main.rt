@@ -87,6 +87,7 @@ fn with_tokens(rt: &HostRuntime, alloc: Global, scanner: &Scanner) -> Option<()>
 
 /// The examples that load a language.
 fn of_language(rt: &HostRuntime, alloc: Global) -> Option<()> {
+    answers::use_languages(rt, alloc)?;
     answers::use_docs(rt, alloc)?;
     programs::use_sessions(rt, alloc)?;
     programs::use_server(rt, alloc)?;

@@ -2,7 +2,7 @@ use Rattle.std.proofs.Common.{map, take}
 use Rattle.reports.specs.Contents.{trees_of_roots}
 use Rattle.readings.specs.Answers.{AreSelections}
 use Rattle.docs.specs.Docs.{IsCurrent}
-use Rattle.docs.specs.Languages.{LanguageData}
+use Rattle.languages.specs.Languages.{LanguageData}
 use Rattle.docs.proofs.StoredReading.{reading_of}
 use Rattle.docs.proofs.doc.Doc.selections.Given as goal
 

@@ -1,4 +1,4 @@
-use Rattle.std.proofs.Common.{arith, ◌≡◌, [], None, subst, sym, ◌∙◌}
+use Rattle.std.proofs.Common.{◌≡◌, [], None, subst, sym, ◌∙◌}
 use Rattle.parser.specs.declared.machine.FirstInput.TheVariants.{Next}
 use Rattle.parser.specs.Input.{IsInput}
 use Rattle.parser.specs.Machine.{plain_of}

@@ -1,38 +1,32 @@
 //! The language of a grammar file: its scanner and its tables.
 
-ghost use Rattle.std.specs.Prelude.{◌≡◌, ◌+◌, List, length, All, IfOk, IfErr};
+ghost use Rattle.std.specs.Prelude.{◌≡◌, length, All, IfOk, IfErr};
 ghost use Rattle.std.specs.Str.{chars};
-ghost use Rattle.definitions.specs.declared.Kind.{Kind};
-ghost use Rattle.definitions.specs.TokenEdits.{IsSpliced, plain_splice};
+ghost use Rattle.definitions.specs.TokenEdits.{plain_splice};
 ghost use Rattle.grammar.specs.Grammars.{lexicon_of};
-ghost use Rattle.lexer.specs.Rescans.{AreTokensAfter, IsEdited, significant_kinds};
+ghost use Rattle.lexer.specs.Rescans.{AreTokensAfter, IsEdited};
 ghost use Rattle.lexer.specs.Tokens.{AreTokensOf};
-ghost use Rattle.parser.specs.Changes.{IsParseAfter};
-ghost use Rattle.parser.specs.Parses.{IsParseOf};
-ghost use Rattle.docs.specs.Languages.{IsLanguageOf, IsLoadFault};
-ghost use Rattle.docs.specs.declared.language.LoadFault.TheVariants.{Memory};
+ghost use Rattle.languages.specs.Languages.{IsLanguageOf, IsLoadFault};
+ghost use Rattle.languages.specs.declared.language.LoadFault.TheVariants.{Memory};
 ghost use Rattle.readings.specs.Answers.{AlwaysAnswers, AnswersOnce};
 ghost use Rattle.readings.specs.Edits.{AlwaysCounts, CountsOnce};
 
-use crate::significant::Significant;
 use definitions::{Edit, KindSplice};
 use dfa::DfaFault;
 use grammar::{Grammar, GrammarCause, GrammarFault, Scanner};
 use lexer::{Bytes, Characters, Tokens, Whole, each_text_has_tokens};
-use parser::Parse;
-use parser::laws::{each_list_has_a_verdict, each_viable_list_has_expected};
 use readings::laws::{
     answers_are_unique, answers_exist, edits_are_counted, edits_are_counted_once,
 };
+use reports::{each_offset_has_a_selection, trees_have_folds};
 use std::alloc::{AllocError, Global};
 use std::fmt;
 use std::marker::Model;
+use tables::laws::{each_list_has_a_verdict, each_viable_list_has_expected};
 use tables::{Conflict, TableFault, Tables};
 use text::Text;
 use theory::laws::settled_unique;
 use thiserror::Error;
-use trees::Store;
-use views::{each_offset_has_a_selection, trees_have_folds};
 
 /// What a grammar file defines, made ready for scanning and parsing.
 #[derive(Drop)]
@@ -45,7 +39,7 @@ impl Model for Language {
     ghost use Rattle.std.specs.Prelude.{◌≡◌};
     ghost use Rattle.std.specs.Coded.{codes};
     ghost use Rattle.definitions.specs.contracts.expression.Expression as e;
-    ghost use Rattle.docs.specs.Languages.{LanguageData};
+    ghost use Rattle.languages.specs.Languages.{LanguageData};
 
     ghost Value = { LanguageData };
 
@@ -139,7 +133,7 @@ impl Language {
     }
 
     /// The tables of the file's grammar.
-    pub(crate) fn tables(&self) -> &Tables
+    pub fn tables(&self) -> &Tables
         ensures is { result.now ≡ self.now.tables }
         ensures grammar { self.now.tables.grammar ≡ self.now.file.grammar }
     {
@@ -147,7 +141,7 @@ impl Language {
     }
 
     /// The tokens of a text, of which this is the UTF-8. Refuses for memory alone.
-    pub(crate) fn scan(&self, alloc: Global, text: &Text, utf8: &str) -> Result<Tokens, AllocError>
+    pub fn scan(&self, alloc: Global, text: &Text, utf8: &str) -> Result<Tokens, AllocError>
         requires { text.now ≡ chars utf8.now }
         ensures tokens { IfOk result
             (λ r. AreTokensOf (lexicon_of self.now.file) text.now r.items) }
@@ -163,25 +157,9 @@ impl Language {
         Tokens::scan(alloc, grammar, automaton, &Characters(&characters))
     }
 
-    /// The parse of these tokens, with its nodes in the store. Refuses for memory alone.
-    pub(crate) fn parse(
-        &self,
-        alloc: Global,
-        store: &mut Store,
-        tokens: &Tokens,
-    ) -> Result<Parse, AllocError>
-        ensures parse { let kinds = significant_kinds tokens.now.items in
-            IfOk result (IsParseOf self.now.tables kinds store.new) }
-        ensures number { IfOk result (λ p. p.number ≡ 0) }
-        ensures built { IfOk result (λ p. p.built ≡ p.branches) }
-        ensures count { IfOk result (λ p. length store.new ≡ length store.old + p.branches) }
-    {
-        Parse::whole(alloc, &self.tables, store, &Significant(tokens))
-    }
-
     /// Brings the tokens to the text after an edit, and returns how the kinds of the significant ones change. Refuses for memory
     /// alone.
-    pub(crate) fn rescan(
+    pub fn rescan(
         &self,
         alloc: Global,
         tokens: &mut Tokens,
@@ -196,35 +174,6 @@ impl Language {
         let _length = text.len();
         let (grammar, automaton) = (self.scanner.grammar(), self.scanner.automaton());
         tokens.rescan(alloc, grammar, automaton, &Whole(text), edit)
-    }
-
-    /// Brings the parse to the tokens after an edit of this number, whose kinds the splice has changed. Refuses for memory
-    /// alone.
-    pub(crate) fn reparse(
-        &self,
-        alloc: Global,
-        parse: &mut Parse,
-        store: &mut Store,
-        tokens: &Tokens,
-        splice: KindSplice,
-        number: u64,
-    ) -> Result<(), AllocError>
-        requires { (old : List Kind) × IsParseOf self.now.tables old store.old parse.old
-            × IsSpliced (plain_splice splice) old (significant_kinds tokens.now.items) }
-        ensures changed { let t = self.now.tables in
-            let kinds = significant_kinds tokens.now.items in
-            let change = plain_splice splice in
-            IfOk result
-            (λ _. IsParseAfter t kinds change number store.old parse.old store.new parse.new) }
-    {
-        parse.change(
-            alloc,
-            &self.tables,
-            store,
-            &Significant(tokens),
-            splice,
-            number,
-        )
     }
 
     /// Each text that fits has a reading by the language, and each reading one answer to each question.

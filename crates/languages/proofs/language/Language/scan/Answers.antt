@@ -3,8 +3,8 @@ use Rattle.std.specs.Prelude.{encode_utf8_all}
 use Rattle.std.proofs.lemmas.Str.{encodes-chars}
 use Rattle.grammar.specs.Grammars.{lexicon_of}
 use Rattle.lexer.specs.Tokens.{AreTokensOf}
-use Rattle.docs.proofs.AsciiTexts.{its_bytes}
-use Rattle.docs.proofs.language.Language.scan.Goals as goal
+use Rattle.languages.proofs.AsciiTexts.{its_bytes}
+use Rattle.languages.proofs.language.Language.scan.Goals as goal
 
 pub returns-then-utf8-len-clause-tokens : goal.returns-then-utf8-len-clause-tokens
 returns-then-utf8-len-clause-tokens c =

@@ -8,8 +8,8 @@ use Rattle.grammar.specs.Meaning.{IsGrammarOf}
 use Rattle.grammar.specs.PublicCauses.{public_cause}
 use Rattle.tables.specs.Reports.{IsReport}
 use Rattle.tables.specs.Tables.{Sets}
-use Rattle.docs.specs.declared.language.LoadFault.{LoadFault}
-use Rattle.docs.specs.declared.language.LoadFault.TheVariants as load
+use Rattle.languages.specs.declared.language.LoadFault.{LoadFault}
+use Rattle.languages.specs.declared.language.LoadFault.TheVariants as load
 
 -- the text is a grammar file that defines this, its automaton and tables are within their limits, and no set of items has a conflict
 pub record IsLanguageOf (text : List ℕ) (file : FileGrammar) : Type 0 where

@@ -14,7 +14,7 @@ use Rattle.theory.proofs.LawProofs.{stack_exists}
 use Rattle.theory.proofs.Theorems.{move_iff_viable, move_iff_sentence}
 use Rattle.tables.specs.Decidable.{AreMovesDecided}
 use Rattle.tables.specs.Tables.{IsAccepted}
-use Rattle.parser.proofs.Total.{stack_decided}
+use Rattle.tables.proofs.Total.{stack_decided}
 
 -- ---- a number above all token rules that a grammar names
 

@@ -4,10 +4,10 @@ use Rattle.definitions.specs.Trees.{Grammar, yield}
 use Rattle.tables.specs.Decidable.{AreMovesDecided}
 use Rattle.tables.specs.Tables.{IsAccepted}
 use Rattle.reports.specs.Contents.{placed_parts}
-use Rattle.docs.specs.Languages.{LanguageData}
+use Rattle.languages.specs.Languages.{LanguageData}
 use Rattle.readings.specs.Answers.{AlwaysAnswers, AnswersOnce}
 use Rattle.readings.specs.Layers.{LayersAnswer}
-use Rattle.docs.proofs.language.Language.always_answers.Goals as goal
+use Rattle.languages.proofs.language.Language.always_answers.Goals as goal
 
 pub returns-clause-always : goal.returns-clause-always
 returns-clause-always c =

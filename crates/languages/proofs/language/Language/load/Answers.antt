@@ -6,8 +6,8 @@ use Rattle.tables.specs.declared.tables.TableFault.{TableFault}
 use Rattle.tables.specs.declared.tables.TableFault.TheVariants.{Conflict}
 use Rattle.tables.specs.Reports.{IsReport}
 use Rattle.tables.specs.declared.conflict.Conflict.{Conflict as Shown}
-use Rattle.docs.specs.Languages.{HasAutomaton, IsLanguageOf}
-use Rattle.docs.proofs.language.Language.load.Goals as goal
+use Rattle.languages.specs.Languages.{HasAutomaton, IsLanguageOf}
+use Rattle.languages.proofs.language.Language.load.Goals as goal
 
 pub returns-in-Err-TooManyStates-clause-fault : goal.returns-in-Err-TooManyStates-clause-fault
 returns-in-Err-TooManyStates-clause-fault c =

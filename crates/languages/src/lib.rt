@@ -1,0 +1,22 @@
+//! The language of a grammar file: what the file defines, its scanner and its tables.
+//!
+//! `Language::load` makes a language from a grammar file's text, or returns why the file defines none: the first fault
+//! of the text, too many states of the automaton, too many sets of the tables, or a conflict. `scan` and `rescan` give
+//! the tokens of a text, anew and after an edit; `grammar` and `tables` are what the rest is made of. `always_answers`
+//! is a theorem: each text that fits has a reading, and one.
+//!
+//! Words: a contract sees a language as `LanguageData`, what its file defines and its tables.
+//!
+//! Limits: those of `grammar`, `dfa` and `tables`. To load costs the automaton and the tables; a language doesn't change
+//! afterwards. In the example `SUMS` is the grammar file in README.md.
+//!
+//! ```
+//! let language = Language::load(alloc, SUMS).ok()?;
+//! println!(rt; "{} rules", language.grammar().rules()).ok()
+//! // 5 rules
+//! ```
+#![tactic(auto)]
+
+mod language;
+
+pub use language::{Language, LoadFault};

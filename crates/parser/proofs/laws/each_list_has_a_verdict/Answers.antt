@@ -1,5 +1,0 @@
-use Rattle.parser.proofs.Total.{verdict_exists}
-use Rattle.parser.proofs.laws.each_list_has_a_verdict.Goals as goal
-
-pub returns : goal.returns
-returns c = verdict_exists

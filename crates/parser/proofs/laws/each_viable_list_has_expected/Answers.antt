@@ -1,5 +1,0 @@
-use Rattle.parser.proofs.Expectable.{expected_exists}
-use Rattle.parser.proofs.laws.each_viable_list_has_expected.Goals as goal
-
-pub returns : goal.returns
-returns c = expected_exists
