@@ -10,6 +10,7 @@ import re
 WORD = re.compile(r"[A-Za-z_][\w'\-]*")
 IMPORT = re.compile(r"^(?:ghost )?(?:pub )?use Rattle\.(\w+)\.specs\.([\w.]+?)(?:\.\{([^}]*)\}| as (\w+))?;?$", re.M)
 HEAD = re.compile(r"^\s*(?:abbrev |unfoldable |opaque )*(?:pub )?(?:abbrev )?(?:record |data )?([^\s:(]+)")
+PASSED_ON = re.compile(r"^pub use Rattle\.(\w+)\.specs\.([\w.]+)$", re.M)
 MUTUAL = re.compile(r"^(?:abbrev |unfoldable )?mutual")
 
 
@@ -90,15 +91,25 @@ class Definitions:
         for path in files_of(top, "specs", ".antt"):
             parts = os.path.relpath(path, os.path.join(top, "crates")).split(os.sep)
             self.modules[parts[0], ".".join(parts[2:])[: -len(".antt")]] = Module(lines_of(path))
+        self.passed_on = {}
+        for crate, module in [it for it in self.modules if it[1] == "Lib"]:
+            lines = "\n".join(lines_of(os.path.join(top, "crates", crate, "specs", "Lib.antt")))
+            for other, inner in PASSED_ON.findall(lines):
+                self.passed_on[crate, inner.split(".")[-1]] = (other, inner)
 
     def found(self, crate, module, word):
-        """The definition of this name, or the data that this is a constructor of."""
+        """The definition of this name, or the data that this is a constructor of. What a crate or a module passes on is looked up where
+        it stands."""
+        if (crate, module) in self.passed_on:
+            return self.found(*self.passed_on[crate, module], word)
         there = self.modules.get((crate, module))
         if there is None:
             return None
         if word in there.definitions:
             return crate, module, word
-        return (crate, module, there.constructors[word]) if word in there.constructors else None
+        if word in there.constructors:
+            return crate, module, there.constructors[word]
+        return self.found(*there.names[word]) if word in there.names else None
 
     def below(self, key):
         """The definitions that one names, in order."""
@@ -132,7 +143,7 @@ def clauses_of(path, function):
 
 def words_of_run(top, definitions):
     """The definitions that the clauses of `server::run` name, in order."""
-    path = os.path.join(top, "crates", "server", "src", "serve.rt")
+    path = os.path.join(top, "crates", "server", "src", "session.rt")
     names, _ = imports_of("\n".join(lines_of(path)))
     words = re.findall(r"(?<![\w.])[A-Za-z_]\w*", clauses_of(path, "run"))
     found = (definitions.found(*names[word]) for word in words if word in names)

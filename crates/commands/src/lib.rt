@@ -1,8 +1,8 @@
-//! What the words of a command line ask for, and what the program `lrls` prints of a grammar, a text or a fault.
+//! What the commands of the program `lrls` do, over the bytes of files.
 //!
-//! `words` reads the words of a command line and returns a `Task`: to check, to parse, or to serve; `None` if they are
-//! no command. `load` makes the language from the bytes of a grammar file, or returns what to print of its fault.
-//! `check` and `parse` return what their commands print, and `Fault::status` the status of every other fault.
+//! `load` makes the language from the bytes of a grammar file, or returns what to print of its fault.
+//! `check` and `parse` return what their commands print. The words of a command line are read by `words` of
+//! `command_line`, and what is printed of a fault is made by `faults`; both are at hand here.
 //!
 //! Words: `Printed` is what goes to standard output and standard error, in bytes, and the exit status.
 //!

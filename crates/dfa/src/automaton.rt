@@ -106,6 +106,7 @@ impl<'a> Row<'a> {
     fn leads_to(&self, number: usize, c: char) -> bool
         ensures ascii { IsTrue result → c < 128 }
         ensures led { IsTrue result → ascii_entry self.now c ≡ number }
+        ensures all { c < 128 → ascii_entry self.now c ≡ number → IsTrue result }
     {
         c.is_ascii() && usize::from(self.entries[self.ascii[c as usize]]) == number
     }

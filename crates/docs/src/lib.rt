@@ -1,10 +1,9 @@
-//! Languages of grammar files, and documents of a language, with all that is reported on them.
+//! Documents of a language, with all that is reported on them.
 //!
-//! `Language::load` makes a language from a grammar file's text, or returns the first fault; `Doc::open` opens a
-//! document of it, with a unit of positions, a version and a text. `change` consumes the document and returns it with
-//! one change applied, and `set_version` gives it a version. `text`, `rows`, `tree`, `diagnostic`, `outcome`, `folds`,
-//! `selections` and `stats` report on the document. `Pending` takes many changes of a document and scans and parses as
-//! few edits as can be.
+//! A `Language` is that of `languages`; `Doc::open` opens a document of it, with a unit of positions, a version and a
+//! text. `change` consumes the document and returns it with one change applied, and `set_version` gives it a version.
+//! `text`, `rows`, `tree`, `diagnostic`, `outcome`, `folds`, `selections` and `stats` report on the document. `Pending`
+//! takes many changes of a document and scans and parses as few edits as can be.
 //!
 //! Words: a document is *current* for the language that it was opened with; the calls that take a language require that
 //! one.
@@ -26,6 +25,7 @@
 #![tactic(auto)]
 
 mod doc;
+pub mod laws;
 mod parses;
 mod pending;
 mod significant;

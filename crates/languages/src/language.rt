@@ -3,29 +3,22 @@
 ghost use Rattle.std.specs.Prelude.{◌≡◌, length, All, IfOk, IfErr};
 ghost use Rattle.std.specs.Str.{chars};
 ghost use Rattle.definitions.specs.TokenEdits.{plain_splice};
+ghost use Rattle.dfa.specs.Table.{IsAutomaton};
 ghost use Rattle.grammar.specs.Grammars.{lexicon_of};
 ghost use Rattle.lexer.specs.Rescans.{AreTokensAfter, IsEdited};
 ghost use Rattle.lexer.specs.Tokens.{AreTokensOf};
 ghost use Rattle.languages.specs.Languages.{IsLanguageOf, IsLoadFault};
 ghost use Rattle.languages.specs.declared.language.LoadFault.TheVariants.{Memory};
-ghost use Rattle.readings.specs.Answers.{AlwaysAnswers, AnswersOnce};
-ghost use Rattle.readings.specs.Edits.{AlwaysCounts, CountsOnce};
 
 use definitions::{Edit, KindSplice};
-use dfa::DfaFault;
+use dfa::{Automaton, DfaFault};
 use grammar::{Grammar, GrammarCause, GrammarFault, Scanner};
-use lexer::{Bytes, Characters, Tokens, Whole, each_text_has_tokens};
-use readings::laws::{
-    answers_are_unique, answers_exist, edits_are_counted, edits_are_counted_once,
-};
-use reports::{each_offset_has_a_selection, trees_have_folds};
+use lexer::{Bytes, Characters, Tokens, Whole};
 use std::alloc::{AllocError, Global};
 use std::fmt;
 use std::marker::Model;
-use tables::laws::{each_list_has_a_verdict, each_viable_list_has_expected};
 use tables::{Conflict, TableFault, Tables};
 use text::Text;
-use theory::laws::settled_unique;
 use thiserror::Error;
 
 /// What a grammar file defines, made ready for scanning and parsing.
@@ -132,6 +125,13 @@ impl Language {
         self.scanner.grammar()
     }
 
+    /// The automaton of the file's token rules.
+    pub fn automaton(&self) -> &Automaton
+        ensures { IsAutomaton self.now.file.patterns result.now }
+    {
+        self.scanner.automaton()
+    }
+
     /// The tables of the file's grammar.
     pub fn tables(&self) -> &Tables
         ensures is { result.now ≡ self.now.tables }
@@ -174,29 +174,5 @@ impl Language {
         let _length = text.len();
         let (grammar, automaton) = (self.scanner.grammar(), self.scanner.automaton());
         tokens.rescan(alloc, grammar, automaton, &Whole(text), edit)
-    }
-
-    /// Each text that fits has a reading by the language, and each reading one answer to each question.
-    /// Of each edit one answer is given, where the texts before and after it fit.
-    pub fn always_answers(&self)
-        ensures always { AlwaysAnswers self.now.file }
-        ensures once { AnswersOnce self.now.file }
-        ensures counts { CountsOnce self.now.file }
-        ensures counted { AlwaysCounts self.now.file }
-    {
-        each_text_has_tokens();
-        each_list_has_a_verdict();
-        each_viable_list_has_expected();
-        settled_unique();
-        trees_have_folds();
-        each_offset_has_a_selection();
-        answers_exist();
-        answers_are_unique();
-        edits_are_counted();
-        edits_are_counted_once();
-        self.tables.moves_are_decided();
-        // The reads open the invariants of the tables and of the scanner.
-        let _start = self.tables.start();
-        let _grammar = self.scanner.grammar();
     }
 }

@@ -9,6 +9,7 @@ ghost use Rattle.sessions.specs.Documents.{is_lost, Becomes};
 ghost use Rattle.server.specs.Holding.{entry_view, IsEntryOf};
 
 use crate::documents::Entry;
+use docs::laws::always_answers;
 use docs::{Doc, DocFault, Language, Pending};
 use rpc::{Change, Loss};
 use std::alloc::Global;
@@ -65,7 +66,7 @@ fn apply_uncounted(
         IfErr result (λ loss. (v : ℤ)
         → Becomes language.now.file v (open_document doc) changes (is_lost loss)) }
 {
-    language.always_answers();
+    always_answers(language);
     let mut pending = Pending::new(doc);
     for change in changes {
         match pending.change(alloc, language, change.range, change.text.as_str()) {

@@ -1,8 +1,10 @@
-//! The server: phases, documents, and the loop from bytes to bytes (LSP 3.17). The contract of `run` is the theorem.
+//! The server: the documents that it holds, and what it does with each message (LSP 3.17). The contract of `run` is the
+//! theorem.
 //!
 //! `run` is a whole session, from an `Input` to an `Output`: it returns the exit status, or why it ended without one
 //! (`RunFault`). `Server::new` and `handle` are for a program that has its own loop: `handle` takes one message, and
-//! the `Out` that it returns has the replies and, at `exit`, the status.
+//! the `Out` that it returns has the replies and, at `exit`, the status. What a session is stands in `sessions`, with the
+//! loop that `run` calls.
 //!
 //! Words: the *phase* of a session is before `initialize`, ready, or after `shutdown`; a document is *lost* where the
 //! server no longer has its text.

@@ -10,6 +10,7 @@ ghost use Rattle.sessions.specs.Sessions.{Session};
 
 use crate::state::Server;
 use docs::Language;
+use docs::laws::always_answers;
 use frames::{Input, Output, RunFault};
 use rpc::each_text_is_unicode;
 use sessions::laws::{each_document_is_alone, each_text_is_its_edits, every_answer_is_fresh};
@@ -45,7 +46,7 @@ pub fn run<R: Input, W: Output>(
     ensures read { IsErrOf result RunFault.Read ↔ R.failures input.new ≡ 1 }
     ensures write { IsErrOf result RunFault.Write ↔ W.failures output.new ≡ 1 }
 {
-    language.always_answers();
+    always_answers(&language);
     every_answer_is_fresh();
     each_text_is_its_edits();
     each_document_is_alone();

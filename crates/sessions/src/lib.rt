@@ -13,7 +13,7 @@
 //!
 //! ```
 //! let language = Language::load(alloc, SUMS).ok()?;
-//! language.always_answers();
+//! always_answers(&language);
 //! let mut server = Server::new(alloc, language);
 //! let exit = b"Content-Length: 33\r\n\r\n{\"jsonrpc\":\"2.0\",\"method\":\"exit\"}";
 //! let mut input = ReadInput::new(&exit[..]);

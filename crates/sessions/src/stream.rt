@@ -127,51 +127,6 @@ fn run_fault(fault: FrameFault) -> RunFault
     }
 }
 
-/// Returns what comes in, from the first byte on.
-fn serve_input<H: Handler, R: Input, W: Output>(
-    alloc: Global,
-    decoder: &mut Decoder,
-    server: &mut H,
-    input: &mut R,
-    output: &mut W,
-) -> Result<u8, RunFault>
-    requires always { AlwaysAnswers (H.state server.old).file }
-    requires decoder { decoder.old ≡ Open [] }
-    requires server { let state = H.state server.old in state ≡ first_state state.file }
-    requires input { R.failures input.old ≡ 0 }
-    requires output { W.failures output.old ≡ 0 }
-    ensures session { let old = W.contents output.old in
-        let new = W.contents output.new in
-        let file = (H.state server.old).file in
-        Session file (R.remaining input.old) (R.remaining input.new) old new result }
-    ensures read { IsErrOf result RunFault.Read ↔ R.failures input.new ≡ 1 }
-    ensures write { IsErrOf result RunFault.Write ↔ W.failures output.new ≡ 1 }
-{
-    let mut buffer = [0; BUFFER_LEN];
-    loop {
-        let count = match input.read(&mut buffer) {
-            Ok(count) => count,
-            Err(_) => return Err(RunFault::Read),
-        };
-        if count == 0 {
-            return end_of(decoder);
-        }
-        match decoder.feed(alloc, &buffer[..count]) {
-            Ok(frames) => {
-                let stop = serve_all(alloc, server, output, frames)?;
-                flush(output)?;
-                if let Some(status) = stop {
-                    return Ok(status);
-                }
-                if let Some(fault) = decoder.fault() {
-                    return Err(RunFault::Frame(fault));
-                }
-            }
-            Err(fault) => return Err(run_fault(fault)),
-        }
-    }
-}
-
 /// Answers what comes in, from the first byte on to `exit`, to the end of the input, or to a fault: by a handler that no message
 /// has reached, and that always has an answer.
 pub fn serve<H: Handler, R: Input, W: Output>(
@@ -192,5 +147,27 @@ pub fn serve<H: Handler, R: Input, W: Output>(
     ensures write { IsErrOf result RunFault.Write ↔ W.failures output.new ≡ 1 }
 {
     let mut decoder = Decoder::new(alloc);
-    serve_input(alloc, &mut decoder, server, input, output)
+    let mut buffer = [0; BUFFER_LEN];
+    loop {
+        let count = match input.read(&mut buffer) {
+            Ok(count) => count,
+            Err(_) => return Err(RunFault::Read),
+        };
+        if count == 0 {
+            return end_of(&decoder);
+        }
+        match decoder.feed(alloc, &buffer[..count]) {
+            Ok(frames) => {
+                let stop = serve_all(alloc, server, output, frames)?;
+                flush(output)?;
+                if let Some(status) = stop {
+                    return Ok(status);
+                }
+                if let Some(fault) = decoder.fault() {
+                    return Err(RunFault::Frame(fault));
+                }
+            }
+            Err(fault) => return Err(run_fault(fault)),
+        }
+    }
 }

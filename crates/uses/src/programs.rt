@@ -3,6 +3,7 @@
 use command_line::words;
 use commands::{load, parse};
 use docs::Language;
+use docs::laws::always_answers;
 use faults::Fault;
 use frames::{ReadInput, WriteOutput};
 use rpc::read;
@@ -30,7 +31,7 @@ pub fn use_faults(rt: &HostRuntime) -> Option<()> {
 /// The example of `sessions`.
 pub fn use_sessions(rt: &HostRuntime, alloc: Global) -> Option<()> {
     let language = Language::load(alloc, SUMS).ok()?;
-    language.always_answers();
+    always_answers(&language);
     let mut server = Server::new(alloc, language);
     let exit = b"Content-Length: 33\r\n\r\n{\"jsonrpc\":\"2.0\",\"method\":\"exit\"}";
     let mut input = ReadInput::new(&exit[..]);

@@ -1,25 +1,22 @@
-use Rattle.std.proofs.Common.{[], subst, refl}
+use Rattle.std.proofs.Common.{[], subst, refl, ◌∙◌, ap}
 use Rattle.definitions.specs.Sentences.{IsViable}
 use Rattle.definitions.specs.Trees.{Grammar, yield}
 use Rattle.tables.specs.Decidable.{AreMovesDecided}
-use Rattle.tables.specs.Tables.{IsAccepted}
+use Rattle.tables.specs.Tables.{IsAccepted, Sets}
 use Rattle.reports.specs.Contents.{placed_parts}
-use Rattle.languages.specs.Languages.{LanguageData}
-use Rattle.readings.specs.Answers.{AlwaysAnswers, AnswersOnce}
 use Rattle.readings.specs.Layers.{LayersAnswer}
-use Rattle.languages.proofs.language.Language.always_answers.Goals as goal
+use Rattle.docs.proofs.laws.always_answers.Goals as goal
 
 pub returns-clause-always : goal.returns-clause-always
 returns-clause-always c =
-    let file = c.self.inside.scanner in
-    let same = c.self.invariant in
-    let automaton = c.grammar-grammar.ensures.automaton in
+    let file = c.args.language.now.file in
+    let same = ap (λ (t : Sets). t.grammar) c.tables-2.ensures.is ∙ c.tables-2.ensures.grammar in
     let accepted : IsAccepted file.grammar = subst (λ (g : Grammar). IsAccepted g) same c.start-start.ensures.accepted in
-    let decided : AreMovesDecided file.grammar = subst (λ (g : Grammar). AreMovesDecided g) same c.moves_are_decided.ensures in
+    let decided : AreMovesDecided file.grammar = subst (λ (g : Grammar). AreMovesDecided g) (ap (λ (t : Sets). t.grammar) c.tables.ensures.is ∙ c.tables.ensures.grammar) c.moves_are_decided.ensures in
     let first = accepted.productive.start in
     let begins : IsViable file.grammar [] = (yield first.0, (first.0, record { root = first.1; kinds = refl })) in
     let always : LayersAnswer file = record {
-      tokens = λ t text. c.each_text_has_tokens.ensures file.patterns automaton.0 t automaton.1 text;
+      tokens = λ t text. c.each_text_has_tokens.ensures file.patterns c.automaton-automaton.result.now t c.automaton-automaton.ensures text;
       verdicts = λ kinds. c.each_list_has_a_verdict.ensures file.grammar accepted decided kinds;
       begins = begins;
       settled = λ x viable. c.settled_unique.ensures.exists file.grammar x viable;
@@ -27,17 +24,17 @@ returns-clause-always c =
       folds = λ t tokens trees. c.trees_have_folds.ensures file.grammar trees t (placed_parts file tokens) file.folds;
       selections = λ encoding t tokens trees symbols is roots few. c.each_offset_has_a_selection.ensures encoding file t tokens trees symbols is roots few;
     } in
-    subst (λ (l : LanguageData). AlwaysAnswers l.file) c.self.view_is (c.answers_exist.ensures file always)
+    c.answers_exist.ensures file always
 
 pub returns-clause-once : goal.returns-clause-once
 returns-clause-once c =
-    let file = c.self.inside.scanner in
-    let accepted : IsAccepted file.grammar = subst (λ (g : Grammar). IsAccepted g) c.self.invariant c.start-start.ensures.accepted in
-    let once = c.answers_are_unique.ensures file accepted.free in
-    subst (λ (l : LanguageData). AnswersOnce l.file) c.self.view_is once
+    let file = c.args.language.now.file in
+    let same = ap (λ (t : Sets). t.grammar) c.tables-2.ensures.is ∙ c.tables-2.ensures.grammar in
+    let accepted : IsAccepted file.grammar = subst (λ (g : Grammar). IsAccepted g) same c.start-start.ensures.accepted in
+    c.answers_are_unique.ensures file accepted.free
 
 pub returns-clause-counts : goal.returns-clause-counts
-returns-clause-counts c = c.edits_are_counted_once.ensures c.args.self.now.file (returns-clause-once c)
+returns-clause-counts c = c.edits_are_counted_once.ensures c.args.language.now.file (returns-clause-once c)
 
 pub returns-clause-counted : goal.returns-clause-counted
-returns-clause-counted c = c.edits_are_counted.ensures c.args.self.now.file (returns-clause-always c)
+returns-clause-counted c = c.edits_are_counted.ensures c.args.language.now.file (returns-clause-always c)

@@ -1,5 +1,5 @@
 use Rattle.sessions.proofs.Loop.{IsReady}
-use Rattle.sessions.proofs.stream.serve_input.Given as goal
+use Rattle.sessions.proofs.stream.serve.Given as goal
 
 abbrev pub invariant-loop-count : goal.invariant-loop-count
 invariant-loop-count g l =

@@ -10,7 +10,7 @@ use Rattle.sessions.specs.Sessions.{Session}
 use Rattle.sessions.specs.Loop.{Served, ServedInPart, IsCutShort}
 use Rattle.sessions.proofs.Loop.{IsReady, Fed, at_start, can_serve, fed, read_fails, input_ends, exits, stream_fails, answering_fails, feeding_fails, is_open}
 use Rattle.sessions.proofs.CutSessions.{part_kept, served_kept}
-use Rattle.sessions.proofs.stream.serve_input.Goals as goal
+use Rattle.sessions.proofs.stream.serve.Goals as goal
 
 -- a piece is fed whose answers were written and passed on, where the stop is this one
 flushed : {file : FileGrammar} {ri rm oo om mid : Option (List ℕ)} {fi fo : ℕ} {tail : Tail} {a b : State} {cs : List (List ℕ)} {answered stop : Option ℕ} (rn on : Option (List ℕ)) (new : Tail) (piece : List ℕ) → IsReady file ri rm fi oo om fo tail a → Consumes rm rn piece → GoesOn tail piece cs new → Served om mid a cs answered b → Keeps mid on → answered ≡ stop → Fed file ri rn oo on new b stop
@@ -23,7 +23,7 @@ cut_off_by {file} {ri} {rm} {oo} {om} {fi} {fo} {tail} {a} {cs} {fault} {given} 
     subst (Session file ri rn oo on) (sym passed) (answering_fails file given failures ri rm rn oo om on fi fo tail new a piece cs (subst (λ e. IsCutShort e failures) (sym is) cut) ready read goes part)
 
 pub loop-count-init : goal.loop-count-init
-loop-count-init g c = at_start (g.H.Handler.state c.args.server.now).file _ _ _ _ _ _ c.requires.input c.requires.output c.requires.decoder c.requires.server
+loop-count-init g c = at_start (g.H.Handler.state c.args.server.now).file _ _ _ _ _ _ c.requires.input c.requires.output c.new-decoder.ensures c.requires.server
 
 pub returns-in-Err-clause-session : goal.returns-in-Err-clause-session
 returns-in-Err-clause-session g c = read_fails (g.H.Handler.state c.args.server.now).file _ _ _ _ _ _ _ _ _ c.loop-count.invariant c.in-Err.ensures.bytes
