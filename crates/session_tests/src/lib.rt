@@ -4,6 +4,6 @@
 #[cfg(test)]
 mod devices;
 #[cfg(test)]
-mod sessions;
+mod streams;
 #[cfg(test)]
 mod talks;
