@@ -28,7 +28,6 @@ mod doc;
 pub mod laws;
 mod parses;
 mod pending;
-mod significant;
 
 pub use definitions::{Diagnostic, Position, Range, Stats};
 pub use doc::{Doc, DocFault, Outcome};

@@ -3,8 +3,9 @@
 ghost use Rattle.lexer.specs.Rescans.{significant_kinds};
 ghost use Rattle.parser.specs.Parses.{IsParseOf};
 
-use crate::document::{Change, Document, Language, apply, load, open};
+use crate::document::{Change, Document, apply, load, open};
 use crate::facts::{Branch, Facts, Placed, facts_of, kinds_in};
+use languages::Language;
 use std::alloc::Global;
 use std::process::Abort;
 use worked::{LISTS, SUMS};

@@ -6,8 +6,9 @@ ghost use Rattle.trees.specs.Cells.{Cell};
 ghost use Rattle.lexer.specs.Rescans.{significant_kinds};
 ghost use Rattle.parser.specs.Parses.{IsParseOf};
 
-use crate::document::{Document, Ending, Language, ending_of};
+use crate::document::{Document, Ending, ending_of};
 use definitions::Kind;
+use languages::Language;
 use lexer::{Token, Tokens};
 use parser::Parse;
 use std::alloc::Global;
@@ -124,7 +125,7 @@ pub fn facts_of(rt: &impl Abort, alloc: Global, language: &Language, document: &
         tokens: placed_tokens(rt, alloc, &document.tokens),
         branches: branches_of(rt, alloc, &document.store, document.parse.stack()),
         ending: ending_of(&document.parse),
-        expected: expected_of(rt, alloc, &language.tables, &document.parse),
+        expected: expected_of(rt, alloc, language.tables(), &document.parse),
     }
 }
 

@@ -6,8 +6,9 @@ ghost use Rattle.lexer.specs.Tokens.{AreTokensOf};
 ghost use Rattle.lexer.specs.Rescans.{significant_kinds};
 ghost use Rattle.parser.specs.Parses.{IsParseOf};
 
-use crate::document::{Change, Document, Language, Significant, apply, load, open, rescan};
+use crate::document::{Change, Document, apply, load, open, rescan};
 use definitions::Kind;
+use languages::{Language, Significant};
 use lexer::KindsAhead;
 use std::alloc::Global;
 use std::cell::Cell;
@@ -64,7 +65,7 @@ fn reads_for(
     change: &Change<'_>,
 ) -> (usize, usize)
     requires tokens { let d = document.old in
-        AreTokensOf (lexicon_of language.now.scanner) d.text d.tokens.items }
+        AreTokensOf (lexicon_of language.now.file) d.text d.tokens.items }
     requires parse { IsParseOf language.now.tables (significant_kinds document.old.tokens.items)
         document.old.store document.old.parse }
     requires inside { change.now.at + change.now.removed ≤ length document.old.text }
@@ -76,7 +77,7 @@ fn reads_for(
         reads: Cell::new(0),
         places: Cell::new(0),
     };
-    let (tables, store) = (&language.tables, &mut document.store);
+    let (tables, store) = (language.tables(), &mut document.store);
     document
         .parse
         .change(alloc, tables, store, &kinds, splice, change.number)

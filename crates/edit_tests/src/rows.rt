@@ -6,7 +6,8 @@ ghost use Rattle.lexer.specs.Tokens.{AreTokensOf};
 ghost use Rattle.lexer.specs.Rescans.{significant_kinds};
 ghost use Rattle.parser.specs.Parses.{IsParseOf};
 
-use crate::document::{Change, Document, Ending, Language, apply, ending_of, load, open};
+use crate::document::{Change, Document, Ending, apply, ending_of, load, open};
+use languages::Language;
 use std::alloc::Global;
 use std::process::Abort;
 use worked::{LISTS, SUMS};
@@ -50,11 +51,11 @@ fn check_row(
     row: &Row<'_>,
 )
     requires tokens { let d = document.old in
-        AreTokensOf (lexicon_of language.now.scanner) d.text d.tokens.items }
+        AreTokensOf (lexicon_of language.now.file) d.text d.tokens.items }
     requires parse { IsParseOf language.now.tables (significant_kinds document.old.tokens.items)
         document.old.store document.old.parse }
     ensures tokens { let d = document.new in
-        AreTokensOf (lexicon_of language.now.scanner) d.text d.tokens.items }
+        AreTokensOf (lexicon_of language.now.file) d.text d.tokens.items }
     ensures parse { IsParseOf language.now.tables (significant_kinds document.new.tokens.items)
         document.new.store document.new.parse }
 {

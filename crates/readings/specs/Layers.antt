@@ -23,5 +23,6 @@ pub record LayersAnswer (file : FileGrammar) : Type 0 where
       → (rules : List ℕ) × (at_end : Bool) × IsExpected file.grammar x rules at_end
   pub folds : (t : List ℕ) (tokens : List Token) (trees : List Tree) → (pairs : List (ℕ × ℕ)) × AreFoldsOf file t tokens trees pairs
   pub selections : (encoding : Encoding) (t : List ℕ) (tokens : List Token) (trees : List Tree) (symbols : List Symbol)
-      → AreTokens file.patterns t tokens → HaveRoots file.grammar trees symbols → length (all_kinds trees) ≤ length (kinds file.skips tokens)
+      → AreTokens file.patterns t tokens → HaveRoots file.grammar trees symbols
+      → length (all_kinds trees) ≤ length (kinds file.skips tokens)
       → (o : ℕ) → (ranges : List Range) × IsSelectionOf encoding file t tokens trees o ranges

@@ -6,6 +6,6 @@ use Rattle.edit_tests.proofs.rows.check.Given as goal
 
 abbrev pub invariant-rows : goal.invariant-rows
 invariant-rows g l = record {
-  tokens : AreTokensOf (lexicon_of l.language.scanner) l.document.text l.document.tokens.items;
+  tokens : AreTokensOf (lexicon_of l.language.file) l.document.text l.document.tokens.items;
   parse : IsParseOf l.language.tables (significant_kinds l.document.tokens.items) l.document.store l.document.parse;
 }

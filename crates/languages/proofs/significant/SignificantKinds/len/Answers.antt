@@ -3,7 +3,7 @@ use Rattle.std.specs.Prelude.{filter}
 use Rattle.std.proofs.lemmas.List.{length-map}
 use Rattle.std.proofs.lemmas.List.Sums.{length-filter}
 use Rattle.lexer.specs.Tokens.{is_significant, kind_in}
-use Rattle.edit_tests.proofs.document.SignificantKinds.len.Goals as goal
+use Rattle.languages.proofs.significant.SignificantKinds.len.Goals as goal
 
 pub returns : goal.returns
 returns c =
