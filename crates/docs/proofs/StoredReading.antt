@@ -3,6 +3,7 @@ use Rattle.std.proofs.Common.{◌≡◌, ◌≤◌, ◌⊎◌, ◌↔◌, inl, i
 use Rattle.std.specs.Prelude.{Option, None, option_map, Some, Vec, filter, Result, Ok, Err, IfOk}
 use Rattle.std.specs.Global.{Global}
 use Rattle.std.specs.List.{AllByRecursion}
+use Rattle.std.proofs.lemmas.Result.{IfOk-weaker}
 use Rattle.std.proofs.lemmas.List.Elements.{recursion_from_All}
 use Rattle.definitions.specs.declared.Kind.{Kind}
 use Rattle.definitions.specs.declared.Range.{Range}
@@ -40,15 +41,6 @@ use Rattle.docs.specs.Docs.{IsCurrent}
 use Rattle.languages.specs.Languages.{LanguageData}
 use Rattle.docs.specs.Outcomes.{IsOutcome}
 use Rattle.readings.specs.Answers.{Reading, IsReading, Reads, rows, written_tree, AreSelections, IsReported}
-
--- what a function answers, said in other words
-pub if_ok : {T E : Type 0} {P Q : T → Type 0} (r : Result T E) → ((x : T) → P x → Q x) → IfOk r P → IfOk r Q
-if_ok (Ok x) f p = f x p
-if_ok (Err e) f p = tt
-
-pub if_ok_both : {T E : Type 0} {P Q R : T → Type 0} (r : Result T E) → ((x : T) → P x → Q x → R x) → IfOk r P → IfOk r Q → IfOk r R
-if_ok_both (Ok x) f p q = f x p q
-if_ok_both (Err e) f p q = tt
 
 -- ---- the kinds of significant tokens
 
@@ -173,7 +165,7 @@ pub selection_answered : {E : Type 0} (encoding : Encoding) (l : LanguageData) (
     → IfOk result (λ ranges. IsSelectionOf encoding l.file d.text (map plain d.tokens.items) (trees_of_roots d.store d.parse.stack) (offset encoding d.text position) ranges.items)
 selection_answered encoding l d roots result at position current has stack same found =
     let is = found current.tokens (roots_found l d l.file roots current has refl stack) in
-    if_ok result (λ ranges reported. subst (λ (o : ℕ). IsSelectionOf encoding l.file d.text (map plain d.tokens.items) (trees_of_roots d.store d.parse.stack) o ranges.items) same (subst (λ (cs : List Child). IsSelectionOf encoding l.file d.text (map plain d.tokens.items) (trees_of_roots d.store cs) at ranges.items) stack reported)) is
+    IfOk-weaker result _ _ (λ ranges reported. subst (λ (o : ℕ). IsSelectionOf encoding l.file d.text (map plain d.tokens.items) (trees_of_roots d.store d.parse.stack) o ranges.items) same (subst (λ (cs : List Child). IsSelectionOf encoding l.file d.text (map plain d.tokens.items) (trees_of_roots d.store cs) at ranges.items) stack reported)) is
 
 -- the selections around more and more positions
 pub selections_more : (encoding : Encoding) (l : LanguageData) (t : List ℕ) (reading : Reading) (positions : List Position) (p : Position) (selections : List (List Range)) (one : List Range) → AreSelections encoding l.file t reading positions selections → IsSelectionOf encoding l.file t reading.tokens reading.trees (offset encoding t p) one → AreSelections encoding l.file t reading (positions ++ (p ∷ [])) (selections ++ (one ∷ []))

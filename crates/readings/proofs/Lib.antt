@@ -1,4 +1,5 @@
 pub mod Texts
+pub mod Results
 mod Trees
 mod EachReadingExists
 mod EachReadingIsUnique

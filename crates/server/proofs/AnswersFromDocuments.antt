@@ -2,6 +2,7 @@
 use Rattle.std.proofs.Common.{◌≡◌, ℕ, List, Bool, true, false, refl, ap}
 use Rattle.std.specs.Prelude.{Option, Some, None, option_map, Result, Ok, Err, IfOk, OnOk, OnErr}
 use Rattle.std.specs.Result.{is_err}
+use Rattle.std.proofs.lemmas.Result.{IfOk-weaker}
 use Rattle.rpc.specs.Diagnostic.{Diagnostic as Stored}
 use Rattle.docs.specs.Answers.{Diagnostic}
 use Rattle.docs.specs.Answers.{Reading, IsReported, Reads}
@@ -11,18 +12,9 @@ use Rattle.rpc.specs.Replies.{diagnostic_view, published_diagnostics}
 use Rattle.docs.specs.Diagnostics.{in_utf8, stored_diagnostic, IsDiagnosis}
 use Rattle.sessions.specs.Answers.{IsPublished, shown}
 
--- what a function answers, said in other words
-pub if_ok : {T E : Type 0} {P Q : T → Type 0} (r : Result T E) → ((x : T) → P x → Q x) → IfOk r P → IfOk r Q
-if_ok (Ok x) f p = f x p
-if_ok (Err e) f p = tt
-
--- so, with what is answered first
+-- what follows of a fact of a value, with the fact first
 pub if_ok_then : {T E : Type 0} {P Q : T → Type 0} (r : Result T E) → IfOk r P → ((x : T) → P x → Q x) → IfOk r Q
-if_ok_then r p f = if_ok r f p
-
-pub if_ok_both : {T E : Type 0} {P Q R : T → Type 0} (r : Result T E) → ((x : T) → P x → Q x → R x) → IfOk r P → IfOk r Q → IfOk r R
-if_ok_both (Ok x) f p q = f x p q
-if_ok_both (Err e) f p q = tt
+if_ok_then r p f = IfOk-weaker r _ _ f p
 
 -- what is reported of a text, in other words
 pub reads_so : (file : FileGrammar) (t : List ℕ) (P Q : Reading → Type 0) → ((reading : Reading) → P reading → Q reading) → Reads file t P → Reads file t Q

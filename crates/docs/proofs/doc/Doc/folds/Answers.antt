@@ -1,4 +1,5 @@
-use Rattle.docs.proofs.StoredReading.{if_ok, has_the_nodes, roots_found, folds_shown}
+use Rattle.std.proofs.lemmas.Result.{IfOk-weaker}
+use Rattle.docs.proofs.StoredReading.{has_the_nodes, roots_found, folds_shown}
 use Rattle.docs.proofs.doc.Doc.folds.Goals as goal
 
 pub folds-requires-clause-roots : goal.folds-requires-clause-roots
@@ -9,4 +10,4 @@ folds-requires-clause-roots c =
 pub returns : goal.returns
 returns c =
     let has = has_the_nodes c.stack_has_the_nodes_of_the_document.ensures c.args.language.now c.args.self.now c.requires in
-    if_ok c.folds.result (λ pairs are. folds_shown c.args.language.now c.args.self.now c.grammar.result.now c.stack.result.now pairs.items c.requires has c.grammar.ensures c.stack.ensures are) c.folds.ensures
+    IfOk-weaker c.folds.result _ _ (λ pairs are. folds_shown c.args.language.now c.args.self.now c.grammar.result.now c.stack.result.now pairs.items c.requires has c.grammar.ensures c.stack.ensures are) c.folds.ensures

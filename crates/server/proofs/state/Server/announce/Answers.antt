@@ -5,7 +5,7 @@ use Rattle.rpc.specs.Replies.{reply_view}
 use Rattle.sessions.specs.Answers.{IsPublished}
 use Rattle.server.specs.States.{state_view}
 use Rattle.server.proofs.Holding.{holds_open}
-use Rattle.server.proofs.AnswersFromDocuments.{if_ok_both}
+use Rattle.readings.proofs.Results.{if_ok_both}
 use Rattle.server.proofs.state.Server.announce.Goals as goal
 
 pub returns-in_ok-publish-in-Open : goal.returns-in_ok-publish-in-Open

@@ -11,7 +11,7 @@ use Rattle.sessions.specs.Documents.{is_open, is_lost, Becomes}
 use Rattle.server.specs.Holding.{entry_view}
 use Rattle.server.specs.States.{state_view}
 use Rattle.server.proofs.Holding.{changes_open, state_same}
-use Rattle.server.proofs.AnswersFromDocuments.{if_ok}
+use Rattle.std.proofs.lemmas.Result.{IfOk-weaker}
 use Rattle.server.proofs.state.Server.change.Goals as goal
 
 pub returns : goal.returns
@@ -31,4 +31,4 @@ returns c =
     let changes = map change_view c.args.changes.now in
     let by_language = subst (λ (v : ℤ). Becomes c.language.result.now.file v d changes (entry_view entry)) (to_z-of_z w32 c.args.version c.ranges.version) c.apply_changes-entry.ensures.becomes in
     let becomes : Becomes file c.args.version d changes (entry_view entry) = subst (λ (l : LanguageData). Becomes l.file c.args.version d changes (entry_view entry)) (c.language.ensures ∙ c.take.ensures.language) by_language in
-    if_ok c.hold.result (λ out holds. changes_open (state_view old) _ uri (is_lost Memory) doc c.args.version changes (entry_view entry) _ _ _ held mid becomes holds) c.hold.ensures
+    IfOk-weaker c.hold.result _ _ (λ out holds. changes_open (state_view old) _ uri (is_lost Memory) doc c.args.version changes (entry_view entry) _ _ _ held mid becomes holds) c.hold.ensures

@@ -5,7 +5,7 @@ use Rattle.docs.specs.Languages.{LanguageData}
 use Rattle.server.specs.States.{state_view}
 use Rattle.server.proofs.Holding.{closes_none, state_same}
 use Rattle.sessions.proofs.LookUps.{none_is, removed_none}
-use Rattle.server.proofs.AnswersFromDocuments.{if_ok_both}
+use Rattle.readings.proofs.Results.{if_ok_both}
 use Rattle.server.proofs.state.Server.close.Goals as goal
 
 pub returns-then-not-remove : goal.returns-then-not-remove

@@ -6,7 +6,7 @@ use Rattle.sessions.specs.Sent.{sent}
 use Rattle.sessions.specs.Steps.{State, Holds}
 use Rattle.server.specs.States.{state_view}
 use Rattle.server.proofs.Holding.{state_of, state_same}
-use Rattle.server.proofs.AnswersFromDocuments.{if_ok}
+use Rattle.std.proofs.lemmas.Result.{IfOk-weaker}
 use Rattle.server.proofs.state.Server.hold.Goals as goal
 
 pub returns : goal.returns
@@ -15,7 +15,7 @@ returns c =
     let uri = string_bytes c.args.uri in
     let state = entry_view c.args.entry in
     let same = state_same _ _ old.phase _ _ (ap (λ (l : LanguageData). l.file) c.in_ok-insert.ensures.language) c.in_ok-insert.ensures.ok in
-    if_ok c.announce-out.result
+    IfOk-weaker c.announce-out.result _ _
     (λ out announced.
     let here = subst (λ (u : List ℕ). Holds old u state (sent out) out.stop (state_of old.file old.phase (insert old.documents u state))) c.as_str.ensures.value announced in
     subst (λ (s : State). Holds old uri state (sent out) out.stop s) (sym same) here)
