@@ -1,6 +1,6 @@
 //! What the commands do, over the bytes of files.
 
-ghost use Rattle.std.specs.Prelude.{◌≡◌, ℕ, ◌++◌, List, [], IfOk, IfErr, OnOk, string_bytes};
+ghost use Rattle.std.specs.Prelude.{◌≡◌, ℕ, ◌++◌, List, IfOk, IfErr, OnOk, string_bytes};
 ghost use Rattle.std.specs.Str.{IsUtf8, chars};
 ghost use Rattle.docs.specs.Outcomes.{IsOutcome};
 ghost use Rattle.docs.specs.Docs.{IsCurrent};

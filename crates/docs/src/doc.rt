@@ -1,6 +1,6 @@
 //! A document that is open: its version and text, with the tokens of the text and their parse.
 
-ghost use Rattle.std.specs.Prelude.{◌≡◌, ◌↔◌, ℕ, Option, Err, None, Some, true, false, string_bytes, encode_utf8_all, length, map, option_map, IfOk, OnOk};
+ghost use Rattle.std.specs.Prelude.{◌≡◌, ◌↔◌, Option, Err, None, Some, true, false, string_bytes, encode_utf8_all, length, map, option_map, IfOk, OnOk};
 ghost use Rattle.std.specs.Str.{chars};
 ghost use Rattle.definitions.specs.Answers.{Diagnostic as Fault};
 ghost use Rattle.definitions.specs.Text.{changed, offset};

@@ -3,7 +3,7 @@
 ghost use Rattle.std.specs.Prelude.{◌≡◌, ◌+◌, ◌<◌, ◌≤◌, ◌^◌, ℕ, List, Err, Some, true, false, IfOk, IfErr, OnOk, OnErr, MatchOption, length, min};
 ghost use Rattle.std.specs.Str.{chars};
 ghost use Rattle.definitions.specs.Text.{changed, edit};
-ghost use Rattle.docs.specs.Docs.{last_edit, open_document, IsCurrent};
+ghost use Rattle.docs.specs.Docs.{last_edit, IsCurrent};
 ghost use Rattle.readings.specs.Edits.{number_of};
 ghost use Rattle.languages.specs.Languages.{LanguageData};
 ghost use Rattle.docs.specs.Pending.{HasNone, IsPending, LeadsTo, pending_number, pending_text, pending_unit, pending_version};

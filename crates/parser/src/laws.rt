@@ -1,16 +1,14 @@
 //! What is proved of verdicts, as contracts of functions that do nothing.
 
-ghost use Rattle.std.specs.Prelude.{◌≡◌, ◌↔◌, ◌≤◌, ℕ, Bool, IsTrue, List, length};
+ghost use Rattle.std.specs.Prelude.{◌≡◌, ◌↔◌, ◌≤◌, ℕ, IsTrue, List, length};
 ghost use Rattle.definitions.specs.declared.Kind.{Kind};
 ghost use Rattle.definitions.specs.Answers.{Node};
 ghost use Rattle.definitions.specs.DocumentNodes.{AreDocumentTrees, IsNodeOf};
 ghost use Rattle.definitions.specs.Trees.{Grammar, Tree, all_kinds};
 ghost use Rattle.definitions.specs.Items.{HasNoConflict};
-ghost use Rattle.definitions.specs.Sentences.{IsExpected, IsVerdict, IsViable, Verdict};
+ghost use Rattle.definitions.specs.Sentences.{IsVerdict, Verdict};
 ghost use Rattle.definitions.specs.TokenEdits.{Splice};
 ghost use Rattle.definitions.specs.TreeEdits.{Built, Stamped, plain_trees};
-ghost use Rattle.tables.specs.Decidable.{AreMovesDecided};
-ghost use Rattle.tables.specs.Tables.{IsAccepted};
 ghost use Rattle.parser.specs.Parses.{AreStacked, all_branches_by};
 ghost use Rattle.parser.specs.Stamps.{StampsKept};
 ghost use Rattle.parser.specs.declared.parse.Verdict.{Verdict as Answer};

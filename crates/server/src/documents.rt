@@ -1,6 +1,6 @@
 //! The documents that a server holds.
 
-ghost use Rattle.std.specs.Prelude.{◌≡◌, ◌||◌, None, nat_lt, is_some, option_map, IfSome, OnOk, OnErr, string_bytes};
+ghost use Rattle.std.specs.Prelude.{◌≡◌, ◌||◌, None, option_map, IfSome, OnOk, OnErr, string_bytes};
 ghost use Rattle.std.specs.FinMap as map;
 ghost use Rattle.rpc.specs.declared.reply.Loss.TheVariants.{Memory};
 ghost use Rattle.sessions.specs.Documents.{has_room, is_lost};

@@ -3,9 +3,8 @@
 ghost use Rattle.std.specs.Prelude.{◌≡◌, map, IfOk, string_bytes};
 ghost use Rattle.std.specs.Str.{chars};
 ghost use Rattle.std.specs.FinMap.{get, insert};
-ghost use Rattle.docs.specs.Docs.{open_document};
 ghost use Rattle.rpc.specs.Messages.{note_view, malformed_view, change_view};
-ghost use Rattle.sessions.specs.Documents.{has_room, Becomes};
+ghost use Rattle.sessions.specs.Documents.{has_room};
 ghost use Rattle.server.specs.Holding.{entry_view, IsEntryOf};
 ghost use Rattle.sessions.specs.Sent.{sent};
 ghost use Rattle.sessions.specs.Steps.{State, new_document, exit_status, Changes, Closes, Holds, OnMalformed, Opens, Spoils, OnNotification};

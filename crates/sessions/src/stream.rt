@@ -1,9 +1,8 @@
 //! The loop from bytes to bytes.
 
-ghost use Rattle.std.specs.Prelude.{◌≡◌, ◌↔◌, ◌∷◌, [], ℕ, List, All, Err, map, IfOk, IfErr, IfSome, OnOk, OnErr, IsErrOf};
+ghost use Rattle.std.specs.Prelude.{◌≡◌, ◌↔◌, ◌∷◌, [], Err, map, IfErr, IfSome, OnOk, OnErr, IsErrOf};
 ghost use Rattle.std.specs.Io.KnownBytes.{Appends, Keeps};
 ghost use Rattle.frames.specs.Contents.{contents};
-ghost use Rattle.frames.specs.Frames.{Open};
 ghost use Rattle.readings.specs.Answers.{AlwaysAnswers};
 ghost use Rattle.rpc.specs.Messages.{received_of};
 ghost use Rattle.rpc.specs.Reading.{Receives};
