@@ -18,7 +18,7 @@ NO_RT = (
     "lrls: add the kit's folder bin to PATH; {top}/README.md names the kit's version, under \"What you need\"\n"
 )
 UNBUILT = (
-    "lrls: the program isn't built yet; each of these proves and builds it first, which takes half an hour or more\n"
+    "lrls: the program isn't built yet; each of these proves and builds it first, which takes twenty minutes or more\n"
     "lrls: for an answer in a minute or two, without a proof: lrls --unproved check GRAMMAR, or parse GRAMMAR TEXT\n"
     "lrls: for a copy of the built program: lrls install FOLDER\n"
 )
@@ -32,7 +32,7 @@ NOT_FROM_AN_EDITOR = (
     "lrls: run this in a terminal first: {top}/lrls check GRAMMAR\n"
 )
 BUILDING = (
-    "lrls: not built yet: proving and building 1 crates, up to {jobs} side by side; the first time takes half an hour or more\n"
+    "lrls: not built yet: proving and building 1 crates, up to {jobs} side by side; the first time takes twenty minutes or more\n"
     "lrls: for an answer in a minute or two, without a proof: lrls --unproved check GRAMMAR, or parse GRAMMAR TEXT\n"
     "lrls: built\n"
 )
