@@ -1,6 +1,6 @@
 //! The language of a grammar file: its scanner and its tables.
 
-ghost use Rattle.std.specs.Prelude.{◌≡◌, length, All, IfOk, IfErr};
+ghost use Rattle.std.specs.Prelude.{◌≡◌, length, All, IfOk, IfErr, OnErr};
 ghost use Rattle.std.specs.Str.{chars};
 ghost use Rattle.definitions.specs.TokenEdits.{plain_splice};
 ghost use Rattle.dfa.specs.Table.{IsAutomaton};
@@ -158,7 +158,7 @@ impl Language {
     }
 
     /// Brings the tokens to the text after an edit, and returns how the kinds of the significant ones change. Refuses for memory
-    /// alone.
+    /// alone, and leaves them as they were then.
     pub fn rescan(
         &self,
         alloc: Global,
@@ -167,8 +167,9 @@ impl Language {
         edit: Edit,
     ) -> Result<KindSplice, AllocError>
         requires { IsEdited (lexicon_of self.now.file) edit tokens.old.items text.now }
-        ensures { IfOk result (λ s. AreTokensAfter (lexicon_of self.now.file) edit text.now
+        ensures after { IfOk result (λ s. AreTokensAfter (lexicon_of self.now.file) edit text.now
             (plain_splice s) tokens.old tokens.new) }
+        ensures err { OnErr result (tokens.new ≡ tokens.old) }
     {
         // The read opens the invariant of the text.
         let _length = text.len();

@@ -2,8 +2,8 @@
 //!
 //! `Language::load` makes a language from a grammar file's text, or returns why the file defines none: the first fault
 //! of the text, too many states of the automaton, too many sets of the tables, or a conflict. `scan` and `rescan` give
-//! the tokens of a text, anew and after an edit; `grammar`, `automaton` and `tables` are what the language is made of. `Significant` has
-//! the kinds of the tokens as a parser reads them.
+//! the tokens of a text, anew and after an edit; `grammar`, `automaton` and `tables` are what the language is made of.
+//! `Significant` has the kinds of the tokens as a parser reads them.
 //!
 //! Words: a contract sees a language as `LanguageData`, what its file defines and its tables.
 //!

@@ -43,9 +43,9 @@ returns-clause-changed c =
     let number = c.in_ok-reparse.ensures.changed.number ∙ (c.saturating_add.ensures ∙ ap (λ n. min (n + 1) 18_446_744_073_709_551_615) c.number.ensures) in
     let some = next_positive old.parse.number next.parse.number number in
     let later = next_later old.parse.number next.parse.number number (omega (arith, c.number.type_inv, c.number.ensures)) in
-    let born = born_on _ old.tokens.items next.tokens.items old.parse.number c.in_ok-splice.ensures.kept (subst (λ n. old.parse.number ≤ n) c.in_ok-reparse.ensures.changed.number later) c.requires.born in
+    let born = born_on _ old.tokens.items next.tokens.items old.parse.number c.in_ok-splice.ensures.after.kept (subst (λ n. old.parse.number ≤ n) c.in_ok-reparse.ensures.changed.number later) c.requires.born in
     let current : IsCurrent l next = record {
-      tokens = c.in_ok-splice.ensures.tokens;
+      tokens = c.in_ok-splice.ensures.after.tokens;
       parse = c.in_ok-reparse.ensures.changed.parse;
       grammar = c.requires.grammar;
       born = subst (λ n. All (λ x. x.born ≤ n) next.tokens.items) (sym c.in_ok-reparse.ensures.changed.number) born;
@@ -58,8 +58,8 @@ returns-clause-changed c =
     let edit = same_edit old.unit old.text c.args.range s c.span-from.result _ c.saturating_add.result next.parse.number c.span-from.ensures.is inserted (sym c.in_ok-reparse.ensures.changed.number) in
     record {
       is = ap reported text;
-      last = next_is l old next c.requires current old.unit c.args.range s _ _ (omega (arith, c.number.type_inv, c.number.ensures)) text number edit c.in_ok-splice.ensures.splice c.in_ok-splice.ensures.scanned (λ older. c.in_ok-reparse.ensures.changed.built (subst (λ n. AreOlder n (all_trees old.store old.parse.stack)) c.in_ok-reparse.ensures.changed.number older)) (λ younger. subst (λ n. AreMadeBy n (forest_in next.store next.parse.stack)) (sym c.in_ok-reparse.ensures.changed.number) (c.in_ok-reparse.ensures.changed.anew (λ older. younger (subst (λ n. AreOlder n (all_trees old.store old.parse.stack)) (sym c.in_ok-reparse.ensures.changed.number) older))));
-      stamps = stamped_so l.file _ _ old next c.in_ok-splice.ensures.splice c.in_ok-splice.ensures.kept c.in_ok-reparse.ensures.changed.stamps c.in_ok-reparse.ensures.changed.older c.in_ok-reparse.ensures.changed.anew _ (edit ∙ ap (edit_of old.unit old.text c.args.range s) (number_after_edit old next number));
+      last = next_is l old next c.requires current old.unit c.args.range s _ _ (omega (arith, c.number.type_inv, c.number.ensures)) text number edit c.in_ok-splice.ensures.after.splice c.in_ok-splice.ensures.after.scanned (λ older. c.in_ok-reparse.ensures.changed.built (subst (λ n. AreOlder n (all_trees old.store old.parse.stack)) c.in_ok-reparse.ensures.changed.number older)) (λ younger. subst (λ n. AreMadeBy n (forest_in next.store next.parse.stack)) (sym c.in_ok-reparse.ensures.changed.number) (c.in_ok-reparse.ensures.changed.anew (λ older. younger (subst (λ n. AreOlder n (all_trees old.store old.parse.stack)) (sym c.in_ok-reparse.ensures.changed.number) older))));
+      stamps = stamped_so l.file _ _ old next c.in_ok-splice.ensures.after.splice c.in_ok-splice.ensures.after.kept c.in_ok-reparse.ensures.changed.stamps c.in_ok-reparse.ensures.changed.older c.in_ok-reparse.ensures.changed.anew _ (edit ∙ ap (edit_of old.unit old.text c.args.range s) (number_after_edit old next number));
       current = current;
     }
 
