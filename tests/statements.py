@@ -16,6 +16,8 @@ WIDTH_OF_CONTRACTS = 100
 WIDTH_OF_DEFINITIONS = 140
 
 CLAUSE = re.compile(r"^\s*(?:ensures|requires|invariant|ghost view)\b")
+GHOST_USE = re.compile(r"^[ \t]*ghost use [^;]*?\{([^}]*)\};", re.M)
+ANY_USE = re.compile(r"^[ \t]*(?:pub )?(?:ghost )?use [^;]*;|//[^\n]*", re.M)
 
 
 def used_elsewhere(top, definitions):
@@ -54,6 +56,23 @@ def wide_definitions(top):
         for number, line in enumerate(lines_of(path), 1)
         if len(line) > WIDTH_OF_DEFINITIONS
     ]
+
+
+def is_named(name, text):
+    """Whether a text has all parts of a name: an operator's are what stands between the places of its arguments."""
+    parts = filter(None, name.split(" as ")[-1].strip().split("◌"))
+    return all(re.search(rf"(?<![\w']){re.escape(it)}(?![\w'])" if it[0].isalpha() else re.escape(it), text) for it in parts)
+
+
+def idle_imports(top):
+    """The names that a file brings in for its contracts, and doesn't name."""
+    idle = []
+    for path in files_of(top, "src", ".rt"):
+        text = "\n".join(lines_of(path))
+        rest = ANY_USE.sub("", text)
+        names = [name.strip() for inner in GHOST_USE.findall(text) for name in inner.split(",")]
+        idle += [f"{os.path.relpath(path, top)}: {name}" for name in names if not is_named(name, rest)]
+    return idle
 
 
 def wrong_edits(top):
@@ -96,4 +115,5 @@ def check(cases, top):
     cases.check("docs/THEOREM.md gives the lines of the crates", sizes(top), reported)
     cases.check("no line of a contract is too wide", [], wide_clauses(top))
     cases.check("no line of a definition is too wide", [], wide_definitions(top))
+    cases.check("each name that a contract's file brings in is named there", [], idle_imports(top))
     cases.check("README.md has at most 1,800 words", True, len(page(top, "README.md").split()) <= 1_800)

@@ -14,7 +14,7 @@ ghost use Rattle.definitions.specs.declared.expression.Expression.{Expression};
 ghost use Rattle.definitions.specs.declared.expression.Interval.{Interval};
 ghost use Rattle.definitions.specs.declared.expression.PatternCause.{PatternCause};
 ghost use Rattle.definitions.specs.declared.expression.PatternFault.{PatternFault};
-ghost use Rattle.definitions.specs.Text.{IsCharacter, edit, offset, position};
+ghost use Rattle.definitions.specs.Text.{IsCharacter, offset, position};
 ghost use Rattle.definitions.specs.Patterns.{is_in_class};
 ghost use Rattle.definitions.specs.PatternFaults.{is_nothing};
 ghost use Rattle.definitions.specs.Tokens.{Token, Placed, IsToken, AreTokens};

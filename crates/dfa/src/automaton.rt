@@ -1,5 +1,5 @@
 //! The table of an automaton, and its longest matches.
-ghost use Rattle.std.specs.Prelude.{◌≡◌, ◌⊎◌, ℕ, ◌+◌, ◌-◌, ◌^◌, ◌<◌, ◌≤◌, All, take, drop, slice_index_or, length, List, IfSome, IsTrue, Some};
+ghost use Rattle.std.specs.Prelude.{◌≡◌, ◌⊎◌, ℕ, ◌+◌, ◌-◌, ◌^◌, ◌<◌, ◌≤◌, All, take, drop, length, List, IfSome, IsTrue, Some};
 ghost use Rattle.definitions.specs.declared.expression.Expression.{Expression};
 ghost use Rattle.definitions.specs.Tokens.{IsPiece, IsReach};
 ghost use Rattle.dfa.specs.Table.{part, follower, kind_of, IsAutomaton, Stays};

@@ -3,7 +3,7 @@ ghost use Rattle.std.specs.Prelude.{◌≡◌, ℕ, ◌+◌, ◌<◌, ◌≤◌,
 ghost use Rattle.definitions.specs.declared.expression.Expression.{Expression};
 ghost use Rattle.dfa.specs.Alphabet.{representative};
 ghost use Rattle.dfa.specs.Built.{AreEntries, AreRows, AreRules, AreStates, Grows, IsNumber, IsReached, Placed, kept, members};
-ghost use Rattle.dfa.specs.Marks.{all_holders, all_positions, marks_of, unmarked};
+ghost use Rattle.dfa.specs.Marks.{all_holders, all_positions, marks_of};
 ghost use Rattle.dfa.specs.Positions.{HasMoreStatesThan};
 ghost use Rattle.dfa.specs.Sets.{AreBlank, AreMarksOf, Rises};
 ghost use Rattle.dfa.specs.Trees.{IsCounted, all_counts, all_tree_next, first_tree_end};

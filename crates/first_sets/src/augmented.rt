@@ -1,5 +1,5 @@
 //! A grammar with the added start production, as items are read by it.
-ghost use Rattle.std.specs.Prelude.{◌≡◌, ◌<◌, ◌+◌, ◌^◌, ◌↔◌, ◌∷◌, ◌++◌, ℕ, [], true, Option, IsTrue, IfOk, OnOk, IfSome, All, Contains, length, slice_index_or};
+ghost use Rattle.std.specs.Prelude.{◌≡◌, ◌<◌, ◌+◌, ◌↔◌, ◌∷◌, ◌++◌, ℕ, [], Option, IsTrue, IfOk, OnOk, IfSome, All, Contains, length, slice_index_or};
 ghost use Rattle.definitions.specs.Trees.{left_of, right_of};
 ghost use Rattle.first_sets.specs.Lookaheads.{rank};
 ghost use Rattle.first_sets.specs.Productions.{IsKnown, IsSound, AreByLeft};

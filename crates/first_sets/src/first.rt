@@ -1,8 +1,7 @@
 //! Which nonterminals are nullable, and with which token rules they can begin.
-ghost use Rattle.std.specs.Prelude.{◌≡◌, ◌<◌, ◌≤◌, ◌↔◌, ℕ, Bool, true, false, List, [], Option, Some, None, length, All, IsTrue, IfOk, IfSome, slice_index_or, slice_set};
+ghost use Rattle.std.specs.Prelude.{◌≡◌, ◌<◌, ◌≤◌, ◌↔◌, true, false, [], Option, Some, None, length, All, IsTrue, IfOk, IfSome, slice_index_or};
 ghost use Rattle.definitions.specs.declared.Symbol.{Symbol};
-ghost use Rattle.definitions.specs.Trees.{HasProduction};
-ghost use Rattle.first_sets.specs.First.{nullable_by, begin_by, holds_by, AreTrue, AreClosed, AreExact, AreFirst, unmarked};
+ghost use Rattle.first_sets.specs.First.{nullable_by, begin_by, holds_by, AreTrue, AreClosed, AreFirst, unmarked};
 ghost use Rattle.theory.specs.First.{MayFollow};
 ghost use Rattle.theory.specs.First.{IsNullable, InFirst};
 ghost use Rattle.first_sets.specs.Productions.{IsSound, IsKnown};

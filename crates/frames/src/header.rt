@@ -1,6 +1,6 @@
 //! The header part of a frame (LSP 3.17, "Header Part").
 
-ghost use Rattle.std.specs.Prelude.{◌≡◌, ◌↔◌, ◌+◌, ◌-◌, ◌<◌, ◌≤◌, length, take, drop, ◌≢◌, IfSome, IfOk, IfErr, IsTrue, Ok, Err, is_some, option_map, position, ◌==◌};
+ghost use Rattle.std.specs.Prelude.{◌≡◌, ◌↔◌, ◌+◌, ◌-◌, ◌<◌, ◌≤◌, length, take, drop, IfSome, IfOk, IfErr, IsTrue, Ok, Err, is_some, option_map, position, ◌==◌};
 ghost use Rattle.std.specs.Option.{option_or, option_map_or};
 ghost use Rattle.std.specs.List.{list_all};
 ghost use Rattle.std.specs.Char.{is_ascii_digit};

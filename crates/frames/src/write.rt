@@ -1,6 +1,6 @@
 //! Frames as bytes (LSP 3.17, "Base Protocol").
 
-ghost use Rattle.std.specs.Prelude.{◌≡◌, ◌+◌, ◌^◌, ◌<◌, ◌≤◌, length, take, decimal, MatchResult};
+ghost use Rattle.std.specs.Prelude.{◌≡◌, ◌+◌, ◌<◌, ◌≤◌, length, take, decimal, MatchResult};
 ghost use Rattle.frames.specs.Write.{frame, Writes};
 
 use crate::fault::DeviceFault;

@@ -1,6 +1,5 @@
 //! The productions, as sets of items are made by them.
-ghost use Rattle.std.specs.Prelude.{◌≡◌, length, IfOk};
-ghost use Rattle.first_sets.specs.Productions.{IsSound};
+ghost use Rattle.std.specs.Prelude.{length};
 
 use crate::grammar::Grammar;
 use first_sets::{ContextFree, Productions};

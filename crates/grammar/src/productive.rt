@@ -1,6 +1,6 @@
 //! Which nonterminals are productive.
 
-ghost use Rattle.std.specs.Prelude.{◌≡◌, ◌<◌, length, slice_get, IfOk, MatchOption};
+ghost use Rattle.std.specs.Prelude.{◌≡◌, ◌<◌, length, IfOk, MatchOption};
 ghost use Rattle.grammar.specs.Marks.{is_marked, are_marked, is_ready, IsClosed, IsNext, AreBelow, AreSound, AreComplete};
 
 use crate::grammar::Production;

@@ -1,5 +1,4 @@
 //! The token rules, as a text is cut into tokens by them.
-ghost use Rattle.std.specs.Prelude.{◌≡◌, ◌≤◌, length};
 ghost use Rattle.grammar.specs.Grammars.{lexicon_of};
 
 use crate::grammar::Grammar;

@@ -1,10 +1,7 @@
 //! The first nonterminal that no text is derived from.
 
-ghost use Rattle.std.specs.Prelude.{◌≡◌, ◌<◌, ℕ, List, Some, true, false, length, slice_get, slice_index_or, IfErr, IfSome, OnOk, MatchOption};
+ghost use Rattle.std.specs.Prelude.{◌≡◌, ◌<◌, ℕ, Some, true, false, length, slice_get, slice_index_or, IfErr, OnOk, MatchOption};
 ghost use Rattle.std.specs.List.{list_any};
-ghost use Rattle.definitions.specs.declared.Symbol.TheVariants.{Nonterminal};
-ghost use Rattle.definitions.specs.Trees.{Grammar};
-ghost use Rattle.definitions.specs.Sentences.{IsProductive};
 ghost use Rattle.grammar_line.specs.Words.{Word};
 ghost use Rattle.grammar_file.specs.Contents.{nonterminals};
 ghost use Rattle.grammar_file.specs.Faults.{Unproductive};

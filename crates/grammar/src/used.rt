@@ -1,9 +1,7 @@
 //! Which symbols some derivation from the start uses.
 
-ghost use Rattle.std.specs.Prelude.{◌≡◌, ◌↔◌, ◌<◌, IsTrue, IfOk, MatchOption, slice_index_or, false, true, slice_get, Some, ℕ};
+ghost use Rattle.std.specs.Prelude.{◌≡◌, ◌<◌, IfOk, MatchOption, slice_index_or, false, true, Some, ℕ};
 ghost use Rattle.definitions.specs.declared.Symbol.TheVariants.{Nonterminal};
-ghost use Rattle.definitions.specs.Trees.{Grammar};
-ghost use Rattle.definitions.specs.Sentences.{IsUsed};
 ghost use Rattle.grammar.specs.Marks.{are_marked};
 ghost use Rattle.grammar.specs.Uses.{IsSpread, IsUnmarkedIn, IsReached, AreWithin, AreUsed};
 

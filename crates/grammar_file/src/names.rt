@@ -1,6 +1,6 @@
 //! The names that the lines of a file define.
 
-ghost use Rattle.std.specs.Prelude.{◌≡◌, ◌+◌, ◌<◌, ◌≤◌, ◌^◌, ◌++◌, ◌∷◌, List, [], None, Some, if◌then◌else◌, length, map, OnOk, IfOk, nat_lt};
+ghost use Rattle.std.specs.Prelude.{◌≡◌, ◌+◌, ◌<◌, ◌^◌, ◌++◌, ◌∷◌, List, [], None, Some, if◌then◌else◌, length, OnOk};
 ghost use Rattle.definitions.specs.declared.Symbol.TheVariants.{Nonterminal};
 ghost use Rattle.grammar_line.specs.Statements.{Statement};
 ghost use Rattle.grammar_file.specs.Contents.{defines, is_among, with_name};

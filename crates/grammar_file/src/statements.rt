@@ -6,7 +6,7 @@ ghost use Rattle.std.specs.Str.{chars};
 ghost use Rattle.definitions.specs.declared.expression.PatternFault.{PatternFault};
 ghost use Rattle.definitions.specs.PatternFaults.{IsFault as IsPatternFault};
 ghost use Rattle.definitions.specs.Spelling.{IsPattern};
-ghost use Rattle.grammar_line.specs.Statements.{line_of, Statement, numbered, statements_in, Nothing, at};
+ghost use Rattle.grammar_line.specs.Statements.{Statement, numbered, statements_in, Nothing, at};
 ghost use Rattle.grammar_line.specs.Statements;
 ghost use Rattle.grammar_file.specs.Contents.{defines};
 ghost use Rattle.grammar_line.specs.Words.{plain};

@@ -1,6 +1,6 @@
 //! What marked words mean: each is a nonterminal with two productions.
 
-ghost use Rattle.std.specs.Prelude.{◌≡◌, ◌+◌, ◌≤◌, ◌<◌, ◌^◌, ◌++◌, ◌∷◌, [], length, OnOk};
+ghost use Rattle.std.specs.Prelude.{◌≡◌, ◌+◌, ◌≤◌, ◌<◌, ◌^◌, ◌++◌, ◌∷◌, [], OnOk};
 ghost use Rattle.grammar_line.specs.Statements.{at};
 ghost use Rattle.grammar_line.specs.Statements;
 ghost use Rattle.grammar_file.specs.Faults.{production_count};

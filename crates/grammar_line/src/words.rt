@@ -1,8 +1,8 @@
 //! The words of a line.
 
 ghost use Rattle.std.specs.Prelude.{◌≡◌, ◌<◌, ◌++◌, ◌==◌, map, filter, length, IfOk, OnOk, MatchOption};
-ghost use Rattle.std.specs.List.{list_all, slice_split, after_first};
-ghost use Rattle.grammar_line.specs.Words.{words, is_filled, is_blank, trim_start, trim_end, after_equals, is_letter, is_name_byte, is_name, is_reserved};
+ghost use Rattle.std.specs.List.{list_all, slice_split};
+ghost use Rattle.grammar_line.specs.Words.{words, is_filled, trim_start, trim_end, after_equals, is_letter, is_name_byte, is_name, is_reserved};
 
 use std::alloc::{AllocError, Global};
 

@@ -1,6 +1,6 @@
 //! The moves of the tables of sums. `tests/program` has the files that have a conflict or too many sets.
 
-ghost use Rattle.std.specs.Prelude.{◌<◌, List, length};
+ghost use Rattle.std.specs.Prelude.{◌<◌, List};
 ghost use Rattle.definitions.specs.declared.Symbol.{Symbol as GrammarSymbol};
 ghost use Rattle.tables.specs.Tables.{IsStateOf};
 

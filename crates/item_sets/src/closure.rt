@@ -1,13 +1,13 @@
 //! The closure of a set of items.
-ghost use Rattle.std.specs.Prelude.{◌≡◌, ◌<◌, ◌≤◌, ◌+◌, ◌↔◌, ℕ, true, false, ◌⊎◌, Option, Some, List, length, All, Contains, IfOk, OnOk, IfSome};
-ghost use Rattle.definitions.specs.Trees.{Grammar, left_of};
+ghost use Rattle.std.specs.Prelude.{◌≡◌, ◌<◌, ◌+◌, ◌↔◌, ℕ, false, Option, Some, List, length, All, IfOk, OnOk, IfSome};
+ghost use Rattle.definitions.specs.Trees.{Grammar};
 ghost use Rattle.item_sets.specs.declared.item.Item.{Item};
 ghost use Rattle.first_sets.specs.Lookaheads.{lookahead_at};
-ghost use Rattle.item_sets.specs.Order.{IsRising, IsBefore, IsOrdered};
+ghost use Rattle.item_sets.specs.Order.{IsOrdered};
 ghost use Rattle.first_sets.specs.Productions.{IsKnown, IsSound};
 ghost use Rattle.item_sets.specs.Sets.{after_dot, IsItem};
 ghost use Rattle.item_sets.specs.States.{IsSetOf};
-ghost use Rattle.item_sets.specs.Worklist.{marked, AreCalledFor, IsGrownBy, beginning_of, CallFor, IsExpanded, IsBeginning, HaveBeginnings};
+ghost use Rattle.item_sets.specs.Worklist.{marked, AreCalledFor, IsGrownBy, CallFor, IsExpanded, HaveBeginnings};
 ghost use Rattle.theory.specs.First.{MayFollow};
 
 use crate::item::Item;

@@ -1,5 +1,5 @@
 //! The canonical collection: the sets of items, and where a symbol leads from each.
-ghost use Rattle.std.specs.Prelude.{◌≡◌, ◌<◌, ◌≤◌, ◌+◌, ◌∷◌, ◌++◌, List, [], None, All, IfOk, OnOk, length, slice_index_or};
+ghost use Rattle.std.specs.Prelude.{◌≡◌, ◌<◌, ◌+◌, ◌∷◌, ◌++◌, List, [], None, IfOk, OnOk, length};
 ghost use Rattle.definitions.specs.declared.Symbol.{Symbol};
 ghost use Rattle.item_sets.specs.Collection.{kernel_at, AreStates, Placed, GoesOn, IsStep, IsRow};
 ghost use Rattle.item_sets.specs.Order.{IsOrdered};

@@ -1,6 +1,6 @@
 //! Parses of worked kinds, of grammars of sums and of lists. `tests/program` has a deep one.
 
-ghost use Rattle.std.specs.Prelude.{⊤, ◌<◌, List, length};
+ghost use Rattle.std.specs.Prelude.{⊤, ◌<◌, List};
 ghost use Rattle.definitions.specs.declared.Kind.{Kind as TokenKind};
 ghost use Rattle.trees.specs.Cells.{Cell};
 ghost use Rattle.parser.specs.Parses.{IsParseOf};

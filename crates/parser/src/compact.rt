@@ -1,9 +1,9 @@
 //! The nodes of a parse, when its store has too many others.
 
-ghost use Rattle.std.specs.Prelude.{◌≡◌, ◌+◌, ◌*◌, ◌≤◌, List, length, map, IfOk, OnOk, OnErr};
+ghost use Rattle.std.specs.Prelude.{◌≡◌, ◌*◌, ◌≤◌, List, length, IfOk, OnOk, OnErr};
 ghost use Rattle.trees.specs.declared.store.NodeId.{NodeId};
 ghost use Rattle.trees.specs.Cells.{AreBelow, all_trees};
-ghost use Rattle.trees.specs.Compaction.{nodes, sizes};
+ghost use Rattle.trees.specs.Compaction.{sizes};
 ghost use Rattle.parser.specs.Compact.{node_ids, renamed};
 
 use std::alloc::{AllocError, Global};

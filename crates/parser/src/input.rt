@@ -1,11 +1,10 @@
 //! The trees that are still to be read.
 
-ghost use Rattle.std.specs.Prelude.{◌≡◌, ℕ, ◌-◌, ◌≤◌, ◌<◌, List, [], ◌∷◌, ◌++◌, length, drop, IfOk, IfSome, MatchOption};
+ghost use Rattle.std.specs.Prelude.{◌≡◌, ◌-◌, ◌≤◌, ◌<◌, List, [], ◌∷◌, ◌++◌, length, drop, IfOk, IfSome, MatchOption};
 ghost use Rattle.definitions.specs.declared.Kind.{Kind as TokenKind};
-ghost use Rattle.definitions.specs.Trees.{all_kinds, yield};
-ghost use Rattle.definitions.specs.TreeEdits.{plain};
+ghost use Rattle.definitions.specs.Trees.{all_kinds};
 ghost use Rattle.trees.specs.declared.store.Child.{Child};
-ghost use Rattle.trees.specs.Cells.{AreBelow, tree};
+ghost use Rattle.trees.specs.Cells.{AreBelow};
 ghost use Rattle.parser.specs.Input.{BeginsWith, IsFull, IsOpened, Skips};
 ghost use Rattle.parser.specs.Machine.{plain_of};
 

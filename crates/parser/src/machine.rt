@@ -4,7 +4,6 @@ ghost use Rattle.std.specs.Prelude.{◌≡◌, ℕ, ◌+◌, ◌-◌, ◌^◌, �
 ghost use Rattle.definitions.specs.declared.Kind.{Kind as TokenKind};
 ghost use Rattle.definitions.specs.declared.Symbol.{Symbol};
 ghost use Rattle.definitions.specs.declared.Symbol.TheVariants.{Nonterminal};
-ghost use Rattle.definitions.specs.Nodes.{all_branches};
 ghost use Rattle.definitions.specs.Trees.{Tree, HaveRoots, IsTree, all_kinds, yield};
 ghost use Rattle.definitions.specs.TreeEdits.{plain};
 ghost use Rattle.definitions.specs.Items.{HasMove, Reduce as ReduceMove};

@@ -1,7 +1,7 @@
 //! The characters that a text writes, with its escapes taken out.
 
 ghost use Rattle.std.specs.Prelude.{◌≡◌, ◌+◌, ◌<◌, ◌≤◌, [], ◌∷◌, length, drop, IfOk, MatchOption};
-ghost use Rattle.definitions.specs.PatternText.{BadEscape, Escaped, written, escape, braced, digits};
+ghost use Rattle.definitions.specs.PatternText.{BadEscape, Escaped, written, escape, braced};
 ghost use Rattle.patterns.specs.Reading.{written_as, writing};
 
 use std::alloc::{AllocError, Global};

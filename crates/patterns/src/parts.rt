@@ -1,11 +1,10 @@
 //! The parts of a pattern outside literals and classes.
 
-ghost use Rattle.std.specs.Prelude.{◌≡◌, ◌+◌, ◌<◌, ◌≤◌, ◌++◌, ◌∷◌, [], ℕ, length, IfOk, IfErr, MatchOption, None, true};
-ghost use Rattle.definitions.specs.PatternText.{Plain};
+ghost use Rattle.std.specs.Prelude.{◌≡◌, ◌+◌, ◌<◌, ◌≤◌, ℕ, length, IfOk, IfErr, MatchOption, None, true};
 ghost use Rattle.definitions.specs.PatternFaults.{Outside, Nothing, AnAtom, ARepetition, fault_from};
 ghost use Rattle.definitions.specs.Spelling.{Alt, Seq, Rep, Atom, SpellsAt};
 ghost use Rattle.patterns.specs.Sound.{is_sound};
-ghost use Rattle.patterns.specs.Reading.{writing, Begins, HasNoBlank, IsPart, IsBlanks, IsChoice, IsSequence, IsRepeated, IsStar, IsPlus, IsOptional, IsBlankAt, IsAtEnd, IsClosed, stops, Reports};
+ghost use Rattle.patterns.specs.Reading.{writing, HasNoBlank, IsPart, IsBlanks, IsChoice, IsSequence, IsRepeated, IsStar, IsPlus, IsOptional, IsBlankAt, IsAtEnd, IsClosed, stops, Reports};
 
 use crate::characters::Character;
 use crate::classes::{class, literal, place_of, strip};

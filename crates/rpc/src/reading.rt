@@ -1,6 +1,6 @@
 //! Which content is which message.
 
-ghost use Rattle.std.specs.Prelude.{◌≡◌, Some, codes, map, option_map, option_and_then, IfOk, IfSome, false, string_bytes};
+ghost use Rattle.std.specs.Prelude.{◌≡◌, Some, codes, map, option_map, IfOk, IfSome, false, string_bytes};
 ghost use Rattle.serde_json.specs.Find.{get};
 ghost use Rattle.serde_json.specs.View.{view, items_view};
 ghost use Rattle.rpc.specs.Fields.{text_at};

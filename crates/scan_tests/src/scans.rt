@@ -1,7 +1,6 @@
 //! The tokens of worked texts, and what edits change of them.
 
 ghost use Rattle.std.specs.Prelude.{◌≡◌, ◌+◌, ◌<◌, ◌≤◌, drop, length};
-ghost use Rattle.std.specs.Str.{chars};
 ghost use Rattle.grammar.specs.Grammars.{lexicon_of};
 ghost use Rattle.lexer.specs.Tokens.{AreTokensOf};
 

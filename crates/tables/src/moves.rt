@@ -1,5 +1,5 @@
 //! What a set of items calls for.
-ghost use Rattle.std.specs.Prelude.{◌≡◌, Some, None, true, false, All, Contains, Option, ℕ};
+ghost use Rattle.std.specs.Prelude.{Some, None, All, Option};
 ghost use Rattle.item_sets.specs.declared.item.Item.{Item};
 ghost use Rattle.item_sets.specs.Sets.{IsItem};
 ghost use Rattle.tables.specs.Moves.{IsCall, IsDecision};

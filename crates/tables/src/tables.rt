@@ -1,5 +1,5 @@
 //! The tables.
-ghost use Rattle.std.specs.Prelude.{◌≡◌, ◌<◌, ◌≤◌, ◌∷◌, ◌++◌, ◌↔◌, ℕ, List, [], Option, Some, None, true, MatchOption, IfOk, IfErr, OnOk, length};
+ghost use Rattle.std.specs.Prelude.{◌≡◌, ◌<◌, ◌≤◌, ◌∷◌, ◌++◌, ℕ, List, [], Option, Some, None, MatchOption, IfOk, IfErr, OnOk, length};
 ghost use Rattle.definitions.specs.declared.Kind.{Kind};
 ghost use Rattle.definitions.specs.declared.Kind.TheVariants.{Rule as Token};
 ghost use Rattle.definitions.specs.declared.Symbol.{Symbol};
@@ -7,7 +7,6 @@ ghost use Rattle.definitions.specs.declared.Symbol.TheVariants.{Rule as Terminal
 ghost use Rattle.definitions.specs.Items.{HasItem, HasNoConflict, HasMoreSetsThan};
 ghost use Rattle.definitions.specs.Derivations.{IsLr1};
 ghost use Rattle.theory.specs.Laws.{HasOneTreeEach};
-ghost use Rattle.definitions.specs.Sentences.{AllProductive};
 ghost use Rattle.definitions.specs.Trees.{HasProduction, HaveRoots, Tree};
 ghost use Rattle.theory.specs.Machine.{IsStackAfter};
 ghost use Rattle.tables.specs.Actions.{AreMade, IsClashAt};

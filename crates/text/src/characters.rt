@@ -1,6 +1,6 @@
 //! The characters of a text, one after another.
 
-ghost use Rattle.std.specs.Prelude.{◌≡◌, ◌<◌, ◌≤◌, [], ◌∷◌, ◌++◌, All, length, take, drop, slice_get, true, MatchOption};
+ghost use Rattle.std.specs.Prelude.{◌≡◌, ◌<◌, ◌≤◌, ◌∷◌, ◌++◌, All, length, take, drop, slice_get, true, MatchOption};
 ghost use Rattle.std.specs.Iterator.{YieldsFirst, item_count};
 ghost use Rattle.definitions.specs.Text.{IsCharacter};
 ghost use Rattle.pieces.specs.Pieces.{text_in};
@@ -20,7 +20,7 @@ pub struct Chars<'a> {
 }
 
 impl<'a> Model for Chars<'a> {
-    ghost use Rattle.std.specs.Prelude.{◌≡◌, ℕ, List, [], ◌++◌, length};
+    ghost use Rattle.std.specs.Prelude.{◌≡◌, ℕ, List, ◌++◌, length};
     ghost use Rattle.pieces.specs.Pieces.{text_in};
     ghost use Rattle.std.specs.Str.{chars};
 

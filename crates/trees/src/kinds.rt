@@ -4,7 +4,7 @@ use definitions::Kind;
 
 /// The kinds of a document's significant tokens, in order.
 pub trait Kinds {
-    ghost use Rattle.std.specs.Prelude.{◌≡◌, ℕ, ◌+◌, ◌≤◌, List, length, slice_get};
+    ghost use Rattle.std.specs.Prelude.{◌≡◌, ℕ, ◌+◌, List, length, slice_get};
     ghost use Rattle.definitions.specs.declared.Kind.{Kind};
 
     /// A place among the kinds, from which they are read one after another.

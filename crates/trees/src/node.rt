@@ -1,6 +1,6 @@
 //! Nodes in little room: 16 bits for the production, and 32 for each other number and each child, where they fit.
 
-ghost use Rattle.std.specs.Prelude.{◌≡◌, ◌<◌, ◌≤◌, ◌^◌, ℕ, length, map, take, slice_index_or, IfOk, IfSome, IsSome};
+ghost use Rattle.std.specs.Prelude.{◌≡◌, ◌<◌, ◌≤◌, ℕ, length, map, take, slice_index_or, IfOk, IfSome, IsSome};
 ghost use Rattle.std.specs.List.{All};
 ghost use Rattle.trees.specs.Cells.{AreBelow};
 ghost use Rattle.trees.specs.Forms.{label_of, IsFew, IsFilled, IsFormOf, IsPacked, IsSmall};
