@@ -18,10 +18,6 @@ le_trans_test xs c up i j d le lt h =
     let f = get_or_default xs j d 0 lt in
     grind (arith, nat_tests)
 
-pub numbered_inside : (n m : ℕ) → n < m → IfSome (numbered n) (λ t. t < m)
-numbered_inside zero m h = tt
-numbered_inside (suc n) m h = h
-
 pub numbered_some : (n : ℕ) → 0 < n → numbered n ≡ Some n
 numbered_some zero h = absurd (omega arith)
 numbered_some (suc n) h = refl
@@ -39,11 +35,6 @@ entry_within starts next accepts t s p c h f =
 -- what is read of a state's row
 pub entry_is : (starts next : List ℕ) (accepts : List (Option ℕ)) (s : State) (p c : ℕ) → IsState (table_of starts next accepts) s → p ≡ part starts c → follower (table_of starts next accepts) s.number c ≡ numbered (slice_index_or next (s.row + p) 0)
 entry_is starts next accepts s p c h f = λ i. numbered (slice_index_or next (sym h.row i + sym f i) 0)
-
--- where a row begins
-pub row_within : (starts next : List ℕ) (accepts : List (Option ℕ)) → IsTable (table_of starts next accepts) → (n : ℕ) → n < length accepts → n * (length starts + 1) ≤ length next
-row_within starts next accepts t n l =
-    omega (arith, mul-add-lt n (length starts + 1) 0 (length accepts) l (omega arith), mul_comm (length starts + 1) (length accepts), t.filled)
 
 -- A row that is read by the parts of the first 128 characters.
 module _ (starts ascii next : List ℕ) (accepts : List (Option ℕ)) (h : IsStored starts ascii next accepts) (s : State) (is : IsState (table_of starts next accepts) s) where

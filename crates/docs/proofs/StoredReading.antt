@@ -211,13 +211,6 @@ tree_there encoding l d file tables reported current by_tables is none =
 
 -- ---- what a text comes to
 
-pub fault_outcome : (encoding : Encoding) (file : FileGrammar) (t : List ℕ) (d : Stored) (reported : Option Stored) → reported ≡ Some d → Reads file t (λ reading. (fault : Option Fault) × IsDiagnosis encoding file t reading.tokens reading.verdict fault × IsReported reported fault) → IsOutcome encoding file t (OutcomeFault d)
-fault_outcome encoding file t d reported some h = by h.2.0 h.2.1 (subst (λ (o : Option Stored). IsReported o h.2.0) some h.2.2)
-  where
-    by : (fault : Option Fault) → IsDiagnosis encoding file t h.0.tokens h.0.verdict fault → IsReported (Some d) fault → IsOutcome encoding file t (OutcomeFault d)
-    by None is e = absurd (let f : ⊥ = cc in f)
-    by (Some fault) is e = (h.0, h.1, (fault, is, e))
-
 pub tree_outcome : (l : LanguageData) (d : Doc) (root : NodeId) (file : FileGrammar) (reported : List ℕ) → IsCurrent l d → d.parse.verdict ≡ TreeAt root → file ≡ l.file → reported ≡ encode_utf8_all (text_of file (plain_tree (tree d.store (NodeChild root)))) → Reads l.file d.text (λ reading. Some reported ≡ written_tree l.file reading.verdict)
 tree_outcome l d root file reported current is same bytes =
     let t = plain_tree (tree d.store (NodeChild root)) in

@@ -18,18 +18,6 @@ all_push marks (x ∷ xs) s h e =
     ap (λ b. b && are_marked marks (xs ++ s ∷ [])) (and-left (is_marked marks x) (are_marked marks xs) h)
     ∙ all_push marks xs s (and-right (is_marked marks x) (are_marked marks xs) h) e
 
-pub marked_more : (marks : List Bool) (xs : List Symbol) (i : ℕ) (s : Symbol) → i < length xs → s ≡ get_or xs i s → are_marked marks (take i xs) ≡ true → is_marked marks s ≡ true → are_marked marks (take (i + 1) xs) ≡ true
-marked_more marks xs i s within is before here =
-    ap (are_marked marks) (take_more xs i s within ∙ ap (λ y. take i xs ++ y ∷ []) (sym is)) ∙ all_push marks (take i xs) s before here
-
-pub unmarked_at : (marks : List Bool) (xs : List Symbol) (i n : ℕ) (d : Symbol) → i < length xs → get_or xs i d ≡ Nonterminal n → slice_index_or marks n false ≡ false → IsUnmarkedIn marks xs n
-unmarked_at marks xs i n d within is none = record { place = i; stands = at xs i (Nonterminal n) d within is; unmarked = none }
-  where
-    at : (ys : List Symbol) (k : ℕ) (s e : Symbol) → k < length ys → get_or ys k e ≡ s → slice_get ys k ≡ Some s
-    at [] k s e l f = absurd (omega arith)
-    at (y ∷ ys) zero s e l f = ap Some f
-    at (y ∷ ys) (suc k) s e l f = at ys k s e (omega arith) f
-
 pub spread_more : (ps : List Production) (marks : List Bool) (i : ℕ) (x : Production) → i < length ps → x ≡ get_or ps i x → IsSpread (take i ps) marks → (slice_index_or marks x.left false ≡ true → are_marked marks x.right ≡ true) → IsSpread (take (i + 1) ps) marks
 spread_more ps marks i x within is before here =
     let e : take (i + 1) ps ≡ take i ps ++ x ∷ [] = take_more ps i x within ∙ ap (λ y. take i ps ++ y ∷ []) (sym is) in

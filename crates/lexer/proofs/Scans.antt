@@ -69,9 +69,6 @@ lead_one rules t from at made x is l p =
     (leads_more rules (drop from t) (map plain made) (plain x) l (subst (λ v. IsToken rules v (plain x)) (place t from at made is) p))
 
 module _ (lexicon : Lexicon) (t : List ℕ) where
-  pub next_none : (from : ℕ) → from ≤ length t → AreNext lexicon t from [] from
-  next_none from l = record { leads = tt; made = made_none lexicon.skips 0; end_is = omega arith; inside = l }
-
   pub next_one : (from at : ℕ) (xs : List Token) (x : Token) → AreNext lexicon t from xs at → IsToken lexicon.patterns (drop at t) (plain x) → AreMade lexicon.skips 0 (xs ++ x ∷ []) → at + x.length ≤ length t → AreNext lexicon t from (xs ++ x ∷ []) (at + x.length)
   next_one from at xs x h p made l = record {
     leads = lead_one lexicon.patterns t from at xs x h.end_is h.leads p;

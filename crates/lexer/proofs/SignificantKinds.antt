@@ -85,20 +85,6 @@ count_range xs a b ordered =
     sym (length-kinds (take b xs)) ∙ ap length (ap significant_kinds (between xs a b ordered) ∙ kinds_append (take a xs) (slice_range xs a b))
     ∙ length-append (significant_kinds (take a xs)) (significant_kinds (slice_range xs a b)) ∙ ap (λ n. n + length (significant_kinds (slice_range xs a b))) (length-kinds (take a xs))
 
--- the significant kinds of the tokens from one place up to another
-pub kinds_range : (xs : List Token) (a b : ℕ) → a ≤ b
-    → take (count_by is_significant (take b xs) - count_by is_significant (take a xs)) (drop (count_by is_significant (take a xs)) (significant_kinds xs)) ≡ significant_kinds (slice_range xs a b)
-kinds_range xs a b ordered =
-    let middle = slice_range xs a b in
-    let whole : significant_kinds xs ≡ significant_kinds (take a xs) ++ (significant_kinds middle ++ significant_kinds (drop b xs)) =
-    ap significant_kinds (sym (take-append-drop b xs) ∙ ap (λ ys. ys ++ drop b xs) (between xs a b ordered))
-    ∙ kinds_append (take a xs ++ middle) (drop b xs) ∙ ap (λ ys. ys ++ significant_kinds (drop b xs)) (kinds_append (take a xs) middle)
-    ∙ append_assoc (significant_kinds (take a xs)) (significant_kinds middle) (significant_kinds (drop b xs)) in
-    let many : length (significant_kinds middle) ≡ count_by is_significant (take b xs) - count_by is_significant (take a xs) = omega (arith, count_range xs a b ordered) in
-    ap (λ ks. take (count_by is_significant (take b xs) - count_by is_significant (take a xs)) (drop (count_by is_significant (take a xs)) ks)) whole
-    ∙ ap (take (count_by is_significant (take b xs) - count_by is_significant (take a xs))) (drop_at (significant_kinds (take a xs)) (significant_kinds middle ++ significant_kinds (drop b xs)) (count_by is_significant (take a xs)) (length-kinds (take a xs)))
-    ∙ take_at (significant_kinds middle) (significant_kinds (drop b xs)) (count_by is_significant (take b xs) - count_by is_significant (take a xs)) many
-
 -- no tokens have the kinds of an empty list alone
 pub none_left : (ks : List Kind) → same_kinds [] ks ≡ nat_eq (length ks) 0
 none_left [] = refl

@@ -130,28 +130,6 @@ characters-step xs j h l =
     let e : suc j ≡ j + 1 = omega arith in
     subst (λ n. characters (take j xs) + 1 ≤ characters (take n xs)) e (step_more xs j h l)
 
--- no token starts at an offset that the place found for it doesn't have
-pub no_start : (xs : List Token) (o p : ℕ) → Fits xs → p ≤ length xs
-    → ((k : ℕ) → k < p → nat_lt o (tot (take (k + 1) xs)).characters ≡ false) → (p < length xs → IsTrue (nat_lt o (tot (take (p + 1) xs)).characters))
-    → characters (take p xs) ≢ o → (j : ℕ) → j ≤ length xs → characters (take j xs) ≢ o
-no_start xs o p f m before at ne j l e = go (cases_lt j p) (cases_lt p j)
-  where
-    go : (j < p) ⊎ (p ≤ j) → (p < j) ⊎ (j ≤ p) → ⊥
-    go (inl lt) _ =
-        let low : (tot (take (j + 1) xs)).characters ≤ o = ltb-false _ _ (before j lt) in
-        let is : (tot (take (j + 1) xs)).characters ≡ characters (take (j + 1) xs) = take_characters (j + 1) xs f in
-        let more : characters (take j xs) + 1 ≤ characters (take (j + 1) xs) = characters-step xs j f.nonempty (omega arith) in
-        absurd (omega (arith, low, is, more, e))
-    go (inr _) (inl lt) =
-        let high : o < (tot (take (p + 1) xs)).characters = ltb-true _ _ (at (omega arith)) in
-        let is : (tot (take (p + 1) xs)).characters ≡ characters (take (p + 1) xs) = take_characters (p + 1) xs f in
-        let mono : characters (take (p + 1) xs) ≤ characters (take j xs) = characters-mono xs (p + 1) j (omega arith) in
-        absurd (omega (arith, high, is, mono, e))
-    go (inr a) (inr b) = let same : p ≡ j = omega arith in ne (subst (λ n. characters (take n xs) ≡ o) (sym same) e)
-
-pub significant-mono : (xs : List Token) (a b : ℕ) → a ≤ b → count_by is_significant (take a xs) ≤ count_by is_significant (take b xs)
-significant-mono xs a b l = subst (λ ys. count_by is_significant ys ≤ count_by is_significant (take b xs)) (take-take a b xs l) (sum_by-take-le (λ x. if is_significant x then 1 else 0) (take b xs) a)
-
 pub significant-take-le : (xs : List Token) (a : ℕ) → count_by is_significant (take a xs) ≤ count_by is_significant xs
 significant-take-le xs a = sum_by-take-le (λ x. if is_significant x then 1 else 0) xs a
 

@@ -27,9 +27,6 @@ module _ (items rest : List Token) (x : Token) (place start : ℕ) (w : IsWalk i
   pub walk_on : IsWalk items rest (place + 1) (start + x.length)
   walk_on = record { fits = w.fits; within = omega (arith, before_end); ahead_is = tail-eq_of_cons-eq split; start_is = sym kept_before }
 
-  pub start_fits : start + x.length < 2 ^ 64
-  start_fits = omega (arith, kept_before, sum_by-take-le (λ y. y.length) items (place + 1), w.fits.short)
-
   pub passed_on : (offset : ℕ) → start < offset → IsPassed offset (record { items = items; place = place }) → IsPassed offset (record { items = items; place = place + 1 })
   passed_on offset early h j l = elim (cases_lt j place) [
     | inl lt ↦ h j lt

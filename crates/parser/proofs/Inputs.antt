@@ -19,23 +19,8 @@ pub taken : (r : Option Child) (old new rest : List Child) (c : Child) → Match
 taken None old new rest c h e = absurd (let k : [] ≡ c ∷ rest = sym h.0 ∙ e in cc k)
 taken (Some x) old new rest c h e = h ∙ ap (λ y. y ∷ new) (head-eq_of_cons-eq (sym h ∙ e))
 
--- what stands after the opened child is what stood after it before
-pub after_opened : (before now rest : List Child) (c : Child) → before ≡ c ∷ rest → IsOpened before now → drop (length now - (length before - 1)) now ≡ rest
-after_opened [] now rest c e h = absurd (cc e)
-after_opened (d ∷ ds) now rest c e h =
-    let back : ds ≡ rest = tail-eq_of_cons-eq e in
-    let n : length now - (length (d ∷ ds) - 1) ≡ length h.0 = omega (arith, ap length h.1, length-append h.0 ds) in
-    (λ i. drop (n i) (h.1 i)) ∙ drop-append_seam h.0 ds ∙ back
-
-pub opened_fits : (before now : List Child) → IsOpened before now → length before - 1 ≤ length now
-opened_fits [] now h = omega arith
-opened_fits (d ∷ ds) now h = omega (arith, ap length h.1, length-append h.0 ds)
-
 pub begins_none : (cs : List Child) → BeginsWith cs None → cs ≡ []
 begins_none cs h = h
-
-pub begins_some : (cs : List Child) (c : Child) → BeginsWith cs (Some c) → (rest : List Child) × (cs ≡ c ∷ rest)
-begins_some cs c h = h
 
 -- a list that begins with nothing is not opened
 pub still_empty : (before now : List Child) → before ≡ [] → IsOpened before now → now ≡ before
@@ -48,12 +33,6 @@ no_kinds (k ∷ x) e = absurd (omega (arith, e))
 
 pub none_counted : (n : ℕ) → min most n ≡ 0 → n ≡ 0
 none_counted n h = grind (arith, h)
-
-pub some_counted : (n : ℕ) → 0 < min most n → 0 < n
-some_counted n h = grind (arith, h)
-
-pub skips_none : (cells : List Cell) (l : List Child) → Skips cells l l
-skips_none cells l = ([], refl, refl)
 
 pub skips_one : (cells : List Cell) (old now new : List Child) (c : Child) → Skips cells old now → now ≡ c ∷ new → length (yield (plain (tree cells c))) ≡ 0 → Skips cells old new
 skips_one cells old now new c h e empty = (h.0 ++ (c ∷ []), h.1 ∙ ap (λ l. h.0 ++ l) e ∙ sym (moved h.0), none h.0 ∙ h.2)
@@ -78,10 +57,6 @@ IsOpening cells (c ∷ rest) now = (opened : List Child) × (now ≡ opened ++ r
 pub opening_begins : (cells : List Cell) (cs : List Child) → IsOpening cells cs cs
 opening_begins cells [] = refl
 opening_begins cells (c ∷ rest) = (c ∷ [], refl, append-nil (yield (plain (tree cells c))))
-
-pub opening_ends : (cells : List Cell) (before now : List Child) → IsOpening cells before now → IsOpened before now
-opening_ends cells [] now h = h
-opening_ends cells (c ∷ rest) now h = (h.0, h.1)
 
 -- other children of the same kinds in the place of the first
 pub opening_on : (cells : List Cell) (before now rest kids : List Child) (c : Child) → IsFull cells before → IsOpening cells before now → now ≡ c ∷ rest → all_kinds (plain_of cells kids) ≡ yield (plain (tree cells c)) → IsOpening cells before (kids ++ rest)

@@ -82,9 +82,6 @@ none_first n s ts h lefts p born us w = h lefts p born us (stamped_before ts w)
 pub older_up_to : (n : ℕ) (ts : List Stamped) → AreOlder n ts → AreUpTo n ts
 older_up_to n ts h lefts p born us w = omega (arith, h lefts p born us w)
 
-pub up_to_older : (n m : ℕ) (ts : List Stamped) → n < m → AreUpTo n ts → AreOlder m ts
-up_to_older n m ts lt h lefts p born us w = omega (arith, lt, h lefts p born us w)
-
 pub up_to-leaf : (n : ℕ) (k : Kind) → AreUpTo n (StampedLeaf k ∷ [])
 up_to-leaf n k lefts p born us w = absurd (no_branch_in_leaf k w refl)
 

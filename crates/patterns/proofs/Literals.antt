@@ -21,12 +21,6 @@ abbrev pub IsClassSoFar : List Interval → List Written → List Written → Ty
 IsClassSoFar is ws vs =
     (us : List Written) × (ws ≡ us ++ vs) × ((more : List Interval) (then : List Written) → IsClassRest more then → IsClassRest (is ++ more) (us ++ then))
 
-pub no_literal : (ws : List Written) → IsLiteralSoFar [] ws ws
-no_literal ws = ([], refl, λ more then h. h)
-
-pub no_class : (ws : List Written) → IsClassSoFar [] ws ws
-no_class ws = ([], refl, λ more then h. h)
-
 snoc_along : {A : Type 0} (P : List A → List Written → Type 0) (v : List A) (c : A) (more : List A) (us : List Written) (w : Written) (then : List Written) → P (v ++ c ∷ more) (us ++ w ∷ then) → P ((v ++ c ∷ []) ++ more) ((us ++ w ∷ []) ++ then)
 snoc_along {A = A} P v c more us w then h =
     let Q : List A → Type 0 = λ x. P x ((us ++ w ∷ []) ++ then) in

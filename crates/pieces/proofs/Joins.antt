@@ -101,17 +101,11 @@ other_one encoding c a b =
     ∙ ap (λ n. unit encoding c + n) (units-nil encoding)
     ∙ omega arith
 
-none_shown : Units
-none_shown = record { utf8 = 0; utf16 = 0; utf32 = 0 }
-
 feed_one : shown_all (10 ∷ []) ≡ record { utf8 = 0; utf16 = 0; utf32 = 0 }
 feed_one = λ i. record { utf8 = units-nil Utf8 i; utf16 = units-nil Utf16 i; utf32 = units-nil Utf32 i }
 
 return_one : shown_all (13 ∷ []) ≡ record { utf8 = 0; utf16 = 0; utf32 = 0 }
 return_one = λ i. record { utf8 = units-nil Utf8 i; utf16 = units-nil Utf16 i; utf32 = units-nil Utf32 i }
-
-plain_one : ℕ → Counts
-plain_one c = record { characters = 1; bytes = len_utf8 c; breaks = cond (c == 10) 1 0; units_after = shown_units c; begins_with_feed = c == 10; ends_with_return = c == 13 }
 
 units_one : (c : ℕ) → units Utf8 (c ∷ []) ≡ len_utf8 c
 units_one c = units-cons Utf8 c [] ∙ ap (λ n. unit Utf8 c + n) (units-nil Utf8) ∙ omega arith

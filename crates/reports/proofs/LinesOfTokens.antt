@@ -42,9 +42,6 @@ line-position t o = refl
 line-place : (t : List ℕ) (at : Place) (o : ℕ) → at.unit ≡ Utf16 → at.text ≡ t → at.offset ≡ min o (length t) → (position at.unit at.text at.offset).line ≡ line_of t o
 line-place t at o w e p = ap (λ q. q.line) (position-place Utf16 t at o w e p) ∙ line-position t o
 
-pub lined_none : (skips : List Bool) (t : List ℕ) (items : List Token) (at : Place) → at.unit ≡ Utf16 → at.text ≡ t → at.offset ≡ 0 → AreMarked skips items → IsLined skips t items [] at items
-lined_none skips t items at w e p m = record { offset = 0; unit = w; text = e; place = omega (arith, p); reported = refl; marked = m }
-
 module _ (skips : List Bool) (t : List ℕ) (items : List Token) (lines : List (ℕ × ℕ)) (at next : Place) (x : Token) (rest : List Token) (h : IsLined skips t items lines at (x ∷ rest)) (v : next.unit ≡ at.unit) (e : next.text ≡ at.text) (p : next.offset ≡ min (at.offset + x.length) (length at.text)) where
   more : ℕ
   more = h.offset + x.length

@@ -21,9 +21,6 @@ AllPairs-head R x xs h k d l = h 0 (suc k) d (omega arith) (omega arith)
 pub AllPairs-tail : {X : Type 0} (R : X → X → Type 0) (x : X) (xs : List X) → AllPairs R (x ∷ xs) → AllPairs R xs
 AllPairs-tail R x xs h i j d l m = h (suc i) (suc j) d (omega arith) (omega arith)
 
-pub AllPairs-weaker : {X : Type 0} (R S : X → X → Type 0) → ((x y : X) → R x y → S x y) → (xs : List X) → AllPairs R xs → AllPairs S xs
-AllPairs-weaker R S f xs h i j d l m = f (slice_index_or xs i d) (slice_index_or xs j d) (h i j d l m)
-
 pub AllPairs-drop : {X : Type 0} (R : X → X → Type 0) (n : ℕ) (xs : List X) → AllPairs R xs → AllPairs R (drop n xs)
 AllPairs-drop R zero xs h = h
 AllPairs-drop R (suc n) [] h = h

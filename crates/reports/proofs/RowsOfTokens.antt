@@ -32,9 +32,6 @@ position-place encoding t at o w e p = ap (λ v. position v at.text at.offset) w
 pub min-more : (n o k : ℕ) → min (min o n + k) n ≡ min (o + k) n
 min-more n o k = omega arith
 
-pub shown_none : (encoding : Encoding) (f : FileGrammar) (t : List ℕ) (items : List Token) (at : Place) → at.unit ≡ encoding → at.text ≡ t → at.offset ≡ 0 → IsReported encoding f t items [] at items
-shown_none encoding f t items at w e p = record { offset = 0; unit = w; text = e; place = omega (arith, p); reported = refl; spelled = refl }
-
 pub shown_more : (encoding : Encoding) (f : FileGrammar) (t : List ℕ) (items : List Token) (rows : List Row) (at next : Place) (x : Token) (rest : List Token) (r : Row)
     → IsReported encoding f t items rows at (x ∷ rest) → next.unit ≡ at.unit → next.text ≡ at.text → next.offset ≡ min (at.offset + x.length) (length at.text)
     → chars r.name.now ≡ kind_name f.names (kind_in x) → IsUtf8 r.name.now → r.range.start ≡ position at.unit at.text at.offset → r.range.end ≡ position next.unit next.text next.offset
@@ -63,9 +60,3 @@ shown_more encoding f t items rows at next x rest r h v e p name utf8 from to =
           ∙ sym (map-append in_utf8 (map row_of rows) (row_of r ∷ []))
           ∙ ap (map in_utf8) (sym (map-append row_of rows (r ∷ [])));
     }
-
-pub shown_all : (encoding : Encoding) (f : FileGrammar) (t : List ℕ) (items : List Token) (rows : List Row) (at : Place) → IsReported encoding f t items rows at [] → map row_of rows ≡ rows_of encoding f t items
-shown_all encoding f t items rows at h = sym (append-nil (map row_of rows)) ∙ h.reported
-
-pub spelled_all : (encoding : Encoding) (f : FileGrammar) (t : List ℕ) (items : List Token) (rows : List Row) (at : Place) → IsReported encoding f t items rows at [] → map row_bytes rows ≡ map in_utf8 (rows_of encoding f t items)
-spelled_all encoding f t items rows at h = h.spelled ∙ ap (map in_utf8) (shown_all encoding f t items rows at h)

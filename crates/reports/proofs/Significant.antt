@@ -97,10 +97,6 @@ kinds_of_parts skips o (x ∷ xs) marked = go x.skipped refl (sym (All-head (IsM
     go true e m rest = ap (map (λ y. y.token.kind)) (parts-skipped skips o x xs (m ∙ e)) ∙ rest ∙ rw e refl
     go false e m rest = ap (map (λ y. y.token.kind)) (parts-kept skips o x xs (m ∙ e)) ∙ ap (λ ks. kind_in x ∷ ks) rest ∙ rw e refl
 
--- they are the kinds of the tokens without their marks
-pub kinds_of_placed : (skips : List Bool) (xs : List Token) → All (IsMarked skips) xs → map (λ x. x.token.kind) (parts_from skips 0 xs) ≡ kinds skips (map plain xs)
-kinds_of_placed skips xs marked = kinds_of_parts skips 0 xs marked ∙ sym (kinds_plain skips xs marked)
-
 -- how many they are
 pub count_of_parts : (skips : List Bool) (xs : List Token) → All (IsMarked skips) xs → length (parts_from skips 0 xs) ≡ count_by is_significant xs
 count_of_parts skips xs marked = sym (length-map (parts_from skips 0 xs) (λ (x : Placed). x.token.kind)) ∙ ap length (kinds_of_parts skips 0 xs marked) ∙ length-kinds xs

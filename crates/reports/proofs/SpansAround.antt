@@ -89,14 +89,6 @@ inside_only w (r ∷ rs) h k s c = go (is_same w r) refl c
     go true e d = let o : Encloses r s = other d in ((λ f. o.2 (sym (same_shows w r e) ∙ sym f)), Contains-later r rs s d)
     go false e d = (differs (same_knows w r e) (Contains-cases r rs s d), d)
 
-All-inside : (P : ℕ × ℕ → Type 0) (w : ℕ × ℕ) (rs : List (ℕ × ℕ)) → All P rs → All P (inside w rs)
-All-inside P w [] h = h
-All-inside P w (r ∷ rs) h = go (is_same w r)
-  where
-    go : (b : Bool) → All P (cond b rs (r ∷ rs))
-    go true = All-tail P r rs h
-    go false = h
-
 inside_all : (w : ℕ × ℕ) (rs : List (ℕ × ℕ)) (s : ℕ × ℕ) → Contains rs s → s ≢ w → Contains (inside w rs) s
 inside_all w [] s c n = c
 inside_all w (r ∷ rs) s c n = go (is_same w r) refl

@@ -11,10 +11,6 @@ use Rattle.rpc.specs.declared.reply.Refusal.TheVariants.{ParseError, InvalidRequ
 use Rattle.rpc.specs.Messages.{Ident, named, numbered}
 use Rattle.rpc.specs.Replies.{Answer, capabilities_reply, null_reply, text_reply, tokens_reply, tree_reply, stats_reply, folds_reply, selections_reply, published_diagnostics, log_message, error_reply, capabilities, id_data, maybe_id_data, row_data, result_data, reply_data, document_data, rows_data, stats_data, fold_data, folds_data, selection_data, selections_data, diagnostic_list, published, code_of}
 
-pub if_ok : {T E : Type 0} {P Q : T → Type 0} (r : Result T E) → ((x : T) → P x → Q x) → IfOk r P → IfOk r Q
-if_ok (Ok x) f p = f x p
-if_ok (Err e) f p = tt
-
 integer_is_whole : (z : ℤ) → has_float (number (of_integer z)) ≡ false
 integer_is_whole (pos n) = refl
 integer_is_whole (negsuc n) = refl

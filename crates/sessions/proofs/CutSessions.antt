@@ -38,9 +38,6 @@ prefix_nothing o xs = ([], xs, refl, appends_nothing o)
 pub part_nothing : (o : Option (List ℕ)) (a : State) → CanServe a → (cs : List (List ℕ)) → ServedInPart o o a cs
 part_nothing o a can cs = let r = some_run a can cs in record { answers = r.0; stop = r.1; after = r.2; run = r.3; written = prefix_nothing o (bytes_of r.0) }
 
-pub part_all : (old new : Option (List ℕ)) (a c : State) (cs : List (List ℕ)) (stop : Option ℕ) → Served old new a cs stop c → ServedInPart old new a cs
-part_all old new a c cs stop s = record { answers = s.answers; stop = stop; after = c; run = s.run; written = prefix_all old new (bytes_of s.answers) s.written }
-
 pub part_on : (old new : Option (List ℕ)) (a : State) → CanServe a → (cs ds : List (List ℕ)) → ServedInPart old new a cs → ServedInPart old new a (cs ++ ds)
 part_on old new a can cs ds p =
     let r = run_on a p.after can cs ds p.answers p.stop p.run in

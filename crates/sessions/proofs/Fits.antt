@@ -51,9 +51,6 @@ removed_all P documents uri all other document found =
 abbrev HasFit : OpenDocument → Type 0
 HasFit d = fits d.text ≡ true
 
-pub found_fits : (documents : Held) (uri : List ℕ) (o : Option DocumentState) → AllFit documents → get documents uri ≡ o → (d : OpenDocument) → o ≡ Some (is_open d) → fits d.text ≡ true
-found_fits documents uri o all e d is = all uri d (e ∙ is)
-
 -- ---- what a step keeps
 
 -- the file stays, texts that fit give way to such, and documents of the phase to such

@@ -145,9 +145,6 @@ pub is_open : (t : Tail) → None ≡ fault_of t → IsOpen t
 is_open (Open rest) h = tt
 is_open (Faulty g) h = absurd (let e : ⊥ = cc in e)
 
-pub nothing_read : Splits [] [] (Open [])
-nothing_read = (refl, tt)
-
 -- before the first read
 pub at_start : (file : FileGrammar) (input output : Option (List ℕ)) (input_failures output_failures : ℕ) (tail : Tail) (state : State) → input_failures ≡ 0 → output_failures ≡ 0 → tail ≡ Open [] → state ≡ (first_state file) → IsReady file input input input_failures output output output_failures tail state
 at_start file input output input_failures output_failures tail state reads writes new first = record {

@@ -1,7 +1,6 @@
 pub mod OneMoreItem
 pub mod DecisionOfPrefix
 pub mod LookaheadMarks
-pub mod LookaheadsOfMoves
 pub mod MovesOfState
 pub mod AllSets
 pub mod Leading

@@ -168,10 +168,6 @@ pub slid_trees : (old new : List Cell) (marks : List Bool) (ranks : List ℕ) (c
 slid_trees old new marks ranks [] h m = refl
 slid_trees old new marks ranks (c ∷ cs) h m = λ i. h c m.0 i ∷ slid_trees old new marks ranks cs h m.1 i
 
-pub slid_all : (old new : List Cell) (marks : List Bool) (ranks : List ℕ) (n : ℕ) → length marks ≡ n → Slid old marks ranks n new → (c : Child) → IsMarked marks c → tree new (renamed ranks c) ≡ tree old c
-slid_all old new marks ranks n e h (Token k) m = refl
-slid_all old new marks ranks n e h (Node id) m = h id (omega (arith, e, set_within marks id.index m)) m
-
 pub marked_below : (marks : List Bool) (cs : List Child) → AreMarked marks cs → AreBelow (length marks) cs
 marked_below marks [] m = tt
 marked_below marks (Token k ∷ cs) m = (tt, marked_below marks cs m.1)

@@ -68,9 +68,6 @@ listing_more names all bytes separator look rest between new name h u v e f name
     ∙ append_assoc (chars bytes) (chars separator) (x ++ more)
     ∙ h
 
-pub listed_all : (names : List (List ℕ)) (all bytes separator : List ℕ) → IsListing names all bytes separator [] → chars bytes ≡ all
-listed_all names all bytes separator h = sym (append-nil (chars bytes)) ∙ h
-
 -- a message is written in four steps
 pub message_written : (names : List (List ℕ)) (found : Option Kind) (expected : List (Option ℕ)) (none one name two three four : List ℕ) → none ≡ [] → one ≡ none ++ codes "unexpected " → two ≡ one ++ name → three ≡ two ++ codes "; expected "
     → chars four ≡ chars three ++ listed (names_of names expected) → chars name ≡ name_or_end names found → IsUtf8 one → IsUtf8 two
