@@ -1,5 +1,1 @@
 mod Refusals
-mod MapEntries
-mod UncountedChanges
-mod AnswersFromDocuments
-mod Holding

@@ -5,7 +5,7 @@ use Rattle.docs.specs.declared.doc.DocFault.{DocFault}
 use Rattle.docs.specs.declared.doc.DocFault.TheVariants as fault
 use Rattle.rpc.specs.declared.reply.Loss.{Loss}
 use Rattle.rpc.specs.declared.reply.Loss.TheVariants.{TooLarge, Memory}
-use Rattle.server.specs.Changes.{loss_of}
+use Rattle.server.specs.Losses.{loss_of}
 
 -- by how a change is refused
 pub either_fault : {T : Type 0} (P : Loss → Type 0) (result : Result T DocFault) (f : DocFault) → result ≡ Err f → (result ≡ Err fault.TooLarge → P TooLarge) → (result ≡ Err fault.Memory → P Memory) → P (loss_of f)

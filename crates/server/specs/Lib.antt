@@ -1,4 +1,1 @@
-pub mod Changes
-pub mod Holding
-pub mod Questions
-pub mod States
+pub mod Losses

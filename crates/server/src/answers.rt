@@ -1,31 +1,17 @@
 //! What is answered about a document, and published of it.
 
-ghost use Rattle.std.specs.Prelude.{◌≡◌, Some, None, map, IfOk};
+ghost use Rattle.std.specs.Prelude.{◌≡◌, map, IfOk};
 ghost use Rattle.docs.specs.Answers.{Reads, rows};
 ghost use Rattle.docs.specs.Docs.{open_document, IsCurrent};
 ghost use Rattle.rpc.specs.Messages.{id_view};
-ghost use Rattle.rpc.specs.Replies.{reply_view, row_view, published_diagnostics};
+ghost use Rattle.rpc.specs.Replies.{reply_view, row_view};
 ghost use Rattle.sessions.specs.Answers.{IsAnswerOf, IsPublished};
-ghost use Rattle.server.specs.Questions.{question_view};
+ghost use Rattle.steps.specs.Questions.{question_view};
 
 use docs::{Doc, Language};
-use rpc::{Id, Position, Reply, Row};
+use rpc::{Id, Reply, Row};
 use std::alloc::{AllocError, Global};
-
-/// What can be asked about a document.
-#[derive(Debug, Drop)]
-pub enum Question {
-    /// `lr/text`: its version and text.
-    Text,
-    /// `lr/tokens`: the names and ranges of its tokens.
-    Tokens,
-    /// `lr/tree`: its tree.
-    Tree,
-    /// `textDocument/foldingRange`: the lines that can be folded.
-    Folds,
-    /// `textDocument/selectionRange`: what can be selected around each of these positions.
-    Selections(Vec<Position>),
-}
+use steps::Question;
 
 /// The reply to a question about an open document. Refuses for memory alone.
 pub fn answer(
@@ -100,16 +86,5 @@ pub fn publish(
         uri: String::from_str(alloc, uri)?,
         version: Some(doc.version()),
         diagnostic: doc.diagnostic(alloc, language)?,
-    })
-}
-
-/// No diagnostics, of a document that is not open any more. Refuses for memory alone.
-pub fn no_diagnostics(alloc: Global, uri: &str) -> Result<Reply, AllocError>
-    ensures { IfOk result (λ reply. reply_view reply ≡ published_diagnostics uri.now None None) }
-{
-    Ok(Reply::Diagnostics {
-        uri: String::from_str(alloc, uri)?,
-        version: None,
-        diagnostic: None,
     })
 }

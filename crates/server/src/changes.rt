@@ -4,15 +4,16 @@ ghost use Rattle.std.specs.Prelude.{◌≡◌, ◌+◌, ◌<◌, ℤ, length, ma
 ghost use Rattle.docs.specs.Docs.{last_edit, open_document, IsCurrent};
 ghost use Rattle.docs.specs.Edits.{number_of};
 ghost use Rattle.rpc.specs.Messages.{change_view};
-ghost use Rattle.server.specs.Changes.{loss_of, IsAfter};
+ghost use Rattle.server.specs.Losses.{loss_of};
+ghost use Rattle.sessions.specs.Changes.{IsAfter};
 ghost use Rattle.sessions.specs.Documents.{is_lost, Becomes};
-ghost use Rattle.server.specs.Holding.{entry_view, IsEntryOf};
+ghost use Rattle.steps.specs.Holding.{entry_view, IsEntryOf};
 
-use crate::documents::Entry;
 use docs::laws::always_answers;
 use docs::{Doc, DocFault, Language, Pending};
 use rpc::{Change, Loss};
 use std::alloc::Global;
+use steps::Entry;
 
 /// How a document is lost by a change that is refused so.
 fn loss_of(fault: DocFault) -> Loss
@@ -32,11 +33,12 @@ fn apply_each(
     mut doc: Doc,
     version: i32,
     changes: &[Change],
-) -> Entry
+) -> Entry<Doc>
     requires { IsCurrent language.now doc }
     ensures becomes { let changes = map change_view changes.now in
-        Becomes language.now.file version (open_document doc) changes (entry_view result) }
-    ensures current { IsEntryOf language.now result }
+        Becomes language.now.file version (open_document doc) changes
+        (entry_view open_document result) }
+    ensures current { IsEntryOf (IsCurrent language.now) result }
 {
     for change in changes {
         match doc.change(alloc, language, change.range, change.text.as_str()) {
@@ -88,11 +90,12 @@ pub fn apply_changes(
     doc: Doc,
     version: i32,
     changes: &[Change],
-) -> Entry
+) -> Entry<Doc>
     requires { IsCurrent language.now doc }
     ensures becomes { let changes = map change_view changes.now in
-        Becomes language.now.file version (open_document doc) changes (entry_view result) }
-    ensures current { IsEntryOf language.now result }
+        Becomes language.now.file version (open_document doc) changes
+        (entry_view open_document result) }
+    ensures current { IsEntryOf (IsCurrent language.now) result }
 {
     // Where the numbers of edits end, they share the last one, and what each makes is counted by what the one before it made.
     let numbers_left = u64::MAX - doc.stats().edit;

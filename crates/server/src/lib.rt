@@ -1,10 +1,10 @@
-//! The server: the documents that it holds, and what it does with each message (LSP 3.17). The contract of `run` is the
-//! theorem.
+//! The server of a language's documents (LSP 3.17). The contract of `run` is the theorem.
 //!
 //! `run` is a whole session, from an `Input` to an `Output`: it returns the exit status, or why it ended without one
 //! (`RunFault`). `Server::new` and `handle` are for a program that has its own loop: `handle` takes one message, and
 //! the `Out` that it returns has the replies and, at `exit`, the status. What a session is stands in `sessions`, with the
-//! loop that `run` calls.
+//! loop that `run` calls; what is done with each message, in `steps`, which asks of a document what is said here of a
+//! `Doc`.
 //!
 //! Words: the *phase* of a session is before `initialize`, ready, or after `shutdown`; a document is *lost* where the
 //! server no longer has its text.
@@ -14,7 +14,7 @@
 //!
 //! ```
 //! let language = Language::load(alloc, SUMS).ok()?;
-//! let mut server = Server::new(alloc, language);
+//! let mut server = Server::new(alloc, Served { language });
 //! let message = read(alloc, br#"{"jsonrpc":"2.0","method":"exit"}"#);
 //! let out = server.handle(alloc, message).ok()?;
 //! println!(rt; "{} replies; status {:?}", out.replies.len(), out.stop).ok()
@@ -24,15 +24,11 @@
 
 mod answers;
 mod changes;
-mod documents;
-mod notifications;
-mod out;
-mod requests;
+mod document;
 mod session;
-mod state;
 
 pub use docs::{Doc, DocFault, Language, LoadFault, Outcome};
+pub use document::{Served, Server};
 pub use frames::RunFault;
 pub use session::run;
 pub use sessions::{Out, Phase};
-pub use state::Server;

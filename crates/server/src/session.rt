@@ -8,7 +8,7 @@ ghost use Rattle.sessions.specs.Alone.{EachDocumentIsAlone, EachRunHasAHistory, 
 ghost use Rattle.sessions.specs.Fresh.{EveryAnswerIsFresh, EachTextIsItsEdits};
 ghost use Rattle.sessions.specs.Sessions.{Session};
 
-use crate::state::Server;
+use crate::document::{Served, Server};
 use docs::Language;
 use docs::laws::always_answers;
 use frames::{Input, Output, RunFault};
@@ -51,6 +51,6 @@ pub fn run<R: Input, W: Output>(
     each_text_is_its_edits();
     each_document_is_alone();
     each_text_is_unicode();
-    let mut server = Server::new(alloc, language);
+    let mut server = Server::new(alloc, Served { language });
     serve(alloc, &mut server, input, output)
 }

@@ -1,5 +1,6 @@
 pub mod LookUps
 pub mod Edits
+pub mod UncountedChanges
 mod Effects
 mod Fits
 mod Totals

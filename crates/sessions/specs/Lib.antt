@@ -1,5 +1,6 @@
 pub mod Documents
 pub mod Stored
+pub mod Changes
 pub mod Answers
 pub mod Steps
 pub mod Sent

@@ -14,7 +14,7 @@
 //! ```
 //! let language = Language::load(alloc, SUMS).ok()?;
 //! always_answers(&language);
-//! let mut server = Server::new(alloc, language);
+//! let mut server = Server::new(alloc, Served { language });
 //! let exit = b"Content-Length: 33\r\n\r\n{\"jsonrpc\":\"2.0\",\"method\":\"exit\"}";
 //! let mut input = ReadInput::new(&exit[..]);
 //! let mut output = WriteOutput::new(Vec::new(alloc));

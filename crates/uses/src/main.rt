@@ -90,6 +90,7 @@ fn of_language(rt: &HostRuntime, alloc: Global) -> Option<()> {
     answers::use_languages(rt, alloc)?;
     answers::use_docs(rt, alloc)?;
     programs::use_sessions(rt, alloc)?;
+    programs::use_steps(rt, alloc)?;
     programs::use_server(rt, alloc)?;
     programs::use_commands(rt, alloc)
 }

@@ -2,14 +2,15 @@
 
 use command_line::words;
 use commands::{load, parse};
-use docs::Language;
 use docs::laws::always_answers;
+use docs::{Doc, Language};
 use faults::Fault;
 use frames::{ReadInput, WriteOutput};
 use rpc::read;
-use server::Server;
+use server::{Served, Server};
 use sessions::serve;
 use std::alloc::Global;
+use steps::ServerOf;
 use worked::SUMS;
 
 /// The example of `command_line`.
@@ -32,7 +33,7 @@ pub fn use_faults(rt: &HostRuntime) -> Option<()> {
 pub fn use_sessions(rt: &HostRuntime, alloc: Global) -> Option<()> {
     let language = Language::load(alloc, SUMS).ok()?;
     always_answers(&language);
-    let mut server = Server::new(alloc, language);
+    let mut server = Server::new(alloc, Served { language });
     let exit = b"Content-Length: 33\r\n\r\n{\"jsonrpc\":\"2.0\",\"method\":\"exit\"}";
     let mut input = ReadInput::new(&exit[..]);
     let mut output = WriteOutput::new(Vec::new(alloc));
@@ -41,10 +42,20 @@ pub fn use_sessions(rt: &HostRuntime, alloc: Global) -> Option<()> {
     // status 1
 }
 
+/// The example of `steps`.
+pub fn use_steps(rt: &HostRuntime, alloc: Global) -> Option<()> {
+    let language = Language::load(alloc, SUMS).ok()?;
+    let mut server: ServerOf<Served, Doc> = ServerOf::new(alloc, Served { language });
+    let message = read(alloc, br#"{"jsonrpc":"2.0","id":7,"method":"shutdown"}"#);
+    let out = server.handle(alloc, message).ok()?;
+    println!(rt; "{} reply", out.replies.len()).ok()
+    // 1 reply
+}
+
 /// The example of `server`.
 pub fn use_server(rt: &HostRuntime, alloc: Global) -> Option<()> {
     let language = Language::load(alloc, SUMS).ok()?;
-    let mut server = Server::new(alloc, language);
+    let mut server = Server::new(alloc, Served { language });
     let message = read(alloc, br#"{"jsonrpc":"2.0","method":"exit"}"#);
     let out = server.handle(alloc, message).ok()?;
     println!(rt; "{} replies; status {:?}", out.replies.len(), out.stop).ok()

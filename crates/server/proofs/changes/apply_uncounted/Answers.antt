@@ -14,7 +14,7 @@ use Rattle.rpc.specs.declared.reply.Loss.TheVariants as loss
 use Rattle.sessions.specs.Documents.{is_lost, Becomes}
 use Rattle.sessions.proofs.Edits.{after, all_changes, ends_there, goes_on, last_goes_on, may_lose}
 use Rattle.server.proofs.Refusals.{either_fault}
-use Rattle.server.proofs.UncountedChanges.{lost_on_the_way}
+use Rattle.sessions.proofs.UncountedChanges.{lost_on_the_way}
 use Rattle.server.proofs.changes.apply_uncounted.Goals as goal
 
 pub returns-in-Err-clause-lost : goal.returns-in-Err-clause-lost

@@ -1,6 +1,0 @@
-use Rattle.rpc.specs.Messages.{id_view}
-use Rattle.server.specs.Questions.{question_view}
-use Rattle.server.proofs.state.Server.answer.Goals as goal
-
-pub returns-in-Err : goal.returns-in-Err
-returns-in-Err c = (c.in-Err.ensures.refusal (id_view c.args.id)).0 (question_view c.args.question.now)

@@ -1,7 +1,0 @@
--- What a server of the code is between two messages.
-use Rattle.sessions.specs.Steps.{State}
-use Rattle.server.specs.declared.state.Server.{Server}
-
--- `state_view server`: the state of a server of the code
-abbrev pub state_view : Server → State
-state_view s = record { file = s.documents.language.file; phase = s.phase; documents = s.documents.documents }

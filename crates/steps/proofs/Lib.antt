@@ -1,0 +1,3 @@
+mod MapEntries
+mod Holding
+mod Refusals

@@ -1,0 +1,12 @@
+use Rattle.std.proofs.Common.{sym, ap, ◌∙◌}
+use Rattle.std.specs.Prelude.{is_some}
+use Rattle.std.specs.FinMap.{get}
+use Rattle.steps.proofs.MapEntries.{get_held, is_some_map}
+use Rattle.steps.specs.Holding.{entry_view, entry_at}
+use Rattle.steps.proofs.documents.Documents.holds.Goals as goal
+
+pub returns : goal.returns
+returns g c =
+    let entries = c.self.inside.by_uri.entries in
+    let uri = c.args.uri.now in
+    c.contains_key.ensures ∙ (sym (is_some_map (entry_view g.D.Document.seen) (entry_at entries uri)) ∙ ap is_some (sym (get_held g.D.Document.seen entries uri) ∙ ap (λ h. get h.documents uri) c.self.view_is))

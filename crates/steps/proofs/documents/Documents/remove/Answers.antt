@@ -1,0 +1,25 @@
+use Rattle.std.proofs.Common.{ap, sym, ◌∙◌}
+use Rattle.std.specs.Prelude.{None, is_some}
+use Rattle.std.specs.FinMap.{get, remove}
+use Rattle.std.proofs.lemmas.Map.Text.{btree_map_updates_text}
+use Rattle.steps.specs.Holding.{entry_view, entry_at}
+use Rattle.steps.proofs.MapEntries.{get_held, is_some_map, remove_held, remove_current}
+use Rattle.steps.proofs.documents.Documents.remove.Goals as goal
+
+pub returns-clause-is : goal.returns-clause-is
+returns-clause-is g c =
+    let entries = c.self.inside.by_uri.entries in
+    let uri = c.args.uri.now in
+    c.is_some.ensures ∙ (ap is_some c.remove.ensures.value ∙ (sym (is_some_map (entry_view g.D.Document.seen) (entry_at entries uri)) ∙ ap is_some (sym (get_held g.D.Document.seen entries uri) ∙ ap (λ h. get h.documents uri) c.self.view_is)))
+
+pub returns-clause-documents : goal.returns-clause-documents
+returns-clause-documents g c =
+    remove_held g.D.Document.seen c.self.inside.by_uri.entries c.remove.new.self.entries c.args.uri.now
+    (btree_map_updates_text c.args.uri.now c.self.inside.by_uri c.remove.new.self None c.remove.ensures.updates)
+    ∙ ap (λ h. remove h.documents c.args.uri.now) c.self.view_is
+
+pub invariant_of-self : goal.invariant_of-self
+invariant_of-self g c =
+    remove_current (g.D.Document.IsCurrent c.self.inside.language) c.self.inside.by_uri.entries c.remove.new.self.entries c.args.uri.now
+    (btree_map_updates_text c.args.uri.now c.self.inside.by_uri c.remove.new.self None c.remove.ensures.updates)
+    c.self.invariant

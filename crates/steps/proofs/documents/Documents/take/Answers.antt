@@ -1,0 +1,68 @@
+use Rattle.std.proofs.Common.{◌≡◌, refl, sym, ap, subst, ◌∙◌}
+use Rattle.std.specs.Prelude.{Option, Some, IsSome, IfSome, option_map}
+use Rattle.std.specs.Option.{option_copied_mut}
+use Rattle.std.specs.FinMap as map
+use Rattle.std.proofs.lemmas.Map.Text.{btree_map_updates_text}
+use Rattle.rpc.specs.declared.reply.Loss.TheVariants.{Memory}
+use Rattle.steps.specs.declared.entry.Entry.{Entry}
+use Rattle.sessions.specs.Documents.{is_lost}
+use Rattle.steps.specs.Holding.{documents_of, entry_view, AreCurrent, IsEntryOf}
+use Rattle.steps.proofs.MapEntries.{get_held, insert_held, insert_current}
+use Rattle.steps.proofs.documents.Documents.take.Goals.{in-Some, in-None}
+use Rattle.steps.proofs.documents.Documents.take.Goals as goal
+
+pub returns-clause-documents : goal.returns-clause-documents
+returns-clause-documents g c = elim c.match-get_mut.branch [
+  | in-Some w ↦
+      let entries = c.self.inside.by_uri.entries in
+      let uri = c.args.uri.now in
+      let found = ap option_copied_mut (sym w.in-Some.is) ∙ c.get_mut.ensures.value in
+      let updates = (c.get_mut.follows.holds w.replace.new.dest).3 (subst IsSome found refl) in
+      subst (λ (r : Option (Entry _)). IfSome r (λ _. documents_of g.D.Document.seen c.match-get_mut.self-inside.by_uri.entries ≡ map.insert c.args.self.now.documents uri (is_lost Memory))) (sym w.result-is)
+      (ap (λ s. documents_of g.D.Document.seen s.by_uri.entries) w.self-inside-is
+      ∙ (insert_held g.D.Document.seen entries (c.get_mut.follows.lender w.replace.new.dest).entries uri w.replace.new.dest (btree_map_updates_text uri c.self.inside.by_uri (c.get_mut.follows.lender w.replace.new.dest) (Some w.replace.new.dest) updates)
+      ∙ (ap (λ e. map.insert (documents_of g.D.Document.seen entries) uri (entry_view g.D.Document.seen e)) w.replace.ensures.after
+      ∙ ap (λ h. map.insert h.documents uri (is_lost Memory)) c.self.view_is)))
+  | in-None w ↦ subst (λ (r : Option (Entry _)). IfSome r (λ _. documents_of g.D.Document.seen c.match-get_mut.self-inside.by_uri.entries ≡ map.insert c.args.self.now.documents c.args.uri.now (is_lost Memory))) (sym w.result-is) tt
+]
+
+pub invariant_of-self : goal.invariant_of-self
+invariant_of-self g c = elim c.match-get_mut.branch [
+  | in-Some w ↦
+      let uri = c.args.uri.now in
+      let found = ap option_copied_mut (sym w.in-Some.is) ∙ c.get_mut.ensures.value in
+      let updates = (c.get_mut.follows.holds w.replace.new.dest).3 (subst IsSome found refl) in
+      let fits : IsEntryOf (g.D.Document.IsCurrent c.self.inside.language) w.replace.new.dest = subst (λ e. IsEntryOf (g.D.Document.IsCurrent c.self.inside.language) e) (sym w.replace.ensures.after) tt in
+      subst (λ s. AreCurrent (g.D.Document.IsCurrent s.language) s.by_uri.entries) (sym w.self-inside-is) (insert_current (g.D.Document.IsCurrent c.self.inside.language) c.self.inside.by_uri.entries (c.get_mut.follows.lender w.replace.new.dest).entries uri w.replace.new.dest (btree_map_updates_text uri c.self.inside.by_uri (c.get_mut.follows.lender w.replace.new.dest) (Some w.replace.new.dest) updates) c.self.invariant fits)
+  | in-None w ↦ subst (λ s. AreCurrent (g.D.Document.IsCurrent s.language) s.by_uri.entries) (sym w.self-inside-is) (subst (λ m. AreCurrent (g.D.Document.IsCurrent c.self.inside.language) m.entries) (sym c.get_mut.follows.holds-at-none) c.self.invariant)
+]
+
+pub returns-clause-is : goal.returns-clause-is
+returns-clause-is g c =
+    let uri = c.args.uri.now in
+    let held = ap (λ h. map.get h.documents uri) (sym c.self.view_is) ∙ get_held g.D.Document.seen c.self.inside.by_uri.entries uri in
+    elim c.match-get_mut.branch [
+      | in-Some w ↦
+          let found = ap option_copied_mut (sym w.in-Some.is) ∙ c.get_mut.ensures.value in
+          ap (option_map (entry_view g.D.Document.seen)) w.result-is ∙ (ap (λ e. Some (entry_view g.D.Document.seen e)) w.replace.ensures.value ∙ (ap (option_map (entry_view g.D.Document.seen)) found ∙ sym held))
+      | in-None w ↦
+          let found = ap option_copied_mut (sym w.in-None.is) ∙ c.get_mut.ensures.value in
+          ap (option_map (entry_view g.D.Document.seen)) w.result-is ∙ (ap (option_map (entry_view g.D.Document.seen)) found ∙ sym held)
+    ]
+
+pub returns-clause-current : goal.returns-clause-current
+returns-clause-current g c = elim c.match-get_mut.branch [
+  | in-Some w ↦
+      let uri = c.args.uri.now in
+      let found = ap option_copied_mut (sym w.in-Some.is) ∙ c.get_mut.ensures.value in
+      subst (λ (r : Option (Entry _)). IfSome r (IsEntryOf (g.D.Document.IsCurrent c.args.self.now.language))) (sym w.result-is)
+      (subst (λ e. IsEntryOf (g.D.Document.IsCurrent c.args.self.now.language) e) (sym w.replace.ensures.value) (subst (λ h. IsEntryOf (g.D.Document.IsCurrent h.language) w.in-Some.held.now) c.self.view_is (c.self.invariant uri w.in-Some.held.now (sym found))))
+  | in-None w ↦ subst (λ (r : Option (Entry _)). IfSome r (IsEntryOf (g.D.Document.IsCurrent c.args.self.now.language))) (sym w.result-is) tt
+]
+
+pub returns-clause-nothing : goal.returns-clause-nothing
+returns-clause-nothing g c = elim c.match-get_mut.branch [
+  | in-Some w ↦ λ none. let f : ⊥ = (let some = sym none ∙ w.result-is in cc) in absurd f
+  | in-None w ↦ λ none.
+      ap (λ s. documents_of g.D.Document.seen s.by_uri.entries) w.self-inside-is ∙ (ap (λ m. documents_of g.D.Document.seen m.entries) c.get_mut.follows.holds-at-none ∙ ap (λ h. h.documents) c.self.view_is)
+]

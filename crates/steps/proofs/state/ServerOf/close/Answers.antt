@@ -1,0 +1,20 @@
+use Rattle.std.proofs.Common.{◌≡◌, ap, sym, ◌∙◌, string_bytes}
+use Rattle.std.specs.Prelude.{None}
+use Rattle.std.specs.FinMap.{get}
+use Rattle.steps.specs.States.{state_view}
+use Rattle.steps.proofs.Holding.{closes_none, state_same}
+use Rattle.sessions.proofs.LookUps.{none_is, removed_none}
+use Rattle.readings.proofs.Results.{if_ok_both}
+use Rattle.steps.proofs.state.ServerOf.close.Goals as goal
+
+pub returns-then-not-remove : goal.returns-then-not-remove
+returns-then-not-remove g c =
+    let old = c.args.self.now in
+    let uri = string_bytes c.args.uri in
+    let none : get old.documents.documents c.as_str.result.now ≡ None = none_is _ (sym c.remove.ensures.is ∙ c.if-not-remove.true) in
+    let here : get old.documents.documents uri ≡ None = ap (get old.documents.documents) (sym c.as_str.ensures.value) ∙ none in
+    let same = state_same _ _ old.phase _ _ (ap g.D.Document.file c.remove.ensures.language) (c.remove.ensures.documents ∙ removed_none old.documents.documents c.as_str.result.now none) in
+    if_ok_both c.one_log.result
+    (λ out replies stop. closes_none (state_view g.D.Document.file old) uri _ _ _ here replies stop same)
+    c.one_log.ensures.replies
+    c.one_log.ensures.stop

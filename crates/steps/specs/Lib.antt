@@ -1,0 +1,3 @@
+pub mod Holding
+pub mod Questions
+pub mod States
