@@ -1,5 +1,5 @@
 """What the script `lrls` does around the program: links to it, words that it answers without a build, what it says of a missing
-`rt`, `--unproved` and `install`.
+`rt`, how it builds, `--unproved` and `install`.
 
 A copy of the script runs in a folder of its own, whose path has a blank. `rt` is a stand-in that prints what this file says, so
 that nothing is proved or built here. PATH has links to the script's other commands alone.
@@ -11,14 +11,14 @@ import stat
 import subprocess
 
 TOP = os.path.dirname(os.path.dirname(os.path.abspath(__file__)))
-COMMANDS = "awk cat cp date dirname find getconf head mktemp mv readlink rm sed sh sleep tail touch tr wc".split()
+COMMANDS = "awk cat chmod cp date dirname find getconf head mkdir mktemp mv readlink rm sed sh sleep tail touch tr wc".split()
 
 NO_RT = (
     "lrls: building the program needs `rt`, the command of Rattle's kit, and no folder of PATH has it\n"
     "lrls: add the kit's folder bin to PATH; {top}/README.md names the kit's version, under \"What you need\"\n"
 )
 UNBUILT = (
-    "lrls: the program isn't built yet; each of these proves and builds it first, which takes twenty minutes or more\n"
+    "lrls: the program isn't built yet; each of these proves and builds it first, which takes a quarter of an hour or more\n"
     "lrls: for an answer in a minute or two, without a proof: lrls --unproved check GRAMMAR, or parse GRAMMAR TEXT\n"
     "lrls: for a copy of the built program: lrls install FOLDER\n"
 )
@@ -32,9 +32,8 @@ NOT_FROM_AN_EDITOR = (
     "lrls: run this in a terminal first: {top}/lrls check GRAMMAR\n"
 )
 BUILDING = (
-    "lrls: not built yet: proving and building 1 crates, up to {jobs} side by side; the first time takes twenty minutes or more\n"
+    "lrls: not built yet: proving and building 1 crates; the first time takes a quarter of an hour or more\n"
     "lrls: for an answer in a minute or two, without a proof: lrls --unproved check GRAMMAR, or parse GRAMMAR TEXT\n"
-    "lrls: built\n"
 )
 
 # Prints its words and the files that it was handed, and what `rt try` adds on standard error.
@@ -58,14 +57,38 @@ echo "checked: no-answer: the program did not end" >&2
 echo "run=no-answer" >&2
 exit 6
 """
-# A program that prints its words, made by `rt all test`.
-BUILDS = """#!/bin/sh
-[ "$1 $2" != "all test" ] || {
+# Makes a program that prints its words: by `rt all test` in place, where no folder can be made beside the kit; and where one can, by
+# `rt ci` in a copy, of which the program prints the files too.
+IN_PLACE = """#!/bin/sh
+case "$*" in
+doc) echo /dev/null/kit/START-HERE.md ;;
+"all test --jobs "*)
+    echo "== lrls"
     mkdir -p out
     printf '#!/bin/sh\\necho "ran $*"\\nexit 7\\n' > out/lrls
     chmod +x out/lrls
-}
+    ;;
+esac
 """
+IN_A_COPY = """#!/bin/sh
+case "$*" in
+doc) echo "$TMPDIR/kit/START-HERE.md" ;;
+ci)
+    echo "rt: lrls is kept: an earlier run on this machine proved the same files"
+    files="$(cat crates.txt HANDLES) $(find crates -type f)"
+    mkdir -p crates/lrls/out
+    printf '#!/bin/sh\\necho "%s"\\n' "$files" > crates/lrls/out/lrls
+    chmod +x crates/lrls/out/lrls
+    ;;
+esac
+"""
+FAILS = """#!/bin/sh
+case "$*" in
+doc) echo "$TMPDIR/kit/START-HERE.md" ;;
+ci) printf '== other\\nis proved\\n== lrls\\nan error\\nrt: lrls NOT PROVED\\n0 passed, 1 failed\\n' ;;
+esac
+"""
+DONE = "lrls: done with lrls, 1 of 1, after 0 min\n"
 
 
 class Checkout:
@@ -77,8 +100,9 @@ class Checkout:
         os.makedirs(os.path.join(self.top, "crates", "lrls", "src"))
         os.mkdir(self.bin)
         shutil.copy(os.path.join(TOP, "lrls"), self.top)
-        self.placed("crates.txt", "lrls:\n")
-        for command in [*COMMANDS, "mkdir", "chmod"]:
+        self.placed("crates.txt", "lrls:\ntests: lrls\n")
+        self.placed("HANDLES", "none\n")
+        for command in COMMANDS:
             os.symlink(shutil.which(command), os.path.join(self.bin, command))
 
     def placed(self, name, text):
@@ -153,6 +177,27 @@ def unproved(cases, checkout):
     cases.check("folders left behind", [], left)
 
 
+def builds(cases, checkout):
+    """Each way to build, and what is said where nothing was built."""
+    program = os.path.join(checkout.top, "crates", "lrls", "out", "lrls")
+    checkout.placed("crates/lrls/src/main.rt", "")
+    os.mkdir(os.path.join(checkout.top, "crates", "lrls", "must-fail"))
+    checkout.placed("crates/lrls/must-fail/an.edit", "")
+    checkout.stand_in(FAILS)
+    failed = f"{BUILDING}lrls: done with other, 1 of 1, after 0 min\nlrls: done with lrls, 2 of 1, after 0 min\n"
+    said = "== lrls\nan error\nrt: lrls NOT PROVED\n0 passed, 1 failed\nlrls: not built; what is proved is kept for the next time\n"
+    cases.check("a crate isn't proved", ("", failed + said, 1), checkout.run("check", "x"))
+    checkout.stand_in(IN_A_COPY)
+    copied = "lrls:\nnone crates/lrls/src/main.rt\n"
+    cases.check("builds in a copy", (copied, f"{BUILDING}{DONE}lrls: built\n", 0), checkout.run("check", "x"))
+    os.remove(program)
+    checkout.stand_in(IN_PLACE)
+    cases.check("builds in place", ("ran check x\n", f"{BUILDING}{DONE}lrls: built\n", 7), checkout.run("check", "x"))
+    os.remove(program)
+    left = [name for name in os.listdir(checkout.top) if name.startswith("tmp.")]
+    cases.check("folders left behind by a build", [], left)
+
+
 def installs(cases, checkout):
     into = os.path.join(checkout.top, "some where")
     usage = ("", "lrls: usage: lrls install FOLDER\n", 2)
@@ -164,11 +209,9 @@ def installs(cases, checkout):
     cases.check("install over the script", own, checkout.run("install", "."))
     os.mkdir(into)
     os.symlink("../lrls", os.path.join(into, "lrls"))
-    checkout.stand_in(BUILDS)
-    out, err, status = checkout.run("install", "some where")
-    jobs = err.partition("up to ")[2].partition(" ")[0]
-    building = BUILDING.format(jobs=jobs)
-    cases.check("install builds", ("", f"{building}lrls: installed as {into}/lrls\n", 0), (out, err, status))
+    checkout.stand_in(IN_PLACE)
+    said = f"{BUILDING}{DONE}lrls: built\nlrls: installed as {into}/lrls\n"
+    cases.check("install builds", ("", said, 0), checkout.run("install", "some where"))
     installed = os.path.join(into, "lrls")
     cases.check("what was a link is the program", True, stat.S_ISREG(os.lstat(installed).st_mode))
     cases.check("the copy", ("ran check x\n", "", 7), checkout.run("check", "x", script=installed))
@@ -183,7 +226,7 @@ def newer_files(cases, checkout):
     """What the script does where a file is newer than the program, which was built, and `rt` is missing."""
     ran, missing = ("ran check x\n", "", 7), ("", NO_RT.format(top=checkout.top), 1)
     for folder, awaited in [("crates/other/src", ran), ("crates/lrls/must-fail", ran), ("crates/lrls/src/part", missing)]:
-        os.makedirs(os.path.join(checkout.top, folder))
+        os.makedirs(os.path.join(checkout.top, folder), exist_ok=True)
         later = checkout.placed(f"{folder}/later", "")
         os.utime(later, (2_000_000_000, 2_000_000_000))
         cases.check(f"a newer file in {folder}", awaited, checkout.run("check", "x"))
@@ -193,5 +236,6 @@ def run(cases, folder, refused, usage):
     checkout = Checkout(folder)
     without_rt(cases, checkout, refused, usage)
     unproved(cases, checkout)
+    builds(cases, checkout)
     installs(cases, checkout)
     newer_files(cases, checkout)
