@@ -61,7 +61,7 @@ exit 6
 # `rt ci` in a copy, of which the program prints the files too.
 IN_PLACE = """#!/bin/sh
 case "$*" in
-doc) echo /dev/null/kit/START-HERE.md ;;
+doc) echo "$TMPDIR/kit/START-HERE.md" ;;
 "all test --jobs "*)
     echo "== lrls"
     mkdir -p out
@@ -181,8 +181,10 @@ def builds(cases, checkout):
     """Each way to build, and what is said where nothing was built."""
     program = os.path.join(checkout.top, "crates", "lrls", "out", "lrls")
     checkout.placed("crates/lrls/src/main.rt", "")
-    os.mkdir(os.path.join(checkout.top, "crates", "lrls", "must-fail"))
+    for folder in ("crates/lrls/must-fail", "kit"):
+        os.mkdir(os.path.join(checkout.top, folder))
     checkout.placed("crates/lrls/must-fail/an.edit", "")
+    checkout.placed("kit/START-HERE.md", "")
     checkout.stand_in(FAILS)
     failed = f"{BUILDING}lrls: done with other, 1 of 1, after 0 min\nlrls: done with lrls, 2 of 1, after 0 min\n"
     said = "== lrls\nan error\nrt: lrls NOT PROVED\n0 passed, 1 failed\nlrls: not built; what is proved is kept for the next time\n"
@@ -191,6 +193,8 @@ def builds(cases, checkout):
     copied = "lrls:\nnone crates/lrls/src/main.rt\n"
     cases.check("builds in a copy", (copied, f"{BUILDING}{DONE}lrls: built\n", 0), checkout.run("check", "x"))
     os.remove(program)
+    os.rmdir(os.path.join(checkout.top, "rattle-kept"))
+    checkout.placed("rattle-kept", "no folder\n")
     checkout.stand_in(IN_PLACE)
     cases.check("builds in place", ("ran check x\n", f"{BUILDING}{DONE}lrls: built\n", 7), checkout.run("check", "x"))
     os.remove(program)
