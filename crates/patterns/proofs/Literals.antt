@@ -8,9 +8,15 @@ use Rattle.definitions.specs.declared.expression.Interval.{Interval}
 use Rattle.definitions.specs.declared.expression.PatternCause.TheVariants.{Syntax}
 use Rattle.definitions.specs.PatternText.{Written, Plain, Escaped, BadEscape}
 use Rattle.definitions.specs.PatternFaults.{InLiteral, InClass, Items, First, Dash, Opened, fault_from, or_later, char_in_class}
-use Rattle.definitions.specs.Spelling.{IsLiteralChar, IsLiteralRest, IsClassChar, IsClassRest}
+use Rattle.definitions.specs.Spelling.{IsSign, IsLiteralChar, IsLiteralRest, IsClassChar, IsClassRest}
 use Rattle.patterns.specs.Reading.{IsLiteralPrefix, IsClassPrefix, IsItemPrefix, Begins, HasNoClassChar, place, place_of, HasNoLiteralChar}
 use Rattle.patterns.specs.Empty.{is_empty}
+
+-- what holds of a sign that is written as itself holds of each word that is that sign
+pub by_plain : (P : Written → Type 0) (c : ℕ) (w : Written) → ((o : ℕ) → P (Plain o c)) → IsSign c w → P w
+by_plain P c (Plain o x) p h = let Q : ℕ → Type 0 = λ y. P (Plain o y) in subst Q h (p o)
+by_plain P c (Escaped o x) p h = absurd h
+by_plain P c (BadEscape o) p h = absurd h
 
 -- after ws come v's characters, and then vs
 abbrev pub IsLiteralSoFar : List ℕ → List Written → List Written → Type 0
@@ -47,19 +53,23 @@ literal_step n d q empty c (BadEscape o) ws h = absurd h
 pub eq_or_not : (a b : ℕ) → (a ≡ b) ⊎ (a ≢ b)
 eq_or_not a b = grind (arith, nat_tests)
 
+-- `c` is a sign of classes, or it is none of them
+by_sign : (P : ℕ → Type 0) (c : ℕ) → P 93 → P 45 → P 94 → (c ≢ 93 → c ≢ 45 → c ≢ 94 → P c) → P c
+by_sign P c closing dash caret other =
+    elim (eq_or_not c 93) [
+      | inl e ↦ subst P (sym e) closing
+      | inr not_93 ↦ elim (eq_or_not c 45) [
+        | inl e ↦ subst P (sym e) dash
+        | inr not_45 ↦ elim (eq_or_not c 94) [ inl e ↦ subst P (sym e) caret | inr not_94 ↦ other not_93 not_45 not_94 ]
+      ]
+    ]
+
 -- where no item begins
 pub no_item : (n : ℕ) (ws : List Written) → HasNoClassChar ws → (Begins 93 ws → ⊥) → (d b : ℕ) (negated : Bool) (before : List Interval) → fault_from n (InClass d b negated before Items) ws ≡ Some (record { at = place_of n ws; cause = Syntax })
 no_item n [] none h d b negated before = refl
 no_item n (Plain o c ∷ ws) none h d b negated before =
-    let not_93 : c ≢ 93 = λ e. h (sym e) in
-    let P : ℕ → Type 0 = λ x. fault_from n (InClass d b negated before Items) (Plain o x ∷ ws) ≡ Some (record { at = o; cause = Syntax }) in
-    elim (eq_or_not c 45) [
-      | inl e ↦ subst P (sym e) refl
-      | inr not_45 ↦ elim (eq_or_not c 94) [
-        | inl e ↦ subst P (sym e) refl
-        | inr not_94 ↦ absurd (none c (refl, not_93, not_45, not_94))
-      ]
-    ]
+    let P : ℕ → Type 0 = λ x. (93 ≡ x → ⊥) → fault_from n (InClass d b negated before Items) (Plain o x ∷ ws) ≡ Some (record { at = o; cause = Syntax }) in
+    by_sign P c (λ g. absurd (g refl)) (λ g. refl) (λ g. refl) (λ p q r g. absurd (none c (refl, p, q, r))) h
 no_item n (Escaped o c ∷ ws) none h d b negated before = absurd (none c refl)
 no_item n (BadEscape o ∷ ws) none h d b negated before = refl
 
@@ -68,16 +78,7 @@ pub no_last : (n : ℕ) (ws : List Written) → HasNoClassChar ws → (d b : ℕ
 no_last n [] none d b negated before p a = refl
 no_last n (Plain o c ∷ ws) none d b negated before p a =
     let P : ℕ → Type 0 = λ x. fault_from n (InClass d b negated before (Dash p a)) (Plain o x ∷ ws) ≡ Some (record { at = o; cause = Syntax }) in
-    elim (eq_or_not c 93) [
-      | inl e ↦ subst P (sym e) refl
-      | inr not_93 ↦ elim (eq_or_not c 45) [
-        | inl e ↦ subst P (sym e) refl
-        | inr not_45 ↦ elim (eq_or_not c 94) [
-          | inl e ↦ subst P (sym e) refl
-          | inr not_94 ↦ absurd (none c (refl, not_93, not_45, not_94))
-        ]
-      ]
-    ]
+    by_sign P c refl refl refl (λ q r s. absurd (none c (refl, q, r, s)))
 no_last n (Escaped o c ∷ ws) none d b negated before p a = absurd (none c refl)
 no_last n (BadEscape o ∷ ws) none d b negated before p a = refl
 
@@ -105,31 +106,17 @@ last_step n d b negated before p a c (BadEscape o) ws h = absurd h
 pub one_ends : (n d b : ℕ) (negated : Bool) (before : List Interval) (p c : ℕ) (ws : List Written) → (Begins 45 ws → ⊥) → fault_from n (InClass d b negated before (First p c)) ws ≡ fault_from n (InClass d b negated (before ++ record { first = c; last = c } ∷ []) Items) ws
 one_ends n d b negated before p c [] h = refl
 one_ends n d b negated before p c (Plain o x ∷ ws) h =
-    let Q : ℕ → Type 0 = λ y. fault_from n (InClass d b negated before (First p c)) (Plain o y ∷ ws) ≡ fault_from n (InClass d b negated (before ++ record { first = c; last = c } ∷ []) Items) (Plain o y ∷ ws) in
-    elim (eq_or_not x 93) [
-      | inl e ↦ subst Q (sym e) refl
-      | inr not_93 ↦ elim (eq_or_not x 94) [
-        | inl e ↦ subst Q (sym e) refl
-        | inr not_94 ↦ rw (not_equal x 93 not_93, not_equal x 45 (λ e. h (sym e)), not_equal x 94 not_94) refl
-      ]
-    ]
-one_ends n d b negated before p c (Escaped o x ∷ ws) h = refl
-one_ends n d b negated before p c (BadEscape o ∷ ws) h = refl
+    let P : ℕ → Type 0 = λ y. (45 ≡ y → ⊥) → fault_from n (InClass d b negated before (First p c)) (Plain o y ∷ ws) ≡ fault_from n (InClass d b negated (before ++ record { first = c; last = c } ∷ []) Items) (Plain o y ∷ ws) in
+    by_sign P x (λ g. refl) (λ g. absurd (g refl)) (λ g. refl) (λ q r s g. rw (not_equal x 93 q, not_equal x 45 r, not_equal x 94 s) refl) h
+one_ends n d b negated before p c (w ∷ ws) h = refl
 
 -- a class, after its bracket, where no `^` follows
 pub no_caret : (n d b : ℕ) (ws : List Written) → (Begins 94 ws → ⊥) → fault_from n (InClass d b false [] Opened) ws ≡ fault_from n (InClass d b false [] Items) ws
 no_caret n d b [] h = refl
 no_caret n d b (Plain o x ∷ ws) h =
-    let Q : ℕ → Type 0 = λ y. fault_from n (InClass d b false [] Opened) (Plain o y ∷ ws) ≡ fault_from n (InClass d b false [] Items) (Plain o y ∷ ws) in
-    elim (eq_or_not x 93) [
-      | inl e ↦ subst Q (sym e) refl
-      | inr not_93 ↦ elim (eq_or_not x 45) [
-        | inl e ↦ subst Q (sym e) refl
-        | inr not_45 ↦ rw (not_equal x 93 not_93, not_equal x 45 not_45, not_equal x 94 (λ e. h (sym e))) refl
-      ]
-    ]
-no_caret n d b (Escaped o x ∷ ws) h = refl
-no_caret n d b (BadEscape o ∷ ws) h = refl
+    let P : ℕ → Type 0 = λ y. (94 ≡ y → ⊥) → fault_from n (InClass d b false [] Opened) (Plain o y ∷ ws) ≡ fault_from n (InClass d b false [] Items) (Plain o y ∷ ws) in
+    by_sign P x (λ g. refl) (λ g. refl) (λ g. absurd (g refl)) (λ p q r g. rw (not_equal x 93 p, not_equal x 45 q, not_equal x 94 r) refl) h
+no_caret n d b (w ∷ ws) h = refl
 
 pub one_more_item : (is : List Interval) (i : Interval) (ws vs rest : List Written) → IsClassSoFar is ws vs → IsItemPrefix i vs rest → IsClassSoFar (is ++ i ∷ []) ws rest
 one_more_item is i ws vs rest (us, e, goes) (item, f, h) = (

@@ -1,5 +1,7 @@
 -- An atom with its sign of repetition, and what goes on after it.
-use Rattle.std.proofs.Common.{◌≡◌, ℕ, ◌+◌, ◌<◌, ◌==◌, ◌||◌, Bool, true, false, List, [], ◌∷◌, ◌++◌, refl, sym, ◌∙◌, ap, subst, append_assoc, add-one, Option, Some, Vec}
+use Rattle.std.proofs.Common.{◌≡◌, ℕ, zero, suc, ◌+◌, ◌-◌, ◌<◌, ◌==◌, ◌&&◌, ◌||◌, nat_lt, Bool, true, false, List, [], ◌∷◌, ◌++◌, length, refl, sym, ◌∙◌, ap, subst, append_assoc, add-one, arith, None, Vec, Result, Ok, Err}
+use Rattle.std.specs.Result.{IsErr, IsErrAnd, IfErr}
+use Rattle.std.proofs.lemmas.Bool.Decides.{nat_tests}
 use Rattle.definitions.specs.declared.expression.Expression.{Expression}
 use Rattle.definitions.specs.declared.expression.Expression.TheVariants.{Literal, Class}
 use Rattle.definitions.specs.declared.expression.Interval.{Interval}
@@ -7,66 +9,51 @@ use Rattle.definitions.specs.declared.expression.PatternFault.{PatternFault}
 use Rattle.std.specs.declared.alloc.Global.{Global}
 use Rattle.patterns.specs.declared.refusals.Refusal.{Refusal}
 use Rattle.patterns.specs.declared.refusals.Refusal.TheVariants.{Fault, Memory}
-use Rattle.definitions.specs.PatternText.{Written, Plain, Escaped, BadEscape}
-use Rattle.definitions.specs.PatternFaults.{InClass, Items, Opened, Outside, Nothing, AnAtom, ARepetition, fault_from}
-use Rattle.definitions.specs.Spelling.{Alt, Seq, Rep, Atom, SpellsAt, literal, class, group, star, plus, optional, one_atom, one_rep, one_seq, sequence, choice}
-use Rattle.patterns.specs.Reading.{Begins, HasNoBlank, IsPart, IsAtEnd, IsLiteralPrefix, IsClassBody, IsClosed, Reports, IsBlanks, IsRepeated, IsStar, IsPlus, IsOptional, IsSequence, IsChoice, stops}
+use Rattle.definitions.specs.PatternText.{Written, Plain}
+use Rattle.definitions.specs.PatternFaults.{Before, Outside, Nothing, AnAtom, ARepetition, fault_from}
+use Rattle.definitions.specs.Spelling.{Level, Alt, Rep, Atom, SpellsAt, literal, class, group}
+use Rattle.patterns.specs.Reading.{writing, Begins, HasNoBlank, IsPart, IsRead, IsRepeated, IsAtEnd, IsLiteralPrefix, IsClassBody, IsClosed, Reports, stops}
 use Rattle.std.proofs.lemmas.List.{append-nil}
+use Rattle.patterns.specs.declared.characters.Character.{Character}
 use Rattle.patterns.specs.Sound.{is_sound}
-use Rattle.patterns.proofs.Blanks.{blanks_after_part, blanks_skipped}
-use Rattle.patterns.proofs.Literals.{no_caret, not_equal}
+use Rattle.patterns.proofs.Blanks.{Skips, blanks_after_part, blanks_skipped}
+use Rattle.patterns.proofs.Literals.{not_equal}
 
-after_sign : (d : ℕ) (e : Expression) (prefix ws rest vs : List Written) (w : Written) → ws ≡ w ∷ rest → IsBlanks rest vs → SpellsAt Rep d e (prefix ++ w ∷ []) → IsPart Rep d e (prefix ++ ws) vs
-after_sign d e prefix ws rest vs w g b s =
-    blanks_after_part Rep d e (prefix ++ ws) rest vs (prefix ++ w ∷ [], ap (λ x. prefix ++ x) g ∙ sym (append_assoc prefix (w ∷ []) rest), s) b
+-- `words` begins with the sign `c` at place `o`, and `rest` is left
+abbrev pub Strips : ℕ → ℕ → List Character → List Character → Type 0
+Strips o c words rest = (writing words ≡ Plain o c ∷ writing rest) × (length rest < length words)
 
-pub starred : (a e : Expression) (o : ℕ) (ws rest vs : List Written) → IsStar a e → ws ≡ Plain o 42 ∷ rest → IsBlanks rest vs → IsRepeated a e ws vs
-starred a e o ws rest vs (p, f) g b d prefix s =
-    let P : Expression → Type 0 = λ x. SpellsAt Rep d x (prefix ++ Plain o 42 ∷ []) in
-    after_sign d e prefix ws rest vs (Plain o 42) g b (subst P (sym f) (star {p = p} d prefix (prefix ++ Plain o 42 ∷ []) (Plain o 42) refl refl s))
+-- a sign of repetition and the blanks after it
+pub signed : {a e : Expression} {words left : List Character} (o c : ℕ) (rest : List Character) → Strips o c words rest → Skips rest left → is_sound e ≡ is_sound a → ((d : ℕ) (prefix : List Written) → SpellsAt Atom d a prefix → SpellsAt Rep d e (prefix ++ Plain o c ∷ [])) → ((d n : ℕ) → fault_from n (Outside d AnAtom) (Plain o c ∷ writing rest) ≡ fault_from n (Outside d ARepetition) (writing rest)) → IsRepeated a e words left
+signed {e = e} {words = words} {left = left} o c rest (f, short) (blanks, _, shorter) same spells steps = record {
+  spelled = λ d prefix s. blanks_after_part Rep d e (prefix ++ writing words) (writing rest) (writing left) (prefix ++ Plain o c ∷ [], ap (λ x. prefix ++ x) f ∙ sym (append_assoc prefix (Plain o c ∷ []) (writing rest)), spells d prefix s) blanks;
+  sound = λ s. same ∙ s;
+  no_longer = omega arith;
+  goes_on = λ d n. ap (fault_from n (Outside d AnAtom)) f ∙ steps d n ∙ blanks_skipped n d ARepetition (writing rest) (writing left) blanks;
+}
 
-pub plussed : (a e : Expression) (o : ℕ) (ws rest vs : List Written) → IsPlus a e → ws ≡ Plain o 43 ∷ rest → IsBlanks rest vs → IsRepeated a e ws vs
-plussed a e o ws rest vs (p, f) g b d prefix s =
-    let P : Expression → Type 0 = λ x. SpellsAt Rep d x (prefix ++ Plain o 43 ∷ []) in
-    after_sign d e prefix ws rest vs (Plain o 43) g b (subst P (sym f) (plus {p = p} d prefix (prefix ++ Plain o 43 ∷ []) (Plain o 43) refl refl s))
+-- where no sign of repetition stands, it makes no difference whether one stood before
+pub no_sign : (n d : ℕ) (ws : List Written) → HasNoBlank ws → (Begins 42 ws → ⊥) → (Begins 43 ws → ⊥) → (Begins 63 ws → ⊥) → fault_from n (Outside d AnAtom) ws ≡ fault_from n (Outside d ARepetition) ws
+no_sign n zero [] b s p q = refl
+no_sign n (suc d) [] b s p q = refl
+no_sign n d (Plain o c ∷ ws) b s p q =
+    let differs : (a : ℕ) → (a ≡ c → ⊥) → (c == a) ≡ false = λ a h. not_equal c a (λ e. h (sym e)) in
+    rw (differs 32 b.0, differs 9 b.1, differs 42 s, differs 43 p, differs 63 q) refl
+no_sign n d (w ∷ ws) b s p q = refl
 
-pub optioned : (a e : Expression) (o : ℕ) (ws rest vs : List Written) → IsOptional a e → ws ≡ Plain o 63 ∷ rest → IsBlanks rest vs → IsRepeated a e ws vs
-optioned a e o ws rest vs (p, f) g b d prefix s =
-    let P : Expression → Type 0 = λ x. SpellsAt Rep d x (prefix ++ Plain o 63 ∷ []) in
-    after_sign d e prefix ws rest vs (Plain o 63) g b (subst P (sym f) (optional {p = p} d prefix (prefix ++ Plain o 63 ∷ []) (Plain o 63) refl refl s))
+-- an atom and what repeats it
+pub repeated : {d n : ℕ} {words rest left : List Character} {a e : Expression} → IsRead Atom d AnAtom n words rest a → IsRepeated a e rest left → IsRead Rep d ARepetition n words left e
+repeated {d = d} {n = n} {left = left} {e = e} h g =
+    let P : List Written → Type 0 = λ x. IsPart Rep d e x (writing left) in record {
+      spelled = subst P (sym h.spelled.1) (g.spelled d h.spelled.0 h.spelled.2);
+      sound = g.sound h.sound;
+      shorter = omega (arith, h.shorter, g.no_longer);
+      goes_on = h.goes_on ∙ g.goes_on d n;
+    }
 
-pub not_repeated : (a : Expression) (ws : List Written) → IsRepeated a a ws ws
-not_repeated a ws d prefix s = (prefix, refl, one_atom d prefix s)
-
-pub goes_star : (n d o : ℕ) (ws rest vs : List Written) → ws ≡ Plain o 42 ∷ rest → IsBlanks rest vs → fault_from n (Outside d AnAtom) ws ≡ fault_from n (Outside d ARepetition) vs
-goes_star n d o ws rest vs g b = ap (fault_from n (Outside d AnAtom)) g ∙ blanks_skipped n d ARepetition rest vs b
-
-pub goes_plus : (n d o : ℕ) (ws rest vs : List Written) → ws ≡ Plain o 43 ∷ rest → IsBlanks rest vs → fault_from n (Outside d AnAtom) ws ≡ fault_from n (Outside d ARepetition) vs
-goes_plus n d o ws rest vs g b = ap (fault_from n (Outside d AnAtom)) g ∙ blanks_skipped n d ARepetition rest vs b
-
-pub goes_optional : (n d o : ℕ) (ws rest vs : List Written) → ws ≡ Plain o 63 ∷ rest → IsBlanks rest vs → fault_from n (Outside d AnAtom) ws ≡ fault_from n (Outside d ARepetition) vs
-goes_optional n d o ws rest vs g b = ap (fault_from n (Outside d AnAtom)) g ∙ blanks_skipped n d ARepetition rest vs b
-
--- a part of a sequence and the next one
-pub one_more_rep : (d : ℕ) (a b e : Expression) (ws vs rest : List Written) → IsPart Seq d a ws vs → IsPart Rep d b vs rest → IsSequence a b e → IsPart Seq d e ws rest
-one_more_rep d a b e ws vs rest (us, f, s) (us2, g, s2) (p, q, h) =
-    let P : Expression → Type 0 = λ x. SpellsAt Seq d x (us ++ us2) in
-    (us ++ us2, f ∙ ap (λ x. us ++ x) g ∙ sym (append_assoc us us2 rest), subst P (sym h) (sequence {p = p} {q = q} d us us2 (us ++ us2) refl s (one_rep d us2 s2)))
-
--- an alternative and the next one
-pub one_more_seq : (d o : ℕ) (a b e : Expression) (ws vs inside rest : List Written) → IsPart Alt d a ws vs → vs ≡ Plain o 124 ∷ inside → IsPart Seq d b inside rest → IsChoice a b e → IsPart Alt d e ws rest
-one_more_seq d o a b e ws vs inside rest (us, f, s) k (us2, g, s2) (p, q, h) =
-    let P : Expression → Type 0 = λ x. SpellsAt Alt d x (us ++ Plain o 124 ∷ us2) in (
-      us ++ Plain o 124 ∷ us2,
-      f ∙ ap (λ x. us ++ x) (k ∙ ap (λ x. Plain o 124 ∷ x) g) ∙ sym (append_assoc us (Plain o 124 ∷ us2) rest),
-      subst P (sym h) (choice {p = p} {q = q} d us us2 (us ++ Plain o 124 ∷ us2) (Plain o 124) refl refl s (one_seq d us2 s2)),
-    )
-
-pub first_rep : (d : ℕ) (a : Expression) (ws vs : List Written) → IsPart Rep d a ws vs → IsPart Seq d a ws vs
-first_rep d a ws vs (us, f, s) = (us, f, one_rep d us s)
-
-pub first_seq : (d : ℕ) (a : Expression) (ws vs : List Written) → IsPart Seq d a ws vs → IsPart Alt d a ws vs
-first_seq d a ws vs (us, f, s) = (us, f, one_seq d us s)
+-- a part of one level is a part of the level above it
+pub of_level : {l k : Level} {d n : ℕ} {after : Before} {words rest : List Character} {e : Expression} → ((us : List Written) → SpellsAt l d e us → SpellsAt k d e us) → IsRead l d after n words rest e → IsRead k d after n words rest e
+of_level up h = record { spelled = (h.spelled.0, h.spelled.1, up h.spelled.0 h.spelled.2); sound = h.sound; shorter = h.shorter; goes_on = h.goes_on }
 
 or_no : (a b : Bool) → (a || b) ≡ false → (a ≡ false) × (b ≡ false)
 or_no true b h = cc
@@ -78,44 +65,61 @@ no_stop n d [] h b = cc
 no_stop n d (Plain o c ∷ ws) h b =
     let e = or_no (c == 124) (c == 41) h in
     rw (not_equal c 32 (λ q. b.0 (sym q)), not_equal c 9 (λ q. b.1 (sym q)), e.0, e.1) refl
-no_stop n d (Escaped o c ∷ ws) h b = refl
-no_stop n d (BadEscape o ∷ ws) h b = refl
+no_stop n d (w ∷ ws) h b = refl
 
-pub shows_along : (r : Refusal) (a b : Option PatternFault) → a ≡ b → Reports r (λ f. b ≡ Some f) → Reports r (λ f. a ≡ Some f)
-shows_along (Fault f) a b e h = e ∙ h
-shows_along Memory a b e h = tt
+-- a part, what stands between, and the next part
+pub joined : {l k : Level} {d n : ℕ} {words rest after left : List Character} {a b e : Expression} (between : List Written) → IsRead l d ARepetition n words rest a → IsRead k d ARepetition n after left b → writing rest ≡ between ++ writing after → length left < length rest → fault_from n (Outside d ARepetition) (writing rest) ≡ fault_from n (Outside d Nothing) (writing after) → is_sound e ≡ is_sound a && is_sound b → ((us vs : List Written) → SpellsAt l d a us → SpellsAt k d b vs → SpellsAt l d e (us ++ (between ++ vs))) → IsRead l d ARepetition n words left e
+joined {left = left} between h g f shorter goes_on sound spells =
+    let (us, us_is, s) = h.spelled in
+    let (vs, vs_is, t) = g.spelled in record {
+      spelled = (us ++ (between ++ vs), us_is ∙ ap (λ x. us ++ x) (f ∙ ap (λ x. between ++ x) vs_is ∙ sym (append_assoc between vs (writing left))) ∙ sym (append_assoc us (between ++ vs) (writing left)), spells us vs s t);
+      sound = sound ∙ rw (h.sound, g.sound) refl;
+      shorter = omega (arith, h.shorter);
+      goes_on = h.goes_on ∙ goes_on ∙ g.goes_on;
+    }
 
-pub class_shows : (r : Refusal) (n b : ℕ) (ws : List Written) → (Begins 94 ws → ⊥) → Reports r (λ f. (d : ℕ) → fault_from n (InClass d b false [] Items) ws ≡ Some f) → Reports r (λ f. (d : ℕ) → fault_from n (InClass d b false [] Opened) ws ≡ Some f)
-class_shows (Fault f) n b ws g h = λ d. no_caret n d b ws g ∙ h d
-class_shows Memory n b ws g h = tt
+-- what `?` hands on reports what its refusal does, and what follows from that
+pub hands_on : {A : Type 0} {P Q : PatternFault → Type 0} (result : Result A Refusal) (r : Refusal) → IsErr result × IsErrAnd result (λ e. e ≡ r) → ((f : PatternFault) → P f → Q f) → Reports r P → IfErr result (λ e. Reports e Q)
+hands_on (Err e) (Fault f) k go h = rw k.1 (go f h)
+hands_on (Err e) Memory k go h = rw k.1 tt
+hands_on (Ok x) r k go h = tt
 
-pub as_literal : (d o : ℕ) (v : Vec ℕ Global) (ws inside rest : List Written) → ws ≡ Plain o 34 ∷ inside → IsLiteralPrefix v.items inside rest → IsPart Atom d (Literal v) ws rest
-as_literal d o v ws inside rest e (us, f, h) = (Plain o 34 ∷ us, e ∙ ap (λ x. Plain o 34 ∷ x) f, literal d v (Plain o 34 ∷ us) (refl, h))
+-- what an opening sign begins
+pub enclosed : {d n : ℕ} {words rest : List Character} {e : Expression} (o c : ℕ) (inside : List Character) → Strips o c words inside → IsPart Atom d e (Plain o c ∷ writing inside) (writing rest) → is_sound e ≡ true → length rest < length inside → fault_from n (Outside d Nothing) (Plain o c ∷ writing inside) ≡ fault_from n (Outside d AnAtom) (writing rest) → IsRead Atom d AnAtom n words rest e
+enclosed {d = d} {n = n} {rest = rest} {e = e} o c inside (f, short) part sound shorter goes_on =
+    let P : List Written → Type 0 = λ x. IsPart Atom d e x (writing rest) in
+    record { spelled = subst P (sym f) part; sound = sound; shorter = omega arith; goes_on = ap (fault_from n (Outside d Nothing)) f ∙ goes_on }
 
-pub as_class : (d o : ℕ) (negated : Bool) (v : Vec Interval Global) (ws inside rest : List Written) → ws ≡ Plain o 91 ∷ inside → IsClassBody negated v.items inside rest → IsPart Atom d (Class negated v) ws rest
-as_class d o false v ws inside rest e (us, f, h) = (Plain o 91 ∷ us, e ∙ ap (λ x. Plain o 91 ∷ x) f, class d false v (Plain o 91 ∷ us) (refl, h))
-as_class d o true v ws inside rest e (w, more, g, sign, (us, f, h)) =
-    (Plain o 91 ∷ w ∷ us, e ∙ ap (λ x. Plain o 91 ∷ x) (g ∙ ap (λ x. w ∷ x) f), class d true v (Plain o 91 ∷ w ∷ us) (refl, sign, h))
+pub literal_part : {d o : ℕ} {v : Vec ℕ Global} {inside rest : List Written} → IsLiteralPrefix v.items inside rest → IsPart Atom d (Literal v) (Plain o 34 ∷ inside) rest
+literal_part {d = d} {o = o} {v = v} (us, f, h) = (Plain o 34 ∷ us, ap (λ x. Plain o 34 ∷ x) f, literal d v (Plain o 34 ∷ us) (refl, h))
 
-pub as_group : (d o : ℕ) (e : Expression) (ws inside rest after : List Written) → ws ≡ Plain o 40 ∷ inside → d < 64 → IsPart Alt (d + 1) e inside rest → IsClosed rest after → IsPart Atom d e ws after
-as_group d o e ws inside rest after f small (us, g, s) (p, h) =
-    let P : ℕ → Type 0 = λ k. SpellsAt Alt k e us in (
-      Plain o 40 ∷ us ++ Plain p 41 ∷ [],
-      f ∙ ap (λ x. Plain o 40 ∷ x) (g ∙ ap (λ x. us ++ x) h ∙ sym (append_assoc us (Plain p 41 ∷ []) after)),
-      group d us (Plain o 40 ∷ us ++ Plain p 41 ∷ []) (Plain o 40) (Plain p 41) refl refl refl small (subst P (add-one d) s),
-    )
+pub class_part : {d o : ℕ} {v : Vec Interval Global} {inside rest : List Written} (negated : Bool) → IsClassBody negated v.items inside rest → IsPart Atom d (Class negated v) (Plain o 91 ∷ inside) rest
+class_part {d = d} {o = o} {v = v} false (us, f, h) = (Plain o 91 ∷ us, ap (λ x. Plain o 91 ∷ x) f, class d false v (Plain o 91 ∷ us) (refl, h))
+class_part {d = d} {o = o} {v = v} true (w, more, g, sign, (us, f, h)) =
+    (Plain o 91 ∷ w ∷ us, ap (λ x. Plain o 91 ∷ x) (g ∙ ap (λ x. w ∷ x) f), class d true v (Plain o 91 ∷ w ∷ us) (refl, sign, h))
 
-pub sound_choice : (a b e : Expression) → IsChoice a b e → is_sound a ≡ true → is_sound b ≡ true → is_sound e ≡ true
-sound_choice a b e (p, q, h) sa sb = ap is_sound h ∙ rw (sa, sb) refl
+pub group_opens : (n d o : ℕ) (words inside : List Written) → words ≡ Plain o 40 ∷ inside → d < 64 → fault_from n (Outside d Nothing) words ≡ fault_from n (Outside (d + 1) Nothing) inside
+group_opens n d o words inside f small =
+    let e : nat_lt d 64 ≡ true = grind (arith, nat_tests) in
+    ap (fault_from n (Outside d Nothing)) f ∙ rw e refl
 
-pub sound_sequence : (a b e : Expression) → IsSequence a b e → is_sound a ≡ true → is_sound b ≡ true → is_sound e ≡ true
-sound_sequence a b e (p, q, h) sa sb = ap is_sound h ∙ rw (sa, sb) refl
+pub as_group : {d n : ℕ} {words rest left : List Character} {e : Expression} (o : ℕ) (inside : List Character) → Strips o 40 words inside → d < 64 → IsRead Alt (d + 1) ARepetition n inside rest e → IsClosed (writing rest) (writing left) → length left < length rest → IsRead Atom d AnAtom n words left e
+as_group {d = d} {n = n} {left = left} {e = e} o inside strips small h (p, closed) shorter =
+    let (us, f, s) = h.spelled in
+    let P : ℕ → Type 0 = λ k. SpellsAt Alt k e us in
+    let ws = Plain o 40 ∷ us ++ Plain p 41 ∷ [] in
+    let inner : nat_lt 0 (d + 1) ≡ true = grind (arith, nat_tests) in
+    let same : d + 1 - 1 ≡ d = omega arith in
+    enclosed o 40 inside strips (ws, ap (λ x. Plain o 40 ∷ x) (f ∙ ap (λ x. us ++ x) closed ∙ sym (append_assoc us (Plain p 41 ∷ []) (writing left))), group d us ws (Plain o 40) (Plain p 41) refl refl refl small (subst P (add-one d) s)) h.sound (omega (arith, h.shorter)) (group_opens n d o (Plain o 40 ∷ writing inside) (writing inside) refl small ∙ h.goes_on ∙ ap (fault_from n (Outside (d + 1) ARepetition)) closed ∙ rw (inner, same) refl)
 
-pub at_end : (ws : List Written) → IsAtEnd ws → (Begins 41 ws → ⊥) → ws ≡ []
+at_end : (ws : List Written) → IsAtEnd ws → (Begins 41 ws → ⊥) → ws ≡ []
 at_end [] h g = refl
 at_end (w ∷ ws) h g = absurd (g h)
 
-pub whole_part : (e : Expression) (ws vs : List Written) → IsPart Alt 0 e ws vs → vs ≡ [] → SpellsAt Alt 0 e ws
-whole_part e ws vs (us, f, s) g =
+-- the whole of a text
+pub read_whole : {n : ℕ} {e : Expression} {words rest : List Character} → IsRead Alt 0 ARepetition n words rest e → IsAtEnd (writing rest) → (Begins 41 (writing rest) → ⊥) → SpellsAt Alt 0 e (writing words) × (fault_from n (Outside 0 Nothing) (writing words) ≡ None)
+read_whole {n = n} {e = e} {rest = rest} h end none =
+    let nil = at_end (writing rest) end none in
     let P : List Written → Type 0 = SpellsAt Alt 0 e in
-    subst P (sym (f ∙ ap (λ x. us ++ x) g ∙ append-nil us)) s
+    let (us, f, s) = h.spelled in
+    (subst P (sym (f ∙ ap (λ x. us ++ x) nil ∙ append-nil us)) s, h.goes_on ∙ ap (fault_from n (Outside 0 ARepetition)) nil)

@@ -15,7 +15,7 @@ use Rattle.patterns.specs.Reading.{Begins, place}
 use Rattle.patterns.proofs.Blanks.{blank_step}
 use Rattle.patterns.proofs.WellMade.{and_both, or_case, or_left, or_right, le_tested}
 use Rattle.patterns.proofs.Unique.{one_meaning}
-use Rattle.patterns.proofs.Literals.{eq_or_not, not_equal, literal_step, first_step, last_step, one_ends, no_caret}
+use Rattle.patterns.proofs.Literals.{by_plain, eq_or_not, not_equal, literal_step, first_step, last_step, one_ends, no_caret}
 
 -- what stands after a part of this level
 abbrev Ends : Level → Before → Type 0
@@ -28,9 +28,7 @@ abbrev Runs : Level → ℕ → List Written → Type 0
 Runs l d ws = (n : ℕ) (b : Before) (rest : List Written) → (r : Before) × Ends l r × (fault_from n (Outside d b) (ws ++ rest) ≡ fault_from n (Outside d r) rest)
 
 bar_step : (n d : ℕ) (b : Before) (w : Written) (ws : List Written) → IsSign 124 w → is_something b ≡ true → fault_from n (Outside d b) (w ∷ ws) ≡ fault_from n (Outside d Nothing) ws
-bar_step n d b (Plain o c) ws h e = let P : ℕ → Type 0 = λ x. fault_from n (Outside d b) (Plain o x ∷ ws) ≡ fault_from n (Outside d Nothing) ws in subst P h (rw e refl)
-bar_step n d b (Escaped o c) ws h e = absurd h
-bar_step n d b (BadEscape o) ws h e = absurd h
+bar_step n d b w ws h e = by_plain (λ x. fault_from n (Outside d b) (x ∷ ws) ≡ fault_from n (Outside d Nothing) ws) 124 w (λ o. rw e refl) h
 
 choice_runs : (d : ℕ) (us vs ws : List Written) (w : Written) → ws ≡ us ++ w ∷ vs → IsSign 124 w → Runs Alt d us → Runs Alt d vs → Runs Alt d ws
 choice_runs d us vs ws w f sign g h n b rest =
@@ -52,21 +50,6 @@ sign_runs d us ws w f step g n b rest =
     let one = g n b (w ∷ rest) in
     (ARepetition, refl, ap (fault_from n (Outside d b)) (ap (λ x. x ++ rest) f ∙ append_assoc us (w ∷ []) rest) ∙ one.2 ∙ ap (λ x. fault_from n (Outside d x) (w ∷ rest)) one.1 ∙ step n rest)
 
-star_step : (d : ℕ) (w : Written) → IsSign 42 w → Repeats d w
-star_step d (Plain o c) h n ws = let P : ℕ → Type 0 = λ x. fault_from n (Outside d AnAtom) (Plain o x ∷ ws) ≡ fault_from n (Outside d ARepetition) ws in subst P h refl
-star_step d (Escaped o c) h n ws = absurd h
-star_step d (BadEscape o) h n ws = absurd h
-
-plus_step : (d : ℕ) (w : Written) → IsSign 43 w → Repeats d w
-plus_step d (Plain o c) h n ws = let P : ℕ → Type 0 = λ x. fault_from n (Outside d AnAtom) (Plain o x ∷ ws) ≡ fault_from n (Outside d ARepetition) ws in subst P h refl
-plus_step d (Escaped o c) h n ws = absurd h
-plus_step d (BadEscape o) h n ws = absurd h
-
-optional_step : (d : ℕ) (w : Written) → IsSign 63 w → Repeats d w
-optional_step d (Plain o c) h n ws = let P : ℕ → Type 0 = λ x. fault_from n (Outside d AnAtom) (Plain o x ∷ ws) ≡ fault_from n (Outside d ARepetition) ws in subst P h refl
-optional_step d (Escaped o c) h n ws = absurd h
-optional_step d (BadEscape o) h n ws = absurd h
-
 before_runs : (l : Level) (d : ℕ) (us : List Written) (w : Written) → IsBlank w → Runs l d us → Runs l d (w ∷ us)
 before_runs l d us w blank g n b rest =
     let one = g n b rest in
@@ -81,21 +64,15 @@ atom_runs : (d : ℕ) (ws : List Written) → Runs Atom d ws → Runs Rep d ws
 atom_runs d ws g n b rest = let one = g n b rest in (one.0, ap is_something one.1, one.2)
 
 open_step : (n d : ℕ) (b : Before) (w : Written) (ws : List Written) → IsSign 40 w → d < 64 → fault_from n (Outside d b) (w ∷ ws) ≡ fault_from n (Outside (suc d) Nothing) ws
-open_step n d b (Plain o c) ws h small =
-    let P : ℕ → Type 0 = λ x. fault_from n (Outside d b) (Plain o x ∷ ws) ≡ fault_from n (Outside (suc d) Nothing) ws in
+open_step n d b w ws h small =
     let e : nat_lt d 64 ≡ true = grind (arith, nat_tests) in
-    subst P h (rw e (ap (λ x. fault_from n (Outside x Nothing) ws) (add-one d)))
-open_step n d b (Escaped o c) ws h small = absurd h
-open_step n d b (BadEscape o) ws h small = absurd h
+    by_plain (λ x. fault_from n (Outside d b) (x ∷ ws) ≡ fault_from n (Outside (suc d) Nothing) ws) 40 w (λ o. rw e (ap (λ x. fault_from n (Outside x Nothing) ws) (add-one d))) h
 
 close_step : (n d : ℕ) (b : Before) (w : Written) (ws : List Written) → IsSign 41 w → is_something b ≡ true → fault_from n (Outside (suc d) b) (w ∷ ws) ≡ fault_from n (Outside d AnAtom) ws
-close_step n d b (Plain o c) ws h something =
-    let P : ℕ → Type 0 = λ x. fault_from n (Outside (suc d) b) (Plain o x ∷ ws) ≡ fault_from n (Outside d AnAtom) ws in
+close_step n d b w ws h something =
     let e : nat_lt 0 (suc d) ≡ true = grind (arith, nat_tests) in
     let f : suc d - 1 ≡ d = omega arith in
-    subst P h (rw (something, e) (ap (λ x. fault_from n (Outside x AnAtom) ws) f))
-close_step n d b (Escaped o c) ws h something = absurd h
-close_step n d b (BadEscape o) ws h something = absurd h
+    by_plain (λ x. fault_from n (Outside (suc d) b) (x ∷ ws) ≡ fault_from n (Outside d AnAtom) ws) 41 w (λ o. rw (something, e) (ap (λ x. fault_from n (Outside x AnAtom) ws) f)) h
 
 group_runs : (d : ℕ) (us ws : List Written) (w x : Written) → ws ≡ w ∷ us ++ x ∷ [] → IsSign 40 w → IsSign 41 x → d < 64 → Runs Alt (suc d) us → Runs Atom d ws
 group_runs d us ws w x f opens closes small g n b rest =
@@ -141,9 +118,7 @@ first_char i (a ∷ b ∷ c ∷ []) h = (a, b ∷ c ∷ [], refl, h.0)
 first_char i (a ∷ b ∷ c ∷ d ∷ ws) h = absurd h
 
 bracket_only : (w : Written) → IsSign 93 w → (IsSign 45 w → ⊥) × (IsSign 94 w → ⊥)
-bracket_only (Plain o c) g = (λ h. absurd (omega (arith, g, h)), λ h. absurd (omega (arith, g, h)))
-bracket_only (Escaped o c) g = absurd g
-bracket_only (BadEscape o) g = absurd g
+bracket_only w g = by_plain (λ x. (IsSign 45 x → ⊥) × (IsSign 94 x → ⊥)) 93 w (λ o. (λ h. absurd (omega (arith, h)), λ h. absurd (omega (arith, h)))) g
 
 -- neither a `-` nor a `^` begins the items of a class
 class_prefix : (is : List Interval) (ws rest : List Written) → IsClassRest is ws → (Begins 45 (ws ++ rest) → ⊥) × (Begins 94 (ws ++ rest) → ⊥)
@@ -159,9 +134,8 @@ abbrev range : ℕ → ℕ → Interval
 range a b = record { first = a; last = b }
 
 dash_step : (n d b : ℕ) (negated : Bool) (before : List Interval) (p c : ℕ) (w : Written) (ws : List Written) → IsSign 45 w → fault_from n (InClass d b negated before (First p c)) (w ∷ ws) ≡ fault_from n (InClass d b negated before (Dash p c)) ws
-dash_step n d b negated before p c (Plain o x) ws h = let P : ℕ → Type 0 = λ y. fault_from n (InClass d b negated before (First p c)) (Plain o y ∷ ws) ≡ fault_from n (InClass d b negated before (Dash p c)) ws in subst P h refl
-dash_step n d b negated before p c (Escaped o x) ws h = absurd h
-dash_step n d b negated before p c (BadEscape o) ws h = absurd h
+dash_step n d b negated before p c w ws h =
+    by_plain (λ x. fault_from n (InClass d b negated before (First p c)) (x ∷ ws) ≡ fault_from n (InClass d b negated before (Dash p c)) ws) 45 w (λ o. refl) h
 
 not_below : (a b : ℕ) → a ≤ b → nat_lt b a ≡ false
 not_below a b h = grind (arith, nat_tests)
@@ -181,9 +155,8 @@ item_runs n d b negated before i (x ∷ y ∷ z ∷ []) rest h order dash =
 item_runs n d b negated before i (x ∷ y ∷ z ∷ v ∷ ws) rest h order dash = absurd h
 
 closing_step : (n d b : ℕ) (negated : Bool) (before : List Interval) (w : Written) (ws : List Written) → IsSign 93 w → fault_from n (InClass d b negated before Items) (w ∷ ws) ≡ or_later (λ s. fault_from n s ws) (closed d b negated before)
-closing_step n d b negated before (Plain o x) ws h = let P : ℕ → Type 0 = λ y. fault_from n (InClass d b negated before Items) (Plain o y ∷ ws) ≡ or_later (λ s. fault_from n s ws) (closed d b negated before) in subst P h refl
-closing_step n d b negated before (Escaped o x) ws h = absurd h
-closing_step n d b negated before (BadEscape o) ws h = absurd h
+closing_step n d b negated before w ws h =
+    by_plain (λ x. fault_from n (InClass d b negated before Items) (x ∷ ws) ≡ or_later (λ s. fault_from n s ws) (closed d b negated before)) 93 w (λ o. refl) h
 
 items_run : (n d b : ℕ) (negated : Bool) (before is : List Interval) (ws rest : List Written) → IsClassRest is ws → AllByRecursion (λ i. i.first ≤ i.last) is → fault_from n (InClass d b negated before Items) (ws ++ rest) ≡ or_later (λ s. fault_from n s rest) (closed d b negated (before ++ is))
 items_run n d b negated before [] ws rest (w, e, sign) order =
@@ -197,14 +170,10 @@ items_run n d b negated before (i ∷ is) ws rest (item, more, e, hi, hr) order 
     ∙ ap (λ x. or_later (λ s. fault_from n s rest) (closed d b negated x)) (append_assoc before (i ∷ []) is)
 
 bracket_step : (n d : ℕ) (b : Before) (w : Written) (ws : List Written) → IsSign 91 w → fault_from n (Outside d b) (w ∷ ws) ≡ fault_from n (InClass d (place w) false [] Opened) ws
-bracket_step n d b (Plain o c) ws h = let P : ℕ → Type 0 = λ x. fault_from n (Outside d b) (Plain o x ∷ ws) ≡ fault_from n (InClass d o false [] Opened) ws in subst P h refl
-bracket_step n d b (Escaped o c) ws h = absurd h
-bracket_step n d b (BadEscape o) ws h = absurd h
+bracket_step n d b w ws h = by_plain (λ x. fault_from n (Outside d b) (x ∷ ws) ≡ fault_from n (InClass d (place x) false [] Opened) ws) 91 w (λ o. refl) h
 
 caret_step : (n d b : ℕ) (w : Written) (ws : List Written) → IsSign 94 w → fault_from n (InClass d b false [] Opened) (w ∷ ws) ≡ fault_from n (InClass d b true [] Items) ws
-caret_step n d b (Plain o c) ws h = let P : ℕ → Type 0 = λ x. fault_from n (InClass d b false [] Opened) (Plain o x ∷ ws) ≡ fault_from n (InClass d b true [] Items) ws in subst P h refl
-caret_step n d b (Escaped o c) ws h = absurd h
-caret_step n d b (BadEscape o) ws h = absurd h
+caret_step n d b w ws h = by_plain (λ x. fault_from n (InClass d b false [] Opened) (x ∷ ws) ≡ fault_from n (InClass d b true [] Items) ws) 94 w (λ o. refl) h
 
 class_closed : (n d b : ℕ) (negated : Bool) (is : List Interval) (rest : List Written) → is_nothing negated is ≡ false → or_later (λ s. fault_from n s rest) (closed d b negated is) ≡ fault_from n (Outside d AnAtom) rest
 class_closed n d b negated is rest h = rw h refl
@@ -321,9 +290,9 @@ not_nothing false (i ∷ is) h = refl
 runs : {l : Level} {d : ℕ} {e : Expression} {ws : List Written} → SpellsAt l d e ws → IsWellMade e → Runs l d ws
 runs (choice d us vs ws w f sign s t) m = choice_runs d us vs ws w f sign (runs s m.0) (runs t m.1)
 runs (sequence d us vs ws f s t) m = sequence_runs d us vs ws f (runs s m.0) (runs t m.1)
-runs (star d us ws w f sign s) m = sign_runs d us ws w f (star_step d w sign) (runs s m)
-runs (plus d us ws w f sign s) m = sign_runs d us ws w f (plus_step d w sign) (runs s m)
-runs (optional d us ws w f sign s) m = sign_runs d us ws w f (optional_step d w sign) (runs s m)
+runs (star d us ws w f sign s) m = sign_runs d us ws w f (by_plain (Repeats d) 42 w (λ o n ws. refl) sign) (runs s m)
+runs (plus d us ws w f sign s) m = sign_runs d us ws w f (by_plain (Repeats d) 43 w (λ o n ws. refl) sign) (runs s m)
+runs (optional d us ws w f sign s) m = sign_runs d us ws w f (by_plain (Repeats d) 63 w (λ o n ws. refl) sign) (runs s m)
 runs (literal d v ws h) m = literal_runs d v.items ws h m
 runs (class d negated v ws h) m = class_runs d negated v.items ws h m.0 (not_nothing negated v.items m.1)
 runs (group d us ws w x f opens closes small s) m = group_runs d us ws w x f opens closes small (runs s m)

@@ -9,7 +9,7 @@ use Rattle.definitions.specs.Text.{IsCharacter}
 use Rattle.definitions.specs.Patterns.{IsJoin, IsNonemptyJoin, is_in_class, Matches}
 use Rattle.definitions.specs.PatternText.{Written, Plain, Escaped, BadEscape, written}
 use Rattle.definitions.specs.Spelling.{Level, Alt, Seq, Rep, Atom, SpellsAt, Spells, choice, sequence, star, plus, optional, literal, class, group, one_seq, one_rep, one_atom, blank_before, blank_after, IsSign, IsBlank, IsLiteralRest, IsLiteral, IsClassRest, IsClass, IsClassChar}
-use Rattle.patterns.proofs.Literals.{not_equal}
+use Rattle.patterns.proofs.Literals.{by_plain, not_equal}
 
 -- a set of texts
 abbrev Language : Type 1
@@ -194,18 +194,12 @@ abbrev Reports : Level → Language → List Written → Type 0
 Reports l L ws = (fs : List Frame) (f : Frame) (rest : List Written) → (g : Frame) × Adds l L f g × (run (ws ++ rest) fs f Out ≡ run rest fs g Out)
 
 blank_shown : (w : Written) (ws : List Written) (fs : List Frame) (f : Frame) → IsBlank w → run (w ∷ ws) fs f Out ≡ run ws fs f Out
-blank_shown (Plain o c) ws fs f (inl h) = let P : ℕ → Type 0 = λ x. run (Plain o x ∷ ws) fs f Out ≡ run ws fs f Out in subst P h refl
-blank_shown (Plain o c) ws fs f (inr h) = let P : ℕ → Type 0 = λ x. run (Plain o x ∷ ws) fs f Out ≡ run ws fs f Out in subst P h refl
-blank_shown (Escaped o c) ws fs f (inl h) = absurd h
-blank_shown (Escaped o c) ws fs f (inr h) = absurd h
-blank_shown (BadEscape o) ws fs f (inl h) = absurd h
-blank_shown (BadEscape o) ws fs f (inr h) = absurd h
+blank_shown w ws fs f (inl h) = by_plain (λ x. run (x ∷ ws) fs f Out ≡ run ws fs f Out) 32 w (λ o. refl) h
+blank_shown w ws fs f (inr h) = by_plain (λ x. run (x ∷ ws) fs f Out ≡ run ws fs f Out) 9 w (λ o. refl) h
 
 -- one sign outside literals and classes
 sign_shown : (c : ℕ) (w : Written) (ws : List Written) (fs : List Frame) (f : Frame) → IsSign c w → run (w ∷ ws) fs f Out ≡ outside (λ gs g k. run ws gs g k) fs f c
-sign_shown c (Plain o x) ws fs f h = ap (outside (λ gs g k. run ws gs g k) fs f) (sym h)
-sign_shown c (Escaped o x) ws fs f h = absurd h
-sign_shown c (BadEscape o) ws fs f h = absurd h
+sign_shown c w ws fs f h = by_plain (λ x. run (x ∷ ws) fs f Out ≡ outside (λ gs g k. run ws gs g k) fs f c) c w (λ o. refl) h
 
 along : (us vs ws rest : List Written) (fs : List Frame) (f : Frame) → ws ≡ us ++ vs → run (ws ++ rest) fs f Out ≡ run (us ++ (vs ++ rest)) fs f Out
 along us vs ws rest fs f e = ap (λ x. run x fs f Out) (ap (λ x. x ++ rest) e ∙ append_assoc us vs rest)

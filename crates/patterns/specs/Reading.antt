@@ -1,5 +1,5 @@
 -- What the steps of a reader decide of a prefix of a text.
-use Rattle.std.specs.Prelude.{◌≡◌, ℕ, ◌==◌, ◌||◌, Bool, true, false, List, [], ◌∷◌, ◌++◌}
+use Rattle.std.specs.Prelude.{◌≡◌, ℕ, ◌<◌, ◌≤◌, ◌==◌, ◌||◌, Bool, true, false, List, [], ◌∷◌, ◌++◌, length, Some}
 use Rattle.std.specs.List.{AllByRecursion}
 use Rattle.definitions.specs.declared.expression.Interval.{Interval}
 use Rattle.definitions.specs.declared.expression.Expression.{Expression}
@@ -7,12 +7,14 @@ use Rattle.definitions.specs.declared.expression.Expression.TheVariants.{Sequenc
 use Rattle.definitions.specs.declared.expression.PatternCause.{PatternCause}
 use Rattle.definitions.specs.declared.expression.PatternFault.{PatternFault}
 use Rattle.definitions.specs.PatternText.{Written, Plain, Escaped, BadEscape}
+use Rattle.definitions.specs.PatternFaults.{Before, Nothing, AnAtom, ARepetition, Outside, fault_from}
 use Rattle.definitions.specs.Spelling.{Level, Rep, Atom, SpellsAt, Address, IsBlank, IsSign, IsClassChar, IsLiteralChar, IsLiteralRest}
 use Rattle.definitions.specs.Spelling.{IsItem, IsClassRest}
 use Rattle.patterns.specs.declared.characters.Character.{Character}
 use Rattle.patterns.specs.declared.characters.Character.TheVariants.{Sign, Escape, Broken}
 use Rattle.patterns.specs.declared.refusals.Refusal.{Refusal}
 use Rattle.patterns.specs.declared.refusals.Refusal.TheVariants.{Fault, Memory}
+use Rattle.patterns.specs.Sound.{is_sound}
 
 abbrev pub written_as : Character → Written
 written_as (Sign o c) = Plain o c
@@ -74,9 +76,24 @@ IsClosed ws vs = (o : ℕ) × (ws ≡ Plain o 41 ∷ vs)
 abbrev pub IsPart : Level → ℕ → Expression → List Written → List Written → Type 0
 IsPart l d e ws vs = (us : List Written) × (ws ≡ us ++ vs) × SpellsAt l d e us
 
--- after an atom a, ws makes it e, and vs is left
-abbrev pub IsRepeated : Expression → Expression → List Written → List Written → Type 0
-IsRepeated a e ws vs = (d : ℕ) (prefix : List Written) → SpellsAt Atom d a prefix → IsPart Rep d e (prefix ++ ws) vs
+-- `IsRead level depth after n words rest e`: at the start of `words`, inside so many parentheses, stands a part of this level that spells
+-- the well made `e`, and `rest` is left; in a text of `n` characters, the first fault is that of `rest` with `after` before it
+pub record IsRead (level : Level) (depth : ℕ) (after : Before) (n : ℕ) (words rest : List Character) (e : Expression) : Type 0 where
+  pub spelled : IsPart level depth e (writing words) (writing rest)
+  pub sound : is_sound e ≡ true
+  pub shorter : length rest < length words
+  pub goes_on : fault_from n (Outside depth Nothing) (writing words) ≡ fault_from n (Outside depth after) (writing rest)
+
+-- `IsRepeated a e words rest`: a sign of repetition at the start of `words`, or none, makes the atom `a` before it `e`, and `rest` is left
+pub record IsRepeated (a e : Expression) (words rest : List Character) : Type 0 where
+  pub spelled : (d : ℕ) (prefix : List Written) → SpellsAt Atom d a prefix → IsPart Rep d e (prefix ++ writing words) (writing rest)
+  pub sound : is_sound a ≡ true → is_sound e ≡ true
+  pub no_longer : length rest ≤ length words
+  pub goes_on : (d n : ℕ) → fault_from n (Outside d AnAtom) (writing words) ≡ fault_from n (Outside d ARepetition) (writing rest)
+
+-- `ReportsFirst depth n words r`: if `r` is a fault, it is the first one from the start of `words` on, inside so many parentheses
+abbrev pub ReportsFirst : ℕ → ℕ → List Character → Refusal → Type 0
+ReportsFirst depth n words r = Reports r (λ f. fault_from n (Outside depth Nothing) (writing words) ≡ Some f)
 
 abbrev pub IsSequence : Expression → Expression → Expression → Type 0
 IsSequence a b e = (p q : Address) × (e ≡ Sequence' p a q b)

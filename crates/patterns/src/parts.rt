@@ -4,7 +4,7 @@ ghost use Rattle.std.specs.Prelude.{◌≡◌, ◌+◌, ◌<◌, ◌≤◌, ℕ,
 ghost use Rattle.definitions.specs.PatternFaults.{Outside, Nothing, AnAtom, ARepetition, fault_from};
 ghost use Rattle.definitions.specs.Spelling.{Alt, Seq, Rep, Atom, SpellsAt};
 ghost use Rattle.patterns.specs.Sound.{is_sound};
-ghost use Rattle.patterns.specs.Reading.{writing, HasNoBlank, IsPart, IsBlanks, IsChoice, IsSequence, IsRepeated, IsStar, IsPlus, IsOptional, IsBlankAt, IsAtEnd, IsClosed, stops, Reports};
+ghost use Rattle.patterns.specs.Reading.{writing, HasNoBlank, IsRead, IsBlanks, IsChoice, IsSequence, IsRepeated, IsStar, IsPlus, IsOptional, IsBlankAt, IsAtEnd, IsClosed, stops, Reports, ReportsFirst};
 
 use crate::characters::Character;
 use crate::classes::{class, literal, place_of, strip};
@@ -18,8 +18,7 @@ pub fn whole(alloc: Global, words: &[Character], end: usize) -> Result<Expressio
     ensures sound { IfOk result (λ e. is_sound e ≡ true) }
     ensures no_fault { IfOk result (λ e.
         fault_from end (Outside 0 Nothing) (writing words.now) ≡ None) }
-    ensures fault { IfErr result (λ r.
-        Reports r (λ f. fault_from end (Outside 0 Nothing) (writing words.now) ≡ Some f)) }
+    ensures fault { IfErr result (λ r. ReportsFirst 0 end words.now r) }
 {
     let (expression, rest) = alternatives(alloc, words, 0, end)?;
     if let Some((place, _)) = strip(rest, ')') {
@@ -37,16 +36,9 @@ fn alternatives<'a>(
     end: usize,
 ) -> Result<(Expression, &'a [Character]), Refusal>
     requires { depth ≤ 64 }
-    ensures spelled { IfOk result (λ r.
-        IsPart Alt depth r.0 (writing words.now) (writing r.1.now)) }
-    ensures sound { IfOk result (λ r. is_sound r.0 ≡ true) }
-    ensures shorter { IfOk result (λ r. length r.1.now < length words.now) }
+    ensures read { IfOk result (λ r. IsRead Alt depth ARepetition end words.now r.1.now r.0) }
     ensures stops { IfOk result (λ r. IsAtEnd (writing r.1.now)) }
-    ensures goes_on { IfOk result (λ r.
-        fault_from end (Outside depth Nothing) (writing words.now)
-        ≡ fault_from end (Outside depth ARepetition) (writing r.1.now)) }
-    ensures fault { IfErr result (λ r.
-        Reports r (λ f. fault_from end (Outside depth Nothing) (writing words.now) ≡ Some f)) }
+    ensures fault { IfErr result (λ r. ReportsFirst depth end words.now r) }
 {
     let (mut choice, mut rest) = sequence(alloc, words, depth, end)?;
     while let Some((_, after)) = strip(rest, '|') {
@@ -66,16 +58,9 @@ fn sequence<'a>(
     end: usize,
 ) -> Result<(Expression, &'a [Character]), Refusal>
     requires { depth ≤ 64 }
-    ensures spelled { IfOk result (λ r.
-        IsPart Seq depth r.0 (writing words.now) (writing r.1.now)) }
-    ensures sound { IfOk result (λ r. is_sound r.0 ≡ true) }
-    ensures shorter { IfOk result (λ r. length r.1.now < length words.now) }
+    ensures read { IfOk result (λ r. IsRead Seq depth ARepetition end words.now r.1.now r.0) }
     ensures stops { IfOk result (λ r. stops (writing r.1.now) ≡ true) }
-    ensures goes_on { IfOk result (λ r.
-        fault_from end (Outside depth Nothing) (writing words.now)
-        ≡ fault_from end (Outside depth ARepetition) (writing r.1.now)) }
-    ensures fault { IfErr result (λ r.
-        Reports r (λ f. fault_from end (Outside depth Nothing) (writing words.now) ≡ Some f)) }
+    ensures fault { IfErr result (λ r. ReportsFirst depth end words.now r) }
 {
     let (mut sequence, mut rest) = repetition(alloc, words, depth, end)?;
     while !stops(rest) {
@@ -95,16 +80,9 @@ fn repetition<'a>(
     end: usize,
 ) -> Result<(Expression, &'a [Character]), Refusal>
     requires { depth ≤ 64 }
-    ensures spelled { IfOk result (λ r.
-        IsPart Rep depth r.0 (writing words.now) (writing r.1.now)) }
-    ensures sound { IfOk result (λ r. is_sound r.0 ≡ true) }
-    ensures shorter { IfOk result (λ r. length r.1.now < length words.now) }
+    ensures read { IfOk result (λ r. IsRead Rep depth ARepetition end words.now r.1.now r.0) }
     ensures no_blank { IfOk result (λ r. HasNoBlank (writing r.1.now)) }
-    ensures goes_on { IfOk result (λ r.
-        fault_from end (Outside depth Nothing) (writing words.now)
-        ≡ fault_from end (Outside depth ARepetition) (writing r.1.now)) }
-    ensures fault { IfErr result (λ r.
-        Reports r (λ f. fault_from end (Outside depth Nothing) (writing words.now) ≡ Some f)) }
+    ensures fault { IfErr result (λ r. ReportsFirst depth end words.now r) }
 {
     let (part, rest) = atom(alloc, words, depth, end)?;
     let (expression, rest) = with_repetition(alloc, part, rest)?;
@@ -120,16 +98,9 @@ fn atom<'a>(
     end: usize,
 ) -> Result<(Expression, &'a [Character]), Refusal>
     requires { depth ≤ 64 }
-    ensures spelled { IfOk result (λ r.
-        IsPart Atom depth r.0 (writing words.now) (writing r.1.now)) }
-    ensures sound { IfOk result (λ r. is_sound r.0 ≡ true) }
-    ensures shorter { IfOk result (λ r. length r.1.now < length words.now) }
+    ensures read { IfOk result (λ r. IsRead Atom depth AnAtom end words.now r.1.now r.0) }
     ensures no_blank { IfOk result (λ r. HasNoBlank (writing r.1.now)) }
-    ensures goes_on { IfOk result (λ r.
-        fault_from end (Outside depth Nothing) (writing words.now)
-        ≡ fault_from end (Outside depth AnAtom) (writing r.1.now)) }
-    ensures fault { IfErr result (λ r.
-        Reports r (λ f. fault_from end (Outside depth Nothing) (writing words.now) ≡ Some f)) }
+    ensures fault { IfErr result (λ r. ReportsFirst depth end words.now r) }
 {
     let (part, rest) = bare_atom(alloc, skip_blanks(words), depth, end)?;
     Ok((part, skip_blanks(rest)))
@@ -145,15 +116,8 @@ fn bare_atom<'a>(
 ) -> Result<(Expression, &'a [Character]), Refusal>
     requires depth { depth ≤ 64 }
     requires no_blank { HasNoBlank (writing words.now) }
-    ensures spelled { IfOk result (λ r.
-        IsPart Atom depth r.0 (writing words.now) (writing r.1.now)) }
-    ensures sound { IfOk result (λ r. is_sound r.0 ≡ true) }
-    ensures shorter { IfOk result (λ r. length r.1.now < length words.now) }
-    ensures goes_on { IfOk result (λ r.
-        fault_from end (Outside depth Nothing) (writing words.now)
-        ≡ fault_from end (Outside depth AnAtom) (writing r.1.now)) }
-    ensures fault { IfErr result (λ r.
-        Reports r (λ f. fault_from end (Outside depth Nothing) (writing words.now) ≡ Some f)) }
+    ensures read { IfOk result (λ r. IsRead Atom depth AnAtom end words.now r.1.now r.0) }
+    ensures fault { IfErr result (λ r. ReportsFirst depth end words.now r) }
 {
     if let Some((quote, inside)) = strip(words, '"') {
         let (characters, rest) = literal(alloc, inside, quote, end)?;
@@ -237,14 +201,8 @@ fn with_repetition<'a>(
     words: &'a [Character],
 ) -> Result<(Expression, &'a [Character]), AllocError>
     requires no_blank { HasNoBlank (writing words.now) }
-    ensures spelled { IfOk result (λ r. IsRepeated part r.0 (writing words.now) (writing r.1.now)) }
-    ensures sound { IfOk result (λ r. is_sound part ≡ true → is_sound r.0 ≡ true) }
-    ensures no_longer { IfOk result (λ r. length r.1.now ≤ length words.now) }
+    ensures repeated { IfOk result (λ r. IsRepeated part r.0 words.now r.1.now) }
     ensures still_no_blank { IfOk result (λ r. HasNoBlank (writing r.1.now)) }
-    ensures goes_on { IfOk result (λ r.
-        (depth end : ℕ) →
-        fault_from end (Outside depth AnAtom) (writing words.now)
-        ≡ fault_from end (Outside depth ARepetition) (writing r.1.now)) }
 {
     if let Some((_, rest)) = strip(words, '*') {
         return Ok((star(alloc, part)?, skip_blanks(rest)));

@@ -26,3 +26,6 @@ pub returns-clause-no_fault : goal.returns-clause-no_fault
 returns-clause-no_fault c =
     let w = is_writing (chars c.args.text.now) c.in_ok-characters.characters.items c.deref.result.now c.in_ok-words.words.items c.deref-2.result.now c.len.result c.in_ok-characters.ensures c.deref.ensures.value c.in_ok-words.ensures c.deref-2.ensures.value (omega (arith, c.in_ok-characters.characters.ok.0, c.len.ensures)) in
     first_of (chars c.args.text.now) c.len.result (writing c.deref-2.result.now) w ∙ c.in_ok-expression.ensures.no_fault
+
+pub returns-clause-not_empty : goal.returns-clause-not_empty
+returns-clause-not_empty c = search rules

@@ -1,30 +1,29 @@
+use Rattle.std.proofs.Common.{refl, ap, arith}
+use Rattle.definitions.specs.Spelling.{star, plus, optional, one_atom}
 use Rattle.patterns.specs.Reading.{writing}
-use Rattle.patterns.proofs.Repeats.{starred, plussed, optioned, not_repeated, goes_star, goes_plus, goes_optional}
+use Rattle.patterns.specs.Sound.{is_sound}
+use Rattle.patterns.proofs.Repeats.{signed, no_sign}
 use Rattle.patterns.proofs.parts.with_repetition.Goals as goal
 
-pub returns-in-Some-clause-spelled : goal.returns-in-Some-clause-spelled
-returns-in-Some-clause-spelled c =
-    starred c.args.part c.in_ok-star.field-0 c.in-Some.field-0-0 (writing c.args.words.now) (writing c.in-Some.rest.now) (writing c.skip_blanks.result.now) c.in_ok-star.ensures c.in-Some.ensures.0 c.skip_blanks.ensures.0
+pub returns-in-Some-clause-repeated : goal.returns-in-Some-clause-repeated
+returns-in-Some-clause-repeated c =
+    let a = c.in-Some in
+    signed a.field-0-0 42 a.rest.now a.ensures c.skip_blanks.ensures (ap is_sound c.in_ok-star.ensures.1) (λ d us s. rw c.in_ok-star.ensures.1 (star d us _ _ refl refl s)) (λ d n. refl)
 
-pub returns-in-Some-clause-goes_on : goal.returns-in-Some-clause-goes_on
-returns-in-Some-clause-goes_on c d n =
-    goes_star n d c.in-Some.field-0-0 (writing c.args.words.now) (writing c.in-Some.rest.now) (writing c.skip_blanks.result.now) c.in-Some.ensures.0 c.skip_blanks.ensures.0
+pub returns-in-Some-strip-clause-repeated : goal.returns-in-Some-strip-clause-repeated
+returns-in-Some-strip-clause-repeated c =
+    let a = c.in-Some-strip in
+    signed a.field-0-0 43 a.rest.now a.ensures c.skip_blanks-in-Some-strip.ensures (ap is_sound c.in_ok-plus.ensures.1) (λ d us s. rw c.in_ok-plus.ensures.1 (plus d us _ _ refl refl s)) (λ d n. refl)
 
-pub returns-in-Some-strip-clause-spelled : goal.returns-in-Some-strip-clause-spelled
-returns-in-Some-strip-clause-spelled c =
-    plussed c.args.part c.in_ok-plus.field-0 c.in-Some-strip.field-0-0 (writing c.args.words.now) (writing c.in-Some-strip.rest.now) (writing c.skip_blanks-in-Some-strip.result.now) c.in_ok-plus.ensures c.in-Some-strip.ensures.0 c.skip_blanks-in-Some-strip.ensures.0
+pub returns-in-Some-strip-2-clause-repeated : goal.returns-in-Some-strip-2-clause-repeated
+returns-in-Some-strip-2-clause-repeated c =
+    let a = c.in-Some-strip-2 in
+    signed a.field-0-0 63 a.rest.now a.ensures c.skip_blanks-in-Some-strip-2.ensures (ap is_sound c.in_ok-optional.ensures.1) (λ d us s. rw c.in_ok-optional.ensures.1 (optional d us _ _ refl refl s)) (λ d n. refl)
 
-pub returns-in-Some-strip-clause-goes_on : goal.returns-in-Some-strip-clause-goes_on
-returns-in-Some-strip-clause-goes_on c d n =
-    goes_plus n d c.in-Some-strip.field-0-0 (writing c.args.words.now) (writing c.in-Some-strip.rest.now) (writing c.skip_blanks-in-Some-strip.result.now) c.in-Some-strip.ensures.0 c.skip_blanks-in-Some-strip.ensures.0
-
-pub returns-in-Some-strip-2-clause-spelled : goal.returns-in-Some-strip-2-clause-spelled
-returns-in-Some-strip-2-clause-spelled c =
-    optioned c.args.part c.in_ok-optional.field-0 c.in-Some-strip-2.field-0-0 (writing c.args.words.now) (writing c.in-Some-strip-2.rest.now) (writing c.skip_blanks-in-Some-strip-2.result.now) c.in_ok-optional.ensures c.in-Some-strip-2.ensures.0 c.skip_blanks-in-Some-strip-2.ensures.0
-
-pub returns-in-Some-strip-2-clause-goes_on : goal.returns-in-Some-strip-2-clause-goes_on
-returns-in-Some-strip-2-clause-goes_on c d n =
-    goes_optional n d c.in-Some-strip-2.field-0-0 (writing c.args.words.now) (writing c.in-Some-strip-2.rest.now) (writing c.skip_blanks-in-Some-strip-2.result.now) c.in-Some-strip-2.ensures.0 c.skip_blanks-in-Some-strip-2.ensures.0
-
-pub returns-clause-spelled : goal.returns-clause-spelled
-returns-clause-spelled c = not_repeated c.args.part (writing c.args.words.now)
+pub returns-clause-repeated : goal.returns-clause-repeated
+returns-clause-repeated c = record {
+  spelled = λ d us s. (us, refl, one_atom d us s);
+  sound = λ s. s;
+  no_longer = omega arith;
+  goes_on = λ d n. no_sign n d (writing c.args.words.now) c.requires.no_blank c.in_default.ensures c.in_default-strip.ensures c.in_default-strip-2.ensures;
+}
