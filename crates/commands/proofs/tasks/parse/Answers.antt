@@ -1,4 +1,4 @@
-use Rattle.std.proofs.Common.{◌≡◌, ℕ, List, true, inr, subst, ap, ◌∙◌}
+use Rattle.std.proofs.Common.{◌≡◌, ℕ, List, true, inr, subst, ap, ◌∙◌, rules}
 use Rattle.std.specs.Str.{chars}
 use Rattle.std.proofs.lemmas.Result.{IfOk-weaker}
 use Rattle.definitions.specs.declared.Unit.{Unit as Encoding}
@@ -17,3 +17,6 @@ returns-in-Ok-open c =
     let unit = ap (λ (d : OpenDocument). d.unit) c.in-Ok-open.ensures.is in
     let is : (come : Outcome) → IsOutcome c.in-Ok-open.doc.unit file c.in-Ok-open.doc.text come → IsOutcome Utf16 file (chars c.args.bytes.now) come = λ come here. subst (λ (t : List ℕ). IsOutcome Utf16 file t come) text (subst (λ (e : Encoding). IsOutcome e file c.in-Ok-open.doc.text come) unit here) in
     IfOk-weaker c.document_report.result _ _ (λ printed p. inr (inr (c.in-Ok.ensures.cases.1, fit, (p.0, is p.0 p.1, p.2)))) c.document_report.ensures
+
+pub returns-in-Err-TooLarge : goal.returns-in-Err-TooLarge
+returns-in-Err-TooLarge c = search rules

@@ -1,4 +1,4 @@
-use Rattle.std.proofs.Common.{sym, ◌≡◌, ◌∙◌, List, ℕ, [], ◌∷◌}
+use Rattle.std.proofs.Common.{sym, ◌≡◌, ◌∙◌, List, ℕ, [], ◌∷◌, rules}
 use Rattle.pieces.specs.declared.sums.Sums.TheVariants.{Empty}
 use Rattle.definitions.specs.Text.{units}
 use Rattle.definitions.specs.declared.Unit.TheVariants.{Utf8}
@@ -12,3 +12,6 @@ none (c ∷ t) e = absurd cc
 
 pub returns-in-Empty : goal.returns-in-Empty
 returns-in-Empty c t e = none t (sym c.in-Empty.is ∙ e)
+
+pub returns-in-Filled : goal.returns-in-Filled
+returns-in-Filled c = search rules

@@ -1,3 +1,4 @@
+use Rattle.std.proofs.Common.{rules}
 use Rattle.rpc.proofs.KnownMethods.{gives_at}
 use Rattle.rpc.proofs.reading.request_of.Goals as goal
 
@@ -21,3 +22,6 @@ returns-in-text-5 c = gives_at c.tree_request.result c.args.method.now _ _ _ c.i
 
 pub returns-in-text-6 : goal.returns-in-text-6
 returns-in-text-6 c = gives_at c.stats_request.result c.args.method.now _ _ _ c.in-text-6.is c.stats_request.ensures
+
+pub returns-in_default : goal.returns-in_default
+returns-in_default c = search rules

@@ -1,5 +1,6 @@
-use Rattle.std.proofs.Common.{◌+◌, set, sym, subst}
+use Rattle.std.proofs.Common.{◌+◌, set, sym, subst, rules, arith}
 use Rattle.trees.proofs.Slides.{IsSlidTo, slid_skip, slid_step, swapped_below}
+use Rattle.std.proofs.lemmas.Grind.{common_steps}
 use Rattle.trees.proofs.slide.slide.Goals.{then-marks-i, else-marks-i}
 use Rattle.trees.proofs.slide.slide.Goals as goal
 
@@ -21,3 +22,12 @@ loop-i-preserved c =
       | else-marks-i w ↦
           record { slid = subst (λ v. IsSlidTo old marks ranks (i + 1) v.items c.if-marks-i.next) (sym w.stored-is) (subst (λ n. IsSlidTo old marks ranks (i + 1) c.loop-i.stored.items n) (sym w.next-is) (slid_skip old marks ranks i c.loop-i.stored.items c.loop-i.next c.loop-i-test.true w.if-marks-i.false c.loop-i.invariant.slid)) }
     ]
+
+pub returns-clause-store : goal.returns-clause-store
+returns-clause-store c = search rules
+
+pub returns-clause-count : goal.returns-clause-count
+returns-clause-count c = grind (arith, common_steps)
+
+pub returns-clause-trees : goal.returns-clause-trees
+returns-clause-trees c = grind (arith, common_steps)

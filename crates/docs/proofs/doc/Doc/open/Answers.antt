@@ -1,4 +1,4 @@
-use Rattle.std.proofs.Common.{refl}
+use Rattle.std.proofs.Common.{refl, rules}
 use Rattle.std.specs.Str.{chars}
 use Rattle.readings.specs.Texts.{fits}
 use Rattle.docs.proofs.Refusals.{unless, large_text, passed_on, text_made, after_text, all_made}
@@ -18,3 +18,9 @@ returns-clause-fits c = unless (fits (chars c.args.text.now)) (text_made c.open.
 pub returns-clause-too_large : goal.returns-clause-too_large
 returns-clause-too_large c =
     all_made c.open.result _ (large_text c.open.result c.args.text.now c.utf8.text c.open.ensures.too_large) _ c.in_ok-made.made _ c.in_ok-made.was refl
+
+pub returns-clause-is : goal.returns-clause-is
+returns-clause-is c = search rules
+
+pub of-requires : goal.of-requires
+of-requires c = search rules

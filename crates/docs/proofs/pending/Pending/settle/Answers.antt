@@ -1,4 +1,4 @@
-use Rattle.std.proofs.Common.{◌≡◌, ◌≤◌, arith, refl, sym, subst}
+use Rattle.std.proofs.Common.{◌≡◌, ◌≤◌, arith, refl, sym, subst, rules}
 use Rattle.std.specs.Prelude.{Option, MatchOption, All}
 use Rattle.definitions.specs.declared.Edit.{Edit}
 use Rattle.docs.specs.Pending.{LeadsTo}
@@ -26,3 +26,6 @@ returns-clause-pending c =
       };
       leads = refl;
     }
+
+pub returns-clause-none : goal.returns-clause-none
+returns-clause-none c = search rules

@@ -1,4 +1,4 @@
-use Rattle.std.proofs.Common.{subst, sym, ap, ◌∙◌, ◌≡◌}
+use Rattle.std.proofs.Common.{subst, sym, ap, ◌∙◌, ◌≡◌, rules}
 use Rattle.frames.specs.Frames.{Faulty, IsCut, tail_of}
 use Rattle.frames.proofs.PrefixDecides.{fault_is}
 use Rattle.frames.proofs.decoder.Decoder.finish.Goals as goal
@@ -11,3 +11,9 @@ returns-in-Some-clause-truncated c =
 
 pub returns-in-Some-clause-kind : goal.returns-in-Some-clause-kind
 returns-in-Some-clause-kind c = (fault_is c.self.inside.rest.items c.self.inside.met c.in-Some.fault c.self.invariant.tail c.in-Some.is).1
+
+pub returns-in-None-2-clause-value : goal.returns-in-None-2-clause-value
+returns-in-None-2-clause-value c = search rules
+
+pub returns-in-None-2-clause-truncated : goal.returns-in-None-2-clause-truncated
+returns-in-None-2-clause-truncated c = search rules

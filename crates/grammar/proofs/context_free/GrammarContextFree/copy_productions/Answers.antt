@@ -1,4 +1,4 @@
-use Rattle.std.proofs.Common.{◌≡◌, length, sym, ◌∙◌, subst, arith}
+use Rattle.std.proofs.Common.{◌≡◌, length, sym, ◌∙◌, subst, arith, rules}
 use Rattle.first_sets.specs.Productions.{IsSound}
 use Rattle.grammar.proofs.ProductionsOfFile.{all_of_them, shape_sound}
 use Rattle.grammar.proofs.context_free.GrammarContextFree.copy_productions.Goals as goal
@@ -9,3 +9,6 @@ returns-clause-sound c =
     let h = c.start-start.ensures.sound in
     let end : c.loop-p.p ≡ length f.grammar.productions = (let e = c.productions-p-end.ensures in let l = c.loop-p-test.false in let m = c.loop-p.auto.p-end in omega (arith, e, l, m)) in
     subst IsSound (sym (c.loop-p.invariant ∙ all_of_them f h c.loop-p.p end)) (shape_sound f h)
+
+pub loop-p-init : goal.loop-p-init
+loop-p-init c = search rules

@@ -1,4 +1,4 @@
-use Rattle.std.proofs.Common.{◌≡◌, refl, ◌∙◌, sym, ap, ℕ, List, [], ◌∷◌}
+use Rattle.std.proofs.Common.{◌≡◌, refl, ◌∙◌, sym, ap, ℕ, List, [], ◌∷◌, rules}
 use Rattle.std.specs.Str.{chars}
 use Rattle.definitions.specs.Answers.{kind_name}
 use Rattle.definitions.specs.declared.Kind.TheVariants.{Invalid}
@@ -10,3 +10,6 @@ invalid names = refl
 
 pub returns-in-Invalid : goal.returns-in-Invalid
 returns-in-Invalid c = invalid c.args.self.now.names ∙ ap (kind_name c.args.self.now.names) (sym c.in-Invalid.is)
+
+pub returns-in-Rule : goal.returns-in-Rule
+returns-in-Rule c = search rules

@@ -79,3 +79,6 @@ returns g c =
           ((replacement g at.In_ok-made).after c.self.inside.scanned splice shown));
       err = tt;
     }
+
+pub returns-in_err-replace-clause-err : goal.returns-in_err-replace-clause-err
+returns-in_err-replace-clause-err g c = search rules

@@ -1,4 +1,4 @@
-use Rattle.std.proofs.Common.{◌≡◌, ◌<◌, ◌∷◌, ◌++◌, [], ◌+◌, drop, length, refl, sym, ap, ◌∙◌, subst, arith}
+use Rattle.std.proofs.Common.{◌≡◌, ◌<◌, ◌∷◌, ◌++◌, [], ◌+◌, drop, length, refl, sym, ap, ◌∙◌, subst, arith, rules}
 use Rattle.definitions.specs.Trees.{yield}
 use Rattle.definitions.specs.TreeEdits.{plain, plain_all}
 use Rattle.trees.specs.declared.store.Child.TheVariants.{Node, Token}
@@ -14,6 +14,7 @@ use Rattle.parser.proofs.Reductions.{below-append}
 use Rattle.parser.proofs.Reusing.{look_first}
 use Rattle.parser.specs.Run.{ComeFrom}
 use Rattle.parser.proofs.WhereBranchesComeFrom.{come_all, come_after, come_on, opened_came}
+use Rattle.std.proofs.lemmas.Grind.{common_steps}
 use Rattle.parser.proofs.machine.Machine.first_input.Goals.{In_ok-put_all-in-Node}
 use Rattle.parser.proofs.machine.Machine.first_input.Goals as goal
 
@@ -104,3 +105,9 @@ returns-in-Token-clause-offer g c =
 
 pub edge-init : goal.edge-init
 edge-init g c = record { input = c.requires.input; offers = λ f d. d; came = come_all (all_trees c.args.store.now c.args.input.now); same = refl; opening = opening_begins c.args.store.now c.args.input.now }
+
+pub passes-requires-clause-not_empty : goal.passes-requires-clause-not_empty
+passes-requires-clause-not_empty g c = search rules
+
+pub passes-requires-clause-fits : goal.passes-requires-clause-fits
+passes-requires-clause-fits g c = grind (arith, common_steps)

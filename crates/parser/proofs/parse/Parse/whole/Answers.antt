@@ -1,4 +1,4 @@
-use Rattle.std.proofs.Common.{[], ◌+◌, ap, arith, drop, length, subst, sym}
+use Rattle.std.proofs.Common.{[], ◌+◌, ap, arith, drop, length, subst, sym, rules}
 use Rattle.definitions.specs.Nodes.{all_branches}
 use Rattle.parser.specs.Machine.{plain_of}
 use Rattle.trees.specs.Cells.{all_trees}
@@ -49,3 +49,6 @@ returns-in-Ok-clause-kept g c = trees_stay c.args.store.now c.parse_from.new.sto
 
 pub returns-in-Ok-clause-added : goal.returns-in-Ok-clause-added
 returns-in-Ok-clause-added g c = c.in-Ok.ensures.came.2.added
+
+pub returns-in-Ok-clause-number : goal.returns-in-Ok-clause-number
+returns-in-Ok-clause-number g c = search rules

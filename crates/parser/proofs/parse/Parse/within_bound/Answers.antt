@@ -1,4 +1,4 @@
-use Rattle.std.proofs.Common.{refl, ap, sym, subst, ◌∙◌, ◌≡◌, ◌++◌, drop, length, take, arith}
+use Rattle.std.proofs.Common.{refl, ap, sym, subst, ◌∙◌, ◌≡◌, ◌++◌, drop, length, take, arith, rules}
 use Rattle.definitions.specs.Nodes.{all_branches}
 use Rattle.trees.specs.Cells.{AreBelow, all_trees}
 use Rattle.parser.specs.Machine.{plain_of}
@@ -31,3 +31,9 @@ returns-clause-same c =
       number = ap (λ p. p.number) c.self.view_is;
       fits = λ h. omega (arith, done.sizes, ap (λ l. all_branches (plain_of old l)) stack);
     }
+
+pub returns-clause-kept : goal.returns-clause-kept
+returns-clause-kept c = search rules
+
+pub returns-then-len-bound-clause-bound : goal.returns-then-len-bound-clause-bound
+returns-then-len-bound-clause-bound c = search rules

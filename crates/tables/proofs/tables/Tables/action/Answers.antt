@@ -1,4 +1,4 @@
-use Rattle.std.proofs.Common.{◌≡◌, ◌<◌, ◌≤◌, ℕ, List, [], Option, Some, None, length, slice_index_or, sym, ap, ◌∙◌, subst, arith}
+use Rattle.std.proofs.Common.{◌≡◌, ◌<◌, ◌≤◌, ℕ, List, [], Option, Some, None, length, slice_index_or, sym, ap, ◌∙◌, subst, arith, rules}
 use Rattle.std.proofs.lemmas.List.{get_or_default}
 use Rattle.definitions.specs.declared.Kind.TheVariants.{Rule as Token}
 use Rattle.first_sets.specs.Lookaheads.{rank}
@@ -43,3 +43,6 @@ returns-else-a-rules-clause-is c =
     let look : c.args.look ≡ Some (Token a) = c.in-Some.is ∙ ap (λ k. Some k) c.in-Rule.is in
     let far : t.grammar.rules ≤ a = (let e = c.rules.ensures in let l = c.if-a-rules.false in omega (arith, e, l)) in
     rw (← c.self.view_is, look) (λ prefix h. subst (IsAction t.grammar prefix (Some (Token a))) (far_move inside.productions.nonterminals t c.self.invariant prefix s h a far) ((right inside.productions.nonterminals t c.self.invariant prefix s h).moves (Some a)))
+
+pub returns-in-Invalid-clause-is : goal.returns-in-Invalid-clause-is
+returns-in-Invalid-clause-is c = search rules

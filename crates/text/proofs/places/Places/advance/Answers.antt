@@ -1,4 +1,4 @@
-use Rattle.std.proofs.Common.{arith, ap, sym, ◌∙◌, ◌≡◌, ◌∷◌, ℕ, List, length, length-drop, drop}
+use Rattle.std.proofs.Common.{arith, ap, sym, ◌∙◌, ◌≡◌, ◌∷◌, ℕ, List, length, length-drop, drop, rules}
 use Rattle.pieces.specs.Pieces.{text_in}
 use Rattle.text.proofs.NextPosition.{position-line, position-character, at_place}
 use Rattle.text.proofs.places.Places.advance.Goals as goal
@@ -38,3 +38,6 @@ loop-preserved c =
       unit = c.loop.invariant.unit;
       far = omega (arith, c.loop.invariant.far);
     }
+
+pub returns-clause-offset : goal.returns-clause-offset
+returns-clause-offset c = search rules

@@ -1,7 +1,8 @@
-use Rattle.std.proofs.Common.{[], ap, sym, ◌∙◌, subst}
+use Rattle.std.proofs.Common.{[], ap, sym, ◌∙◌, subst, arith}
 use Rattle.definitions.specs.TreeEdits.{StampedBranch}
 use Rattle.trees.specs.Cells.{trees_from, forest_of}
 use Rattle.trees.proofs.Cells.{store_at, IsAt}
+use Rattle.std.proofs.lemmas.Grind.{common_steps}
 use Rattle.trees.proofs.store.Store.born.Goals as goal
 
 pub returns-clause-tree : goal.returns-clause-tree
@@ -10,3 +11,6 @@ returns-clause-tree c =
     let at = subst (λ l. IsAt (trees_from [] l) c.args.id.index cell) c.self.view_is (store_at c.self.inside.nodes.items c.self.invariant c.args.id.index cell cell (rw c.self.view_is c.requires) c.index.ensures) in
     let below = forest_of (trees_from [] c.args.self.now) cell.children in
     (cell.production, below, at.is ∙ ap (λ b. StampedBranch cell.production b below) (sym c.label.ensures.born))
+
+pub returns-clause-is : goal.returns-clause-is
+returns-clause-is c = grind (arith, common_steps)

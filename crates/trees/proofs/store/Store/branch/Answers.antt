@@ -1,4 +1,4 @@
-use Rattle.std.proofs.Common.{[], ◌∷◌, ◌≡◌, ◌++◌, ap, sym, ◌∙◌, subst, refl}
+use Rattle.std.proofs.Common.{[], ◌∷◌, ◌≡◌, ◌++◌, ap, sym, ◌∙◌, subst, refl, rules}
 use Rattle.trees.specs.Cells.{Cell, tree, IsStore}
 use Rattle.trees.specs.declared.store.Child.TheVariants.{Node}
 use Rattle.trees.specs.declared.store.NodeId.{NodeId}
@@ -24,3 +24,6 @@ returns-clause-kept c =
     let cell : Cell = record { production = c.args.production; born = c.args.born; tokens = c.counts-tokens.result.0; size = c.counts-tokens.result.1; children = c.args.children.now } in
     let e : c.push.new.self.items ≡ c.args.self.now ++ (cell ∷ []) = c.in_ok-push.ensures.items ∙ ap (λ n. c.self.inside.nodes.items ++ (n ∷ [])) c.in_ok-node.ensures ∙ ap (λ l. l ++ (cell ∷ [])) c.self.view_is in
     λ child h. ap (λ l. tree l child) e ∙ grown-tree c.args.self.now cell child h
+
+pub returns-clause-ok : goal.returns-clause-ok
+returns-clause-ok c = search rules

@@ -1,0 +1,6 @@
+use Rattle.std.proofs.Common.{arith}
+use Rattle.std.proofs.lemmas.Grind.{common_steps}
+use Rattle.dfa.proofs.states.first_end.Goals as goal
+
+pub returns-then-ends : goal.returns-then-ends
+returns-then-ends c = grind (arith, common_steps)
