@@ -1,6 +1,5 @@
 -- Splices of kinds are equal by `==` where they say the same.
-use Rattle.std.specs.Prelude.{◌≡◌, ◌↔◌, ℕ, Bool, ◌&&◌, true, false, List, [], ◌∷◌, IsTrue, nat_eq}
-use Rattle.std.proofs.Common.{refl, sym, ap, ◌∙◌}
+use Rattle.std.proofs.Common.{refl, sym, ap, ◌∙◌, ◌≡◌, ◌↔◌, ℕ, Bool, ◌&&◌, true, false, List, [], ◌∷◌, IsTrue, nat_eq}
 use Rattle.std.proofs.lemmas.Bool.{and_from, eq-eqb, eqb-true}
 use lib.Pointwise.{pointwise}
 use Rattle.definitions.specs.declared.Kind.{Kind}

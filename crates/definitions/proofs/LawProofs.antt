@@ -1,6 +1,5 @@
 -- The proofs of the laws, from the lemmas of the other files.
-use Rattle.std.specs.Prelude.{◌≡◌, ℕ, ◌<◌, ◌⊎◌, ◌↔◌, Bool, true, false, not, List, [], ◌∷◌, IsTrue}
-use Rattle.std.proofs.Common.{arith, refl, sym, inl, inr, ◌∙◌}
+use Rattle.std.proofs.Common.{arith, refl, sym, inl, inr, ◌∙◌, ◌≡◌, ℕ, ◌<◌, ◌⊎◌, ◌↔◌, Bool, true, false, not, List, [], ◌∷◌, IsTrue}
 use Rattle.std.proofs.lemmas.Bool.{cases_Bool, and_from, le-leb, false≢true}
 use Rattle.std.proofs.lemmas.List.Folds.{list_any-from_Any}
 use Rattle.std.proofs.lemmas.List.Kept.{AllPairs-from_increasing}

@@ -1,6 +1,5 @@
 -- What may follow symbols of the grammar is one of its token rules.
-use Rattle.std.proofs.Common.{◌<◌, ℕ, List, Option, sym, subst, All, ⊎_elim}
-use Rattle.std.specs.Prelude.{IfSome}
+use Rattle.std.proofs.Common.{◌<◌, ℕ, List, Option, sym, subst, All, ⊎_elim, IfSome}
 use Rattle.std.proofs.lemmas.List.Elements.{All-head, All-tail}
 use Rattle.definitions.specs.declared.Symbol.{Symbol}
 use Rattle.definitions.specs.declared.Symbol.TheVariants.{Rule as Terminal, Nonterminal}

@@ -1,6 +1,5 @@
 -- The faults of header parts, and the lengths that they give.
-use Rattle.std.proofs.Common.{◌≡◌, ◌≤◌, ◌-◌, ◌&&◌, ℕ, Bool, true, false, not, List, [], ◌∷◌, length, take, refl, sym, subst}
-use Rattle.std.specs.Prelude.{Option, Some, None, is_some, option_and_then, cond, Result, Ok, Err, IfSome, IfOk, IfErr, nat_le}
+use Rattle.std.proofs.Common.{◌≡◌, ◌≤◌, ◌-◌, ◌&&◌, ℕ, Bool, true, false, not, List, [], ◌∷◌, length, take, refl, sym, subst, Option, Some, None, is_some, option_and_then, cond, Result, Ok, Err, IfSome, IfOk, IfErr, nat_le}
 use Rattle.std.specs.Option.{ok_or, option_or, option_map_or}
 use Rattle.std.specs.Str.Parse.{digits_value}
 use Rattle.std.proofs.lemmas.Bool.{leb-true}

@@ -1,6 +1,5 @@
 -- What field lines give: the first faulty one decides, or else the one `Content-Length`.
-use Rattle.std.proofs.Common.{◌≡◌, ◌||◌, ◌-◌, length, take, arith, ℕ, zero, suc, Bool, true, false, List, [], ◌∷◌, ◌++◌, refl, ap, sym, subst, ◌∙◌, inl, inr, ◌⊎◌}
-use Rattle.std.specs.Prelude.{Option, Some, None, is_some, cond, Result, Ok, Err, Any, ◌↔◌, option_and_then}
+use Rattle.std.proofs.Common.{◌≡◌, ◌||◌, ◌-◌, length, take, arith, ℕ, zero, suc, Bool, true, false, List, [], ◌∷◌, ◌++◌, refl, ap, sym, subst, ◌∙◌, inl, inr, ◌⊎◌, Option, Some, None, is_some, cond, Result, Ok, Err, Any, ◌↔◌, option_and_then}
 use Rattle.std.specs.Option.{ok_or, option_or, option_map_or}
 use Rattle.std.proofs.Math.Bool.{or_assoc, or-false}
 use Rattle.frames.specs.declared.fault.FrameFault.{FrameFault}

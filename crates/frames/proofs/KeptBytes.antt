@@ -1,6 +1,5 @@
 -- What is kept of the bytes after the whole frames.
-use Rattle.std.proofs.Common.{◌≡◌, ◌≢◌, ◌<◌, ◌≤◌, ℕ, List, [], ◌++◌, length, refl, ap, sym, subst, ◌∙◌, arith, append_assoc, append-nil}
-use Rattle.std.specs.Prelude.{Option, None, Result, IfErr, IfSome, IsErrOf}
+use Rattle.std.proofs.Common.{◌≡◌, ◌≢◌, ◌<◌, ◌≤◌, ℕ, List, [], ◌++◌, length, refl, ap, sym, subst, ◌∙◌, arith, append_assoc, append-nil, Option, None, Result, IfErr, IfSome, IsErrOf}
 use Rattle.std.proofs.lemmas.List.{take-append-le}
 use Rattle.frames.specs.declared.fault.FrameFault.{FrameFault}
 use Rattle.frames.specs.declared.header.Start.TheVariants.{NeedsMore}

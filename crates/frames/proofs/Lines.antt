@@ -1,6 +1,5 @@
 -- The lines that CR LF ends.
-use Rattle.std.proofs.Common.{◌≡◌, ◌-◌, ◌≤◌, ℕ, suc, Bool, true, false, List, [], ◌∷◌, take, drop, refl, ap, sym, ◌∙◌, arith, inl, inr}
-use Rattle.std.specs.Prelude.{Option, Some, None, option_map, is_some, nat_eq, cond, Result, Ok, Err}
+use Rattle.std.proofs.Common.{◌≡◌, ◌-◌, ◌≤◌, ℕ, suc, Bool, true, false, List, [], ◌∷◌, take, drop, refl, ap, sym, ◌∙◌, arith, inl, inr, Option, Some, None, option_map, is_some, nat_eq, cond, Result, Ok, Err}
 use Rattle.std.specs.Option.{ok_or, option_or, option_map_or}
 use Rattle.std.specs.List.{starts_with}
 use Rattle.frames.specs.declared.fault.FrameFault.{FrameFault}

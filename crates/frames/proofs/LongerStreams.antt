@@ -1,7 +1,6 @@
 -- A stream that goes on.
-use Rattle.std.proofs.Common.{◌≡◌, ◌≢◌, ◌+◌, ◌<◌, ◌≤◌, ℕ, zero, suc, List, [], ◌∷◌, ◌++◌, length, take, drop, refl, ap, sym, subst, ◌∙◌, arith, length-drop, append-nil, inl, inr}
+use Rattle.std.proofs.Common.{◌≡◌, ◌≢◌, ◌+◌, ◌<◌, ◌≤◌, ℕ, zero, suc, List, [], ◌∷◌, ◌++◌, length, take, drop, refl, ap, sym, subst, ◌∙◌, arith, length-drop, append-nil, inl, inr, min}
 use Rattle.std.proofs.lemmas.List.{take-append-le, drop-append-le, length-take}
-use Rattle.std.specs.Prelude.{min}
 use Rattle.std.proofs.lemmas.Bool.{cases_lt}
 use Rattle.frames.specs.declared.header.Start.{Start}
 use Rattle.frames.specs.declared.header.Start.TheVariants.{NeedsMore, Fails, Announces}

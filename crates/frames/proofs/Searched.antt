@@ -1,6 +1,5 @@
 -- Bytes that were searched for a blank line aren't searched again.
-use Rattle.std.proofs.Common.{◌≡◌, ◌≢◌, ◌+◌, ◌-◌, ◌<◌, ◌≤◌, ℕ, Bool, true, false, List, [], ◌∷◌, ◌++◌, length, take, drop, refl, ap, sym, ◌∙◌, arith, length-append, append_assoc, inl, inr}
-use Rattle.std.specs.Prelude.{Option, Some, None, Result, Ok, Err, is_some, IsTrue, not, nat_eq, cond}
+use Rattle.std.proofs.Common.{◌≡◌, ◌≢◌, ◌+◌, ◌-◌, ◌<◌, ◌≤◌, ℕ, Bool, true, false, List, [], ◌∷◌, ◌++◌, length, take, drop, refl, ap, sym, ◌∙◌, arith, length-append, append_assoc, inl, inr, Option, Some, None, Result, Ok, Err, is_some, IsTrue, not, nat_eq, cond}
 use Rattle.std.specs.List.{starts_with}
 use Rattle.std.proofs.lemmas.Bool.{cases_lt, lt-ltb, le-ltb}
 use Rattle.std.proofs.lemmas.List.{take-append-drop, drop-append-le, length-take, take_all, take-take, drop-take}

@@ -2,8 +2,7 @@
 use Rattle.std.proofs.lemmas.Option.{slice_get_within, get_or_from_slice_get}
 use Rattle.grammar.specs.Notes.{AreNotes}
 use Rattle.grammar.specs.Uses.{AreWithin}
-use Rattle.std.proofs.Common.{◌≡◌, ℕ, ◌<◌, List, refl, ap, sym, ◌∙◌, length, arith, subst, Bor}
-use Rattle.std.specs.Prelude.{Some, Result, Ok, Err, IfOk, IfErr, map, slice_get}
+use Rattle.std.proofs.Common.{◌≡◌, ℕ, ◌<◌, List, refl, ap, sym, ◌∙◌, length, arith, subst, Bor, Some, Result, Ok, Err, IfOk, IfErr, map, slice_get}
 use Rattle.definitions.specs.declared.Symbol.{Symbol}
 use Rattle.definitions.specs.declared.Symbol.TheVariants.{Nonterminal}
 use Rattle.definitions.specs.Trees.{Production as Production'}

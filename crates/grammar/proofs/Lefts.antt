@@ -1,6 +1,5 @@
 -- The productions of a nonterminal.
-use Rattle.std.proofs.Common.{◌≡◌, ℕ, zero, suc, ◌<◌, Bool, true, false, ◌&&◌, ◌||◌, List, [], ◌∷◌, ◌++◌, refl, ap, sym, ◌∙◌, length, get_or, arith, Bor, eq-eqb, if◌then◌else◌}
-use Rattle.std.specs.Prelude.{Some, map, slice_get}
+use Rattle.std.proofs.Common.{◌≡◌, ℕ, zero, suc, ◌<◌, Bool, true, false, ◌&&◌, ◌||◌, List, [], ◌∷◌, ◌++◌, refl, ap, sym, ◌∙◌, length, get_or, arith, Bor, eq-eqb, if◌then◌else◌, Some, map, slice_get}
 use Rattle.std.specs.List.{list_any, fold, cons_option}
 use Rattle.std.specs.Str.{bytes_eq}
 use Rattle.std.proofs.lemmas.List.Folds.{list_any-append, list_any_at}

@@ -1,6 +1,5 @@
 -- What one more line makes of the contents.
-use Rattle.std.proofs.Common.{◌≡◌, ℕ, ◌≤◌, Bool, true, false, List, [], ◌∷◌, ◌++◌, refl, ap, ◌∙◌, sym, length, arith, subst, length-append, append_assoc, inr, take, append-nil}
-use Rattle.std.specs.Prelude.{Option, Some, None, map, filter, nat_lt, slice_get, ◌+◌, ◌*◌}
+use Rattle.std.proofs.Common.{◌≡◌, ℕ, ◌≤◌, Bool, true, false, List, [], ◌∷◌, ◌++◌, refl, ap, ◌∙◌, sym, length, arith, subst, length-append, append_assoc, inr, take, append-nil, Option, Some, None, map, filter, nat_lt, slice_get, ◌+◌, ◌*◌}
 use Rattle.std.specs.List.{fold, cons_option, flat_map, list_any}
 use Rattle.std.specs.Str.{chars}
 use Rattle.std.proofs.lemmas.Grind.{common_steps, flat_map-append}

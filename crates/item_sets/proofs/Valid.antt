@@ -1,6 +1,5 @@
 -- The set of a kernel is the set of each prefix that has the kernel.
-use Rattle.std.proofs.Common.{◌≡◌, ◌<◌, ℕ, zero, suc, List, [], ◌∷◌, Option, Some, None, sym, ap, subst, length, take, drop, All, Contains}
-use Rattle.std.specs.Prelude.{IfSome}
+use Rattle.std.proofs.Common.{◌≡◌, ◌<◌, ℕ, zero, suc, List, [], ◌∷◌, Option, Some, None, sym, ap, subst, length, take, drop, All, Contains, IfSome}
 use Rattle.definitions.specs.declared.Symbol.{Symbol}
 use Rattle.definitions.specs.declared.Symbol.TheVariants.{Nonterminal}
 use Rattle.definitions.specs.Trees.{Grammar, HasProduction, trees, left_of, right_of}

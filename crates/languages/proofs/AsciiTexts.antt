@@ -1,6 +1,5 @@
 -- A text of no more bytes than characters is its bytes.
-use Rattle.std.proofs.Common.{◌≡◌, ℕ, ◌+◌, ◌<◌, ◌≤◌, ◌⊎◌, inl, inr, Bool, true, false, List, [], ◌∷◌, length, arith, sym, subst}
-use Rattle.std.specs.Prelude.{All, cond, encode_utf8_all, nat_lt}
+use Rattle.std.proofs.Common.{◌≡◌, ℕ, ◌+◌, ◌<◌, ◌≤◌, ◌⊎◌, inl, inr, Bool, true, false, List, [], ◌∷◌, length, arith, sym, subst, All, cond, encode_utf8_all, nat_lt}
 use Rattle.std.specs.Char.{encode_utf8, len_utf8}
 use Rattle.std.proofs.lemmas.Bool.{cases_lt, le-ltb}
 use Rattle.std.proofs.lemmas.List.{length-append}

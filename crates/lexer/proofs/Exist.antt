@@ -1,6 +1,5 @@
 -- Where there is an automaton of the rules, every text has tokens: the run of the automaton finds the next one.
-use Rattle.std.specs.Prelude.{◌≡◌, ℕ, zero, suc, ◌+◌, ◌<◌, ◌≤◌, ◌⊎◌, min, List, [], ◌∷◌, length, take, drop, slice_index, slice_index_or, Option, Some, None}
-use Rattle.std.proofs.Common.{arith, refl, inl, inr, length-drop}
+use Rattle.std.proofs.Common.{arith, refl, inl, inr, length-drop, ◌≡◌, ℕ, zero, suc, ◌+◌, ◌<◌, ◌≤◌, ◌⊎◌, min, List, [], ◌∷◌, length, take, drop, slice_index, slice_index_or, Option, Some, None}
 use Rattle.std.proofs.lemmas.List.Elements.{All-drop, All-take}
 use Rattle.definitions.specs.declared.expression.Expression.{Expression}
 use Rattle.definitions.specs.declared.Kind.{Kind}

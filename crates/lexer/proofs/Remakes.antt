@@ -2,8 +2,7 @@
 use Rattle.definitions.proofs.TokensLead.{GoOn, before_rejoin, chars, chars-cons, chars_from, prefix_before, prefix_leads, leads_inside, leads_join, leads_split, length-placed, placed_at}
 use Rattle.definitions.specs.Tokens.{Leads}
 use Rattle.definitions.proofs.TokensKept.{length-edit}
-use Rattle.std.specs.Prelude.{◌≡◌, ℕ, zero, suc, ◌+◌, ◌-◌, ◌<◌, ◌≤◌, ◌^◌, true, false, List, [], ◌∷◌, ◌++◌, length, take, drop, slice_get, slice_index_or, IsSomeAnd}
-use Rattle.std.proofs.Common.{arith, refl, sym, ap, subst, inl, inr, ◌∙◌, length-append, length-drop}
+use Rattle.std.proofs.Common.{arith, refl, sym, ap, subst, inl, inr, ◌∙◌, length-append, length-drop, ◌≡◌, ℕ, zero, suc, ◌+◌, ◌-◌, ◌<◌, ◌≤◌, ◌^◌, true, false, List, [], ◌∷◌, ◌++◌, length, take, drop, slice_get, slice_index_or, IsSomeAnd}
 use Rattle.std.proofs.lemmas.Bool.{cases_lt}
 use Rattle.std.proofs.lemmas.List.{map-append, take-take, length-take, take_all, take-append-le}
 use Rattle.std.proofs.lemmas.List.Sums.{prefix_len-le-length, sum_by-append}

@@ -1,7 +1,6 @@
 -- The tokens after a rescan are those of the edited text, and the kept ones are those that the edit keeps.
 use Rattle.definitions.proofs.TokensLead.{chars, prefix_before, leads_tokens}
-use Rattle.std.specs.Prelude.{◌≡◌, ℕ, zero, suc, ◌+◌, ◌-◌, ◌<◌, ◌≤◌, ◌⊎◌, ◌^◌, true, false, List, [], ◌∷◌, ◌++◌, length, take, drop, slice_range, slice_index_or, All, count_by, if◌then◌else◌}
-use Rattle.std.proofs.Common.{arith, refl, sym, ap, subst, inl, inr, ◌∙◌, length-append, length-drop}
+use Rattle.std.proofs.Common.{arith, refl, sym, ap, subst, inl, inr, ◌∙◌, length-append, length-drop, ◌≡◌, ℕ, zero, suc, ◌+◌, ◌-◌, ◌<◌, ◌≤◌, ◌⊎◌, ◌^◌, true, false, List, [], ◌∷◌, ◌++◌, length, take, drop, slice_range, slice_index_or, All, count_by, if◌then◌else◌}
 use Rattle.std.proofs.lemmas.Bool.{cases_lt, and_parts, leb-true, false≢true}
 use Rattle.std.proofs.lemmas.List.{append_assoc, map-append, length-take, take_all, take_at, drop_at, take-append-le}
 use Rattle.std.proofs.lemmas.List.Sums.{passes_at_first, fails_before_first, sum_by-append}

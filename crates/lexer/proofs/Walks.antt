@@ -1,6 +1,5 @@
 -- A walk over tokens goes on by one, and finds a token where one starts.
-use Rattle.std.specs.Prelude.{◌≡◌, ◌≢◌, ◌⊎◌, ℕ, suc, ◌+◌, ◌-◌, ◌<◌, ◌≤◌, ◌^◌, List, [], ◌∷◌, length, take, drop, slice_index_or}
-use Rattle.std.proofs.Common.{arith, inl, inr, sym, ap, subst, ◌∙◌, length-drop}
+use Rattle.std.proofs.Common.{arith, inl, inr, sym, ap, subst, ◌∙◌, length-drop, ◌≡◌, ◌≢◌, ◌⊎◌, ℕ, suc, ◌+◌, ◌-◌, ◌<◌, ◌≤◌, ◌^◌, List, [], ◌∷◌, length, take, drop, slice_index_or}
 use Rattle.std.proofs.lemmas.Bool.{cases_lt}
 use Rattle.std.proofs.lemmas.List.{drop_more, take_more}
 use Rattle.std.proofs.lemmas.List.Sums.{sum_by-append, sum_by-take-le}

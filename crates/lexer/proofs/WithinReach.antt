@@ -1,6 +1,5 @@
 -- What lies within the reach of a token.
-use Rattle.std.specs.Prelude.{ℕ, ◌+◌, ◌<◌, ◌≤◌, List, length, drop}
-use Rattle.std.proofs.Common.{arith, inl, inr, length-drop}
+use Rattle.std.proofs.Common.{arith, inl, inr, length-drop, ℕ, ◌+◌, ◌<◌, ◌≤◌, List, length, drop}
 use Rattle.definitions.specs.declared.expression.Expression.{Expression}
 use Rattle.definitions.specs.Tokens.{IsReach}
 use Rattle.dfa.specs.Windows.{IsWithinReach}

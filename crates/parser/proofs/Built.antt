@@ -1,6 +1,5 @@
 -- The branches that carry an edit's number are those that lie in no kept node, so that their count is what the edit has built.
-use Rattle.std.proofs.Common.{◌≡◌, ◌≢◌, ℕ, ◌+◌, ◌<◌, Bool, true, false, List, [], ◌∷◌, ◌++◌, length, refl, sym, ap, ◌∙◌, subst, arith, length-append}
-use Rattle.std.specs.Prelude.{◌==◌, if◌then◌else◌}
+use Rattle.std.proofs.Common.{◌≡◌, ◌≢◌, ℕ, ◌+◌, ◌<◌, Bool, true, false, List, [], ◌∷◌, ◌++◌, length, refl, sym, ap, ◌∙◌, subst, arith, length-append, ◌==◌, if◌then◌else◌}
 use Rattle.std.proofs.lemmas.Bool.{eqb-true}
 use mathlib.Core.List.{tail-eq_of_cons-eq}
 use Rattle.definitions.specs.Trees.{Tree, Forest, Leaf, Branch, trees, yield, yields, all_kinds}

@@ -1,6 +1,5 @@
 -- Children that are renamed mean what they meant.
-use Rattle.std.specs.Prelude.{◌≡◌, ℕ, suc, ◌+◌, List, [], ◌∷◌, length}
-use Rattle.std.proofs.Common.{refl, sym, ap, ◌++◌, take, arith}
+use Rattle.std.proofs.Common.{refl, sym, ap, ◌++◌, take, arith, ◌≡◌, ℕ, suc, ◌+◌, List, [], ◌∷◌, length}
 use Rattle.std.proofs.lemmas.List.{take_at}
 use mathlib.Core.List.{head-eq_of_cons-eq, tail-eq_of_cons-eq}
 use Rattle.definitions.specs.Nodes.{branches}

@@ -1,8 +1,7 @@
 -- What lies before and after a cut of a text in pieces.
-use Rattle.std.specs.Prelude.{◌≡◌, ℕ, ◌+◌, ◌<◌, ◌≤◌, List, ◌++◌, Option, Some, None, length, take, drop, slice_index, slice_get, encode_utf8, encode_utf8_all, MatchOption}
 use Rattle.pieces.specs.Pieces.{text_in}
 use Rattle.std.specs.Str.{chars}
-use Rattle.std.proofs.Common.{arith, length-append, length-drop, length-take, sym, ap, inl, inr, ◌⊎◌, ◌∙◌}
+use Rattle.std.proofs.Common.{arith, length-append, length-drop, length-take, sym, ap, inl, inr, ◌⊎◌, ◌∙◌, ◌≡◌, ℕ, ◌+◌, ◌<◌, ◌≤◌, List, ◌++◌, Option, Some, None, length, take, drop, slice_index, slice_get, encode_utf8, encode_utf8_all, MatchOption}
 use Rattle.std.proofs.lemmas.Bool.{cases_lt}
 use Rattle.std.proofs.lemmas.List.{take-append-drop, drop_more}
 use Rattle.chunks.proofs.Joined.{whole_at, none_after}

@@ -1,7 +1,6 @@
 -- The sum of a text that is a list of pieces, and of what lies before one of them.
-use Rattle.std.specs.Prelude.{◌≡◌, ℕ, ◌≤◌, List, [], ◌∷◌, ◌++◌, take, drop}
 use Rattle.pieces.specs.Pieces.{text_in}
-use Rattle.std.proofs.Common.{arith, refl, sym, ap, ◌∙◌}
+use Rattle.std.proofs.Common.{arith, refl, sym, ap, ◌∙◌, ◌≡◌, ℕ, ◌≤◌, List, [], ◌∷◌, ◌++◌, take, drop}
 use Rattle.std.proofs.lemmas.List.{take-append-drop}
 use Rattle.chunks.proofs.Joined.{joined-append}
 use Rattle.seqtree.specs.Monoid.{total}

@@ -1,6 +1,5 @@
 -- Texts that fit.
-use Rattle.std.proofs.Common.{◌≡◌, ◌≤◌, ◌<◌, ℕ, Bool, true, false, List, [], ◌∷◌, length, refl, ap, arith, leb-true, leb-false, le-leb}
-use Rattle.std.specs.Prelude.{◌&&◌, nat_le, encode_utf8_all}
+use Rattle.std.proofs.Common.{◌≡◌, ◌≤◌, ◌<◌, ℕ, Bool, true, false, List, [], ◌∷◌, length, refl, ap, arith, leb-true, leb-false, le-leb, ◌&&◌, nat_le, encode_utf8_all}
 use Rattle.std.specs.Str.{chars, all_scalars, IsUtf8}
 use Rattle.std.specs.List.{AllByRecursion}
 use Rattle.std.proofs.lemmas.Bool.{and_from, and_parts, lt-leb}

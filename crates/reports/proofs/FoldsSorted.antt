@@ -1,12 +1,11 @@
 -- The lines that were gathered, sorted and each once, are the folds.
-use Rattle.std.specs.Prelude.{◌≡◌, ℕ, ◌≤◌, Bool, true, false, ◌&&◌, List, length, AllPairs, Contains, nat_eq}
 use Rattle.std.specs.Cmp.{IsEquivalence, IsTotalOrder, both_tied, unsigned_tied}
 use Rattle.std.specs.List.{dedup}
 use Rattle.std.specs.List.Sorted.{IsPermutation, IsSorted, IsStrictlySortedBy}
 use Rattle.std.specs.declared.cmp.Ordering.{Ordering}
 use Rattle.std.specs.declared.cmp.Ordering.TheVariants.{Less, Equal, Greater}
 use Rattle.std.specs.Ordering.{nat_cmp, ordering_then, eq_by_cmp}
-use Rattle.std.proofs.Common.{arith, refl, sym, subst, inl, inr}
+use Rattle.std.proofs.Common.{arith, refl, sym, subst, inl, inr, ◌≡◌, ℕ, ◌≤◌, Bool, true, false, ◌&&◌, List, length, AllPairs, Contains, nat_eq}
 use Rattle.std.proofs.lemmas.Bool.{eqb-true}
 use Rattle.std.proofs.lemmas.Cmp.{on_total, then_total, nat_cmp_total, nat_eq_equiv, and_equiv, on_equiv, ranked}
 use Rattle.std.proofs.lemmas.List.Kept.{Contains-dedup, Contains-from_dedup, IsStrictlySortedBy-dedup}

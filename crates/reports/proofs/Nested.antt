@@ -1,7 +1,6 @@
 -- Lists of spans of which each holds the later ones.
-use Rattle.std.specs.Prelude.{slice_index_or, drop, ◌≡◌, ◌≢◌, ℕ, zero, suc, ◌⊎◌, Bool, true, false, List, [], ◌∷◌, ◌++◌, All, AllPairs, Contains}
 use Rattle.std.specs.List.{dedup}
-use Rattle.std.proofs.Common.{arith, refl, sym, ap, subst, inl, inr, cond}
+use Rattle.std.proofs.Common.{arith, refl, sym, ap, subst, inl, inr, cond, slice_index_or, drop, ◌≡◌, ◌≢◌, ℕ, zero, suc, ◌⊎◌, Bool, true, false, List, [], ◌∷◌, ◌++◌, All, AllPairs, Contains}
 use Rattle.std.proofs.lemmas.List.{append-nil}
 use Rattle.std.proofs.lemmas.List.Elements.{All-nil, All-head, All-weaker, All-contains, All-contains_itself}
 use Rattle.std.proofs.lemmas.List.Kept.{AllPairs-cons, Contains-from_dedup}

@@ -1,7 +1,6 @@
 -- The rows of tokens, listed one after another.
-use Rattle.std.specs.Prelude.{◌≡◌, ℕ, ◌+◌, min, List, [], ◌∷◌, ◌++◌, length, map, encode_utf8_all}
 use Rattle.std.specs.Str.{chars, IsUtf8}
-use Rattle.std.proofs.Common.{arith, refl, sym, ap, ◌∙◌, append_assoc}
+use Rattle.std.proofs.Common.{arith, refl, sym, ap, ◌∙◌, append_assoc, ◌≡◌, ℕ, ◌+◌, min, List, [], ◌∷◌, ◌++◌, length, map, encode_utf8_all}
 use Rattle.std.proofs.lemmas.List.{append-nil, map-append}
 use Rattle.definitions.specs.declared.Unit.{Unit as Encoding}
 use Rattle.definitions.specs.Text.{position}

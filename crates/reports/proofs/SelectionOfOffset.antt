@@ -1,7 +1,6 @@
 -- The selection that the two places of an offset give, and that each offset has one.
-use Rattle.std.specs.Prelude.{◌≡◌, ◌<◌, ◌≤◌, ◌^◌, ℕ, suc, List, ◌∷◌, length, map, take, reverse, count_by, All}
 use Rattle.std.specs.List.{dedup}
-use Rattle.std.proofs.Common.{arith, refl, sym, ap, subst, ◌∙◌}
+use Rattle.std.proofs.Common.{arith, refl, sym, ap, subst, ◌∙◌, ◌≡◌, ◌<◌, ◌≤◌, ◌^◌, ℕ, suc, List, ◌∷◌, length, map, take, reverse, count_by, All}
 use Rattle.std.proofs.lemmas.List.{length-map}
 use Rattle.std.proofs.lemmas.List.Sums.{count_by-le-length}
 use Rattle.definitions.specs.declared.Range.{Range}

@@ -1,6 +1,5 @@
 -- The significant tokens of a text stand apart, in order, and an offset has its two places among them.
-use Rattle.std.specs.Prelude.{◌≡◌, ℕ, zero, suc, ◌+◌, ◌<◌, ◌≤◌, ◌⊎◌, ◌↔◌, Bool, true, false, not, List, [], ◌∷◌, length, take, drop, slice_index_or, All, AllPairs}
-use Rattle.std.proofs.Common.{arith, subst, inl, inr, cond, length-drop}
+use Rattle.std.proofs.Common.{arith, subst, inl, inr, cond, length-drop, ◌≡◌, ℕ, zero, suc, ◌+◌, ◌<◌, ◌≤◌, ◌⊎◌, ◌↔◌, Bool, true, false, not, List, [], ◌∷◌, length, take, drop, slice_index_or, All, AllPairs}
 use Rattle.std.proofs.lemmas.Bool.{cases_lt}
 use Rattle.std.proofs.lemmas.List.{get_or-map}
 use Rattle.std.proofs.lemmas.List.Elements.{All-nil, All-cons, All-weaker}

@@ -1,6 +1,5 @@
 -- What is given at a method that is known.
-use Rattle.std.proofs.Common.{◌≡◌, ℕ, List, sym, subst}
-use Rattle.std.specs.Prelude.{Result}
+use Rattle.std.proofs.Common.{◌≡◌, ℕ, List, sym, subst, Result}
 use Rattle.serde_json.specs.Data.{Data}
 use Rattle.rpc.specs.declared.message.Message.{Message}
 use Rattle.rpc.specs.declared.message.RpcFault.{RpcFault}

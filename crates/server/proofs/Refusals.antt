@@ -1,6 +1,5 @@
 -- How a document is lost by a change that is refused.
-use Rattle.std.proofs.Common.{◌≡◌}
-use Rattle.std.specs.Prelude.{Result, Err}
+use Rattle.std.proofs.Common.{◌≡◌, Result, Err}
 use Rattle.docs.specs.declared.doc.DocFault.{DocFault}
 use Rattle.docs.specs.declared.doc.DocFault.TheVariants as fault
 use Rattle.rpc.specs.declared.reply.Loss.{Loss}

@@ -1,6 +1,5 @@
 -- Sessions that are cut short: a prefix of the answers of a run is written.
-use Rattle.std.proofs.Common.{ℕ, List, [], ◌++◌, refl, ap, sym, subst, ◌∙◌, append_assoc, append-nil}
-use Rattle.std.specs.Prelude.{◌≡◌, Option, Some, None, Result, Ok, Err, OnErr}
+use Rattle.std.proofs.Common.{ℕ, List, [], ◌++◌, refl, ap, sym, subst, ◌∙◌, append_assoc, append-nil, ◌≡◌, Option, Some, None, Result, Ok, Err, OnErr}
 use Rattle.std.specs.Io.KnownBytes.{Appends, Keeps}
 use Rattle.sessions.specs.Steps.{State}
 use Rattle.sessions.specs.Runs.{bytes_of}

@@ -1,7 +1,6 @@
 -- A text that is edited by changes in turn.
-use Rattle.std.proofs.Common.{◌≡◌, ◌<◌, ◌+◌, ℕ, ℤ, Bool, true, false, cond, List, [], ◌∷◌, ◌++◌, length, map, take, drop, get_or, refl, sym, ap, subst, ◌∙◌}
+use Rattle.std.proofs.Common.{◌≡◌, ◌<◌, ◌+◌, ℕ, ℤ, Bool, true, false, cond, List, [], ◌∷◌, ◌++◌, length, map, take, drop, get_or, refl, sym, ap, subst, ◌∙◌, Option, Some, None, Result, Err}
 use Rattle.std.proofs.lemmas.List.{drop_more, take_more, map-append, take-append-drop}
-use Rattle.std.specs.Prelude.{Option, Some, None, Result, Err}
 use Rattle.std.specs.Str.{chars}
 use Rattle.readings.specs.Text.{changed}
 use Rattle.rpc.specs.Unit.{Unit as Encoding}

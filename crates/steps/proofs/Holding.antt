@@ -1,6 +1,5 @@
 -- A document that came to stand otherwise.
-use Rattle.std.proofs.Common.{◌≡◌, ℕ, ℤ, Bool, true, List, [], ◌∷◌, ap, ◌∙◌, sym, subst}
-use Rattle.std.specs.Prelude.{Option, Some, None}
+use Rattle.std.proofs.Common.{◌≡◌, ℕ, ℤ, Bool, true, List, [], ◌∷◌, ap, ◌∙◌, sym, subst, Option, Some, None}
 use Rattle.std.specs.FinMap.{get, insert, remove}
 use Rattle.readings.specs.Grammars.{FileGrammar}
 use Rattle.readings.specs.Texts.{OpenDocument}

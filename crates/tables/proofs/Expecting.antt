@@ -1,6 +1,5 @@
 -- The moves of a state are what is expected.
-use Rattle.std.proofs.Common.{◌≡◌, ◌<◌, ◌≤◌, ◌+◌, ◌↔◌, Bool, true, false, ℕ, zero, suc, List, ◌∷◌, ◌++◌, [], Option, Some, None, Contains, length, drop, slice_index_or, slice_index, refl, sym, ap, ◌∙◌, subst, inl, inr, ⊎_elim, arith}
-use Rattle.std.specs.Prelude.{is_some, if◌then◌else◌}
+use Rattle.std.proofs.Common.{◌≡◌, ◌<◌, ◌≤◌, ◌+◌, ◌↔◌, Bool, true, false, ℕ, zero, suc, List, ◌∷◌, ◌++◌, [], Option, Some, None, Contains, length, drop, slice_index_or, slice_index, refl, sym, ap, ◌∙◌, subst, inl, inr, ⊎_elim, arith, is_some, if◌then◌else◌}
 use Rattle.std.specs.List.Sorted.{IsStrictlyIncreasing}
 use Rattle.std.proofs.lemmas.Bool.{cases_lt}
 use Rattle.std.proofs.lemmas.List.{drop_all, get_or-drop, get_or_past}

@@ -1,7 +1,6 @@
 -- How many bytes a text and its parts have in UTF-8.
-use Rattle.std.specs.Prelude.{◌≡◌, ℕ, ◌+◌, ◌-◌, ◌≤◌, List, ◌++◌, length, take, drop, encode_utf8_all}
 use Rattle.std.specs.Str.{IsUtf8, chars}
-use Rattle.std.proofs.Common.{arith, sym, ap, ◌∙◌, length-append}
+use Rattle.std.proofs.Common.{arith, sym, ap, ◌∙◌, length-append, ◌≡◌, ℕ, ◌+◌, ◌-◌, ◌≤◌, List, ◌++◌, length, take, drop, encode_utf8_all}
 use Rattle.std.proofs.lemmas.List.{take-append-drop}
 use Rattle.std.proofs.Math.Seq.{take-add}
 use Rattle.std.proofs.lemmas.Str.{encodes-append, length-le-encodes}

@@ -1,5 +1,4 @@
-use Rattle.std.proofs.Common.{arith, ap, sym, ◌∙◌, ◌≡◌, ◌+◌, ◌-◌, take}
-use Rattle.std.specs.Prelude.{option_copied}
+use Rattle.std.proofs.Common.{arith, ap, sym, ◌∙◌, ◌≡◌, ◌+◌, ◌-◌, take, option_copied}
 use Rattle.chunks.proofs.Few.{small, alone}
 use Rattle.chunks.proofs.Gaps.{filled_before, filled_after}
 use Rattle.chunks.proofs.Joined.{past_chunk}

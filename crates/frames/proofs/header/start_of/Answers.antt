@@ -1,5 +1,4 @@
-use Rattle.std.proofs.Common.{◌≡◌, length, arith, ap, ◌∙◌}
-use Rattle.std.specs.Prelude.{min}
+use Rattle.std.proofs.Common.{◌≡◌, length, arith, ap, ◌∙◌, min}
 use Rattle.std.proofs.lemmas.List.{length-take}
 use Rattle.frames.proofs.header.start_of.Goals as goal
 

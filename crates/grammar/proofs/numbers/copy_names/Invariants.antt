@@ -1,5 +1,4 @@
-use Rattle.std.proofs.Common.{◌≡◌, take}
-use Rattle.std.specs.Prelude.{map}
+use Rattle.std.proofs.Common.{◌≡◌, take, map}
 use Rattle.std.specs.Str.{chars}
 use Rattle.grammar_line.specs.Kept.{texts}
 use Rattle.grammar.proofs.numbers.copy_names.Given as goal

@@ -1,5 +1,4 @@
-use Rattle.std.proofs.Common.{◌∙◌, ap, arith, take_all}
-use Rattle.std.specs.Prelude.{map}
+use Rattle.std.proofs.Common.{◌∙◌, ap, arith, take_all, map}
 use Rattle.grammar.specs.Contents.{is_fold}
 use Rattle.grammar_line.specs.Kept.{texts}
 use Rattle.grammar_file.specs.Kept.{lines_view}

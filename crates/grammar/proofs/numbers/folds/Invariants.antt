@@ -1,5 +1,4 @@
-use Rattle.std.proofs.Common.{◌≡◌, take}
-use Rattle.std.specs.Prelude.{map}
+use Rattle.std.proofs.Common.{◌≡◌, take, map}
 use Rattle.grammar.specs.Contents.{is_fold}
 use Rattle.grammar_line.specs.Kept.{texts}
 use Rattle.grammar_file.specs.Kept.{lines_view}

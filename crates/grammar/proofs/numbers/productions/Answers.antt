@@ -1,5 +1,4 @@
-use Rattle.std.proofs.Common.{◌∙◌, ◌++◌, [], ap, sym, take}
-use Rattle.std.specs.Prelude.{map}
+use Rattle.std.proofs.Common.{◌∙◌, ◌++◌, [], ap, sym, take, map}
 use Rattle.std.specs.List.{cons_option}
 use Rattle.grammar_file.specs.Contents.{productions}
 use Rattle.grammar.specs.Contents.{production_of}

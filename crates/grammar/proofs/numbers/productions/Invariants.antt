@@ -1,5 +1,4 @@
-use Rattle.std.proofs.Common.{◌≡◌, take}
-use Rattle.std.specs.Prelude.{map}
+use Rattle.std.proofs.Common.{◌≡◌, take, map}
 use Rattle.grammar_file.specs.Contents.{productions}
 use Rattle.grammar.specs.Contents.{production_of}
 use Rattle.grammar_file.specs.Kept.{lines_view}

@@ -1,5 +1,4 @@
-use Rattle.std.proofs.Common.{◌≡◌, take}
-use Rattle.std.specs.Prelude.{map}
+use Rattle.std.proofs.Common.{◌≡◌, take, map}
 use Rattle.grammar_file.specs.Kept.{rule_line}
 use Rattle.grammar.proofs.read.skips.Given as goal
 

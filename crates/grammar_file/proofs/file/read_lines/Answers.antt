@@ -1,5 +1,4 @@
-use Rattle.std.proofs.Common.{rules}
-use Rattle.std.specs.Prelude.{Some, None}
+use Rattle.std.proofs.Common.{rules, Some, None}
 use Rattle.grammar_line.specs.Statements.{statements_in}
 use Rattle.grammar_file.specs.Faults.{too_large, first_line}
 use Rattle.grammar_line.specs.Kept.{texts}

@@ -1,5 +1,4 @@
-use Rattle.std.proofs.Common.{arith}
-use Rattle.std.specs.Prelude.{None}
+use Rattle.std.proofs.Common.{arith, None}
 use Rattle.std.proofs.lemmas.Str.Pattern.{strip_prefix_char}
 use Rattle.grammar_line.proofs.Blanks.{trim_start-tab}
 use Rattle.grammar_line.proofs.words.strip_first_blank.Goals as goal

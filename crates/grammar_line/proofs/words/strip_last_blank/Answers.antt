@@ -1,5 +1,4 @@
-use Rattle.std.proofs.Common.{arith, ap, ◌∙◌}
-use Rattle.std.specs.Prelude.{None, Some}
+use Rattle.std.proofs.Common.{arith, ap, ◌∙◌, None, Some}
 use Rattle.std.proofs.lemmas.Str.Pattern.{strip_suffix_char}
 use Rattle.grammar_line.specs.Words.{trim_end}
 use Rattle.grammar_line.proofs.Blanks.{trim_end-space, trim_end-last}

@@ -1,7 +1,5 @@
-use Rattle.std.proofs.Common.{◌≡◌, take}
-use Rattle.std.specs.Prelude.{filter}
+use Rattle.std.proofs.Common.{◌≡◌, take, filter, ◌==◌}
 use Rattle.std.specs.List.{flat_map, slice_split}
-use Rattle.std.specs.Prelude.{◌==◌}
 use Rattle.grammar_line.specs.Words.{is_filled}
 use Rattle.grammar_line.specs.Kept.{texts}
 use Rattle.grammar_line.proofs.words.words.Given as goal

@@ -1,5 +1,4 @@
-use Rattle.std.proofs.Common.{rules, ◌≡◌, ◌<◌, ◌∷◌, ◌++◌, [], Some, None, length, slice_index_or, slice_set, length-set, ap, sym, subst, ◌∙◌, arith}
-use Rattle.std.specs.Prelude.{IfSome}
+use Rattle.std.proofs.Common.{rules, ◌≡◌, ◌<◌, ◌∷◌, ◌++◌, [], Some, None, length, slice_index_or, slice_set, length-set, ap, sym, subst, ◌∙◌, arith, IfSome}
 use Rattle.std.proofs.lemmas.List.{get_or_default}
 use Rattle.definitions.specs.Derivations.{first}
 use Rattle.item_sets.specs.declared.item.Item.{Item}

@@ -1,5 +1,4 @@
-use Rattle.std.proofs.Common.{ap, ◌∙◌, ◌≡◌, ◌++◌}
-use Rattle.std.specs.Prelude.{string_bytes}
+use Rattle.std.proofs.Common.{ap, ◌∙◌, ◌≡◌, ◌++◌, string_bytes}
 use Rattle.std.specs.Str.{chars}
 use Rattle.std.proofs.lemmas.Str.{IsUtf8-append, chars-append}
 use Rattle.pieces.proofs.piece.join_three.Goals as goal

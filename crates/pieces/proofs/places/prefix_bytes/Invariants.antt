@@ -1,5 +1,4 @@
-use Rattle.std.proofs.Common.{◌≡◌, drop}
-use Rattle.std.specs.Prelude.{encode_utf8_all}
+use Rattle.std.proofs.Common.{◌≡◌, drop, encode_utf8_all}
 use Rattle.pieces.proofs.places.prefix_bytes.Given as goal
 
 abbrev pub invariant-loop : goal.invariant-loop

@@ -1,5 +1,4 @@
-use Rattle.std.proofs.Common.{ℕ, List, sym, ap, ◌≡◌, ◌∙◌, ◌++◌, ◌∷◌, [], map, append_assoc}
-use Rattle.std.specs.Prelude.{reverse}
+use Rattle.std.proofs.Common.{ℕ, List, sym, ap, ◌≡◌, ◌∙◌, ◌++◌, ◌∷◌, [], map, append_assoc, reverse}
 use Rattle.std.specs.List.{push}
 use Rattle.std.proofs.lemmas.List.{append-nil, map-append, nil_from_length, reverse-append}
 use Rattle.definitions.specs.declared.Range.{Range}

@@ -1,5 +1,4 @@
-use Rattle.std.proofs.Common.{◌≡◌, ◌++◌, map}
-use Rattle.std.specs.Prelude.{reverse}
+use Rattle.std.proofs.Common.{◌≡◌, ◌++◌, map, reverse}
 use Rattle.definitions.specs.Answers.{range_of}
 use Rattle.reports.proofs.selections.ranges_of.Given as goal
 

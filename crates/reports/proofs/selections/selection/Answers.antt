@@ -1,5 +1,4 @@
-use Rattle.std.proofs.Common.{ap, ◌≤◌, map, sym, ◌∙◌, subst, arith}
-use Rattle.std.specs.Prelude.{All, length, count_by, reverse}
+use Rattle.std.proofs.Common.{ap, ◌≤◌, map, sym, ◌∙◌, subst, arith, All, length, count_by, reverse}
 use Rattle.std.proofs.lemmas.Result.{IfOk-weaker}
 use Rattle.definitions.specs.Answers.{range_of}
 use Rattle.grammar.specs.Grammars.{FileGrammar}

@@ -1,5 +1,4 @@
-use Rattle.std.proofs.Common.{◌≡◌, ◌∷◌, Bool, List, map, take}
-use Rattle.std.specs.Prelude.{All}
+use Rattle.std.proofs.Common.{◌≡◌, ◌∷◌, Bool, List, map, take, All}
 use Rattle.definitions.specs.Tokens.{is_skipped, placed, significant}
 use Rattle.lexer.specs.Tokens.{kind_in, plain}
 use Rattle.reports.specs.Around.{offsets_of}

@@ -1,5 +1,4 @@
-use Rattle.std.proofs.Common.{◌≡◌, ◌++◌, length}
-use Rattle.std.specs.Prelude.{IfSome}
+use Rattle.std.proofs.Common.{◌≡◌, ◌++◌, length, IfSome}
 use Rattle.reports.specs.Around.{spans_all}
 use Rattle.reports.specs.Contents.{trees_of_roots}
 use Rattle.reports.proofs.Children.{pending, IsNext}

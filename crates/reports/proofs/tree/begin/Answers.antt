@@ -1,5 +1,4 @@
-use Rattle.std.proofs.Common.{arith, ap, lit<, ◌∙◌, ◌++◌}
-use Rattle.std.specs.Prelude.{string_bytes}
+use Rattle.std.proofs.Common.{arith, ap, lit<, ◌∙◌, ◌++◌, string_bytes}
 use Rattle.std.proofs.lemmas.Str.{IsUtf8-string_bytes}
 use Rattle.trees.proofs.Cells.{all_below-more}
 use Rattle.reports.proofs.Writing.{begun}

@@ -1,5 +1,4 @@
-use Rattle.std.proofs.Common.{◌≡◌, ◌++◌, ◌∷◌, [], List, ℕ, length, lit<, refl, sym, ap, ◌∙◌, ◌<◌, arith}
-use Rattle.std.specs.Prelude.{string_bytes, encode_utf8_all}
+use Rattle.std.proofs.Common.{◌≡◌, ◌++◌, ◌∷◌, [], List, ℕ, length, lit<, refl, sym, ap, ◌∙◌, ◌<◌, arith, string_bytes, encode_utf8_all}
 use Rattle.std.specs.Str.{chars}
 use Rattle.std.proofs.lemmas.Str.{IsUtf8-string_bytes}
 use Rattle.definitions.specs.TreeEdits.{plain}

@@ -1,5 +1,4 @@
-use Rattle.std.proofs.Common.{◌≡◌, ◌++◌, List, drop}
-use Rattle.std.specs.Prelude.{option_map}
+use Rattle.std.proofs.Common.{◌≡◌, ◌++◌, List, drop, option_map}
 use Rattle.serde_json.specs.View.{items_view}
 use Rattle.definitions.specs.declared.Position.{Position}
 use Rattle.rpc.specs.Reading.{positions_of}

@@ -1,5 +1,4 @@
-use Rattle.std.proofs.Common.{◌≡◌, suc, ◌-◌, ◌≤◌, List, [], ◌∷◌, length, take, drop, take_all, get_or, Some, sym, ap, subst, arith}
-use Rattle.std.specs.Prelude.{OnOk}
+use Rattle.std.proofs.Common.{◌≡◌, suc, ◌-◌, ◌≤◌, List, [], ◌∷◌, length, take, drop, take_all, get_or, Some, sym, ap, subst, arith, OnOk}
 use Rattle.definitions.specs.declared.Range.{Range}
 use Rattle.serde_json.specs.Events.{SendsValue}
 use Rattle.rpc.specs.Replies.{range_data, with_parent, nested}

@@ -1,5 +1,4 @@
-use Rattle.std.proofs.Common.{arith, refl, [], sym, ap, ◌∙◌, ◌≡◌, ◌-◌, ◌≤◌, length, take, drop}
-use Rattle.std.specs.Prelude.{Some, None, slice_get, option_copied}
+use Rattle.std.proofs.Common.{arith, refl, [], sym, ap, ◌∙◌, ◌≡◌, ◌-◌, ◌≤◌, length, take, drop, Some, None, slice_get, option_copied}
 use Rattle.runs.specs.Counted.{most}
 use Rattle.runs.specs.Runs.{flattened}
 use Rattle.chunks.proofs.Joined.{within_chunks, inside, cut_in, cut_at_end}

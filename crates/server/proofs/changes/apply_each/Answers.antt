@@ -1,5 +1,4 @@
-use Rattle.std.proofs.Common.{◌≡◌, ◌↔◌, ◌∙◌, ◌+◌, ap, sym, subst, List, map, take, ℕ, Bool, true, false, refl}
-use Rattle.std.specs.Prelude.{Option, Some, Err, Ok, Result}
+use Rattle.std.proofs.Common.{◌≡◌, ◌↔◌, ◌∙◌, ◌+◌, ap, sym, subst, List, map, take, ℕ, Bool, true, false, refl, Option, Some, Err, Ok, Result}
 use Rattle.std.specs.Str.{chars}
 use Rattle.docs.specs.Text.{changed}
 use Rattle.rpc.specs.Unit.{Unit as Encoding}

@@ -1,5 +1,4 @@
-use Rattle.std.proofs.Common.{◌≡◌, map, take}
-use Rattle.std.specs.Prelude.{Some}
+use Rattle.std.proofs.Common.{◌≡◌, map, take, Some}
 use Rattle.docs.specs.Docs.{last_edit, IsCurrent}
 use Rattle.rpc.specs.Messages.{change_view}
 use Rattle.sessions.specs.Documents.{edited, IsLastAfter}

@@ -1,7 +1,6 @@
-use Rattle.std.proofs.Common.{◌≡◌, ◌∙◌, ◌+◌, ap, sym, subst, List, [], map, take, length, min, true, false, arith}
+use Rattle.std.proofs.Common.{◌≡◌, ◌∙◌, ◌+◌, ap, sym, subst, List, [], map, take, length, min, true, false, arith, Some, Err}
 use Rattle.std.proofs.Math.Nat.{min-eq_left}
 use Rattle.std.proofs.lemmas.List.{append-nil, length-map, length-take, take_all}
-use Rattle.std.specs.Prelude.{Some, Err}
 use Rattle.std.specs.Str.{chars}
 use Rattle.docs.specs.Docs.{open_document}
 use Rattle.docs.specs.Pending.{pending_text}

@@ -1,5 +1,4 @@
-use Rattle.std.proofs.Common.{◌≡◌, ◌+◌, map, take, true}
-use Rattle.std.specs.Prelude.{Option, Some}
+use Rattle.std.proofs.Common.{◌≡◌, ◌+◌, map, take, true, Option, Some}
 use Rattle.docs.specs.Docs.{last_edit}
 use Rattle.docs.specs.Edits.{number_of}
 use Rattle.docs.specs.Pending.{HasNone, IsPending, pending_number, pending_text, pending_unit}

@@ -1,5 +1,4 @@
-use Rattle.std.proofs.Common.{◌≡◌, ℕ, ℤ, w32, List, true, false, ap, sym, subst, ◌∙◌}
-use Rattle.std.specs.Prelude.{None, Err, if◌then◌else◌}
+use Rattle.std.proofs.Common.{◌≡◌, ℕ, ℤ, w32, List, true, false, ap, sym, subst, ◌∙◌, None, Err, if◌then◌else◌}
 use Rattle.std.specs.Str.{chars}
 use Rattle.std.proofs.lemmas.Int.{to_z-of_z}
 use Rattle.docs.specs.Docs.{open_document}

@@ -1,5 +1,4 @@
-use Rattle.std.proofs.Common.{◌≡◌, arith, ℕ, List, [], take, subst, sym}
-use Rattle.std.specs.Prelude.{Option, Err, Result}
+use Rattle.std.proofs.Common.{◌≡◌, arith, ℕ, List, [], take, subst, sym, Option, Err, Result}
 use Rattle.std.specs.Io.KnownBytes.{Consumes, Keeps}
 use Rattle.std.proofs.lemmas.Result.{err_from_is_err_and}
 use Rattle.frames.specs.Frames.{Tail, GoesOn}

@@ -1,8 +1,7 @@
-use Rattle.std.proofs.Common.{rules, ◌≡◌, ◌<◌, ◌∷◌, ◌++◌, [], ℕ, Bool, false, Option, Some, None, length, Contains, slice_index_or, ap, sym, subst, ⊎_elim, arith, ◌∙◌}
+use Rattle.std.proofs.Common.{rules, ◌≡◌, ◌<◌, ◌∷◌, ◌++◌, [], ℕ, Bool, false, Option, Some, None, length, Contains, slice_index_or, ap, sym, subst, ⊎_elim, arith, ◌∙◌, is_some}
 use Rattle.std.proofs.lemmas.Bool.{cases_eq}
 use Rattle.std.proofs.lemmas.List.{get_or_default}
 use Rattle.std.proofs.lemmas.List.Elements.{Contains-get_or, Contains-push, Contains-push_cases, Contains-append_left, All-push}
-use Rattle.std.specs.Prelude.{is_some}
 use Rattle.first_sets.specs.Lookaheads.{rank}
 use Rattle.definitions.specs.Items.{CallsFor, kind_of}
 use Rattle.item_sets.specs.declared.item.Item.{Item}

@@ -1,7 +1,6 @@
-use Rattle.std.proofs.Common.{◌≡◌, ◌<◌, ◌+◌, None, Option, ℕ, true, length, slice_index_or, sym, subst, ◌∙◌, arith}
+use Rattle.std.proofs.Common.{◌≡◌, ◌<◌, ◌+◌, None, Option, ℕ, true, length, slice_index_or, sym, subst, ◌∙◌, arith, IfSome}
 use Rattle.std.proofs.lemmas.List.{length-set}
 use Rattle.definitions.specs.Items.{Move, CallsFor, kind_of}
-use Rattle.std.specs.Prelude.{IfSome}
 use Rattle.item_sets.specs.declared.item.Item.{Item}
 use Rattle.first_sets.specs.Lookaheads.{rank}
 use Rattle.item_sets.specs.Sets.{item_of}

@@ -1,7 +1,6 @@
 use denote.Shadow.{shadow}
 use denote.Text.{Utf8}
-use Rattle.std.proofs.Common.{◌++◌}
-use Rattle.std.specs.Prelude.{string_bytes}
+use Rattle.std.proofs.Common.{◌++◌, string_bytes}
 use Rattle.std.specs.Str.{chars}
 use Rattle.definitions.specs.Answers.{listed}
 use Rattle.views.proofs.FaultDiagnostic.{IsListing, names_of}

@@ -1,7 +1,6 @@
-use Rattle.std.proofs.Common.{◌≡◌, ◌<◌, ◌+◌, length, arith, ap, sym, ◌∙◌, subst, slice_index_or}
+use Rattle.std.proofs.Common.{◌≡◌, ◌<◌, ◌+◌, length, arith, ap, sym, ◌∙◌, subst, slice_index_or, nat_le}
 use Rattle.std.proofs.lemmas.List.{get_or_default}
 use Rattle.std.proofs.lemmas.List.Sums.{prefix_len-le-length}
-use Rattle.std.specs.Prelude.{nat_le}
 use Rattle.dfa.specs.Table.{part, follower, numbered}
 use Rattle.dfa.specs.Stored.{IsState, table_of}
 use Rattle.dfa.proofs.Numbers.{entry_is, entry_within, numbered_some}

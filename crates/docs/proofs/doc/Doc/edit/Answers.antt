@@ -1,5 +1,4 @@
-use Rattle.std.proofs.Common.{◌≡◌, ◌≤◌, ◌+◌, ◌-◌, ℕ, List, length, min, refl, ap, sym, subst, ◌∙◌, arith}
-use Rattle.std.specs.Prelude.{All}
+use Rattle.std.proofs.Common.{◌≡◌, ◌≤◌, ◌+◌, ◌-◌, ℕ, List, length, min, refl, ap, sym, subst, ◌∙◌, arith, All}
 use Rattle.std.specs.Str.{chars}
 use Rattle.definitions.specs.Text.{edit}
 use Rattle.definitions.proofs.TokensKept.{length-edit}

@@ -1,5 +1,4 @@
-use Rattle.std.proofs.Common.{◌≡◌, ◌≤◌, ◌-◌, ◌∙◌, ℕ, length, sym, ap, subst, arith}
-use Rattle.std.specs.Prelude.{Option, Some, None, Err, MatchOption}
+use Rattle.std.proofs.Common.{◌≡◌, ◌≤◌, ◌-◌, ◌∙◌, ℕ, length, sym, ap, subst, arith, Option, Some, None, Err, MatchOption}
 use Rattle.std.specs.Str.{chars}
 use Rattle.definitions.specs.declared.Edit.{Edit}
 use Rattle.definitions.specs.Text.{IsText, edit}

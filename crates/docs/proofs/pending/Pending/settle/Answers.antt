@@ -1,5 +1,4 @@
-use Rattle.std.proofs.Common.{◌≡◌, ◌≤◌, arith, refl, sym, subst, rules}
-use Rattle.std.specs.Prelude.{Option, MatchOption, All}
+use Rattle.std.proofs.Common.{◌≡◌, ◌≤◌, arith, refl, sym, subst, rules, Option, MatchOption, All}
 use Rattle.definitions.specs.declared.Edit.{Edit}
 use Rattle.docs.specs.Pending.{LeadsTo}
 use Rattle.docs.proofs.Stamps.{born_on}

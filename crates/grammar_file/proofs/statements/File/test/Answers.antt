@@ -1,5 +1,4 @@
-use Rattle.std.proofs.Common.{refl, sym, ap, ◌∙◌}
-use Rattle.std.specs.Prelude.{option_map}
+use Rattle.std.proofs.Common.{refl, sym, ap, ◌∙◌, option_map}
 use Rattle.grammar_line.specs.Kept.{line_view}
 use Rattle.grammar_file.specs.Kept.{lines_view}
 use Rattle.grammar_file.specs.Causes.{cause_of}

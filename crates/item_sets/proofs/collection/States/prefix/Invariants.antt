@@ -1,5 +1,4 @@
-use Rattle.std.proofs.Common.{◌<◌, ◌++◌, List, length}
-use Rattle.std.specs.Prelude.{reverse}
+use Rattle.std.proofs.Common.{◌<◌, ◌++◌, List, length, reverse}
 use Rattle.definitions.specs.declared.Symbol.{Symbol}
 use Rattle.item_sets.specs.Collection.{kernel_at}
 use Rattle.item_sets.specs.States.{HasKernel}

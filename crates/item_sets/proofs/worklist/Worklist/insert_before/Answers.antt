@@ -1,5 +1,4 @@
-use Rattle.std.proofs.Common.{rules, ◌≡◌, ℕ}
-use Rattle.std.specs.Prelude.{◌↔◌}
+use Rattle.std.proofs.Common.{rules, ◌≡◌, ℕ, ◌↔◌}
 use Rattle.std.proofs.lemmas.Result.{on_ok_weaker}
 use Rattle.theory.specs.First.{MayFollow}
 use Rattle.first_sets.specs.Lookaheads.{lookahead_at}

@@ -1,5 +1,4 @@
-use Rattle.std.proofs.Common.{◌≡◌, IfOk, length, ap, subst, sym, ◌∙◌}
-use Rattle.std.specs.Prelude.{encode_utf8_all}
+use Rattle.std.proofs.Common.{◌≡◌, IfOk, length, ap, subst, sym, ◌∙◌, encode_utf8_all}
 use Rattle.std.proofs.lemmas.Str.{encodes-chars}
 use Rattle.grammar.specs.Grammars.{lexicon_of}
 use Rattle.lexer.specs.Tokens.{AreTokensOf}

@@ -1,5 +1,4 @@
-use Rattle.std.proofs.Common.{arith, sym, ap, ◌∙◌, ◌≡◌, ◌<◌, Some, length}
-use Rattle.std.specs.Prelude.{slice_get, option_copied}
+use Rattle.std.proofs.Common.{arith, sym, ap, ◌∙◌, ◌≡◌, ◌<◌, Some, length, slice_get, option_copied}
 use Rattle.std.proofs.lemmas.Option.{slice_get_past, slice_get-get_or}
 use Rattle.definitions.specs.declared.Kind.TheVariants.{Invalid}
 use Rattle.lexer.specs.Rescans.{significant_kinds}

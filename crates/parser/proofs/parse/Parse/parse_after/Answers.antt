@@ -1,5 +1,4 @@
-use Rattle.std.proofs.Common.{◌≡◌, ◌+◌, [], ap, arith, ◌∙◌, drop, length, subst, sym, take}
-use Rattle.std.specs.Prelude.{Result, Ok, Err, IfOk}
+use Rattle.std.proofs.Common.{◌≡◌, ◌+◌, [], ap, arith, ◌∙◌, drop, length, subst, sym, take, Result, Ok, Err, IfOk}
 use Rattle.definitions.specs.TokenEdits.{plain_splice}
 use Rattle.definitions.specs.TreeEdits.{AreStampedExactly, Built}
 use Rattle.theory.specs.Reuse.{IsPrepared}

@@ -1,6 +1,5 @@
-use Rattle.std.specs.Prelude.{◌≡◌, ◌-◌, ◌+◌, ◌^◌, ◌≤◌, ◌&&◌, ◌==◌, ℕ, List, ◌∷◌, ◌++◌, [], length, drop}
 use Rattle.std.specs.Str.{chars}
-use Rattle.std.proofs.Common.{arith, refl, sym, ap, subst, ◌∙◌, cond}
+use Rattle.std.proofs.Common.{arith, refl, sym, ap, subst, ◌∙◌, cond, ◌≡◌, ◌-◌, ◌+◌, ◌^◌, ◌≤◌, ◌&&◌, ◌==◌, ℕ, List, ◌∷◌, ◌++◌, [], length, drop}
 use Rattle.std.proofs.lemmas.Bool.{false≢true}
 use Rattle.std.proofs.lemmas.Iterator.{YieldsList-from_chars}
 use Rattle.std.proofs.lemmas.List.{append_assoc}

@@ -1,5 +1,4 @@
-use Rattle.std.specs.Prelude.{◌∷◌, ◌++◌, []}
-use Rattle.std.proofs.Common.{sym, ◌∙◌}
+use Rattle.std.proofs.Common.{sym, ◌∙◌, ◌∷◌, ◌++◌, []}
 use Rattle.pieces.proofs.KnownPrefix.{prefix-with, no_ones, ones-more}
 use Rattle.pieces.proofs.look_up.Prefix.with.Goals as goal
 

@@ -1,6 +1,5 @@
-use Rattle.std.specs.Prelude.{◌≡◌, ◌^◌, ◌≤◌, ℕ, List, ◌∷◌, ◌++◌, [], length, take, drop}
 use Rattle.std.specs.Str.{chars}
-use Rattle.std.proofs.Common.{arith, sym, ap, ◌∙◌}
+use Rattle.std.proofs.Common.{arith, sym, ap, ◌∙◌, ◌≡◌, ◌^◌, ◌≤◌, ℕ, List, ◌∷◌, ◌++◌, [], length, take, drop}
 use Rattle.std.proofs.lemmas.Iterator.{YieldsList-from_chars}
 use Rattle.std.proofs.lemmas.List.{append-nil, append_assoc, length_push, take_all, drop_all}
 use Rattle.definitions.specs.Text.{begins_with, units}

@@ -1,7 +1,6 @@
-use Rattle.std.specs.Prelude.{◌≡◌, ◌-◌, ◌+◌, ◌^◌, ◌≤◌, ◌&&◌, ◌==◌, ℕ, List, ◌++◌, drop}
 use Rattle.pieces.specs.Pieces.{text_in}
 use Rattle.std.specs.Str.{chars}
-use Rattle.std.proofs.Common.{arith, sym, ap, subst, ◌∙◌, cond}
+use Rattle.std.proofs.Common.{arith, sym, ap, subst, ◌∙◌, cond, ◌≡◌, ◌-◌, ◌+◌, ◌^◌, ◌≤◌, ◌&&◌, ◌==◌, ℕ, List, ◌++◌, drop}
 use Rattle.std.proofs.lemmas.List.{append_assoc}
 use Rattle.definitions.specs.Text.{offset, units}
 use Rattle.definitions.specs.declared.Unit.TheVariants.{Utf8}

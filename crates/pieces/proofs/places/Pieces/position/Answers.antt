@@ -1,7 +1,6 @@
-use Rattle.std.specs.Prelude.{◌≡◌, ◌-◌, ◌+◌, ◌^◌, ◌<◌, ◌≤◌, ℕ, List, ◌++◌, [], length, take, drop}
 use Rattle.pieces.specs.Pieces.{text_in}
 use Rattle.std.specs.Str.{chars}
-use Rattle.std.proofs.Common.{arith, refl, sym, ap, subst, ◌∙◌}
+use Rattle.std.proofs.Common.{arith, refl, sym, ap, subst, ◌∙◌, ◌≡◌, ◌-◌, ◌+◌, ◌^◌, ◌<◌, ◌≤◌, ℕ, List, ◌++◌, [], length, take, drop}
 use Rattle.std.proofs.lemmas.List.{append-nil}
 use Rattle.definitions.specs.Text.{position, units, begins_with}
 use Rattle.definitions.specs.declared.Unit.TheVariants.{Utf8}

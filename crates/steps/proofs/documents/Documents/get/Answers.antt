@@ -1,5 +1,4 @@
-use Rattle.std.proofs.Common.{sym, ap, subst, ◌∙◌}
-use Rattle.std.specs.Prelude.{option_map}
+use Rattle.std.proofs.Common.{sym, ap, subst, ◌∙◌, option_map}
 use Rattle.std.specs.FinMap.{get}
 use Rattle.steps.specs.Holding.{entry_view, IsEntryOf}
 use Rattle.steps.proofs.MapEntries.{get_held, map_twice, found_current}

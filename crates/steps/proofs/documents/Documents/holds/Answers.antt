@@ -1,5 +1,4 @@
-use Rattle.std.proofs.Common.{sym, ap, ◌∙◌}
-use Rattle.std.specs.Prelude.{is_some}
+use Rattle.std.proofs.Common.{sym, ap, ◌∙◌, is_some}
 use Rattle.std.specs.FinMap.{get}
 use Rattle.steps.proofs.MapEntries.{get_held, is_some_map}
 use Rattle.steps.specs.Holding.{entry_view, entry_at}

@@ -1,5 +1,4 @@
-use Rattle.std.proofs.Common.{ap, refl, sym, subst, ◌∙◌, string_bytes}
-use Rattle.std.specs.Prelude.{Some, Result, Ok, Err, OnErr, option_map}
+use Rattle.std.proofs.Common.{ap, refl, sym, subst, ◌∙◌, string_bytes, Some, Result, Ok, Err, OnErr, option_map}
 use Rattle.std.specs.FinMap.{get, insert}
 use Rattle.std.proofs.lemmas.Map.Text.{btree_map_text_same, btree_map_updates_text}
 use Rattle.steps.specs.Holding.{entry_view, IsEntryOf, AreCurrent}

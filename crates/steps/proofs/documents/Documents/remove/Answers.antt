@@ -1,5 +1,4 @@
-use Rattle.std.proofs.Common.{ap, sym, ◌∙◌}
-use Rattle.std.specs.Prelude.{None, is_some}
+use Rattle.std.proofs.Common.{ap, sym, ◌∙◌, None, is_some}
 use Rattle.std.specs.FinMap.{get, remove}
 use Rattle.std.proofs.lemmas.Map.Text.{btree_map_updates_text}
 use Rattle.steps.specs.Holding.{entry_view, entry_at}

@@ -1,5 +1,4 @@
-use Rattle.std.proofs.Common.{◌≡◌, refl, sym, ap, subst, ◌∙◌}
-use Rattle.std.specs.Prelude.{Option, Some, IsSome, IfSome, option_map}
+use Rattle.std.proofs.Common.{◌≡◌, refl, sym, ap, subst, ◌∙◌, Option, Some, IsSome, IfSome, option_map}
 use Rattle.std.specs.Option.{option_copied_mut}
 use Rattle.std.specs.FinMap as map
 use Rattle.std.proofs.lemmas.Map.Text.{btree_map_updates_text}

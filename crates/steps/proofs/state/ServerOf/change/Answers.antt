@@ -1,6 +1,5 @@
-use Rattle.std.proofs.Common.{◌≡◌, ℤ, w32, map, ap, sym, subst, ◌∙◌, string_bytes}
+use Rattle.std.proofs.Common.{◌≡◌, ℤ, w32, map, ap, sym, subst, ◌∙◌, string_bytes, Some, IfSome, option_map}
 use Rattle.std.proofs.lemmas.Int.{to_z-of_z}
-use Rattle.std.specs.Prelude.{Some, IfSome, option_map}
 use Rattle.std.specs.FinMap.{get, insert}
 use Rattle.rpc.specs.Messages.{change_view}
 use Rattle.rpc.specs.declared.reply.Loss.TheVariants.{Memory}

@@ -1,5 +1,4 @@
-use Rattle.std.proofs.Common.{◌≡◌, ap, sym, ◌∙◌, string_bytes}
-use Rattle.std.specs.Prelude.{None}
+use Rattle.std.proofs.Common.{◌≡◌, ap, sym, ◌∙◌, string_bytes, None}
 use Rattle.std.specs.FinMap.{get}
 use Rattle.steps.specs.States.{state_view}
 use Rattle.steps.proofs.Holding.{closes_none, state_same}

@@ -1,5 +1,4 @@
-use Rattle.std.proofs.Common.{◌<◌, ◌≤◌, ◌∷◌, [], None, length, false, sym, ap, ◌∙◌, arith}
-use Rattle.std.specs.Prelude.{is_some, if◌then◌else◌}
+use Rattle.std.proofs.Common.{◌<◌, ◌≤◌, ◌∷◌, [], None, length, false, sym, ap, ◌∙◌, arith, is_some, if◌then◌else◌}
 use Rattle.tables.proofs.Expecting.{shown_next, passed_over, rules_shown}
 use Rattle.tables.proofs.expected.ExpectedIterator.next.Goals as goal
 

@@ -1,5 +1,4 @@
-use Rattle.std.proofs.Common.{arith, ap, refl, sym, subst, ◌∙◌, ◌≤◌}
-use Rattle.std.specs.Prelude.{string_bytes}
+use Rattle.std.proofs.Common.{arith, ap, refl, sym, subst, ◌∙◌, ◌≤◌, string_bytes}
 use Rattle.std.specs.Str.{chars}
 use Rattle.definitions.specs.Text.{IsText, edit, units}
 use Rattle.definitions.specs.declared.Unit.TheVariants.{Utf8}

@@ -1,5 +1,4 @@
-use Rattle.std.proofs.Common.{◌≡◌, ◌++◌}
-use Rattle.std.specs.Prelude.{string_bytes, encode_utf8_all}
+use Rattle.std.proofs.Common.{◌≡◌, ◌++◌, string_bytes, encode_utf8_all}
 use Rattle.pieces.specs.Pieces.{text_in}
 use Rattle.text.proofs.document.Text.to_string.Given as goal
 
