@@ -1,18 +1,6 @@
 -- How clap reads the words of a command: they name as many paths as it takes, or are refused.
 use Rattle.std.proofs.Common.{◌==◌, ◌≡◌, ◌∙◌, ◌⊎◌, inl, inr, ℕ, Bool, true, false, refl, sym, ap, subst, List, [], ◌∷◌, Option, Some, None, option_map, codes}
-use Rattle.std.specs.List.{All, fold}
-use Rattle.std.specs.Str.{IsUtf8, bytes_eq}
-use Rattle.std.proofs.lemmas.List.Elements.{All-head, All-tail}
-use Rattle.clap.specs.Kinds.{Kinds, or_else}
-use Rattle.clap.specs.Values.{reading_of}
-use Rattle.clap.specs.declared.builder.value_parser.ValueParser.TheVariants.{String as AnyText}
-use Rattle.clap.specs.declared.parser.matches.ValueSource.TheVariants.{CommandLine}
-use Rattle.clap.specs.Walk.{Held, Row, Text, idle, Walk, finished, first_of, nothing_held, settled, walked}
-use Rattle.clap.specs.Simple.{Shape, built_leaf, inherited}
-use Rattle.clap.specs.Faults.{check_fault, defaults_fault, other_fault, settle_fault, turn_fault, walk_fault}
-use Rattle.clap.proofs.OnLiterals.{clap_on_literals}
-use Rattle.command_line.specs.Arguments.{alone, grammar_in, one, text_in, two}
-use Rattle.command_line.specs.CommandLines.{is_flag, paths}
+use Rattle.command_line.proofs.Common.{All, fold, IsUtf8, bytes_eq, All-head, All-tail, Kinds, or_else, reading_of, AnyText, CommandLine, Held, Row, Text, idle, Walk, finished, first_of, nothing_held, settled, walked, Shape, built_leaf, inherited, check_fault, defaults_fault, other_fault, settle_fault, turn_fault, walk_fault, clap_on_literals, alone, grammar_in, one, text_in, two, is_flag, paths}
 use Rattle.command_line.proofs.Flags.{no_first, by_bool, HasHelpAlone, IsFlagWord, flag_fails, IsPath, kind_of}
 
 -- the commands as they are built

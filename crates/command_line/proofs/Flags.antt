@@ -1,18 +1,7 @@
 -- What clap makes of a word: each is `--`, a flag or a path, and every flag is refused.
 use Rattle.std.proofs.Common.{◌==◌, ◌≡◌, ◌∙◌, ◌⊎◌, inl, inr, ℕ, Bool, true, false, refl, sym, ap, subst, List, [], ◌∷◌, drop, Option, Some, None, codes}
-use Rattle.std.specs.Str.{IsUtf8, bytes_eq, chars}
+use Rattle.command_line.proofs.Common.{IsUtf8, bytes_eq, chars, encodes, chars_past_char, encodes-chars, eqb-true, bytes_eq-Decides, slice_get, long_of, name_and_value, short_of, Kinds, or_else, Held, Row, Rule, Text, arg_by_long, arg_by_short, reacted, filled, help_rule, flag_word_fault, flags_fault, long_fault, react_fault, short_fault, settle_fault, is_flag}
 use Rattle.std.specs.Char.{encode_utf8}
-use Rattle.std.proofs.Math.Utf8.{encodes}
-use Rattle.std.proofs.lemmas.Str.{chars_past_char, encodes-chars}
-use Rattle.std.proofs.lemmas.Bool.{eqb-true}
-use Rattle.std.proofs.lemmas.Slice.Eq.{bytes_eq-Decides}
-use Rattle.std.specs.Prelude.{slice_get}
-use Rattle.clap.specs.Lexer.{long_of, name_and_value, short_of}
-use Rattle.clap.specs.Kinds.{Kinds, or_else}
-use Rattle.clap.specs.Walk.{Held, Row, Rule, Text, arg_by_long, arg_by_short, reacted}
-use Rattle.clap.specs.Simple.{filled, help_rule}
-use Rattle.clap.specs.Faults.{flag_word_fault, flags_fault, long_fault, react_fault, short_fault, settle_fault}
-use Rattle.command_line.specs.CommandLines.{is_flag}
 
 pub no_first : (a b : Kinds) → or_else a b ≡ [] → a ≡ []
 no_first [] b e = refl

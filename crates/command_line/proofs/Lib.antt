@@ -1,3 +1,4 @@
+pub mod Common
 mod Flags
 mod Commands
 mod Lines

@@ -1,20 +1,8 @@
 -- How clap reads the program's words: they ask for a task, or are refused.
 use Rattle.std.proofs.Common.{◌==◌, ◌≡◌, ◌∙◌, ◌⊎◌, inl, inr, Bool, true, false, refl, sym, ap, subst, List, [], ◌∷◌, drop, Some, None, is_some, codes, string_bytes, true≢false}
-use Rattle.std.specs.List.{All, fold}
-use Rattle.std.specs.Str.{IsUtf8, bytes_eq}
-use Rattle.std.proofs.lemmas.List.Elements.{All-head, All-tail}
-use Rattle.std.proofs.lemmas.Slice.Eq.{bytes_eq-Decides}
-use Rattle.clap.specs.Kinds.{Kinds, or_else}
-use Rattle.clap.specs.Walk.{Names, Row, Text, subcommand_met, idle, Walk, finished, nothing_held, settled, walked}
-use Rattle.clap.specs.Simple.{Shape, entered, names_of, subcommand_of, built}
-use Rattle.clap.specs.Faults.{check_fault, defaults_fault, entered_fault, fault_of, other_fault, settle_fault, turn_fault, walk_fault}
-use Rattle.clap.proofs.OnLiterals.{clap_on_literals}
-use Rattle.clap.proofs.WalkLemmas.{walk_stopped}
-use Rattle.clap.proofs.FaultLemmas.{stopped_fault}
-use Rattle.command_line.specs.Arguments.{grammar_in, lrls, text_in}
-use Rattle.command_line.specs.CommandLines.{Asks, paths}
-use Rattle.command_line.specs.declared.tasks.Task.{Task}
-use Rattle.command_line.specs.declared.tasks.Task.TheVariants.{Check, Parse, Serve}
+use Rattle.command_line.proofs.Common.{All, fold, IsUtf8, bytes_eq, All-head, All-tail, bytes_eq-Decides, Kinds, or_else, Names, Row, Text, subcommand_met, idle, Walk, finished, nothing_held, settled, walked, Shape, entered, names_of, built, check_fault, defaults_fault, entered_fault, other_fault, settle_fault, turn_fault, walk_fault, clap_on_literals, walk_stopped, stopped_fault, grammar_in, lrls, text_in, Asks, paths, Task, Check, Parse, Serve}
+use Rattle.clap.specs.Simple.{subcommand_of}
+use Rattle.clap.specs.Faults.{fault_of}
 use Rattle.command_line.proofs.Flags.{no_first, by_bool, help, HasHelpAlone, IsFlagWord, flag_fails, IsPath, kind_of}
 use Rattle.command_line.proofs.Commands.{built_one, built_two, at_none, rest_fault, rows_from, one_none, two_none}
 

@@ -1,12 +1,7 @@
 -- What clap answers, in the words of the command line.
 use Rattle.std.proofs.Common.{◌≡◌, ◌∙◌, ◌⊎◌, true, List, [], ◌∷◌, Option, Some, None, sym, ap, subst, refl, codes}
-use Rattle.std.specs.List.{All}
-use Rattle.std.specs.Str.{IsUtf8}
-use Rattle.clap.specs.Words.{App, HasMatchesOf, Row, Text, fault_of, is_simple, is_simple_and_free, subcommand_of, subcommand_rows_of}
-use Rattle.clap.specs.declared.parser.matches.ArgMatches.{ArgMatches}
-use Rattle.command_line.specs.Arguments.{IsTask, grammar_in, lrls, text_in}
-use Rattle.command_line.specs.CommandLines.{Asks, IsRead, paths}
-use Rattle.command_line.specs.declared.tasks.Task.{Task}
+use Rattle.command_line.proofs.Common.{All, IsUtf8, App, HasMatchesOf, fault_of, is_simple, is_simple_and_free, subcommand_of, subcommand_rows_of, ArgMatches, IsTask, grammar_in, lrls, text_in, Asks, IsRead, paths, Task}
+use Rattle.clap.specs.Words.{Row, Text}
 use Rattle.command_line.proofs.Lines.{Outcome, one_path, outcome, refused, two_paths}
 
 simple : is_simple lrls ≡ true

@@ -1,10 +1,6 @@
 -- What UTF-8 spells is a text, and so is a text after an edit.
-use Rattle.std.specs.Str.{IsUtf8, all_scalars, chars}
+use Rattle.definitions.proofs.Common.{IsUtf8, all_scalars, chars, and_parts, All-nil, All-cons, All-same, All-append, All-take, All-drop, chars-encodes, IsCharacter, IsText, edit}
 use Rattle.std.proofs.Common.{sym, ap, ◌∙◌, ◌≡◌, ℕ, true, List, [], ◌∷◌, ◌++◌, take, drop, encode_utf8_all}
-use Rattle.std.proofs.lemmas.Bool.{and_parts}
-use Rattle.std.proofs.lemmas.List.Elements.{All-nil, All-cons, All-same, All-append, All-take, All-drop}
-use Rattle.std.proofs.lemmas.Str.{chars-encodes}
-use Rattle.definitions.specs.Text.{IsCharacter, IsText, edit}
 use Rattle.definitions.proofs.TextLaws.{IsCharacter-from_scalar}
 
 IsText-scalars : (cs : List ℕ) → all_scalars cs ≡ true → IsText cs

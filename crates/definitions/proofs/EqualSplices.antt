@@ -1,11 +1,6 @@
 -- Splices of kinds are equal by `==` where they say the same.
 use Rattle.std.proofs.Common.{refl, sym, ap, ◌∙◌, ◌≡◌, ◌↔◌, ℕ, Bool, ◌&&◌, true, false, List, [], ◌∷◌, IsTrue, nat_eq}
-use Rattle.std.proofs.lemmas.Bool.{and_from, eq-eqb, eqb-true}
-use lib.Pointwise.{pointwise}
-use Rattle.definitions.specs.declared.Kind.{Kind}
-use Rattle.definitions.specs.declared.Kind.TheVariants.{Rule, Invalid}
-use Rattle.definitions.specs.declared.KindSplice.{KindSplice}
-use Rattle.definitions.specs.TokenEdits.{Splice, plain_splice}
+use Rattle.definitions.proofs.Common.{and_from, eq-eqb, eqb-true, pointwise, Kind, Rule, Invalid, KindSplice, Splice, plain_splice}
 
 left_of : (a b : Bool) → (a && b) ≡ true → a ≡ true
 left_of true b e = refl

@@ -1,16 +1,6 @@
 -- The proofs of the laws, from the lemmas of the other files.
 use Rattle.std.proofs.Common.{arith, refl, sym, inl, inr, ◌∙◌, ◌≡◌, ℕ, ◌<◌, ◌⊎◌, ◌↔◌, Bool, true, false, not, List, [], ◌∷◌, IsTrue}
-use Rattle.std.proofs.lemmas.Bool.{cases_Bool, and_from, le-leb, false≢true}
-use Rattle.std.proofs.lemmas.List.Folds.{list_any-from_Any}
-use Rattle.std.proofs.lemmas.List.Kept.{AllPairs-from_increasing}
-use Rattle.definitions.specs.declared.Kind.{Kind}
-use Rattle.definitions.specs.declared.expression.Interval.{Interval}
-use Rattle.definitions.specs.Text.{IsCharacter}
-use Rattle.definitions.specs.Patterns.{is_within, is_member, is_in_class}
-use Rattle.definitions.specs.PatternFaults.{is_nothing}
-use Rattle.definitions.specs.Trees.{Grammar}
-use Rattle.definitions.specs.Sentences.{IsExpected}
-use Rattle.definitions.specs.Laws.{AreWell}
+use Rattle.definitions.proofs.Common.{cases_Bool, and_from, le-leb, false≢true, list_any-from_Any, AllPairs-from_increasing, Kind, Interval, IsCharacter, is_within, is_member, is_in_class, is_nothing, Grammar, IsExpected, AreWell}
 use Rattle.definitions.proofs.Everything.{AreIntervals, everything, is_everything-from}
 use Rattle.definitions.proofs.Ordered.{same_elements}
 

@@ -1,3 +1,4 @@
+pub mod Common
 pub mod AnswerRows
 pub mod AnswersUnique
 pub mod Characters

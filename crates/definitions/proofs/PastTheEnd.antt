@@ -1,11 +1,8 @@
 -- The position of an offset past the end of a text is that of the end.
-use Rattle.std.specs.Prelude.{◌≡◌, ℕ, ◌+◌, ◌-◌, ◌<◌, ◌≤◌, ◌⊎◌, min, Bool, true, false, not, ◌||◌, ◌==◌, List, [], ◌∷◌, length, take, drop}
-use Rattle.std.specs.List.{prefix_len}
+use Rattle.definitions.proofs.Common.{◌≡◌, ℕ, ◌+◌, ◌-◌, ◌<◌, ◌≤◌, ◌⊎◌, min, Bool, true, false, not, ◌||◌, ◌==◌, List, [], ◌∷◌, length, take, prefix_len, cases_lt, le-leb, length-take, take_all, Encoding, ends_break, break_ends, line_of, line_start, line_from, units, position}
+use Rattle.std.specs.Prelude.{drop}
 use Rattle.std.proofs.Common.{arith, refl, sym, ap, inl, inr, ◌∙◌, cond}
-use Rattle.std.proofs.lemmas.Bool.{cases_lt, le-leb}
-use Rattle.std.proofs.lemmas.List.{length-take, length-drop, take_all}
-use Rattle.definitions.specs.declared.Unit.{Unit as Encoding}
-use Rattle.definitions.specs.Text.{ends_break, break_ends, line_of, line_start, line_from, units, position}
+use Rattle.std.proofs.lemmas.List.{length-drop}
 use Rattle.definitions.proofs.OffsetOfPosition.{ended, ended-cons}
 
 -- each break of a text ends in it

@@ -1,15 +1,7 @@
 -- The position of the offset of a position that counts whole characters of a line is that position.
-use Rattle.std.specs.Prelude.{◌≡◌, ℕ, zero, suc, ◌+◌, ◌-◌, ◌<◌, ◌≤◌, ◌⊎◌, Bool, true, false, not, ◌||◌, ◌&&◌, ◌==◌, nat_le, List, [], ◌∷◌, length, take, drop, slice_index, slice_index_or}
-use Rattle.std.specs.List.{prefix_len}
+use Rattle.definitions.proofs.Common.{◌≡◌, ℕ, zero, suc, ◌+◌, ◌-◌, ◌<◌, ◌≤◌, ◌⊎◌, Bool, true, false, not, ◌||◌, ◌&&◌, ◌==◌, nat_le, List, [], ◌∷◌, length, take, slice_index, slice_index_or, prefix_len, cases_lt, le-leb, lt-leb, and_parts, or_cases, false≢true, get_or-drop, length-prefix_len, prefix_len_passes, Position, Encoding, begins_with, ends_break, break_ends, line_of, line_start, line_from, units, greatest, offset, position, IsPlace}
+use Rattle.std.specs.Prelude.{drop}
 use Rattle.std.proofs.Common.{arith, refl, sym, ap, subst, inl, inr, ◌∙◌, cond}
-use Rattle.std.proofs.lemmas.Bool.{cases_lt, le-leb, lt-leb, and_parts, or_cases, false≢true}
-use Rattle.std.proofs.lemmas.List.{get_or-drop}
-use Rattle.std.proofs.lemmas.List.Folds.{length-prefix_len}
-use Rattle.std.proofs.lemmas.List.Sums.{prefix_len_passes}
-use Rattle.definitions.specs.declared.Position.{Position}
-use Rattle.definitions.specs.declared.Unit.{Unit as Encoding}
-use Rattle.definitions.specs.Text.{begins_with, ends_break, break_ends, line_of, line_start, line_from, units, greatest, offset, position}
-use Rattle.definitions.specs.Laws.{IsPlace}
 use Rattle.definitions.proofs.TextLaws.{greatest-is}
 use Rattle.definitions.proofs.OffsetOfPosition.{ended, ended-cons, none_ended, units-take-lt}
 use Rattle.definitions.proofs.OffsetsInLine.{in_line}

@@ -1,13 +1,6 @@
 -- Laws of characters and offsets.
-use Rattle.std.specs.Prelude.{◌≡◌, ℕ, zero, suc, ◌+◌, ◌-◌, ◌<◌, ◌≤◌, ◌⊎◌, Bool, true, false, nat_le, List, length, take}
-use Rattle.std.specs.Char.{IsScalar}
+use Rattle.definitions.proofs.Common.{◌≡◌, ℕ, zero, suc, ◌+◌, ◌-◌, ◌<◌, ◌≤◌, ◌⊎◌, Bool, true, false, nat_le, List, length, take, IsScalar, cases_lt, le-leb, le-ltb, lt-ltb, leb-true, and_from, false≢true, Position, Encoding, IsCharacter, line_start, line_from, units, greatest, offset, IsOffset, scalar_cases, low_scalar}
 use Rattle.std.proofs.Common.{arith, refl, sym, subst, inl, inr, ◌∙◌, cond}
-use Rattle.std.proofs.lemmas.Bool.{cases_lt, le-leb, le-ltb, lt-ltb, leb-true, and_from, false≢true}
-use Rattle.definitions.specs.declared.Position.{Position}
-use Rattle.definitions.specs.declared.Unit.{Unit as Encoding}
-use Rattle.definitions.specs.Text.{IsCharacter, line_start, line_from, units, greatest, offset}
-use Rattle.definitions.specs.Laws.{IsOffset}
-use lib.Utf8.{scalar_cases, low_scalar}
 
 -- a character is what a `char` holds
 pub IsCharacter-from_scalar : (c : ℕ) → IsScalar c → IsCharacter c

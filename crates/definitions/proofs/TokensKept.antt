@@ -1,15 +1,6 @@
 -- What an edit keeps are tokens of both texts: the kept ones at the start are the same in both lists, and so are those after.
-use Rattle.std.specs.List.{prefix_len}
+use Rattle.definitions.proofs.Common.{prefix_len, cases_lt, and_from, and_parts, le-leb, leb-true, eq-eqb, eqb-true, false≢true, append_assoc, take-take, drop_at, drop-drop, length-take, take_at, drop-take, get_or_default, fails_before_first, passes_at_first, Any-from_list_any, list_any_at, edit, Edit, Expression, Token, IsToken, AreTokens, placed, boundaries, kept_before, is_rejoined, rejoin}
 use Rattle.std.proofs.Common.{arith, refl, sym, ap, subst, inl, inr, ◌∙◌, cond, length-append, length-drop, ◌≡◌, ℕ, zero, suc, ◌+◌, ◌-◌, ◌<◌, ◌≤◌, ◌⊎◌, Bool, true, false, ◌==◌, nat_le, List, [], ◌∷◌, ◌++◌, length, take, drop, slice_index_or}
-use Rattle.std.proofs.lemmas.Bool.{cases_lt, and_from, and_parts, le-leb, leb-true, eq-eqb, eqb-true, false≢true}
-use Rattle.std.proofs.lemmas.List.{append_assoc, take-take, drop_at, drop-drop, length-take, take_at, drop-take, get_or_default}
-use Rattle.std.proofs.lemmas.List.Sums.{fails_before_first, passes_at_first}
-use Rattle.std.proofs.lemmas.List.Folds.{Any-from_list_any, list_any_at}
-use Rattle.definitions.specs.Text.{edit}
-use Rattle.definitions.specs.declared.Edit.{Edit}
-use Rattle.definitions.specs.declared.expression.Expression.{Expression}
-use Rattle.definitions.specs.Tokens.{Token, IsToken, AreTokens, placed, boundaries}
-use Rattle.definitions.specs.TokenEdits.{kept_before, is_rejoined, rejoin}
 use Rattle.definitions.proofs.TokensUnique.{AreTokens-unique, IsToken-unique, IsPiece-inside}
 use Rattle.definitions.proofs.TokensLocal.{IsToken-local, length-le-reach}
 

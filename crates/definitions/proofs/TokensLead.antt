@@ -1,15 +1,7 @@
 -- The first tokens of a text: with those of what they leave they are all its tokens, and the prefix that an edit keeps leads
 -- the edited text.
-use Rattle.std.specs.List.{prefix_len}
+use Rattle.definitions.proofs.Common.{prefix_len, cases_lt, leb-true, false≢true, append_assoc, take-take, drop-take, drop-drop, take_at, length-take, sum_by-cons, passes_at_first, Edit, Expression, edit, Token, Placed, IsToken, AreTokens, Leads, placed, boundaries, kept_before, is_rejoined, rejoin}
 use Rattle.std.proofs.Common.{arith, refl, sym, ap, subst, inl, inr, ◌∙◌, cond, length-drop, ◌≡◌, ℕ, zero, suc, ◌+◌, ◌-◌, ◌<◌, ◌≤◌, Bool, true, false, nat_le, List, [], ◌∷◌, ◌++◌, length, take, drop, sum_by, slice_get, slice_index_or, IsSomeAnd}
-use Rattle.std.proofs.lemmas.Bool.{cases_lt, leb-true, false≢true}
-use Rattle.std.proofs.lemmas.List.{append_assoc, take-take, drop-take, drop-drop, take_at, length-take}
-use Rattle.std.proofs.lemmas.List.Sums.{sum_by-cons, passes_at_first}
-use Rattle.definitions.specs.declared.Edit.{Edit}
-use Rattle.definitions.specs.declared.expression.Expression.{Expression}
-use Rattle.definitions.specs.Text.{edit}
-use Rattle.definitions.specs.Tokens.{Token, Placed, IsToken, AreTokens, Leads, placed, boundaries}
-use Rattle.definitions.specs.TokenEdits.{kept_before, is_rejoined, rejoin}
 use Rattle.definitions.proofs.TokensLocal.{IsToken-local, length-le-reach}
 use Rattle.definitions.proofs.TokensUnique.{IsToken-unique, IsPiece-inside}
 

@@ -1,23 +1,6 @@
 -- One more row of the table.
 use Rattle.std.proofs.Common.{◌≡◌, ℕ, zero, suc, ◌+◌, ◌-◌, ◌*◌, ◌<◌, ◌≤◌, Bool, true, List, [], ◌∷◌, ◌++◌, length, slice_index_or, get_or, Option, None, refl, sym, ap, ◌∙◌, subst, inl, inr, arith, All, Contains, nat_le}
-use native.Mathlib.Numerals.{unary_clauses}
-use Rattle.std.proofs.lemmas.List.Elements.{All-push}
-use Rattle.std.proofs.lemmas.Bool.{cases_lt}
-use Rattle.std.proofs.lemmas.List.{length-append, get_or_default, get_or_append_left, get_or-append_right}
-use Rattle.std.proofs.lemmas.List.Sums.{prefix_len-le-length}
-use Rattle.std.proofs.lemmas.Nat.{mul-add-lt}
-use Rattle.std.proofs.Math.Nat.{mul_comm}
-use Rattle.definitions.specs.declared.expression.Expression.{Expression}
-use Rattle.definitions.specs.Text.{IsText, IsCharacter}
-use Rattle.dfa.specs.Alphabet.{representative, all_cuts}
-use Rattle.dfa.specs.Positions.{positions, StandsAt}
-use Rattle.dfa.specs.Marks.{next, all_next, all_holders, all_positions, first_end, successor}
-use Rattle.dfa.specs.Sets.{IsSetOf, AreMarksOf, Rises}
-use Rattle.dfa.specs.Table.{part, IsAscending, IsFirst, IsTable}
-use Rattle.dfa.specs.Stored.{table_of}
-use Rattle.dfa.specs.Built.{IsReached, AreStates, Grows, IsNumber, kept, IsStateOf, LeadsTo, AreRows, ArePartsOf, AreEntries, AreRules}
-use Rattle.dfa.specs.declared.tree.Tree.{Tree}
-use Rattle.dfa.specs.Trees.{AreTreesOf}
+use Rattle.dfa.proofs.Common.{unary_clauses, All-push, cases_lt, length-append, get_or_default, get_or_append_left, get_or-append_right, prefix_len-le-length, mul-add-lt, mul_comm, Expression, IsText, IsCharacter, representative, all_cuts, positions, StandsAt, next, all_next, all_holders, all_positions, first_end, successor, IsSetOf, AreMarksOf, Rises, part, IsAscending, IsFirst, IsTable, table_of, IsReached, AreStates, Grows, IsNumber, kept, IsStateOf, LeadsTo, AreRows, ArePartsOf, AreEntries, AreRules, Tree, AreTreesOf}
 use Rattle.dfa.proofs.SameClass.{stands_for}
 use Rattle.dfa.proofs.HolderLists.{all_below, all_rise}
 use Rattle.dfa.proofs.LastPositions.{below}

@@ -1,13 +1,6 @@
 -- The marks of a text say whether it ends with a text of the expression.
 use Rattle.std.proofs.Common.{◌≡◌, ℕ, ◌+◌, ◌-◌, ◌<◌, Bool, true, List, [], ◌∷◌, ◌++◌, length, take, refl, sym, ap, ◌∙◌, subst, inl, inr, arith, add-one}
-use Rattle.std.specs.List.{concat}
-use Rattle.std.proofs.lemmas.List.{append-nil, append_assoc}
-use Rattle.std.proofs.lemmas.Bool.{or_cases, or_left, or_right}
-use Rattle.definitions.specs.declared.expression.Expression.{Expression}
-use Rattle.definitions.specs.declared.expression.Expression.TheVariants.{Literal, Class, Sequence', Choice', Star', Plus', Optional'}
-use Rattle.definitions.specs.Patterns.{Matches, IsJoin, IsNonemptyJoin}
-use Rattle.dfa.specs.Positions.{positions, Then, CanStandAt}
-use Rattle.dfa.specs.Marks.{mark, literal_end, ends}
+use Rattle.dfa.proofs.Common.{concat, append-nil, append_assoc, or_cases, or_left, or_right, Expression, Literal, Class, Sequence', Choice', Star', Plus', Optional', Matches, IsJoin, IsNonemptyJoin, positions, Then, CanStandAt, mark, literal_end, ends}
 use Rattle.dfa.proofs.LastPositions.{Stands, InLiteral, Is, then_left, then_right, below, join_none, join_more, nonempty_join, last_part, sequence_first, sequence_second, sequence_cases}
 
 -- the marks from o on are places where the last character of u can stand in e, and they are all of these

@@ -1,12 +1,6 @@
 -- The positions that hold a character, as a rising list.
 use Rattle.std.proofs.Common.{◌≡◌, ℕ, zero, suc, ◌+◌, ◌-◌, ◌<◌, ◌≤◌, ◌⊎◌, Bool, true, false, List, [], ◌∷◌, length, slice_index_or, refl, sym, subst, inl, inr, arith, add-one, if◌then◌else◌}
-use Rattle.std.proofs.lemmas.Bool.Decides.{eqb_tells}
-use Rattle.definitions.specs.declared.expression.Expression.{Expression}
-use Rattle.definitions.specs.declared.expression.Expression.TheVariants.{Literal, Class, Sequence', Choice', Star', Plus', Optional'}
-use Rattle.definitions.specs.Patterns.{is_in_class}
-use Rattle.dfa.specs.Positions.{positions}
-use Rattle.dfa.specs.Marks.{literal_holders, holders, all_positions, all_holders}
-use Rattle.dfa.specs.Sets.{Among, Rises}
+use Rattle.dfa.proofs.Common.{eqb_tells, Expression, Literal, Class, Sequence', Choice', Star', Plus', Optional', is_in_class, positions, literal_holders, holders, all_positions, all_holders, Among, Rises}
 use Rattle.dfa.proofs.Sets.{among_append, among_left, among_right, rises_append, rises_lower}
 use Rattle.dfa.proofs.Steps.{Holds, holds_below}
 use Rattle.dfa.proofs.RuleLists.{HoldsIn}

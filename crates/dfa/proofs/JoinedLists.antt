@@ -1,10 +1,6 @@
 -- Lists that are made part by part.
 use Rattle.std.proofs.Common.{◌≡◌, ℕ, zero, suc, ◌+◌, ◌<◌, false, List, [], ◌∷◌, ◌++◌, length, drop, sym, ap, ◌∙◌, subst, arith, zero-add, get_or}
-use Rattle.std.proofs.lemmas.List.{append_assoc}
-use Rattle.definitions.specs.declared.expression.Expression.{Expression}
-use Rattle.definitions.specs.Spelling.{IsWellMade}
-use Rattle.dfa.specs.Marks.{unmarked}
-use Rattle.dfa.specs.Sets.{AllMade}
+use Rattle.dfa.proofs.Common.{append_assoc, Expression, IsWellMade, unmarked, AllMade}
 
 pub unmarked-add : (m n : ℕ) → unmarked m ++ unmarked n ≡ unmarked (m + n)
 unmarked-add zero n = ap unmarked (sym (zero-add n))

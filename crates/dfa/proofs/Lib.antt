@@ -1,3 +1,4 @@
+pub mod Common
 pub mod SameClass
 pub mod LongestMatch
 pub mod CompleteTable

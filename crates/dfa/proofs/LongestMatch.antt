@@ -1,17 +1,7 @@
 -- Steps of a search for the longest match.
-use Rattle.std.specs.Prelude.{◌≡◌, ℕ, zero, suc, ◌+◌, ◌<◌, ◌≤◌, ◌⊎◌, min, All, List, [], ◌∷◌, ◌++◌, length, take, drop, slice_index_or, Option, Some, None, MatchOption}
+use Rattle.dfa.proofs.Common.{min, MatchOption, cases_lt, take_more, length-take, get_or-take, get_or-drop, drop-drop, All-push, All-get_or, Expression, IsText, IsCharacter, RuleMatches, IsRulePrefix, IsPiece, IsReach, IsRulePrefix-take, Table, next_state, follower, state_from, state_after, IsFirst, IsAutomaton, Stays, kind_of, Match, IsBest, IsNoted, IsWithinReach}
+use Rattle.std.specs.Prelude.{◌≡◌, ℕ, zero, suc, ◌+◌, ◌<◌, ◌≤◌, ◌⊎◌, All, List, [], ◌∷◌, ◌++◌, length, take, drop, slice_index_or, Option, Some, None}
 use Rattle.std.proofs.Common.{arith, refl, sym, ap, subst, inl, inr, ◌∙◌, length-drop}
-use Rattle.std.proofs.lemmas.Bool.{cases_lt}
-use Rattle.std.proofs.lemmas.List.{take_more, length-take, get_or-take, get_or-drop, drop-drop}
-use Rattle.std.proofs.lemmas.List.Elements.{All-push, All-get_or}
-use Rattle.definitions.specs.declared.expression.Expression.{Expression}
-use Rattle.definitions.specs.Text.{IsText, IsCharacter}
-use Rattle.definitions.specs.Tokens.{RuleMatches, IsRulePrefix, IsPiece, IsReach}
-use Rattle.definitions.proofs.TokensLocal.{IsRulePrefix-take}
-use Rattle.dfa.specs.Table.{Table, next_state, follower, state_from, state_after, IsFirst, IsAutomaton, Stays, kind_of}
-use Rattle.dfa.specs.declared.automaton.Match.{Match}
-use Rattle.dfa.specs.Matches.{IsBest, IsNoted}
-use Rattle.dfa.specs.Windows.{IsWithinReach}
 
 state_from-more : (table : Table) (o : Option ℕ) (u : List ℕ) (c : ℕ) → state_from table o (u ++ c ∷ []) ≡ next_state table (state_from table o u) c
 state_from-more table o [] c = refl

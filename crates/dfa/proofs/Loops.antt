@@ -1,10 +1,6 @@
 -- Steps of loops over the rules and over the characters of a literal.
 use Rattle.std.proofs.Common.{◌≡◌, ℕ, zero, suc, ◌+◌, ◌<◌, ◌≤◌, ◌==◌, true, false, List, [], ◌∷◌, ◌++◌, length, drop, get_or, sym, ap, ◌∙◌, arith, append-nil, append_assoc, cond}
-use Rattle.std.proofs.lemmas.Bool.Decides.{nat_tests}
-use Rattle.std.proofs.lemmas.List.{at_drop_all}
-use Rattle.definitions.specs.declared.expression.Expression.{Expression}
-use Rattle.dfa.specs.Positions.{positions}
-use Rattle.dfa.specs.Marks.{all_positions, literal_holders}
+use Rattle.dfa.proofs.Common.{nat_tests, at_drop_all, Expression, positions, all_positions, literal_holders}
 use Rattle.dfa.proofs.JoinedLists.{one_more}
 
 -- what is left of a list at an element of it

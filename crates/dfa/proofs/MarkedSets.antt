@@ -1,13 +1,6 @@
 -- The marks of a set, and whether some of them lie in a part of the positions.
 use Rattle.std.proofs.Common.{◌≡◌, ℕ, zero, suc, ◌+◌, ◌<◌, ◌≤◌, ◌⊎◌, Bool, true, false, List, [], ◌∷◌, length, filter, get_or, nat_lt, Result, Ok, Err, refl, sym, ap, ◌∙◌, subst, inl, inr, arith}
-use Rattle.std.proofs.lemmas.Bool.{cases_lt, false≢true, or_cases, or_left, or_right}
-use Rattle.std.proofs.lemmas.Bool.Decides.{nat_tests}
-use Rattle.std.specs.Prelude.{MatchResult, is_ok}
-use Rattle.dfa.specs.Marks.{mark, marked, marks_of, unmarked}
-use Rattle.dfa.specs.Sets.{Among, AreBlank, AreMarksOf, Rises}
-use Rattle.dfa.specs.Table.{IsAscending}
-use Rattle.dfa.specs.Trees.{any_mark, listed}
-use Rattle.dfa.specs.Built.{kept}
+use Rattle.dfa.proofs.Common.{cases_lt, false≢true, or_cases, or_left, or_right, nat_tests, MatchResult, is_ok, mark, marked, marks_of, unmarked, Among, AreBlank, AreMarksOf, Rises, IsAscending, any_mark, listed, kept}
 use Rattle.dfa.proofs.Sets.{among_filter, among_from_at, at_from_among, filter_among, filter_rises, rises_least, rises_lower, same_set}
 
 marked_here : (p : ℕ) (marks : List Bool) → mark (marked p marks) p ≡ true

@@ -1,13 +1,7 @@
 -- The number of a set among the ones so far, as an index set finds it.
 use Rattle.std.proofs.Common.{◌≡◌, ℕ, zero, suc, ◌+◌, ◌<◌, ◌≤◌, ◌⊎◌, Bool, true, false, List, [], ◌∷◌, ◌++◌, length, slice_index_or, Some, refl, sym, ap, ◌∙◌, inl, inr, arith, Vec, slice_get, if◌then◌else◌}
-use Rattle.std.specs.List.{list_any}
-use Rattle.std.specs.Str.{bytes_eq}
-use Rattle.indexmap.specs.IndexSet.{insert_key}
+use Rattle.dfa.proofs.Common.{list_any, bytes_eq, insert_key, cases_lt, or_parts, false≢true, length-append, get_or_append_left, bytes_eq-Decides, members, IsAbsent, Placed, IsNumber}
 use Rattle.std.specs.declared.alloc.Global.{Global}
-use Rattle.std.proofs.lemmas.Bool.{cases_lt, or_parts, false≢true}
-use Rattle.std.proofs.lemmas.List.{length-append, get_or_append_left}
-use Rattle.std.proofs.lemmas.Slice.Eq.{bytes_eq-Decides}
-use Rattle.dfa.specs.Built.{members, IsAbsent, Placed, IsNumber}
 
 abbrev Key : Type 0
 Key = Vec ℕ Global

@@ -1,12 +1,6 @@
 -- A nonempty text begins a text of an expression exactly where its last character can stand in it.
 use Rattle.std.proofs.Common.{◌≡◌, ℕ, ◌+◌, ◌-◌, ◌≤◌, ◌⊎◌, List, [], ◌∷◌, ◌++◌, length, take, drop, refl, sym, ap, ◌∙◌, subst, inl, inr, arith, take-append-drop}
-use Rattle.std.specs.List.{concat, AllByRecursion}
-use Rattle.std.proofs.lemmas.List.{append-nil, append_assoc, length-append, take_at}
-use Rattle.definitions.specs.declared.expression.Expression.{Expression}
-use Rattle.definitions.specs.declared.expression.Expression.TheVariants.{Literal, Class, Sequence', Choice', Star', Plus', Optional'}
-use Rattle.definitions.specs.Patterns.{Matches, IsPrefix, IsJoin, IsNonemptyJoin}
-use Rattle.definitions.specs.Spelling.{IsWellMade}
-use Rattle.dfa.specs.Positions.{positions, Then, CanStandAt}
+use Rattle.dfa.proofs.Common.{concat, AllByRecursion, append-nil, append_assoc, length-append, take_at, Expression, Literal, Class, Sequence', Choice', Star', Plus', Optional', Matches, IsPrefix, IsJoin, IsNonemptyJoin, IsWellMade, positions, Then, CanStandAt}
 use Rattle.dfa.proofs.LastPositions.{join_none, join_first, join_more, nonempty_join}
 
 -- a well-made expression has a text

@@ -1,14 +1,6 @@
 -- Positions of a list of rules: the marks after one more character, the first rule that ends, and the texts that go on.
 use Rattle.std.proofs.Common.{◌≡◌, ℕ, zero, suc, ◌+◌, ◌-◌, ◌<◌, ◌≤◌, ◌⊎◌, Bool, true, false, List, [], ◌∷◌, ◌++◌, length, Option, Some, None, refl, sym, ap, ◌∙◌, subst, inl, inr, arith, add-one, if◌then◌else◌, slice_get, IsSomeAnd}
-use Rattle.std.proofs.lemmas.Bool.{false≢true}
-use Rattle.definitions.specs.declared.expression.Expression.{Expression}
-use Rattle.definitions.specs.Patterns.{Matches, IsPrefix}
-use Rattle.definitions.specs.Text.{IsCharacter}
-use Rattle.definitions.specs.Tokens.{RuleMatches, IsRulePrefix}
-use Rattle.dfa.specs.Positions.{positions, CanStandAt, StandsAt}
-use Rattle.dfa.specs.Marks.{mark, ends, next, all_next, first_end}
-use Rattle.dfa.specs.Sets.{AllMade, IsSetOf, AreMarksOf}
-use Rattle.dfa.specs.Table.{IsFirst}
+use Rattle.dfa.proofs.Common.{false≢true, Expression, Matches, IsPrefix, IsCharacter, RuleMatches, IsRulePrefix, positions, CanStandAt, StandsAt, mark, ends, next, all_next, first_end, AllMade, IsSetOf, AreMarksOf, IsFirst}
 use Rattle.dfa.proofs.LastPositions.{Stands, Is, below, nonempty}
 use Rattle.dfa.proofs.Ends.{Only, Every, ends_sound, ends_complete}
 use Rattle.dfa.proofs.Steps.{Holds, holds_below, length-next, mark_left, mark_right, step_sound, step_complete}

@@ -1,17 +1,7 @@
 -- The number of states: texts with different sets of positions have different states.
 use Rattle.std.proofs.Common.{◌≡◌, ℕ, zero, suc, ◌+◌, ◌-◌, Option, ◌<◌, ◌≤◌, ◌⊎◌, List, [], ◌∷◌, ◌++◌, length, slice_index_or, get_or, refl, sym, ap, ◌∙◌, subst, inl, inr, arith, add-one}
-use Rattle.std.specs.Prelude.{All, AllPairs}
-use Rattle.std.proofs.lemmas.Bool.{cases_lt}
-use Rattle.std.proofs.lemmas.List.{length-append, get_or_default, get_or_append_left, get_or-append_right}
-use Rattle.std.proofs.lemmas.List.Elements.{All-push}
-use Rattle.std.proofs.lemmas.List.Quantifiers.{all_pairs_push}
-use Rattle.indexmap.proofs.IndexTableLemmas.Probe.{Into, OneToOne, pigeonhole}
-use Rattle.definitions.specs.declared.expression.Expression.{Expression}
-use Rattle.dfa.specs.Positions.{StandsAt, HasPosition, HaveSamePositions, HasMoreStatesThan}
-use Rattle.dfa.specs.Sets.{AllMade, IsSetOf}
-use Rattle.dfa.specs.Stored.{table_of}
-use Rattle.dfa.specs.Table.{state_after}
-use Rattle.dfa.specs.Built.{AreStates, AreRows}
+use Rattle.dfa.proofs.Common.{AllPairs, cases_lt, length-append, get_or_default, get_or_append_left, get_or-append_right, All-push, all_pairs_push, Into, OneToOne, pigeonhole, Expression, StandsAt, HasPosition, HaveSamePositions, HasMoreStatesThan, AllMade, IsSetOf, table_of, state_after, AreStates, AreRows}
+use Rattle.std.specs.Prelude.{All}
 use Rattle.dfa.proofs.CompleteTable.{some_member, shows, at_state, same_positions}
 use Rattle.dfa.proofs.Successors.{set_unique}
 

@@ -1,10 +1,6 @@
 -- The set of positions after one more character.
 use Rattle.std.proofs.Common.{◌≡◌, ℕ, ◌+◌, Bool, true, List, [], ◌∷◌, ◌++◌, subst, arith}
-use Rattle.definitions.specs.declared.expression.Expression.{Expression}
-use Rattle.definitions.specs.Text.{IsCharacter}
-use Rattle.dfa.specs.Positions.{StandsAt}
-use Rattle.dfa.specs.Marks.{mark, all_next, all_holders, successor}
-use Rattle.dfa.specs.Sets.{Among, IsSetOf, AreMarksOf}
+use Rattle.dfa.proofs.Common.{Expression, IsCharacter, StandsAt, mark, all_next, all_holders, successor, Among, IsSetOf, AreMarksOf}
 use Rattle.dfa.proofs.Sets.{among_filter, filter_among, filter_rises, same_set}
 use Rattle.dfa.proofs.HolderLists.{all_sound, all_complete, all_rise}
 use Rattle.dfa.proofs.RuleLists.{HoldsIn, marks_of_set, next_sound, next_complete, rules_nonempty}

@@ -1,15 +1,8 @@
 -- Trees say the same as the expressions that they are made of, and a part without a mark is passed over.
 use Rattle.std.proofs.Common.{◌≡◌, ℕ, zero, suc, ◌+◌, ◌≤◌, Bool, true, false, ◌||◌, List, [], ◌∷◌, ◌++◌, length, drop, refl, sym, ap, ◌∙◌, subst, arith, ◌<◌, get_or, All, Some, if◌then◌else◌}
-use Rattle.std.proofs.lemmas.Bool.{or_parts}
-use Rattle.std.proofs.lemmas.List.{append-nil, append_assoc, drop_all, length-append}
-use Rattle.definitions.specs.declared.expression.Expression.{Expression}
+use Rattle.dfa.proofs.Common.{or_parts, append-nil, append_assoc, drop_all, length-append, Expression, Address, Tree, Position, Pair', positions, mark, literal_end, ends, literal_next, next, all_next, all_positions, first_end, AreTreesOf, all_counts, all_tree_next, count, first_tree_end, IsCounted, IsJoined, IsLiteralTree, IsTree, IsTreeOf, any_mark, listed, tree_ends, tree_next}
 use Rattle.definitions.specs.declared.expression.Expression.TheVariants as E
-use Rattle.definitions.specs.Spelling.{Address}
-use Rattle.dfa.specs.declared.tree.Tree.{Tree}
-use Rattle.dfa.specs.declared.tree.Tree.TheVariants.{Position, Pair', Plus', Optional'}
-use Rattle.dfa.specs.Positions.{positions}
-use Rattle.dfa.specs.Marks.{mark, literal_end, ends, literal_next, next, all_next, all_positions, first_end}
-use Rattle.dfa.specs.Trees.{AreTreesOf, all_counts, all_tree_next, count, first_tree_end, IsCounted, IsJoined, IsLiteralTree, IsTree, IsTreeOf, any_mark, listed, tree_ends, tree_next}
+use Rattle.dfa.specs.declared.tree.Tree.TheVariants.{Plus', Optional'}
 use Rattle.dfa.proofs.Steps.{length-literal_next, length-next}
 
 or_assoc : (a b c : Bool) → a || (b || c) ≡ (a || b) || c

@@ -1,35 +1,7 @@
 -- What the edits of a document make, and that one answer reports it.
 use Rattle.std.proofs.Common.{◌≡◌, ◌<◌, ◌≤◌, ℕ, zero, suc, ◌+◌, ◌-◌, List, [], ◌∷◌, ◌++◌, length, map, min, refl, sym, ap, subst, ◌∙◌, ◌⊎◌, inl, inr, ⊎_elim, Bool, true, false, arith, ◌==◌, Option, Some, None, if◌then◌else◌}
-use Rattle.std.proofs.lemmas.Bool.{cases_lt, eq-eqb, eqb-true}
-use Rattle.std.proofs.lemmas.List.{length-map}
-use Rattle.std.proofs.Math.Nat.{min-eq_left, min-eq_right}
-use Rattle.definitions.specs.declared.Edit.{Edit}
-use Rattle.definitions.specs.declared.Kind.{Kind}
-use Rattle.definitions.specs.declared.Range.{Range}
-use Rattle.definitions.specs.declared.Stats.{Stats}
-use Rattle.definitions.specs.declared.Unit.{Unit as Encoding}
-use Rattle.definitions.specs.Nodes.{StandsIn, branches, branches_of, all_branches}
-use Rattle.definitions.specs.Text.{changed, span}
-use Rattle.definitions.specs.TokenEdits.{Splice, made, splice}
-use Rattle.definitions.specs.TreeEdits.{IsKept, Built, Nothing, Token, Kept, New, Stamped, StampedLeaf, StampedBranch, StampedForest, StampedNil, StampedCons, plain, plain_all, plain_trees}
-use Rattle.definitions.specs.Trees.{Tree, Forest, Leaf, Branch}
-use Rattle.lexer.specs.Rescans.{significant_kinds}
-use Rattle.lexer.specs.Tokens.{plain as plain_token}
-use Rattle.parser.specs.Machine.{AreMadeBy, IsMadeBy, plain_of}
-use Rattle.parser.specs.Stamps.{AreOlder}
-use Rattle.parser.proofs.Counts.{none_by, older_by}
-use Rattle.parser.specs.Parses.{AreUpTo, before_fault, last_leaf, branches_by, branches_of_by, all_branches_by, verdict_in}
-use Rattle.theory.proofs.ReuseIsExact.{stands_split}
-use Rattle.theory.proofs.MadeIsBuilt.{not_in_leaf}
-use Rattle.theory.proofs.Stack.{nowhere, stands_in_prefix}
-use Rattle.trees.specs.declared.store.Child.{Child}
-use Rattle.trees.specs.Cells.{all_trees, forest_in, forest_of, trees_of, tree_of}
-use Rattle.docs.specs.declared.doc.Doc.{Doc}
-use Rattle.readings.specs.Answers.{IsReading}
-use Rattle.readings.specs.Edits.{IsNext, AreStats, ReportsLast, IsAbove, number_of, number_after, edit_of}
-use Rattle.docs.specs.Docs.{last_edit, open_document, IsCurrent}
-use Rattle.languages.specs.Languages.{LanguageData}
-use Rattle.readings.specs.Texts.{LastEdit}
+use Rattle.docs.proofs.Common.{cases_lt, eq-eqb, eqb-true, length-map, min-eq_left, min-eq_right, Edit, Kind, Range, Stats, Encoding, StandsIn, branches, branches_of, all_branches, changed, span, Splice, made, splice, IsKept, Built, Nothing, Kept, New, Stamped, StampedLeaf, StampedBranch, StampedForest, StampedNil, StampedCons, plain_trees, Tree, Forest, Leaf, Branch, significant_kinds, plain_token, AreMadeBy, IsMadeBy, plain_of, AreOlder, none_by, older_by, AreUpTo, before_fault, last_leaf, branches_by, branches_of_by, all_branches_by, verdict_in, stands_split, not_in_leaf, nowhere, stands_in_prefix, Child, all_trees, forest_in, forest_of, trees_of, tree_of, Doc, IsReading, IsNext, AreStats, ReportsLast, IsAbove, number_of, number_after, edit_of, last_edit, open_document, IsCurrent, LanguageData, LastEdit}
+use Rattle.definitions.specs.TreeEdits.{Token, plain, plain_all}
 use Rattle.docs.proofs.StoredReading.{reading_of, stacked_reading, stacked_trees}
 
 -- ---- a last leaf is no node

@@ -1,10 +1,6 @@
 -- Edits that follow each other, as one edit.
 use Rattle.std.proofs.Common.{◌≡◌, ◌≤◌, ◌+◌, ◌-◌, ℕ, List, ◌++◌, length, take, drop, sym, ap, ◌∙◌, arith}
-use Rattle.std.proofs.lemmas.List.{append_assoc, drop-drop, drop-take, length-append, length-drop, length-take, take_at, take-append-drop, take-take}
-use Rattle.definitions.specs.declared.Edit.{Edit}
-use Rattle.definitions.specs.Text.{edit}
-use Rattle.definitions.proofs.TokensKept.{drop-edit, length-edit}
-use Rattle.docs.specs.Pending.{LeadsTo}
+use Rattle.docs.proofs.Common.{append_assoc, drop-drop, drop-take, length-append, length-drop, length-take, take_at, take-append-drop, take-take, Edit, edit, drop-edit, length-edit, LeadsTo}
 
 -- what an edit inserts lies within the text after it
 pub inserted_within : (was now : List ℕ) (e : Edit) → LeadsTo was e now → e.at + e.inserted ≤ length now

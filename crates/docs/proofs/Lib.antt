@@ -1,3 +1,4 @@
+pub mod Common
 mod Refusals
 mod StoredReading
 mod Edits

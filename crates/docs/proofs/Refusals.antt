@@ -1,20 +1,8 @@
 -- A text's refusal, passed on as a document's.
 use Rattle.std.proofs.Common.{◌≡◌, ◌↔◌, ◌<◌, ℕ, Bool, true, false, List, length, refl, sym, ap, subst, ◌∙◌, leb-true, leb-false}
-use Rattle.std.specs.Prelude.{Option, Result, Ok, Err, IfOk, IsErrAnd, OnOk, nat_le, encode_utf8_all}
-use Rattle.std.specs.Result.{result_and}
-use Rattle.std.specs.Str.{chars, IsUtf8}
-use Rattle.std.proofs.lemmas.Result.{err_from_is_err_and}
-use Rattle.definitions.specs.Text.{IsText, changed, span}
-use Rattle.definitions.specs.declared.Range.{Range}
-use Rattle.definitions.specs.declared.Unit.{Unit as Encoding}
-use Rattle.definitions.proofs.Characters.{IsText-chars, IsText-edit}
-use Rattle.text.specs.declared.document.TextFault.{TextFault}
+use Rattle.docs.proofs.Common.{Result, Ok, IfOk, IsErrAnd, OnOk, nat_le, encode_utf8_all, result_and, chars, IsUtf8, err_from_is_err_and, IsText, changed, span, Range, Encoding, IsText-chars, IsText-edit, TextFault, DocFault, TooLarge, Memory, doc_fault, fits, fits_from, too_long, spelled_large, large_from}
+use Rattle.std.specs.Prelude.{Option, Err}
 use Rattle.text.specs.declared.document.TextFault.TheVariants as text
-use Rattle.docs.specs.declared.doc.DocFault.{DocFault}
-use Rattle.docs.specs.declared.doc.DocFault.TheVariants.{TooLarge, Memory}
-use Rattle.docs.specs.Faults.{doc_fault}
-use Rattle.readings.specs.Texts.{fits}
-use Rattle.readings.proofs.Texts.{fits_from, too_long, spelled_large, large_from}
 
 -- a test that doesn't fail holds
 pub unless : (b : Bool) → (b ≡ false → ⊥) → b ≡ true

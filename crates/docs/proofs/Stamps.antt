@@ -1,20 +1,6 @@
 -- The stamps of the tokens after an edit.
 use Rattle.std.proofs.Common.{◌≡◌, ◌≤◌, ◌-◌, ◌+◌, ℕ, List, length, take, drop, slice_range, sym, subst, ⊎_elim, arith, All}
-use Rattle.std.proofs.lemmas.Bool.{cases_lt}
-use Rattle.std.proofs.lemmas.List.{drop-drop, take-append-drop}
-use Rattle.std.proofs.lemmas.List.Elements.{All-append, All-drop, All-take, All-weaker}
-use Rattle.std.proofs.lemmas.List.Folds.{drop_split}
-use Rattle.definitions.specs.declared.Edit.{Edit}
-use Rattle.definitions.specs.TokenEdits.{Splice, kept_before, rejoin}
-use Rattle.definitions.specs.TreeEdits.{AreStampedExactly}
-use Rattle.grammar.specs.Grammars.{FileGrammar}
-use Rattle.lexer.specs.declared.sums.Token.{Token}
-use Rattle.lexer.specs.Rescans.{AreRescanned, plain_all}
-use Rattle.parser.specs.Machine.{AreMadeBy, plain_of}
-use Rattle.parser.specs.Stamps.{AreOlder, KeepStamps}
-use Rattle.trees.specs.Cells.{all_trees, forest_in}
-use Rattle.docs.specs.Stamps.{AreStamped, splice_between}
-use Rattle.docs.specs.declared.doc.Doc.{Doc}
+use Rattle.docs.proofs.Common.{cases_lt, drop-drop, take-append-drop, All-append, All-drop, All-take, All-weaker, drop_split, Edit, Splice, kept_before, rejoin, AreStampedExactly, FileGrammar, Token, AreRescanned, plain_all, AreMadeBy, plain_of, AreOlder, KeepStamps, all_trees, forest_in, AreStamped, splice_between, Doc}
 
 -- what holds of the prefix of a list, of a part, and of what is after the part, holds of the list
 all_parts : {X : Type 0} (P : X → Type 0) (xs : List X) (a b : ℕ) → All P (take a xs) → All P (slice_range xs a b) → All P (drop b xs) → All P xs

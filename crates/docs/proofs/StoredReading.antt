@@ -1,45 +1,6 @@
 -- The tokens and the parse that are kept, and what is reported of them.
 use Rattle.std.proofs.Common.{◌≡◌, ◌≤◌, ◌⊎◌, ◌↔◌, inl, inr, ℕ, Bool, true, false, not, cond, List, [], ◌∷◌, ◌++◌, encode_utf8_all, map, length, refl, sym, ap, subst, ◌∙◌, Option, None, option_map, Some, Vec, filter, Result, Ok, Err, IfOk}
-use Rattle.std.specs.Global.{Global}
-use Rattle.std.specs.List.{AllByRecursion}
-use Rattle.std.proofs.lemmas.Result.{IfOk-weaker}
-use Rattle.std.proofs.lemmas.List.Elements.{recursion_from_All}
-use Rattle.definitions.specs.declared.Kind.{Kind}
-use Rattle.definitions.specs.declared.Range.{Range}
-use Rattle.definitions.specs.declared.Position.{Position}
-use Rattle.definitions.specs.declared.Unit.{Unit as Encoding}
-use Rattle.definitions.specs.declared.Diagnostic.{Diagnostic as Stored}
-use Rattle.definitions.specs.Answers.{Diagnostic as Fault}
-use Rattle.definitions.specs.Answers.{Node, AreFolds, IsSelection}
-use Rattle.definitions.specs.DocumentNodes.{AreDocumentTrees, IsNodeOf}
-use Rattle.definitions.specs.Sentences.{IsVerdict}
-use Rattle.definitions.specs.Sentences.{Verdict as Answered}
-use Rattle.definitions.specs.Text.{offset}
-use Rattle.definitions.specs.Tokens.{Placed, is_skipped, kinds}
-use Rattle.definitions.specs.Trees.{Grammar, Tree, HaveRoots, all_kinds}
-use Rattle.grammar.specs.Grammars.{FileGrammar, lexicon_of}
-use Rattle.lexer.specs.declared.sums.Token.{Token}
-use Rattle.lexer.specs.Rescans.{significant_kinds}
-use Rattle.lexer.specs.Tokens.{kind_in, plain, is_significant, AreTokensOf}
-use Rattle.parser.specs.declared.parse.Verdict.{Verdict}
-use Rattle.parser.specs.declared.parse.Verdict.TheVariants.{Tree as TreeAt, FaultAt, FaultAtEnd}
-use Rattle.parser.specs.Machine.{plain_of}
-use Rattle.parser.specs.Parses.{AreStacked, IsParseOf, verdict_in}
-use Rattle.tables.specs.Tables.{Sets}
-use Rattle.trees.specs.Cells.{Cell, tree}
-use Rattle.trees.specs.declared.store.NodeId.{NodeId}
-use Rattle.trees.specs.declared.store.Child.TheVariants.{Node as NodeChild}
-use Rattle.definitions.specs.TreeEdits.{plain as plain_tree}
-use Rattle.reports.specs.Views.{text_of}
-use Rattle.trees.specs.declared.store.Child.{Child}
-use Rattle.reports.specs.Contents.{AreFoldsOf, AreRootsOf, IsSelectionOf, placed_parts, trees_of_roots}
-use Rattle.readings.specs.Diagnostics.{IsDiagnosis, shown as fault_of}
-use Rattle.docs.specs.declared.doc.Doc.{Doc}
-use Rattle.docs.specs.declared.doc.Outcome.TheVariants.{Fault as OutcomeFault}
-use Rattle.docs.specs.Docs.{IsCurrent}
-use Rattle.languages.specs.Languages.{LanguageData}
-use Rattle.docs.specs.Outcomes.{IsOutcome}
-use Rattle.readings.specs.Answers.{Reading, IsReading, Reads, rows, written_tree, AreSelections, IsReported}
+use Rattle.docs.proofs.Common.{Global, AllByRecursion, IfOk-weaker, recursion_from_All, Kind, Range, Position, Encoding, Stored, Fault, Node, AreFolds, IsSelection, AreDocumentTrees, IsNodeOf, IsVerdict, Answered, offset, Placed, is_skipped, kinds, Grammar, Tree, HaveRoots, all_kinds, FileGrammar, lexicon_of, Token, significant_kinds, kind_in, plain, is_significant, AreTokensOf, Verdict, TreeAt, FaultAt, FaultAtEnd, plain_of, AreStacked, IsParseOf, verdict_in, Sets, Cell, tree, NodeId, NodeChild, plain_tree, text_of, Child, AreFoldsOf, AreRootsOf, IsSelectionOf, placed_parts, trees_of_roots, IsDiagnosis, fault_of, Doc, OutcomeFault, IsCurrent, LanguageData, IsOutcome, Reading, IsReading, Reads, rows, written_tree, AreSelections, IsReported}
 
 -- ---- the kinds of significant tokens
 

@@ -1,7 +1,6 @@
 -- The columns of lookaheads.
 use Rattle.std.proofs.Common.{◌≡◌, ◌+◌, ◌-◌, ◌<◌, ◌==◌, ℕ, zero, suc, false, Option, Some, None, refl, sym, ap, ◌∙◌, subst, arith, IfSome, if◌then◌else◌}
-use Rattle.std.proofs.lemmas.Bool.{ne_eqb}
-use Rattle.first_sets.specs.Lookaheads.{lookahead_at, rank}
+use Rattle.first_sets.proofs.Common.{ne_eqb, lookahead_at, rank}
 
 lookahead_at-suc : (a : ℕ) → lookahead_at (suc a) ≡ Some a
 lookahead_at-suc a =

@@ -1,13 +1,7 @@
 -- Marks that a fixpoint gives are FIRST by the rules.
 use Rattle.std.proofs.Common.{◌≡◌, ◌+◌, ◌<◌, ◌≤◌, ◌⊎◌, ℕ, Bool, true, false, ◌&&◌, ◌||◌, List, [], ◌∷◌, Option, Some, None, length, slice_index_or, slice_set, refl, sym, subst, inl, inr, ⊎_elim, arith, ap, ◌∙◌, get_or-set_other}
-use Rattle.std.proofs.lemmas.Bool.{cases_eq, eq-eqb, eqb-true}
-use Rattle.std.proofs.lemmas.List.Sums.{sum_by-set}
-use Rattle.definitions.specs.declared.Symbol.{Symbol}
-use Rattle.definitions.specs.declared.Symbol.TheVariants.{Rule as Terminal, Nonterminal}
-use Rattle.definitions.specs.Trees.{Grammar, HasProduction, production_of, left_of, right_of}
-use Rattle.theory.specs.First.{IsNullable, None_left, Drop, InFirst, At_once, Within, After}
+use Rattle.first_sets.proofs.Common.{cases_eq, eq-eqb, eqb-true, sum_by-set, Symbol, Terminal, Nonterminal, Grammar, HasProduction, production_of, left_of, right_of, IsNullable, None_left, Drop, InFirst, At_once, Within, After, nullable_by, begin_by, holds_by, Means, AreTrue, AreClosed, AreExact, off, on, unmarked}
 use Rattle.first_sets.proofs.Numbers.{production_is}
-use Rattle.first_sets.specs.First.{nullable_by, begin_by, holds_by, Means, AreTrue, AreClosed, AreExact, off, on, unmarked}
 
 and_parts : (a b : Bool) → (a && b) ≡ true → (a ≡ true) × (b ≡ true)
 and_parts true b e = (refl, e)

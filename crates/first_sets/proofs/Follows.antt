@@ -1,9 +1,6 @@
 -- What may follow no symbols, and what may follow those that begin with a token rule.
 use Rattle.std.proofs.Common.{◌≡◌, ◌↔◌, ◌<◌, ℕ, List, [], ◌∷◌, Option, Some, length, slice_index_or, arith, refl, subst, inl, inr, ⊎_elim}
-use Rattle.definitions.specs.declared.Symbol.{Symbol}
-use Rattle.definitions.specs.declared.Symbol.TheVariants.{Rule as Terminal, Nonterminal}
-use Rattle.definitions.specs.Trees.{Grammar}
-use Rattle.theory.specs.First.{IsNullable, None_left, Drop, InFirst, At_once, Within, After, MayFollow}
+use Rattle.first_sets.proofs.Common.{Symbol, Terminal, Nonterminal, Grammar, IsNullable, None_left, Drop, InFirst, At_once, Within, After, MayFollow}
 
 begins_nothing : (g : Grammar) (a : ℕ) (ss : List Symbol) → ss ≡ [] → InFirst g a ss → ⊥
 begins_nothing g a ss e At_once = cc e

@@ -1,10 +1,6 @@
 -- What may follow symbols of the grammar is one of its token rules.
 use Rattle.std.proofs.Common.{◌<◌, ℕ, List, Option, sym, subst, All, ⊎_elim, IfSome}
-use Rattle.std.proofs.lemmas.List.Elements.{All-head, All-tail}
-use Rattle.definitions.specs.declared.Symbol.{Symbol}
-use Rattle.definitions.specs.declared.Symbol.TheVariants.{Rule as Terminal, Nonterminal}
-use Rattle.theory.specs.First.{InFirst, At_once, Within, After, MayFollow}
-use Rattle.first_sets.specs.Productions.{Shape, IsSound, IsKnown}
+use Rattle.first_sets.proofs.Common.{All-head, All-tail, Symbol, Terminal, Nonterminal, InFirst, At_once, Within, After, MayFollow, Shape, IsSound, IsKnown}
 
 module _ (g : Shape) (sound : IsSound g) where
   pub begins_known : (a : ℕ) {ss : List Symbol} → InFirst g.grammar a ss → All (IsKnown g) ss → a < g.grammar.rules

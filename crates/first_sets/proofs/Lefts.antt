@@ -1,7 +1,6 @@
 -- The numbers of productions by their left sides, with one production more.
 use Rattle.std.proofs.Common.{◌≡◌, ◌+◌, ◌<◌, ℕ, List, [], ◌∷◌, ◌++◌, All, Contains, length, slice_index_or, slice_set, sym, subst, ⊎_elim, arith, ap, ◌∙◌, get_or-set_same, get_or-set_other}
-use Rattle.std.proofs.lemmas.Bool.{cases_eq}
-use Rattle.std.proofs.lemmas.List.Elements.{All-push, Contains-push, Contains-append_left}
+use Rattle.first_sets.proofs.Common.{cases_eq, All-push, Contains-push, Contains-append_left}
 
 module _ (left : ℕ → ℕ) (rows : List (List ℕ)) (at : ℕ) (within : left at < length rows) where
   abbrev pub row : List ℕ

@@ -1,3 +1,4 @@
+pub mod Common
 pub mod Fixpoint
 pub mod Numbers
 pub mod EachMore

@@ -1,11 +1,6 @@
 -- The numbers of symbols.
 use Rattle.std.proofs.Common.{◌≡◌, ◌+◌, ◌-◌, ℕ, ap, ◌∙◌, inl, inr, arith, if◌then◌else◌}
-use Rattle.std.proofs.lemmas.Bool.{cases_lt, lt-ltb, le-ltb}
-use Rattle.definitions.specs.declared.Symbol.{Symbol}
-use Rattle.definitions.specs.declared.Symbol.TheVariants.{Rule as Terminal, Nonterminal}
-use Rattle.definitions.specs.Trees.{Grammar}
-use Rattle.first_sets.specs.Productions.{Shape, IsKnown}
-use Rattle.first_sets.specs.Symbols.{number, symbol_of}
+use Rattle.first_sets.proofs.Common.{cases_lt, lt-ltb, le-ltb, Symbol, Terminal, Nonterminal, Grammar, Shape, IsKnown, number, symbol_of}
 
 pub number-symbol_of : (g : Grammar) (k : ℕ) → number g (symbol_of g k) ≡ k
 number-symbol_of g k = elim (cases_lt k g.rules) [

@@ -1,12 +1,6 @@
 -- The lines that CR LF ends are the field lines of a header part.
 use Rattle.std.proofs.Common.{◌≡◌, ◌-◌, ℕ, Bool, true, false, List, [], ◌∷◌, ◌++◌, length, take, drop, refl, ap, sym, ◌∙◌, arith, append_assoc, length-append, inl, inr, Option, Some, None, nat_eq, cond, All}
-use Rattle.std.specs.List.{starts_with, flat_map}
-use Rattle.std.proofs.lemmas.Bool.Decides.{Decides-eqb}
-use Rattle.std.proofs.lemmas.Slice.Eq.{starts_is}
-use Rattle.std.proofs.lemmas.List.{take-append-drop, length-take}
-use Rattle.std.proofs.lemmas.List.Elements.{All-nil, All-cons, All-head, All-tail}
-use Rattle.std.proofs.Math.Seq.{take-append_seam}
-use Rattle.frames.specs.Header.{through, line_end, onto_first_line, lines_of, IsWhole, AreFieldLines}
+use Rattle.frames.proofs.Common.{starts_with, flat_map, Decides-eqb, starts_is, take-append-drop, length-take, All-nil, All-cons, All-head, All-tail, take-append_seam, through, line_end, onto_first_line, lines_of, IsWhole, AreFieldLines}
 use Rattle.frames.proofs.PrefixDecides.{through_stays, through_bounds}
 use Rattle.frames.proofs.Lines.{first_line, no_line, none_at}
 

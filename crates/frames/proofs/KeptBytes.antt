@@ -1,11 +1,6 @@
 -- What is kept of the bytes after the whole frames.
 use Rattle.std.proofs.Common.{◌≡◌, ◌≢◌, ◌<◌, ◌≤◌, ℕ, List, [], ◌++◌, length, refl, ap, sym, subst, ◌∙◌, arith, append_assoc, append-nil, Option, None, Result, IfErr, IfSome, IsErrOf}
-use Rattle.std.proofs.lemmas.List.{take-append-le}
-use Rattle.frames.specs.declared.fault.FrameFault.{FrameFault}
-use Rattle.frames.specs.declared.header.Start.TheVariants.{NeedsMore}
-use Rattle.frames.specs.Header.{through, blank_line}
-use Rattle.frames.specs.Frames.{Tail, Open, Faulty, IsTail, IsBegun, IsReached, IsOpen, start_of, tail_of, fault_of, Continues, Splits}
-use Rattle.frames.specs.Kept.{Awaits, HoldsNone, IsDecoder}
+use Rattle.frames.proofs.Common.{take-append-le, FrameFault, NeedsMore, through, blank_line, Tail, Open, Faulty, IsTail, IsBegun, IsReached, IsOpen, start_of, tail_of, fault_of, Continues, Splits, Awaits, HoldsNone, IsDecoder}
 
 -- no frame is whole in no bytes
 pub awaits_none : (rest : List ℕ) → Awaits rest 0

@@ -1,3 +1,4 @@
+pub mod Common
 mod Digits
 mod FirstNeedle
 mod Rest

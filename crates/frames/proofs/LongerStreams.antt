@@ -1,11 +1,6 @@
 -- A stream that goes on.
 use Rattle.std.proofs.Common.{◌≡◌, ◌≢◌, ◌+◌, ◌<◌, ◌≤◌, ℕ, zero, suc, List, [], ◌∷◌, ◌++◌, length, take, drop, refl, ap, sym, subst, ◌∙◌, arith, length-drop, append-nil, inl, inr, min}
-use Rattle.std.proofs.lemmas.List.{take-append-le, drop-append-le, length-take}
-use Rattle.std.proofs.lemmas.Bool.{cases_lt}
-use Rattle.frames.specs.declared.header.Start.{Start}
-use Rattle.frames.specs.declared.header.Start.TheVariants.{NeedsMore, Fails, Announces}
-use Rattle.frames.specs.declared.fault.FrameFault.{FrameFault}
-use Rattle.frames.specs.Frames.{Tail, Open, Faulty, Splits, BeginsWith, IsTail, IsBegun, HasSplit, start_of, Continues, GoesOn}
+use Rattle.frames.proofs.Common.{take-append-le, drop-append-le, length-take, cases_lt, Start, NeedsMore, Fails, Announces, FrameFault, Tail, Open, Faulty, Splits, BeginsWith, IsTail, IsBegun, HasSplit, start_of, Continues, GoesOn}
 use Rattle.frames.proofs.PrefixDecides.{start_stays, start_within, start_low}
 
 -- a frame lies within the bytes

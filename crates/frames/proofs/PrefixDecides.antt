@@ -1,18 +1,6 @@
 -- What the first bytes say, they say whatever follows.
 use Rattle.std.proofs.Common.{◌≡◌, ◌≢◌, ◌+◌, ◌-◌, ◌≤◌, ℕ, suc, Bool, true, false, List, [], ◌∷◌, ◌++◌, length, take, drop, refl, ap, sym, subst, ◌∙◌, arith, length-append, append-nil, inl, inr, ◌⊎◌, Option, Some, None, option_map, nat_eq, nat_lt, cond, Result, Ok, Err, IfSome}
-use Rattle.std.specs.List.{starts_with}
-use Rattle.std.specs.Str.{bytes_eq}
-use Rattle.std.proofs.lemmas.Bool.Decides.{Decides-eqb}
-use Rattle.std.proofs.lemmas.Slice.Eq.{starts_is}
-use Rattle.std.proofs.lemmas.List.{take-append-le, take_all, length-take}
-use Rattle.std.proofs.Math.Seq.{take-append-add}
-use Rattle.std.proofs.lemmas.Bool.{cases_lt, lt-ltb, le-ltb}
-use Rattle.frames.specs.declared.fault.FrameFault.{FrameFault}
-use Rattle.frames.specs.declared.fault.FrameFault.TheVariants.{LongHeader}
-use Rattle.frames.specs.declared.header.Start.TheVariants.{NeedsMore, Fails, Announces}
-use Rattle.frames.specs.Header.{through, header_size, header_length, line_end, blank_line}
-use Rattle.frames.specs.Frames.{Tail, Open, Faulty, start_of, start_at, given, tail_of, fault_of, IsBegun, IsTail, IsReached, IsStreamFault}
-use Rattle.frames.specs.Kept.{Awaits}
+use Rattle.frames.proofs.Common.{starts_with, bytes_eq, Decides-eqb, starts_is, take-append-le, take_all, length-take, take-append-add, cases_lt, lt-ltb, le-ltb, FrameFault, LongHeader, NeedsMore, Fails, Announces, through, header_size, header_length, line_end, blank_line, Tail, Open, Faulty, start_of, start_at, given, tail_of, fault_of, IsBegun, IsTail, IsReached, IsStreamFault, Awaits}
 use Rattle.frames.proofs.Faults.{long_header, header_faults}
 
 -- a text with the needle at its start is as long

@@ -1,15 +1,6 @@
 -- Bytes that were searched for a blank line aren't searched again.
 use Rattle.std.proofs.Common.{◌≡◌, ◌≢◌, ◌+◌, ◌-◌, ◌<◌, ◌≤◌, ℕ, Bool, true, false, List, [], ◌∷◌, ◌++◌, length, take, drop, refl, ap, sym, ◌∙◌, arith, length-append, append_assoc, inl, inr, Option, Some, None, Result, Ok, Err, is_some, IsTrue, not, nat_eq, cond}
-use Rattle.std.specs.List.{starts_with}
-use Rattle.std.proofs.lemmas.Bool.{cases_lt, lt-ltb, le-ltb}
-use Rattle.std.proofs.lemmas.List.{take-append-drop, drop-append-le, length-take, take_all, take-take, drop-take}
-use Rattle.std.proofs.Math.Seq.{take-length}
-use Rattle.frames.specs.Header.{through, header_size, header_length, line_end, blank_line}
-use Rattle.frames.specs.declared.fault.FrameFault.{FrameFault}
-use Rattle.frames.specs.declared.fault.FrameFault.TheVariants.{LongHeader}
-use Rattle.frames.specs.declared.header.Start.TheVariants.{NeedsMore, Fails}
-use Rattle.frames.specs.Frames.{start_of, start_at, unfinished, given}
-use Rattle.frames.specs.Kept.{HoldsNone}
+use Rattle.frames.proofs.Common.{starts_with, cases_lt, lt-ltb, le-ltb, take-append-drop, drop-append-le, length-take, take_all, take-take, drop-take, take-length, through, header_size, header_length, line_end, blank_line, FrameFault, LongHeader, NeedsMore, Fails, start_of, start_at, unfinished, given, HoldsNone}
 use Rattle.frames.proofs.PrefixDecides.{through_bounds}
 use Rattle.frames.proofs.HeaderPart.{through_ends, finds, blank_line_found, none_step}
 

@@ -1,11 +1,6 @@
 -- A value has no white space but spaces and tabs.
 use Rattle.std.proofs.Common.{◌≡◌, ◌+◌, ◌-◌, ◌&&◌, ℕ, true, List, [], ◌∷◌, ◌++◌, length, take, drop, refl, ap, sym, ◌∙◌, arith, cond, reverse}
-use Rattle.std.specs.List.{list_all, prefix_len, suffix_len}
-use Rattle.std.specs.Char.{is_ascii_whitespace}
-use Rattle.std.proofs.lemmas.List.{take-append-drop, reverse-append}
-use Rattle.std.proofs.lemmas.List.Folds.{list_all-append}
-use Rattle.std.proofs.lemmas.Grind.{common_steps}
-use Rattle.frames.specs.Header.{is_value_byte, is_blank, trim}
+use Rattle.frames.proofs.Common.{list_all, prefix_len, suffix_len, is_ascii_whitespace, take-append-drop, reverse-append, list_all-append, common_steps, is_value_byte, is_blank, trim}
 use Rattle.frames.proofs.Digits.{both}
 
 blank_agrees : (b : ℕ) → is_value_byte b ≡ true → is_ascii_whitespace b ≡ is_blank b

@@ -1,35 +1,9 @@
 -- The grammar of a file without a fault.
-use Rattle.std.proofs.lemmas.Option.{slice_get_within, get_or_from_slice_get}
-use Rattle.grammar.specs.Notes.{AreNotes}
-use Rattle.grammar.specs.Uses.{AreWithin}
+use Rattle.grammar.proofs.Common.{slice_get_within, get_or_from_slice_get, AreNotes, AreWithin, Symbol, Nonterminal, Production', Refusal, Numbered, File, Word, Statement, statements, flat_map, RuleLine, productions, nonterminals, defined, added, marked, written_out, production_of, grammar_of, IsWhole, HaveReferents, IsFileFault, Unproductive, IsFirstProduction, IsFault, file_fault, unproductive, FileGrammar, IsGrammar, IsUsable, AreBelow, AllProductiveIn, IsUnproductiveIn, grammar_with, file_grammar, IsGrammarOf, Names, texts, lines_view, AreNames, ArePatterns, IsWrittenOut, Parts, AreParts, AreProductive, IsUnproductive, Reports, shows_map, length-texts}
 use Rattle.std.proofs.Common.{◌≡◌, ℕ, ◌<◌, List, refl, ap, sym, ◌∙◌, length, arith, subst, Bor, Some, Result, Ok, Err, IfOk, IfErr, map, slice_get}
-use Rattle.definitions.specs.declared.Symbol.{Symbol}
-use Rattle.definitions.specs.declared.Symbol.TheVariants.{Nonterminal}
-use Rattle.definitions.specs.Trees.{Production as Production'}
-use Rattle.grammar_file.specs.declared.fault.Refusal.{Refusal}
-use Rattle.grammar_file.specs.declared.statements.Numbered.{Numbered}
-use Rattle.grammar_file.specs.declared.statements.File.{File}
-use Rattle.grammar_line.specs.Words.{Word}
-use Rattle.grammar_line.specs.Statements.{Statement, statements}
-use Rattle.std.specs.List.{flat_map}
-use Rattle.grammar_file.specs.Contents.{RuleLine, productions, nonterminals, defined}
-use Rattle.grammar_file.specs.WrittenOut.{added, marked, written_out}
-use Rattle.grammar.specs.Contents.{production_of, grammar_of}
-use Rattle.grammar_file.specs.Faults.{IsWhole, HaveReferents, IsFileFault, Unproductive}
-use Rattle.grammar.specs.Faults.{IsFirstProduction, IsFault, file_fault, unproductive}
-use Rattle.grammar.specs.Grammars.{FileGrammar, IsGrammar, IsUsable}
-use Rattle.grammar.specs.Marks.{AreBelow, AllProductiveIn, IsUnproductiveIn}
-use Rattle.grammar.specs.Meaning.{grammar_with, file_grammar, IsGrammarOf}
-use Rattle.grammar_file.specs.declared.names.Names.{Names}
-use Rattle.grammar_line.specs.Kept.{texts}
-use Rattle.grammar_file.specs.Kept.{lines_view, AreNames, ArePatterns, IsWrittenOut}
-use Rattle.grammar.specs.declared.read.Parts.{Parts}
-use Rattle.grammar.specs.Parts.{AreParts, AreProductive, IsUnproductive}
-use Rattle.grammar_file.specs.Causes.{Reports}
 use Rattle.grammar.proofs.NumbersInRange.{known}
 use Rattle.grammar.proofs.Ranges.{lefts_below, is_grammar}
 use Rattle.grammar.proofs.WrittenOut.{rules_written, few_nonterminals, few_productions, are_once, plain_lefts, are_fine, are_short, start_in}
-use Rattle.grammar_file.proofs.Splits.{shows_map, length-texts}
 
 -- what is reported of the lines and names is reported of the file
 pub shown_of_file : (text : List ℕ) (r : Refusal) → Reports r (λ n c. IsFileFault text n c) → Reports r (λ n c. IsFault text n c)

@@ -1,13 +1,6 @@
 -- The productions of a nonterminal.
 use Rattle.std.proofs.Common.{◌≡◌, ℕ, zero, suc, ◌<◌, Bool, true, false, ◌&&◌, ◌||◌, List, [], ◌∷◌, ◌++◌, refl, ap, sym, ◌∙◌, length, get_or, arith, Bor, eq-eqb, if◌then◌else◌, Some, map, slice_get}
-use Rattle.std.specs.List.{list_any, fold, cons_option}
-use Rattle.std.specs.Str.{bytes_eq}
-use Rattle.std.proofs.lemmas.List.Folds.{list_any-append, list_any_at}
-use Rattle.std.proofs.lemmas.Option.{slice_get_within, get_or_from_slice_get}
-use Rattle.grammar_line.specs.Statements.{Statement, Line, Nothing, Production, Rule, Start, Fold, Bad}
-use Rattle.grammar_file.specs.Contents.{ProductionLine, as_production, productions, nonterminals, with_name, is_among}
-use Rattle.grammar.specs.Faults.{is_production_of}
-use Rattle.grammar_line.specs.Kept.{texts}
+use Rattle.grammar.proofs.Common.{list_any, fold, cons_option, bytes_eq, list_any-append, list_any_at, slice_get_within, get_or_from_slice_get, Statement, Line, Nothing, Production, Rule, Start, Fold, Bad, ProductionLine, as_production, productions, nonterminals, with_name, is_among, is_production_of, texts}
 
 pub bytes_eq_same : (w : List ℕ) → bytes_eq w w ≡ true
 bytes_eq_same [] = refl

@@ -1,3 +1,4 @@
+pub mod Common
 pub mod NonterminalMarks
 pub mod Lefts
 pub mod Numbered

@@ -1,16 +1,7 @@
 -- What marks at nonterminals mean.
 use Rattle.std.proofs.Common.{◌≡◌, ◌≢◌, ℕ, ◌+◌, ◌<◌, Bool, true, false, ◌&&◌, List, [], ◌∷◌, ◌++◌, refl, ap, sym, ◌∙◌, length, take, get_or, set, arith, subst, inl, inr, ◌⊎◌, not, slice_get, slice_index_or}
-use Rattle.std.specs.List.{sum_by}
-use Rattle.std.proofs.lemmas.List.{take_more, get_or-set_other}
-use Rattle.std.proofs.lemmas.List.Sums.{sum_by-set}
-use Rattle.std.proofs.lemmas.Bool.Decides.{nat_tests}
-use Rattle.definitions.specs.declared.Kind.TheVariants.{Rule as Token, Invalid}
-use Rattle.definitions.specs.declared.Symbol.{Symbol}
-use Rattle.definitions.specs.declared.Symbol.TheVariants.{Rule as Terminal, Nonterminal}
-use Rattle.definitions.specs.Trees.{Grammar, Production, Tree, Forest, Leaf, Branch, Nil, Cons, IsTree, AreTrees}
-use Rattle.definitions.specs.Sentences.{IsProductive}
-use Rattle.grammar.specs.Marks.{is_marked, are_marked, is_ready, IsClosed, IsNext, AreBelow, AreSound, AreComplete, IsFirstUnmarked, IsUnproductiveIn}
-use Rattle.grammar_file.proofs.OneMoreItem.{push_at}
+use Rattle.grammar.proofs.Common.{sum_by, take_more, get_or-set_other, sum_by-set, nat_tests, Token, Invalid, Symbol, Terminal, Nonterminal, Grammar, Tree, Forest, Leaf, Branch, Nil, Cons, IsTree, AreTrees, IsProductive, is_marked, are_marked, is_ready, IsClosed, IsNext, AreBelow, AreSound, AreComplete, IsFirstUnmarked, IsUnproductiveIn, push_at}
+use Rattle.definitions.specs.Trees.{Production}
 
 -- how many have no mark
 abbrev pub weight : Bool → ℕ

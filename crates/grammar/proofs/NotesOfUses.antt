@@ -1,16 +1,8 @@
 -- Rules that are used, and what is noted of a list of symbols.
 use Rattle.std.proofs.Common.{◌≡◌, ◌↔◌, ℕ, suc, ◌+◌, ◌<◌, ◌==◌, Bool, true, false, ◌&&◌, ◌||◌, List, [], ◌∷◌, ◌++◌, refl, ap, sym, ◌∙◌, length, take, get_or, arith, subst, Some, slice_get, slice_index_or}
-use Rattle.std.specs.List.{list_any}
-use Rattle.std.proofs.lemmas.Bool.Decides.{nat_tests}
-use Rattle.std.proofs.lemmas.List.{take_more}
-use Rattle.std.proofs.lemmas.List.Folds.{list_any-append}
-use Rattle.definitions.specs.declared.Symbol.{Symbol}
-use Rattle.definitions.specs.declared.Symbol.TheVariants.{Rule as Terminal, Nonterminal}
-use Rattle.definitions.specs.Trees.{Grammar, Production}
-use Rattle.definitions.specs.Sentences.{IsUsed, The_start, On_right}
-use Rattle.grammar.specs.Grammars.{FileGrammar}
-use Rattle.grammar.specs.Notes.{AreNotes, none, noted_symbol, skipped, used, is_skip, is_rule, has_rule}
-use Rattle.grammar.specs.Uses.{AreUsed}
+use Rattle.grammar.proofs.Common.{list_any, nat_tests, take_more, list_any-append, Symbol, Terminal, Nonterminal, Grammar, IsUsed, The_start, On_right, FileGrammar, AreNotes, none, noted_symbol, skipped, used, is_skip, is_rule, AreUsed}
+use Rattle.definitions.specs.Trees.{Production}
+use Rattle.grammar.specs.Notes.{has_rule}
 use Rattle.grammar.proofs.NonterminalMarks.{and-left, and-right}
 use Rattle.grammar.proofs.Numbered.{any_at}
 use Rattle.grammar.proofs.UsedMarks.{used_right}

@@ -1,22 +1,8 @@
 -- The numbers of names, and that different names and productions have different ones.
 use Rattle.std.proofs.Common.{◌≡◌, ◌⊎◌, inl, inr, ℕ, zero, suc, ◌+◌, ◌<◌, Bool, true, false, not, ◌&&◌, ◌||◌, cond, List, [], ◌∷◌, refl, ap, sym, ◌∙◌, length, arith, subst}
-use Rattle.std.specs.Prelude.{nat_lt, unwrap_or, Option, Some, None, map, take, slice_get}
-use Rattle.std.specs.List.{list_any, filter_map, cons_option, prefix_len}
-use Rattle.std.proofs.lemmas.Bool.Decides.{nat_tests}
-use Rattle.std.specs.Str.{bytes_eq}
-use Rattle.std.specs.Cmp.Lexicographic.{pointwise}
-use Rattle.std.proofs.lemmas.Slice.Eq.{bytes_eq-Decides}
-use Rattle.std.proofs.lemmas.Option.{slice_get_within, get_or_from_slice_get}
-use Rattle.std.proofs.lemmas.List.Folds.{list_any_at}
-use Rattle.std.proofs.lemmas.Bool.{cases_lt}
-use Rattle.definitions.specs.declared.Symbol.TheVariants.{Rule as Terminal, Nonterminal}
-use Rattle.definitions.specs.Trees.{HasDistinctProductions}
-use Rattle.grammar_line.specs.Words.{Word, plain}
+use Rattle.grammar.proofs.Common.{nat_lt, unwrap_or, Option, list_any, filter_map, cons_option, prefix_len, nat_tests, bytes_eq, pointwise, bytes_eq-Decides, slice_get_within, get_or_from_slice_get, list_any_at, cases_lt, Terminal, Nonterminal, HasDistinctProductions, Word, plain, Statement, Line, Nothing, Production, Rule, Start, Fold, Bad, ProductionLine, as_production, productions, nonterminals, is_among, number_of, rule_names, symbol_of, production_of, grammar_of, AreFaultless, early_fault, has_production, is_production, has_rule, or_else, cause_if, reserved, Cause, DefinedTwice}
+use Rattle.std.specs.Prelude.{Some, None, map, take, slice_get}
 use Rattle.grammar.proofs.Lefts.{bytes_eq_same}
-use Rattle.grammar_line.specs.Statements.{Statement, Line, Nothing, Production, Rule, Start, Fold, Bad}
-use Rattle.grammar_file.specs.Contents.{ProductionLine, as_production, productions, nonterminals, is_among, number_of}
-use Rattle.grammar.specs.Contents.{rule_names, symbol_of, production_of, grammar_of}
-use Rattle.grammar_file.specs.Faults.{AreFaultless, early_fault, has_production, is_production, has_rule, or_else, cause_if, reserved, Cause, DefinedTwice}
 
 pub same_bytes : (v w : Word) → bytes_eq v w ≡ true → v ≡ w
 same_bytes v w h = (bytes_eq-Decides v w).0 h

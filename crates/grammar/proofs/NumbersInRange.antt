@@ -1,21 +1,8 @@
 -- The numbers of what a file defines are in range.
 use Rattle.std.proofs.Common.{◌≡◌, ℕ, ◌<◌, ◌≤◌, Bool, true, false, if◌then◌else◌, List, [], ◌∷◌, ◌++◌, refl, ap, sym, ◌∙◌, length, arith, append_assoc, length-append, Some, None, map, All}
-use Rattle.std.specs.List.{cons_option, fold}
-use Rattle.std.proofs.lemmas.List.{length-map, map-append}
-use Rattle.std.proofs.lemmas.List.Elements.{All-nil, All-cons, filter_map-append}
-use Rattle.std.proofs.lemmas.List.Sums.{fold-append}
+use Rattle.grammar.proofs.Common.{cons_option, fold, length-map, map-append, All-nil, All-cons, filter_map-append, fold-append, Symbol, Terminal, Nonterminal, Expression, Word, Statement, Line, Nothing, Production, Rule, Start, Fold, Bad, as_rule, as_production, productions, nonterminals, is_among, with_name, defines, defined_after, defined, rule_names, IsKnown, grammar_with, with_rule, with_left, rules-step, nonterminals-step}
 use Rattle.std.specs.Str.{chars}
-use Rattle.definitions.specs.declared.Symbol.{Symbol}
-use Rattle.definitions.specs.declared.Symbol.TheVariants.{Rule as Terminal, Nonterminal}
-use Rattle.definitions.specs.declared.expression.Expression.{Expression}
-use Rattle.grammar_line.specs.Words.{Word}
-use Rattle.grammar_line.specs.Statements.{Statement, Line, Nothing, Production, Rule, Start, Fold, Bad}
-use Rattle.grammar_file.specs.Contents.{as_rule, as_production, rules, productions, nonterminals, is_among, with_name, defines, defined_after, defined}
-use Rattle.grammar.specs.Contents.{rule_names}
-use Rattle.grammar.specs.Grammars.{IsKnown}
-use Rattle.grammar.specs.Meaning.{grammar_with}
-use Rattle.grammar_file.specs.Kept.{with_rule, with_left}
-use Rattle.grammar_file.proofs.Lines.{rules-step, nonterminals-step}
+use Rattle.grammar_file.specs.Contents.{rules}
 
 more_rules : (xs ys : List Statement) → length (rules xs) ≤ length (rules (xs ++ ys))
 more_rules xs ys = omega (arith, ap length (filter_map-append (λ s. as_rule s.says) xs ys), length-append (rules xs) (rules ys))

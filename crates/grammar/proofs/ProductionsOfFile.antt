@@ -1,13 +1,7 @@
 -- The productions of a grammar file are sound.
 use Rattle.std.proofs.Common.{◌≡◌, ℕ, length, slice_index_or, take, refl, sym, ap, ◌∙◌, arith}
-use Rattle.std.proofs.Math.Seq.{take-length}
-use Rattle.definitions.specs.declared.Kind.TheVariants.{Rule as Token}
-use Rattle.definitions.specs.declared.Symbol.{Symbol}
-use Rattle.definitions.specs.declared.Symbol.TheVariants.{Rule as Terminal, Nonterminal}
-use Rattle.definitions.specs.Sentences.{IsProductive, AllProductive}
-use Rattle.definitions.specs.Trees.{Leaf}
-use Rattle.first_sets.specs.Productions.{Shape, IsSound, IsKnown}
-use Rattle.grammar.specs.Grammars.{FileGrammar, IsUsable, IsGrammar}
+use Rattle.grammar.proofs.Common.{take-length, Token, Symbol, Terminal, Nonterminal, IsProductive, AllProductive, Leaf, Shape, IsSound, FileGrammar, IsUsable, IsGrammar}
+use Rattle.first_sets.specs.Productions.{IsKnown}
 
 -- the grammar of a file with its first `n` productions
 abbrev pub first_productions : FileGrammar → ℕ → Shape

@@ -1,27 +1,9 @@
 -- The numbers of a file's names are in range.
 use Rattle.std.proofs.Common.{◌≡◌, inl, inr, ℕ, zero, suc, ◌<◌, ◌≤◌, Bool, true, false, ◌&&◌, ◌||◌, List, [], ◌∷◌, ◌++◌, refl, ap, sym, ◌∙◌, length, arith, subst, if◌then◌else◌, not, nat_lt, Some, None, map, slice_get, slice_index_or, All}
-use Rattle.std.specs.List.{list_any, fold}
-use Rattle.std.specs.Str.{bytes_eq}
-use Rattle.std.proofs.lemmas.List.Folds.{list_any-append}
-use Rattle.definitions.specs.declared.Symbol.{Symbol}
-use Rattle.definitions.specs.declared.Symbol.TheVariants.{Nonterminal}
+use Rattle.grammar.proofs.Common.{list_any, fold, bytes_eq, list_any-append, Symbol, Nonterminal, length-map, All-nil, All-cons, Expression, HasProduction, IsProductive, FileGrammar, IsUsable, IsKnown, IsGrammar, AreBelow, grammar_with, ArePatterns, Word, plain, Statement, Line, Nothing, Production, Rule, Start, Fold, Bad, RuleLine, ProductionLine, as_production, as_start, productions, starts, nonterminals, with_name, is_among, number_of, first_of, rule_names, symbol_of, production_of, is_fold, grammar_of, HaveReferents, symbol_fault, right_fault, reference_fault, NotANonterminal, is_skip_rule, has_rule, list_any-map}
 use Rattle.std.specs.Str.{chars}
-use Rattle.std.proofs.lemmas.List.{length-map}
-use Rattle.std.proofs.lemmas.List.Elements.{All-nil, All-cons}
-use Rattle.definitions.specs.declared.expression.Expression.{Expression}
-use Rattle.definitions.specs.Trees.{HasProduction}
-use Rattle.definitions.specs.Sentences.{IsProductive}
-use Rattle.grammar.specs.Grammars.{FileGrammar, IsUsable, IsKnown, IsGrammar}
-use Rattle.grammar.specs.Marks.{AreBelow}
-use Rattle.grammar.specs.Meaning.{grammar_with}
-use Rattle.grammar_file.specs.Kept.{ArePatterns}
-use Rattle.grammar_line.specs.Words.{Word, plain}
-use Rattle.grammar_line.specs.Statements.{Statement, Line, Nothing, Production, Rule, Start, Fold, Bad}
-use Rattle.grammar_file.specs.Contents.{RuleLine, ProductionLine, as_production, as_start, rules, productions, starts, nonterminals, with_name, is_among, number_of}
-use Rattle.grammar.specs.Contents.{first_of, rule_names, symbol_of, production_of, is_fold, grammar_of}
-use Rattle.grammar_file.specs.Faults.{HaveReferents, symbol_fault, right_fault, reference_fault, NotANonterminal, is_skip_rule, has_rule}
+use Rattle.grammar_file.specs.Contents.{rules}
 use Rattle.grammar.proofs.Lefts.{bytes_eq_same}
-use Rattle.grammar_file.proofs.TestedItems.{list_any-map}
 use Rattle.grammar.proofs.Numbered.{AllNamed, AreNamed, AreOnce, comes_from, says_production, not_shown, or_false, number_below, number_at, nonterminal_is, terminal_is, IsMadeFrom, made_from, distinct}
 
 kept : (w x : Word) (names : List Word) → is_among w names ≡ true → is_among w (with_name names x) ≡ true

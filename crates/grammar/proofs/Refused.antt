@@ -1,20 +1,7 @@
 -- A text with a fault is no grammar's file.
 use Rattle.std.proofs.Common.{◌≡◌, inl, inr, ℕ, Bool, true, false, List, [], ◌∷◌, ◌++◌, refl, ap, ◌∙◌, length, take, arith, subst, Option, Some, None, slice_get}
 use Rattle.std.specs.Str.{chars}
-use Rattle.std.proofs.lemmas.Option.{slice_get_within}
-use Rattle.definitions.specs.declared.expression.PatternFault.{PatternFault}
-use Rattle.patterns.proofs.Runs.{refused}
-use Rattle.grammar_file.specs.declared.fault.Refusal.{Refusal}
-use Rattle.grammar_file.specs.declared.fault.Refusal.TheVariants.{Fault, Memory}
-use Rattle.grammar_line.specs.Statements.{Statement, statements, Line, Nothing, Production, Rule, Start, Fold, Bad}
-use Rattle.grammar_file.specs.Contents.{nonterminals}
-use Rattle.grammar_file.specs.WrittenOut.{written_out}
-use Rattle.grammar_file.specs.Faults.{Cause, HasPattern, HasPatternFault, IsFaultless, IsLineFault, IsFileFault, too_large, first_line, line, no_start, reference, reference_fault}
-use Rattle.grammar.specs.Faults.{IsFault, file_fault, unproductive}
-use Rattle.grammar.specs.Grammars.{FileGrammar}
-use Rattle.grammar.specs.Meaning.{IsGrammarOf}
-use Rattle.grammar_file.specs.Causes.{cause_of, Reports}
-use Rattle.grammar.specs.PublicCauses.{ReportsCause, IsFor}
+use Rattle.grammar.proofs.Common.{slice_get_within, PatternFault, refused, Refusal, Fault, Memory, Statement, statements, Line, Nothing, Production, Rule, Start, Fold, Bad, nonterminals, written_out, Cause, HasPattern, HasPatternFault, IsFaultless, IsLineFault, IsFileFault, too_large, first_line, line, no_start, reference, reference_fault, IsFault, file_fault, unproductive, FileGrammar, IsGrammarOf, cause_of, Reports, ReportsCause, IsFor}
 
 met : {X : Type 0} (xs : List X) (y : X) (ys : List X) → slice_get (xs ++ y ∷ ys) (length xs) ≡ Some y
 met [] y ys = refl

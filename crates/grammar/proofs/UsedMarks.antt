@@ -1,15 +1,8 @@
 -- What marks at used nonterminals mean.
 use Rattle.std.proofs.Common.{◌≡◌, inl, inr, ℕ, zero, suc, ◌+◌, ◌<◌, Bool, true, false, ◌&&◌, List, [], ◌∷◌, ◌++◌, refl, ap, sym, ◌∙◌, length, take, drop, get_or, set, replicate, arith, subst, Some, slice_get, slice_index_or}
-use Rattle.std.proofs.lemmas.List.{take_more, get_or-set_other}
-use Rattle.std.proofs.lemmas.Grind.{get_or-set_at}
-use Rattle.definitions.specs.declared.Symbol.{Symbol}
-use Rattle.definitions.specs.declared.Symbol.TheVariants.{Nonterminal}
-use Rattle.definitions.specs.Trees.{Grammar, Production}
-use Rattle.definitions.specs.Sentences.{IsUsed, The_start, On_right}
-use Rattle.grammar.specs.Marks.{is_marked, are_marked}
-use Rattle.grammar.specs.Uses.{IsSpread, IsUnmarkedIn, IsReached, AreWithin, AreOnlyUsed, AreAllUsed}
+use Rattle.grammar.proofs.Common.{take_more, get_or-set_other, get_or-set_at, Symbol, Nonterminal, Grammar, IsUsed, The_start, On_right, is_marked, are_marked, IsSpread, IsUnmarkedIn, IsReached, AreWithin, AreOnlyUsed, AreAllUsed, push_at}
+use Rattle.definitions.specs.Trees.{Production}
 use Rattle.grammar.proofs.NonterminalMarks.{and-left, and-right, same_or_not}
-use Rattle.grammar_file.proofs.OneMoreItem.{push_at}
 
 all_push : (marks : List Bool) (xs : List Symbol) (s : Symbol) → are_marked marks xs ≡ true → is_marked marks s ≡ true → are_marked marks (xs ++ s ∷ []) ≡ true
 all_push marks [] s h e = ap (λ b. b && true) e

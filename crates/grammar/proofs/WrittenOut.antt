@@ -1,25 +1,9 @@
 -- What the statements of a file define with the productions of its marked words.
 use Rattle.std.proofs.Common.{◌≡◌, ◌⊎◌, inl, inr, ℕ, zero, suc, ◌+◌, ◌*◌, ◌≤◌, Bool, true, false, ◌&&◌, ◌||◌, List, [], ◌∷◌, ◌++◌, refl, ap, sym, ◌∙◌, length, arith, subst, if◌then◌else◌, append-nil, length-append}
-use Rattle.std.specs.Prelude.{Some, None, map, filter, drop, slice_get, nat_lt, unwrap_or, codes}
-use Rattle.std.specs.List.{list_any, list_all, fold, flat_map, enumerate_from}
-use Rattle.std.specs.Str.{bytes_eq}
-use Rattle.std.specs.Str.Lines.{lines}
-use Rattle.std.proofs.lemmas.List.{map-append}
-use Rattle.std.proofs.lemmas.List.Elements.{filter_map-append}
-use Rattle.std.proofs.lemmas.List.Sums.{fold-append}
-use Rattle.std.proofs.lemmas.List.Folds.{list_any-append}
-use Rattle.grammar_line.specs.declared.line.Version.{Version}
-use Rattle.grammar_line.specs.declared.line.Version.TheVariants.{One}
-use Rattle.grammar_line.specs.declared.right_word.Mark.{Mark}
-use Rattle.grammar_line.specs.declared.right_word.Mark.TheVariants.{Once, Any, AtLeastOnce, AtMostOnce}
-use Rattle.grammar_line.specs.Words.{Word, words, is_name, after_equals, mark_of, is_mark, is_marked, without_last, plain}
-use Rattle.grammar_line.specs.Statements.{Line, Nothing, Production, Rule, Start, Fold, Bad, Statement, at, numbered, is_comment, is_right_word, production, rule, statement, longer_line, line_of_words, line_of, statements_in, version_of, statements}
-use Rattle.grammar_file.specs.Contents.{ProductionLine, as_rule, as_production, as_start, rules, productions, starts, nonterminals, is_among, with_name}
-use Rattle.grammar_file.specs.WrittenOut.{right_sides, added, marked, written_out}
-use Rattle.grammar_file.specs.Faults.{AreFaultless, HaveReferents, symbol_fault, right_fault, is_skip_rule}
-use Rattle.grammar_file.specs.Kept.{AreFew}
-use Rattle.grammar_line.proofs.Marked.{name_unmarked}
-use Rattle.grammar.specs.Contents.{first_of}
+use Rattle.grammar.proofs.Common.{filter, nat_lt, unwrap_or, codes, list_any, list_all, fold, flat_map, enumerate_from, bytes_eq, lines, map-append, filter_map-append, fold-append, list_any-append, Version, One, Mark, Once, Any, AtLeastOnce, AtMostOnce, Word, words, is_name, after_equals, mark_of, is_mark, without_last, plain, Line, Nothing, Production, Rule, Start, Fold, Bad, Statement, at, numbered, is_comment, is_right_word, production, rule, statement, longer_line, line_of_words, line_of, statements_in, version_of, statements, ProductionLine, as_rule, as_production, as_start, productions, starts, nonterminals, is_among, with_name, right_sides, added, marked, written_out, AreFaultless, HaveReferents, symbol_fault, right_fault, is_skip_rule, AreFew, name_unmarked, first_of}
+use Rattle.std.specs.Prelude.{Some, None, map, drop, slice_get}
+use Rattle.grammar_line.specs.Words.{is_marked}
+use Rattle.grammar_file.specs.Contents.{rules}
 use Rattle.grammar.proofs.Lefts.{bytes_eq_same, among_fold}
 use Rattle.grammar.proofs.Numbered.{same_bytes, neither, comes_from, says_production, one_line, AreOnce}
 use Rattle.grammar.proofs.Ranges.{or_true, names_added, fold_keeps, IsFine, Of_nonterminal, Of_rule, is_fine, AllFine, AreFine, AreShort, right_faultless, start_among}

@@ -1,16 +1,7 @@
 -- What a file's lines say, as a whole.
 use Rattle.std.proofs.Common.{◌≡◌, ℕ, ◌≤◌, true, false, List, [], ◌∷◌, refl, ap, sym, ◌∙◌, length, drop, subst, Bor}
 use Rattle.std.specs.Prelude.{Option, Some, is_some, unwrap_or}
-use Rattle.std.specs.Str.Lines.{lines}
-use Rattle.grammar_line.specs.declared.line.Version.{Version}
-use Rattle.grammar_line.specs.declared.line.Version.TheVariants.{One}
-use Rattle.grammar_file.specs.declared.statements.File.{File}
-use Rattle.grammar_file.specs.declared.fault.Refusal.{Refusal}
-use Rattle.grammar_line.specs.Statements.{Statement, statements, statements_in, version_of, is_headed}
-use Rattle.grammar_file.specs.Faults.{NoStart, IsFileFault, line, no_start, reference, IsWhole, IsFirstLineFault, IsFirstReferenceFault}
-use Rattle.grammar_line.specs.Kept.{texts}
-use Rattle.grammar_file.specs.Kept.{IsRead}
-use Rattle.grammar_file.specs.Causes.{Reports}
+use Rattle.grammar_file.proofs.Common.{lines, Version, One, File, Refusal, Statement, statements, statements_in, version_of, is_headed, NoStart, IsFileFault, line, no_start, reference, IsWhole, IsFirstLineFault, IsFirstReferenceFault, texts, IsRead, Reports}
 use Rattle.grammar_file.proofs.Splits.{shows_map}
 
 -- the version that the first line gives

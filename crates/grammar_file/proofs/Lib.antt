@@ -1,3 +1,4 @@
+pub mod Common
 pub mod TestedItems
 pub mod NameLookUps
 pub mod Sets

@@ -1,28 +1,10 @@
 -- What one more line makes of the contents.
 use Rattle.std.proofs.Common.{◌≡◌, ℕ, ◌≤◌, Bool, true, false, List, [], ◌∷◌, ◌++◌, refl, ap, ◌∙◌, sym, length, arith, subst, length-append, append_assoc, inr, take, append-nil, Option, Some, None, map, filter, nat_lt, slice_get, ◌+◌, ◌*◌}
-use Rattle.std.specs.List.{fold, cons_option, flat_map, list_any}
-use Rattle.std.specs.Str.{chars}
-use Rattle.std.proofs.lemmas.Grind.{common_steps, flat_map-append}
-use Rattle.grammar_file.specs.declared.statements.File.{File}
-use Rattle.std.proofs.lemmas.List.{map-append, take-append-le}
-use Rattle.std.proofs.lemmas.List.Sums.{fold-append}
-use Rattle.std.proofs.lemmas.Option.{slice_get_within}
-use Rattle.definitions.specs.Spelling.{IsPattern}
-use Rattle.grammar_file.specs.declared.names.Names.{Names}
+use Rattle.grammar_file.proofs.Common.{fold, cons_option, flat_map, list_any, chars, common_steps, flat_map-append, File, map-append, take-append-le, fold-append, slice_get_within, IsPattern, Names, Refusal, Reports, filter-append, filter_map-append, Expression, Line, Nothing, Production, Rule, Start, Fold, Bad, Statement, at, Symbol, Word, is_marked, with_marked, marked, Cause, is_skip_rule, HasPattern, early_fault, line_limit, limit_fault, late_fault, nonterminal_count, production_count, exceeded_limit, cause_if, or_else, IsFaultless, AreFaultless, IsLineFault, are_among, with_rule, with_skip, with_left, with_right, with_sides, with_production, with_start, AreNames, ArePatterns, IsPatternOf, with_pattern, AreFew, IsRead, lines_view}
 use Rattle.grammar_file.proofs.OneMoreItem.{push_at, take-all, cons_option-append}
 use Rattle.grammar_file.proofs.Sets.{skips-step, sides-step}
-use Rattle.grammar_file.specs.declared.fault.Refusal.{Refusal}
-use Rattle.grammar_file.specs.Causes.{Reports}
 use Rattle.grammar_file.proofs.Splits.{shows_map}
-use Rattle.std.proofs.lemmas.List.Elements.{filter-append, filter_map-append}
-use Rattle.definitions.specs.declared.expression.Expression.{Expression}
-use Rattle.grammar_line.specs.Statements.{Line, Nothing, Production, Rule, Start, Fold, Bad, Statement, at}
-use Rattle.definitions.specs.declared.Symbol.{Symbol}
-use Rattle.grammar_line.specs.Words.{Word, is_marked}
 use Rattle.grammar_file.specs.Contents as of
-use Rattle.grammar_file.specs.WrittenOut.{with_marked, marked}
-use Rattle.grammar_file.specs.Faults.{Cause, is_skip_rule, HasPattern, early_fault, line_limit, limit_fault, late_fault, nonterminal_count, production_count, exceeded_limit, cause_if, or_else, IsFaultless, AreFaultless, IsLineFault}
-use Rattle.grammar_file.specs.Kept.{are_among, with_rule, with_skip, with_left, with_right, with_sides, with_production, with_start, AreNames, ArePatterns, IsPatternOf, with_pattern, AreFew, IsRead, lines_view}
 
 pub has_pattern : (l : Line) (p : Option Expression) → IsPatternOf l p → HasPattern l
 has_pattern Nothing p h = tt

@@ -1,18 +1,6 @@
 -- Names that are found by their texts.
 use Rattle.std.proofs.Common.{◌≡◌, ℕ, suc, ◌+◌, ◌<◌, ◌≤◌, Bool, true, false, cond, nat_lt, not, List, [], ◌∷◌, ◌++◌, length, position, Option, None, Some, is_some, Bor, refl, sym, ap, ◌∙◌, ◌||◌, true≢false, if◌then◌else◌, unwrap_or, arith, lt-ltb, le-ltb}
-use Rattle.std.proofs.lemmas.List.{length_push, map-append}
-use Rattle.std.proofs.lemmas.List.Folds.{position_or_len_push}
-use Rattle.std.proofs.lemmas.List.Sums.{prefix_len-le-length}
-use Rattle.std.proofs.lemmas.Bool.{ltb-true, ltb-false, eq-eqb, ne_eqb}
-use Rattle.std.proofs.Math.Dec.{eqb}
-use Rattle.std.specs.List.{list_any, position_or_len}
-use Rattle.std.specs.Str.{bytes_eq}
-use Rattle.std.specs.Cmp.Lexicographic.{bytes_decides, nat_list_eq_equiv}
-use Rattle.std.specs.Map.{lookup}
-use Rattle.grammar_line.specs.Words.{Word}
-use Rattle.grammar_file.specs.Contents.{is_among, number_of, with_name}
-use Rattle.grammar_line.specs.Kept.{texts}
-use Rattle.grammar_file.specs.Numbers.{AreNumbers}
+use Rattle.grammar_file.proofs.Common.{length_push, map-append, position_or_len_push, prefix_len-le-length, ltb-true, ltb-false, eq-eqb, ne_eqb, eqb, list_any, position_or_len, bytes_eq, bytes_decides, nat_list_eq_equiv, lookup, Word, is_among, number_of, with_name, texts, AreNumbers}
 use Rattle.grammar_file.proofs.Splits.{length-texts}
 
 pub turned : (a b : Word) → bytes_eq a b ≡ bytes_eq b a

@@ -1,17 +1,7 @@
 -- Sets that are lists, each of whose items is there once.
 use Rattle.std.proofs.Common.{◌≡◌, ℕ, Bool, true, false, List, [], ◌∷◌, ◌++◌, refl, ap, sym, ◌∙◌, ◌||◌, ◌&&◌, if◌then◌else◌, map}
 use Rattle.std.specs.Borrow.{Bor}
-use Rattle.std.specs.List.{list_any}
-use Rattle.std.specs.Str.{bytes_eq}
-use Rattle.std.specs.Cmp.Lexicographic.{pointwise, bytes_decides}
-use Rattle.std.proofs.lemmas.List.Folds.{list_any-append}
-use Rattle.std.proofs.lemmas.List.{map-append}
-use Rattle.grammar_line.specs.Words.{Word}
-use Rattle.grammar_file.specs.Contents.{RuleLine, is_among}
-use Rattle.grammar_file.specs.Faults.{is_production, is_skip_rule, has_production}
-use Rattle.grammar_line.specs.Kept.{texts}
-use Rattle.grammar_file.specs.Kept.{are_among, with_names, with_rule, with_skip, with_sides}
-use Rattle.grammar_line.specs.Statements.{Line, Nothing, Production, Rule, Start, Fold, Bad, Statement, at}
+use Rattle.grammar_file.proofs.Common.{list_any, bytes_eq, pointwise, bytes_decides, list_any-append, map-append, Word, RuleLine, is_among, is_production, is_skip_rule, has_production, texts, are_among, with_names, with_rule, with_skip, with_sides, Line, Nothing, Production, Rule, Start, Fold, Bad, Statement, at}
 use Rattle.grammar_file.proofs.NameLookUps.{turned}
 use Rattle.grammar_file.proofs.TestedItems.{pointwise-map}
 

@@ -1,19 +1,6 @@
 -- A list of lines, cut at one of them.
 use Rattle.std.proofs.Common.{◌≡◌, ◌≢◌, ℕ, suc, ◌+◌, ◌<◌, List, [], ◌∷◌, ◌++◌, refl, ap, sym, ◌∙◌, length, take, drop, get_or, arith, append_assoc, Bor, subst, Option, Some, None, map, option_map}
-use Rattle.std.specs.List.{filter_map, cons_option, enumerate_from}
-use Rattle.std.proofs.lemmas.List.{map-append, take_more, take-append-drop, length-take-le}
-use Rattle.grammar_line.specs.declared.line.Version.{Version}
-use Rattle.grammar_file.specs.declared.statements.Numbered.{Numbered}
-use Rattle.grammar_line.specs.Statements.{Statement, Line, Nothing, Production, Rule, Start, Fold, Bad, at, line_of, numbered, statements_in}
-use Rattle.std.proofs.lemmas.List.Elements.{filter_map-append}
-use Rattle.grammar_file.specs.Contents.{ProductionLine, productions, as_production}
-use Rattle.grammar_file.specs.Faults.{Cause, HaveReferents, reference_fault, IsLineFault, IsFirstLineFault}
-use Rattle.grammar_line.specs.Kept.{texts}
-use Rattle.grammar_file.specs.Kept.{statement_of, lines_view, IsRead}
-use Rattle.grammar_file.specs.declared.statements.File.{File}
-use Rattle.grammar_file.specs.declared.fault.Refusal.{Refusal}
-use Rattle.grammar_file.specs.declared.fault.Refusal.TheVariants.{Fault, Memory}
-use Rattle.grammar_file.specs.Causes.{Reports, cause_of}
+use Rattle.grammar_file.proofs.Common.{filter_map, cons_option, enumerate_from, map-append, take_more, take-append-drop, length-take-le, Version, Numbered, Statement, Line, Nothing, Production, Rule, Start, Fold, Bad, at, line_of, numbered, statements_in, filter_map-append, ProductionLine, productions, as_production, Cause, HaveReferents, reference_fault, IsLineFault, IsFirstLineFault, texts, statement_of, lines_view, IsRead, File, Refusal, Fault, Memory, Reports, cause_of}
 use Rattle.grammar_file.proofs.OneMoreItem.{push_at, cons_option-append}
 
 numbered-split : {Y : Type 0} (h : (ℕ × List ℕ) → Option Y) (xs : List (List ℕ)) (y : List ℕ) (zs : List (List ℕ)) (n m : ℕ) → m ≡ n + length xs → filter_map h (enumerate_from n (xs ++ y ∷ zs)) ≡ filter_map h (enumerate_from n xs) ++ cons_option (h (m, y)) (filter_map h (enumerate_from (m + 1) zs))

@@ -1,10 +1,6 @@
 -- The productions of marked words after the lines.
 use Rattle.std.proofs.Common.{◌≡◌, ℕ, ◌+◌, ◌<◌, List, [], ◌∷◌, ◌++◌, ap, sym, ◌∙◌, length, take, get_or, Bor}
-use Rattle.std.specs.List.{flat_map}
-use Rattle.std.proofs.lemmas.List.{take_more, flat_map_more, map-append}
-use Rattle.grammar_line.specs.Statements.{Statement}
-use Rattle.grammar_file.specs.WrittenOut.{added}
-use Rattle.grammar_line.specs.Kept.{texts}
+use Rattle.grammar_file.proofs.Common.{flat_map, take_more, flat_map_more, map-append, Statement, added, texts}
 
 -- the statements with what is added for one more word
 pub added_more : (ss ts us : List Statement) (ws : List (Bor (List ℕ))) (i : ℕ) (d : Bor (List ℕ)) → i < length ws → ts ≡ ss ++ flat_map added (texts (take i ws)) → us ≡ ts ++ added (get_or ws i d).now → us ≡ ss ++ flat_map added (texts (take (i + 1) ws))

@@ -1,24 +1,6 @@
 -- Kernels that are added to the states.
 use Rattle.std.proofs.Common.{◌≡◌, ◌<◌, ◌≤◌, ◌⊎◌, ℕ, List, [], ◌∷◌, ◌++◌, length, slice_index_or, refl, sym, ap, ◌∙◌, subst, inl, inr, arith, length-append}
-use Rattle.std.proofs.lemmas.Bool.{cases_lt}
-use Rattle.std.proofs.lemmas.List.{get_or_append_left}
-use Rattle.std.proofs.lemmas.List.Elements.{All-cons, Contains-get_or}
-use Rattle.std.proofs.Math.Seq.{get_or-append_seam}
-use Rattle.definitions.specs.declared.Symbol.{Symbol}
-use Rattle.definitions.specs.declared.Symbol.TheVariants.{Rule as Terminal}
-use Rattle.definitions.specs.Trees.{Grammar}
-use Rattle.definitions.specs.Items.{Item as LrItem, HasItem}
-use Rattle.theory.specs.Closure.{ByRules, Start, Goto, Close, IsKernel}
-use Rattle.theory.proofs.Rules.{rules_valid, valid_rules}
-use Rattle.theory.proofs.Sets.{not_empty}
-use Rattle.item_sets.specs.declared.collection.Origin.{Origin}
-use Rattle.item_sets.specs.declared.item.Item.{Item}
-use Rattle.item_sets.specs.Order.{IsOrdered}
-use Rattle.item_sets.specs.Collection.{kernel_at, origin_at, IsAbsent, Found, IsReached, IsLed, AreStates, Placed, GoesOn}
-use Rattle.first_sets.specs.Productions.{Shape, IsSound}
-use Rattle.item_sets.specs.Order.{IsInside}
-use Rattle.item_sets.specs.Sets.{IsItem, item_of}
-use Rattle.item_sets.specs.States.{HasKernel}
+use Rattle.item_sets.proofs.Common.{cases_lt, get_or_append_left, All-cons, Contains-get_or, get_or-append_seam, Symbol, Terminal, Grammar, LrItem, HasItem, ByRules, Start, Goto, Close, IsKernel, rules_valid, valid_rules, not_empty, Origin, Item, IsOrdered, kernel_at, origin_at, IsAbsent, Found, IsReached, IsLed, AreStates, Placed, GoesOn, Shape, IsSound, IsInside, IsItem, item_of, HasKernel}
 use Rattle.item_sets.proofs.FirstKernel.{start_item, start_kernel}
 
 abbrev none : Origin

@@ -1,17 +1,6 @@
 -- The kernel after a symbol is that of the longer prefix.
 use Rattle.std.proofs.Common.{◌≡◌, ◌+◌, ◌<◌, ℕ, zero, suc, List, [], ◌∷◌, ◌++◌, Some, refl, sym, ap, ◌∙◌, subst, length, take, drop, Contains, arith}
-use mathlib.Core.List.{tail-eq_of_cons-eq}
-use Rattle.definitions.specs.declared.Symbol.{Symbol}
-use Rattle.definitions.specs.Trees.{Grammar}
-use Rattle.definitions.specs.Derivations.{first}
-use Rattle.definitions.specs.Items.{Item as LrItem, IsValid}
-use Rattle.theory.specs.Closure.{ByRules, Goto}
-use Rattle.theory.proofs.Rules.{rules_valid, valid_rules}
-use Rattle.theory.proofs.Sets.{Back, goto_back}
-use Rattle.item_sets.specs.declared.item.Item.{Item}
-use Rattle.first_sets.specs.Productions.{Shape}
-use Rattle.item_sets.specs.Sets.{side, after_dot, item_of, IsItem}
-use Rattle.item_sets.specs.States.{HasKernel, HasSet, Shifted, step}
+use Rattle.item_sets.proofs.Common.{tail-eq_of_cons-eq, Symbol, Grammar, first, LrItem, IsValid, ByRules, Goto, rules_valid, valid_rules, Back, goto_back, Item, Shape, side, after_dot, item_of, IsItem, HasKernel, HasSet, Shifted, step}
 
 pub record Parts (n : ℕ) (ss : List Symbol) (s : Symbol) : Type 0 where
   pub rest : List Symbol

@@ -1,15 +1,7 @@
 -- The items go on by one beginning, by one column or by one production.
 use Rattle.std.proofs.Common.{◌≡◌, ◌+◌, ◌<◌, ◌≤◌, ℕ, Bool, true, false, List, [], ◌∷◌, ◌++◌, length, slice_index_or, refl, Contains, sym, subst, inl, inr, ⊎_elim, arith}
-use Rattle.std.proofs.lemmas.Bool.{cases_eq, cases_lt}
-use Rattle.std.proofs.lemmas.List.Elements.{All-push, Contains-push, Contains-push_cases, Contains-append_left}
-use Rattle.definitions.specs.Trees.{left_of}
-use Rattle.first_sets.specs.Productions.{Shape}
-use Rattle.item_sets.specs.declared.item.Item.{Item}
-use Rattle.item_sets.specs.Worklist.{marked, beginning_of, HaveBeginnings}
-use Rattle.item_sets.specs.Order.{Below, IsBefore}
+use Rattle.item_sets.proofs.Common.{cases_eq, cases_lt, All-push, Contains-push, Contains-push_cases, Contains-append_left, left_of, Shape, Item, marked, beginning_of, HaveBeginnings, Below, IsBefore, rank-lookahead_at, all_pairs_push}
 use Rattle.item_sets.proofs.Ordered.{before_below, before_more, before_next}
-use Rattle.first_sets.proofs.Columns.{rank-lookahead_at}
-use Rattle.std.proofs.lemmas.List.Quantifiers.{all_pairs_push}
 
 module _ (g : Shape) (kernel : List Item) (rows : List (List Bool)) (p k : ℕ) (items : List Item) (h : HaveBeginnings g kernel rows p k items) where
   abbrev new : List Item

@@ -1,16 +1,6 @@
 -- The first kernel, and prefixes with one kernel.
 use Rattle.std.proofs.Common.{◌≡◌, List, [], ◌∷◌, None, refl, subst, ⊎_elim, arith}
-use Rattle.definitions.specs.declared.Symbol.{Symbol}
-use Rattle.definitions.specs.Trees.{Grammar}
-use Rattle.definitions.specs.Items.{Item as LrItem, IsValid, HaveSameItems}
-use Rattle.definitions.proofs.Ordered.{Contains-cases}
-use Rattle.theory.specs.Closure.{ByRules, Start, Goto, Close}
-use Rattle.theory.proofs.Rules.{rules_valid, valid_rules}
-use Rattle.theory.proofs.Sets.{kernel_shows, not_empty}
-use Rattle.theory.specs.Closure.{IsKernel}
-use Rattle.item_sets.specs.declared.item.Item.{Item}
-use Rattle.item_sets.specs.Sets.{item_of}
-use Rattle.item_sets.specs.States.{HasKernel}
+use Rattle.item_sets.proofs.Common.{Symbol, Grammar, LrItem, IsValid, HaveSameItems, Contains-cases, ByRules, Start, Goto, Close, rules_valid, valid_rules, kernel_shows, not_empty, IsKernel, Item, item_of, HasKernel}
 
 abbrev pub start_item : Item
 start_item = record { production = None; dot = 0; look = None }

@@ -1,12 +1,6 @@
 -- Where symbols lead from a state, as more states come.
 use Rattle.std.proofs.Common.{◌<◌, ℕ, List, [], ◌∷◌, ◌++◌, Option, Some, None, length, slice_index_or, sym, ◌∙◌, subst, arith}
-use Rattle.definitions.specs.declared.Symbol.{Symbol}
-use Rattle.definitions.specs.Trees.{Grammar}
-use Rattle.item_sets.specs.declared.item.Item.{Item}
-use Rattle.item_sets.specs.Collection.{GoesOn, IsStep}
-use Rattle.item_sets.specs.States.{HasKernel}
-use Rattle.first_sets.specs.Symbols.{symbol_of}
-use Rattle.first_sets.proofs.EachMore.{each_more}
+use Rattle.item_sets.proofs.Common.{Symbol, Grammar, Item, GoesOn, IsStep, HasKernel, symbol_of, each_more}
 
 pub goes_on_trans : (a b c : List (List Item)) → GoesOn a b → GoesOn b c → GoesOn a c
 goes_on_trans a b c h k = record {

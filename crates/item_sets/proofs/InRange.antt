@@ -1,20 +1,7 @@
 -- All numbers of the items of a set are in range.
 use Rattle.std.proofs.Common.{◌≡◌, ◌+◌, ◌<◌, ℕ, Bool, true, List, [], ◌∷◌, Option, Some, None, refl, sym, inl, subst, length, All, Contains, ⊎_elim, arith, IfSome}
-use Rattle.std.proofs.lemmas.List.Elements.{All-cons, All-head, All-tail, All-drop}
-use Rattle.definitions.specs.declared.Symbol.{Symbol}
-use Rattle.definitions.specs.declared.Symbol.TheVariants.{Nonterminal}
-use Rattle.definitions.specs.Derivations.{first}
-use Rattle.item_sets.specs.declared.item.Item.{Item}
-use Rattle.definitions.specs.Trees.{left_of, right_of}
-use Rattle.first_sets.specs.Lookaheads.{lookahead_at}
-use Rattle.first_sets.specs.Productions.{Shape, IsSound, IsKnown}
-use Rattle.theory.specs.First.{MayFollow}
-use Rattle.item_sets.specs.Sets.{side, after_dot, IsItem, IsIn, Kernel, Closed}
-use Rattle.item_sets.specs.Worklist.{marked, AreMarked, CallFor, IsCalledFor, IsExpanded, AreCalledFor, HaveBeginnings}
-use Rattle.first_sets.proofs.Numbers.{has_production}
+use Rattle.item_sets.proofs.Common.{All-cons, All-head, All-tail, All-drop, Symbol, Nonterminal, first, Item, left_of, right_of, lookahead_at, Shape, IsSound, IsKnown, MayFollow, side, after_dot, IsItem, IsIn, Kernel, Closed, marked, AreMarked, CallFor, IsCalledFor, IsExpanded, AreCalledFor, HaveBeginnings, has_production, column_there, may_known}
 use Rattle.item_sets.proofs.WorklistIsRight.{begins_in}
-use Rattle.first_sets.proofs.Columns.{column_there}
-use Rattle.first_sets.proofs.FollowsInRange.{may_known}
 
 first_known : (g : Shape) (s : Symbol) (ss : List Symbol) → All (IsKnown g) ss → first ss ≡ Some s → IsKnown g s
 first_known g s [] h e = absurd (cc e)

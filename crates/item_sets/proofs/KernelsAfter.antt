@@ -1,19 +1,7 @@
 -- The kernels after all symbols of a set, as its items are taken one by one.
 use Rattle.std.proofs.Common.{◌≡◌, ◌+◌, ◌<◌, ◌≤◌, ℕ, List, [], ◌∷◌, ◌++◌, Some, All, Contains, length, slice_index_or, slice_set, refl, sym, ap, ◌∙◌, subst, inr, ⊎_elim, arith, length-set, get_or-set_same, get_or-set_other}
-use Rattle.std.proofs.lemmas.Bool.{cases_eq}
-use Rattle.std.proofs.lemmas.List.{get_or_default}
-use Rattle.std.proofs.lemmas.List.Elements.{Contains-get_or, Contains-push, Contains-push_cases, Contains-append_left}
-use Rattle.definitions.specs.declared.Symbol.{Symbol}
-use Rattle.definitions.specs.Trees.{Grammar}
-use Rattle.definitions.specs.Derivations.{first}
-use Rattle.item_sets.specs.declared.item.Item.{Item}
-use Rattle.item_sets.specs.Order.{IsRising, IsInside}
-use Rattle.first_sets.specs.Productions.{Shape, IsKnown}
-use Rattle.item_sets.specs.Sets.{IsItem, after_dot}
-use Rattle.item_sets.specs.States.{step, ShiftsUpTo, IsKernelAfter}
-use Rattle.first_sets.specs.Symbols.{number, symbol_of}
+use Rattle.item_sets.proofs.Common.{cases_eq, get_or_default, Contains-get_or, Contains-push, Contains-push_cases, Contains-append_left, Symbol, Grammar, first, Item, IsRising, IsInside, Shape, IsKnown, IsItem, after_dot, step, ShiftsUpTo, IsKernelAfter, number, symbol_of, number-symbol_of, symbol_of-number}
 use Rattle.item_sets.proofs.AfterDot.{step_known, moved}
-use Rattle.first_sets.proofs.SymbolNumbers.{number-symbol_of, symbol_of-number}
 use Rattle.item_sets.proofs.Ordered.{rising_step}
 
 module _ (g : Grammar) (items : List Item) (at : ℕ) (z : Item) (below : at < length items) where

@@ -1,3 +1,4 @@
+pub mod Common
 pub mod WorklistIsRight
 pub mod FirstKernel
 pub mod InRange

@@ -1,14 +1,6 @@
 -- The order of items, which the closure and a step of the dots keep.
 use Rattle.std.proofs.Common.{◌≡◌, ◌<◌, ◌+◌, ℕ, zero, suc, List, [], ◌∷◌, ◌++◌, Contains, length, slice_index_or, refl, sym, ap, ◌∙◌, subst, inl, inr, ⊎_elim, arith}
-use Rattle.std.proofs.lemmas.List.Elements.{Contains-get_or}
-use Rattle.std.proofs.lemmas.List.Quantifiers.{all_pairs_push}
-use Rattle.definitions.proofs.Ordered.{Contains-cases}
-use Rattle.item_sets.specs.declared.item.Item.{Item}
-use Rattle.item_sets.specs.Worklist.{beginning_of}
-use Rattle.item_sets.specs.States.{step}
-use Rattle.first_sets.specs.Lookaheads.{rank}
-use Rattle.item_sets.specs.Order.{Below, IsRising, IsBefore}
-use Rattle.first_sets.proofs.Columns.{rank-lookahead_at}
+use Rattle.item_sets.proofs.Common.{Contains-get_or, all_pairs_push, Contains-cases, Item, beginning_of, step, rank, Below, IsRising, IsBefore, rank-lookahead_at}
 
 pub before_below : (p k : ℕ) (i : Item) → IsBefore p k i → Below i (beginning_of p k)
 before_below p k i (inl (inl e)) = at_start (i.dot) refl

@@ -1,23 +1,6 @@
 -- The set of a kernel is the set of each prefix that has the kernel.
 use Rattle.std.proofs.Common.{◌≡◌, ◌<◌, ℕ, zero, suc, List, [], ◌∷◌, Option, Some, None, sym, ap, subst, length, take, drop, All, Contains, IfSome}
-use Rattle.definitions.specs.declared.Symbol.{Symbol}
-use Rattle.definitions.specs.declared.Symbol.TheVariants.{Nonterminal}
-use Rattle.definitions.specs.Trees.{Grammar, HasProduction, trees, left_of, right_of}
-use Rattle.definitions.specs.Sentences.{AllProductive}
-use Rattle.definitions.specs.Items.{Item as LrItem, IsValid}
-use Rattle.theory.specs.Closure.{IsFirst, ByRules, Close}
-use Rattle.theory.proofs.Rules.{rules_valid, valid_rules}
-use Rattle.theory.proofs.Sets.{closed_set}
-use Rattle.theory.specs.Closure.{IsKernel}
-use Rattle.theory.proofs.StackIsRead.{right_trees}
-use Rattle.theory.proofs.Simulation.{roots-trees}
-use Rattle.theory.proofs.FirstLemmas.{HasTrees, first_of_rules, first_by_rules}
-use Rattle.item_sets.specs.declared.item.Item.{Item}
-use Rattle.first_sets.specs.Productions.{Shape, IsSound}
-use Rattle.theory.specs.First.{MayFollow}
-use Rattle.item_sets.specs.Sets.{side, item_of, IsItem, IsIn, Kernel, Closed}
-use Rattle.item_sets.specs.States.{HasKernel, HasSet}
-use Rattle.first_sets.proofs.Numbers.{has_production, production_is, production_below}
+use Rattle.item_sets.proofs.Common.{Symbol, Nonterminal, Grammar, HasProduction, trees, left_of, right_of, AllProductive, LrItem, IsValid, IsFirst, ByRules, Close, rules_valid, valid_rules, closed_set, IsKernel, right_trees, roots-trees, HasTrees, first_of_rules, first_by_rules, Item, Shape, IsSound, MayFollow, side, item_of, IsItem, IsIn, Kernel, Closed, HasKernel, HasSet, has_production, production_is, production_below}
 use Rattle.item_sets.proofs.InRange.{in_known}
 
 module _ (g : Grammar) where

@@ -1,20 +1,7 @@
 -- A list of vectors that is kept as a set.
 use Rattle.std.proofs.Common.{◌≡◌, ◌<◌, ◌⊎◌, ◌&&◌, ℕ, Bool, true, false, List, [], ◌∷◌, ◌++◌, Option, Some, None, Vec, length, slice_index_or, slice_get, refl, sym, ap, ◌∙◌, inl, inr, map, arith, if◌then◌else◌}
-use Rattle.std.specs.Bool.{Decides}
-use Rattle.std.specs.Option.{option_eq}
-use Rattle.std.proofs.Math.Dec.{eqb}
-use Rattle.std.proofs.lemmas.Bool.Decides.{Decides-and, Decides-eqb}
-use Rattle.std.specs.List.{list_any, position}
-use Rattle.std.specs.Cmp.Lexicographic.{pointwise}
-use Rattle.std.proofs.lemmas.Slice.Eq.{slice_eq-Decides}
-use Rattle.std.proofs.lemmas.List.{get_or-map, map-append, length-map}
-use Rattle.std.proofs.lemmas.List.Folds.{list_any_at}
-use Rattle.std.proofs.lemmas.List.Quantifiers.{position-Some}
-use Rattle.std.proofs.lemmas.Option.{get_or_from_slice_get}
+use Rattle.item_sets.proofs.Common.{Decides, option_eq, eqb, Decides-and, Decides-eqb, list_any, position, pointwise, slice_eq-Decides, get_or-map, map-append, length-map, list_any_at, position-Some, get_or_from_slice_get, ghosts, Item, IsAbsent}
 use Rattle.std.proofs.Common.{Global}
-use Rattle.item_sets.specs.contracts.item.ItemPartialEq.TheImpl.{ghosts}
-use Rattle.item_sets.specs.declared.item.Item.{Item}
-use Rattle.item_sets.specs.Collection.{IsAbsent}
 
 option_same : (x y : Option ℕ) → Decides (option_eq eqb x y) (x ≡ y)
 option_same None None = (λ e. refl, λ e. refl)

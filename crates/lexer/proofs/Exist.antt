@@ -1,14 +1,7 @@
 -- Where there is an automaton of the rules, every text has tokens: the run of the automaton finds the next one.
 use Rattle.std.proofs.Common.{arith, refl, inl, inr, length-drop, ◌≡◌, ℕ, zero, suc, ◌+◌, ◌<◌, ◌≤◌, ◌⊎◌, min, List, [], ◌∷◌, length, take, drop, slice_index, slice_index_or, Option, Some, None}
-use Rattle.std.proofs.lemmas.List.Elements.{All-drop, All-take}
-use Rattle.definitions.specs.declared.expression.Expression.{Expression}
-use Rattle.definitions.specs.declared.Kind.{Kind}
-use Rattle.definitions.specs.declared.Kind.TheVariants.{Rule, Invalid}
-use Rattle.definitions.specs.Text.{IsCharacter, IsText}
-use Rattle.definitions.specs.Tokens.{IsRulePrefix, IsPiece, Token, IsToken, AreTokens}
-use Rattle.dfa.specs.Table.{Table, follower, state_after, IsAutomaton, kind_of}
-use Rattle.dfa.specs.Matches.{IsBest}
-use Rattle.dfa.proofs.LongestMatch.{Ends, best_none, best_more_none, best_more_some, prefixes_more, more_state, more_prefix, more_first, more_dead, piece_of, reach_of, state_after-none}
+use Rattle.lexer.proofs.Common.{All-drop, All-take, Expression, Kind, Rule, Invalid, IsCharacter, IsText, IsRulePrefix, IsPiece, IsToken, AreTokens, Table, follower, state_after, IsAutomaton, kind_of, IsBest, Ends, best_none, best_more_none, best_more_some, prefixes_more, more_state, more_prefix, more_first, more_dead, piece_of, reach_of, state_after-none}
+use Rattle.definitions.specs.Tokens.{Token}
 
 module _ (rules : List Expression) (table : Table) (a : IsAutomaton rules table) where
   -- the run over the first n characters of t: its state, and the best of their prefixes

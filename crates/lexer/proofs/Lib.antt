@@ -1,3 +1,4 @@
+pub mod Common
 pub mod Totals
 pub mod Boundaries
 pub mod SignificantKinds

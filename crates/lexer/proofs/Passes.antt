@@ -1,7 +1,6 @@
 -- Characters of a list that pass a test, one after another.
 use Rattle.std.proofs.Common.{arith, sym, ap, subst, ◌∙◌, ◌≡◌, ℕ, zero, ◌+◌, ◌-◌, ◌<◌, ◌≤◌, All, List, length, length-drop, take, drop, slice_index_or}
-use Rattle.std.proofs.lemmas.List.{get_or-drop}
-use Rattle.std.proofs.lemmas.List.Elements.{All-more, All-nil}
+use Rattle.lexer.proofs.Common.{get_or-drop, All-more, All-nil}
 
 -- those from offset `i` to offset `end` pass
 pub record ArePassed (P : ℕ → Type 0) (t : List ℕ) (i end : ℕ) : Type 0 where

@@ -1,24 +1,6 @@
 -- What a rescan has made, at a place where no rejoining has been.
-use Rattle.definitions.proofs.TokensLead.{GoOn, before_rejoin, chars, chars-cons, chars_from, prefix_before, prefix_leads, leads_inside, leads_join, leads_split, length-placed, placed_at}
-use Rattle.definitions.specs.Tokens.{Leads}
-use Rattle.definitions.proofs.TokensKept.{length-edit}
+use Rattle.lexer.proofs.Common.{GoOn, before_rejoin, chars, chars-cons, chars_from, prefix_before, prefix_leads, leads_inside, leads_join, leads_split, length-placed, placed_at, Leads, length-edit, cases_lt, map-append, take-take, length-take, take_all, take-append-le, prefix_len-le-length, sum_by-append, take-append-add, Edit, Expression, edit, PlainToken, Placed, IsToken, AreTokens, placed, boundaries, kept_before, is_rejoined, boundaries-end, length-boundaries, IsWithinReach, Lexicon, Token, plain, characters, Fits, plain_all, prefix_end, IsEdited, IsNeeded, IsReachedByMade, IsPassed, horizon}
 use Rattle.std.proofs.Common.{arith, refl, sym, ap, subst, inl, inr, ◌∙◌, length-append, length-drop, ◌≡◌, ℕ, zero, suc, ◌+◌, ◌-◌, ◌<◌, ◌≤◌, ◌^◌, true, false, List, [], ◌∷◌, ◌++◌, length, take, drop, slice_get, slice_index_or, IsSomeAnd}
-use Rattle.std.proofs.lemmas.Bool.{cases_lt}
-use Rattle.std.proofs.lemmas.List.{map-append, take-take, length-take, take_all, take-append-le}
-use Rattle.std.proofs.lemmas.List.Sums.{prefix_len-le-length, sum_by-append}
-use Rattle.std.proofs.Math.Seq.{take-append-add}
-use Rattle.definitions.specs.declared.Edit.{Edit}
-use Rattle.definitions.specs.declared.expression.Expression.{Expression}
-use Rattle.definitions.specs.Text.{edit}
-use Rattle.definitions.specs.Tokens.{Token as PlainToken, Placed, IsToken, AreTokens, placed, boundaries}
-use Rattle.definitions.specs.TokenEdits.{kept_before, is_rejoined}
-use Rattle.definitions.proofs.TokensKept.{boundaries-end, length-boundaries}
-use Rattle.dfa.specs.Windows.{IsWithinReach}
-use Rattle.dfa.specs.Lexicon.{Lexicon}
-use Rattle.lexer.specs.declared.sums.Token.{Token}
-use Rattle.lexer.specs.Tokens.{plain, characters, Fits}
-use Rattle.lexer.specs.Rescans.{plain_all, prefix_end, IsEdited, IsNeeded, IsReachedByMade}
-use Rattle.lexer.specs.Walks.{IsPassed, horizon}
 use Rattle.lexer.proofs.Totals.{characters-cons}
 use Rattle.lexer.proofs.Boundaries.{length-plain, boundary_at, not_after, is_rejoined_at}
 use Rattle.lexer.proofs.WithinReach.{within_token}

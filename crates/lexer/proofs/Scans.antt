@@ -1,19 +1,6 @@
 -- Tokens made one after another.
 use Rattle.std.proofs.Common.{arith, inl, inr, sym, ap, subst, ◌∙◌, ◌≡◌, ℕ, ◌+◌, ◌<◌, ◌≤◌, ◌^◌, Bool, List, [], ◌∷◌, ◌++◌, length, take, drop, map, All, Option, Some, None, IfSome, IsSomeAnd}
-use Rattle.std.proofs.lemmas.Bool.{cases_lt}
-use Rattle.std.proofs.lemmas.Option.{slice_get_past}
-use Rattle.std.proofs.lemmas.List.{append-nil, drop-drop, drop_all, map-append}
-use Rattle.std.proofs.lemmas.List.Sums.{sum_by-append, sum_by_push}
-use Rattle.std.proofs.lemmas.List.Elements.{All-nil, All-cons, All-append}
-use Rattle.definitions.specs.declared.expression.Expression.{Expression}
-use Rattle.definitions.specs.Patterns.{Matches}
-use Rattle.definitions.specs.Tokens.{IsPiece, IsToken, AreTokens, Leads, is_skipped}
-use Rattle.definitions.proofs.TokensLead.{chars, leads_join, leads_more, leads_tokens}
-use Rattle.dfa.specs.Table.{kind_of}
-use Rattle.dfa.specs.Lexicon.{Lexicon}
-use Rattle.lexer.specs.declared.sums.Token.{Token}
-use Rattle.lexer.specs.Tokens.{kind_in, plain, characters}
-use Rattle.lexer.specs.Scans.{AreMade, AreNext}
+use Rattle.lexer.proofs.Common.{cases_lt, slice_get_past, append-nil, drop-drop, drop_all, map-append, sum_by-append, sum_by_push, All-nil, All-cons, All-append, Expression, Matches, IsPiece, IsToken, AreTokens, Leads, is_skipped, chars, leads_join, leads_more, leads_tokens, kind_of, Lexicon, Token, kind_in, plain, characters, AreMade, AreNext}
 use Rattle.lexer.proofs.Remakes.{chars-plain}
 use Rattle.lexer.proofs.Totals.{length-le-characters}
 

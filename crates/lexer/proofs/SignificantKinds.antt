@@ -1,18 +1,6 @@
 -- The kinds of the significant ones of a list of tokens.
 use Rattle.std.proofs.Common.{arith, refl, sym, ap, subst, ◌∙◌, slice_range, length-append, nat_eq, ◌≡◌, ℕ, zero, suc, ◌+◌, ◌-◌, ◌<◌, ◌≤◌, drop, Bool, true, false, List, [], ◌∷◌, ◌++◌, length, take, map, filter, count_by, slice_get, slice_index_or, Option, Some, None, All, if◌then◌else◌}
-use Rattle.std.proofs.lemmas.List.{append_assoc, drop_at, drop-take, length-map, map-append, take_at, take-append-drop, take-take}
-use Rattle.std.proofs.lemmas.List.Sums.{length-filter}
-use mathlib.Core.List.{tail-eq_of_cons-eq, head-eq_of_cons-eq}
-use Rattle.std.specs.Iterator.{YieldsFirst}
-use Rattle.std.proofs.lemmas.Bool.{and_parts, eqb-true}
-use Rattle.definitions.specs.declared.Kind.{Kind}
-use Rattle.definitions.specs.declared.Kind.TheVariants.{Rule, Invalid}
-use Rattle.definitions.specs.TokenEdits.{IsSpliced, same_kind, same_kinds}
-use Rattle.lexer.specs.declared.sums.Token.{Token}
-use Rattle.lexer.specs.Tokens.{kind_in, is_significant}
-use Rattle.definitions.specs.Tokens.{kinds, is_skipped}
-use Rattle.std.proofs.lemmas.List.Elements.{All-head, All-tail, filter-append}
-use Rattle.lexer.specs.Rescans.{significant_kinds, plain_all, change}
+use Rattle.lexer.proofs.Common.{append_assoc, drop_at, drop-take, length-map, map-append, take_at, take-append-drop, take-take, length-filter, tail-eq_of_cons-eq, head-eq_of_cons-eq, YieldsFirst, and_parts, eqb-true, Kind, Rule, Invalid, IsSpliced, same_kind, same_kinds, Token, kind_in, is_significant, kinds, is_skipped, All-head, All-tail, filter-append, significant_kinds, plain_all, change}
 use Rattle.lexer.proofs.Totals.{count-cons}
 
 -- the kind of the significant token that has k before it

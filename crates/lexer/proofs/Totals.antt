@@ -1,15 +1,6 @@
 -- The sums of tokens are exact where they fit.
 use Rattle.std.proofs.Common.{arith, refl, sym, ap, subst, inl, inr, ◌∙◌, ◌≡◌, ◌≢◌, ℕ, zero, suc, ◌+◌, ◌<◌, ◌≤◌, ◌^◌, ◌⊎◌, Bool, true, false, not, List, [], ◌∷◌, length, take, count_by, All, IsTrue, nat_lt, if◌then◌else◌}
-use Rattle.std.proofs.lemmas.Bool.{cases_lt, ltb-true, ltb-false}
-use Rattle.std.proofs.lemmas.List.{take_all, take-take}
-use Rattle.std.proofs.lemmas.List.Sums.{count_by-le-length, sum_by-take-le, sum_by-cons}
-use Rattle.std.proofs.lemmas.List.Elements.{All-head, All-tail}
-use Rattle.seqtree.specs.Monoid.{total}
-use Rattle.seqtree.specs.Saturated.{saturated, saturated-exact}
-use Rattle.lexer.specs.declared.sums.Sums.{Sums}
-use Rattle.lexer.specs.declared.sums.Token.{Token}
-use Rattle.lexer.specs.Sums.{most, no_tokens, joined, token_sum}
-use Rattle.lexer.specs.Tokens.{is_significant, characters, Fits}
+use Rattle.lexer.proofs.Common.{cases_lt, ltb-true, ltb-false, take_all, take-take, count_by-le-length, sum_by-take-le, sum_by-cons, All-head, All-tail, total, saturated, saturated-exact, Sums, Token, most, no_tokens, joined, token_sum, is_significant, characters, Fits}
 
 abbrev pub tot : List Token → Sums
 tot xs = total no_tokens joined token_sum xs

@@ -1,18 +1,6 @@
 -- A shift makes no branch, and a reduction one. How many of a list's branches carry a number.
 use Rattle.std.proofs.Common.{◌≡◌, ◌≢◌, ℕ, ◌+◌, Bool, true, false, List, [], ◌∷◌, ◌++◌, Option, ap, arith, refl, sym, ◌∙◌, ◌==◌, if◌then◌else◌}
-use Rattle.std.proofs.lemmas.Bool.{eq-eqb, eqb-true}
-use Rattle.definitions.specs.declared.Kind.{Kind}
-use Rattle.definitions.specs.Trees.{Grammar, Tree, Leaf, Branch, trees}
-use Rattle.definitions.specs.Nodes.{all_branches}
-use Rattle.definitions.specs.TreeEdits.{Stamped, StampedBranch, StampedCons, StampedForest, StampedLeaf, StampedNil, StampedIn, StampedBelow, StampedPast, StampedTop, plain, stamped_trees}
-use Rattle.theory.specs.Machine.{Reduces}
-use Rattle.theory.proofs.KeptIsReused.{branches-append, branches-trees}
-use Rattle.trees.specs.declared.store.Child.{Child}
-use Rattle.trees.specs.declared.store.Child.TheVariants.{Token}
-use Rattle.trees.specs.Cells.{Cell}
-use Rattle.parser.specs.Machine.{plain_of}
-use Rattle.parser.specs.Parses.{branches_by, branches_of_by, all_branches_by}
-use Rattle.parser.specs.Stamps.{AreOlder}
+use Rattle.parser.proofs.Common.{eq-eqb, eqb-true, Kind, Grammar, Tree, Leaf, Branch, trees, all_branches, Stamped, StampedBranch, StampedCons, StampedForest, StampedLeaf, StampedNil, StampedIn, StampedBelow, StampedPast, StampedTop, plain, stamped_trees, Reduces, branches-append, branches-trees, Child, Token, Cell, plain_of, branches_by, branches_of_by, all_branches_by, AreOlder}
 use Rattle.parser.proofs.Reductions.{plain-append}
 use Rattle.parser.proofs.Stamping.{stamped_before}
 

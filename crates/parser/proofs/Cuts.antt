@@ -1,22 +1,7 @@
 -- What a cut of a list of trees keeps of them: their kinds, their nodes, and what holds of each.
 use Rattle.std.proofs.Common.{◌≡◌, ◌⊎◌, ℕ, ◌+◌, ◌<◌, ◌≤◌, zero, suc, get_or, min, List, [], ◌∷◌, ◌++◌, length, refl, sym, ap, ◌∙◌, subst, inl, inr, ⊎_elim, arith, append_assoc, length-append}
-use Rattle.definitions.specs.Trees.{Grammar, Tree, Forest, Leaf, Branch, trees, yield, yields, all_kinds}
-use Rattle.definitions.specs.Nodes.{StandsIn, Top, Below, Past, all_branches, place_of}
-use Rattle.definitions.specs.TreeEdits.{plain, plain_trees}
-use Rattle.theory.proofs.StackIsRead.{kinds-append, kinds-trees}
-use Rattle.theory.proofs.Stack.{stands_in_prefix, stands_after}
-use Rattle.theory.proofs.ReuseIsExact.{closed}
-use Rattle.theory.proofs.KeptIsReused.{branches-append, branches-trees}
-use Rattle.trees.specs.declared.store.NodeId.{NodeId}
-use Rattle.trees.specs.declared.store.Child.{Child}
-use Rattle.trees.specs.declared.store.Child.TheVariants.{Node}
-use Rattle.trees.specs.Cells.{Cell, AreBelow, all_trees, most, tree, trees_from}
-use Rattle.trees.proofs.Cells.{all_below-more}
-use Rattle.parser.specs.Machine.{plain_of}
-use Rattle.parser.specs.Input.{AreParts}
-use Rattle.parser.specs.Run.{ComeFrom}
-use Rattle.parser.specs.Stamps.{AreOlder}
-use Rattle.parser.specs.Cuts.{kinds_in, AreChildren, IsSplitAt, Here, Used_up, Whole, Opened}
+use Rattle.parser.proofs.Common.{Grammar, Tree, Forest, Leaf, Branch, trees, yield, yields, all_kinds, StandsIn, Top, Below, Past, all_branches, place_of, plain, plain_trees, kinds-append, kinds-trees, stands_in_prefix, stands_after, closed, branches-append, branches-trees, NodeId, Child, Node, Cell, AreBelow, all_trees, most, tree, trees_from, all_below-more, plain_of, AreParts, ComeFrom, AreOlder, kinds_in, AreChildren, IsSplitAt, Here, Used_up, Whole}
+use Rattle.parser.specs.Cuts.{Opened}
 use Rattle.parser.proofs.LeftEdge.{open_parts, weight}
 use Rattle.parser.proofs.Reductions.{below-append, plain-append, plain-children, kids_of}
 use Rattle.parser.proofs.WhereBranchesComeFrom.{come_all, come_older, come_on, come_past, opened_came}

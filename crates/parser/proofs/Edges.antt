@@ -1,13 +1,6 @@
 -- The left edge of an input of no trees.
 use Rattle.std.proofs.Common.{arith, ◌≡◌, ℕ, List, [], ◌∷◌, Option, None, refl, slice_get, length}
-use Rattle.definitions.specs.declared.Kind.{Kind}
-use Rattle.definitions.specs.Trees.{Tree}
-use Rattle.trees.specs.declared.store.Child.{Child}
-use Rattle.trees.specs.Cells.{Cell}
-use Rattle.tables.specs.Tables.{Sets}
-use Rattle.parser.specs.declared.machine.FirstInput.TheVariants.{Next}
-use Rattle.parser.specs.Input.{IsInput}
-use Rattle.parser.specs.Run.{IsEdge}
+use Rattle.parser.proofs.Common.{Kind, Tree, Child, Cell, Sets, Next, IsInput, IsEdge}
 use Rattle.parser.proofs.WhereBranchesComeFrom.{come_all}
 
 pub none_counted : (xs : List Child) → length xs ≡ 0 → xs ≡ []

@@ -1,29 +1,6 @@
 -- An edit of the kinds: the old trees as an input, and what the stamps on the new ones show.
 use Rattle.std.proofs.Common.{◌≡◌, ◌≢◌, ◌⊎◌, ◌+◌, ◌≤◌, length-append, ℕ, List, [], ◌∷◌, ◌++◌, length, take, drop, refl, sym, ap, ◌∙◌, subst, inl, inr, ⊎_elim, take-append-drop, arith}
-use Rattle.std.proofs.lemmas.List.{append-nil}
-use Rattle.std.proofs.Math.Seq.{drop-append_seam}
-use Rattle.definitions.specs.declared.Kind.{Kind}
-use Rattle.definitions.specs.Trees.{Grammar, Tree, Branch, all_kinds}
-use Rattle.definitions.specs.Nodes.{StandsIn, place_of}
-use Rattle.definitions.specs.Sentences.{Verdict, HasTree, FaultAt, FaultAtEnd, IsVerdict}
-use Rattle.definitions.specs.Settled.{IsSettled}
-use Rattle.definitions.specs.TokenEdits.{Splice}
-use Rattle.definitions.specs.TreeEdits.{AreStampedExactly, Built, LiesInKept, Stamped, StampedForest, StampedIn, plain_all, plain_trees}
-use Rattle.theory.specs.Laws.{AreAnswer}
-use Rattle.theory.specs.Reuse.{Goes_on, Ends, Reuses, Takes_token, Makes, IsPrepared}
-use Rattle.theory.proofs.ReuseIsExact.{EachTaken, TakenIsKept, taken_is_kept}
-use Rattle.theory.proofs.LawProofs.{exact}
-use Rattle.theory.proofs.MadeIsBuilt.{made_or_taken, stamped_stands}
-use Rattle.theory.proofs.KeptIsReused.{TakesOver}
-use Rattle.theory.proofs.StackIsRead.{kinds-append}
-use Rattle.theory.proofs.Stack.{nowhere}
-use Rattle.trees.specs.declared.store.Child.{Child}
-use Rattle.trees.specs.Cells.{Cell, most, all_trees}
-use Rattle.tables.specs.Tables.{Sets, IsAccepted}
-use Rattle.parser.specs.Input.{leaves, IsInput}
-use Rattle.parser.specs.Machine.{plain_of}
-use Rattle.parser.specs.Parses.{AreStacked, IsParseOf, Stop, all_branches_by, last_leaf, verdict_in}
-use Rattle.parser.specs.Run.{AreStampedBy, IsMadeByRun, SoFar}
+use Rattle.parser.proofs.Common.{append-nil, drop-append_seam, Kind, Grammar, Tree, Branch, all_kinds, StandsIn, place_of, Verdict, HasTree, FaultAt, FaultAtEnd, IsVerdict, IsSettled, Splice, AreStampedExactly, Built, LiesInKept, Stamped, StampedForest, StampedIn, plain_all, plain_trees, AreAnswer, Goes_on, Ends, Reuses, Takes_token, Makes, IsPrepared, EachTaken, TakenIsKept, taken_is_kept, exact, made_or_taken, stamped_stands, TakesOver, kinds-append, nowhere, Child, Cell, most, all_trees, Sets, IsAccepted, leaves, IsInput, plain_of, AreStacked, IsParseOf, Stop, all_branches_by, last_leaf, verdict_in, AreStampedBy, IsMadeByRun, SoFar}
 use Rattle.parser.proofs.Built.{built_counts}
 use Rattle.parser.proofs.LeftEdge.{roots_parts}
 use Rattle.parser.proofs.Running.{kinds_leaves}

@@ -1,16 +1,7 @@
 -- What the state in which the machine stopped expects.
 use Rattle.std.proofs.Common.{◌≡◌, ◌⊎◌, ℕ, List, take, Option, sym, subst, inl, inr}
-use Rattle.definitions.specs.declared.Kind.{Kind}
-use Rattle.definitions.specs.declared.Symbol.{Symbol}
-use Rattle.definitions.specs.Trees.{Tree, HaveRoots}
-use Rattle.theory.specs.Machine.{IsStackAfter}
-use Rattle.trees.specs.Cells.{Cell}
-use Rattle.tables.specs.Expected.{AreExpected}
-use Rattle.tables.specs.Tables.{Sets, IsStateOf}
+use Rattle.parser.proofs.Common.{Kind, Symbol, Tree, HaveRoots, IsStackAfter, Cell, AreExpected, Sets, IsStateOf, TreeAt, StopsAt, StopsAtEnd, plain_of, Stop, IsParseOf, AreStacked, AreExpectedAt, verdict_in}
 use Rattle.parser.specs.declared.parse.Verdict.{Verdict}
-use Rattle.parser.specs.declared.parse.Verdict.TheVariants.{Tree as TreeAt, FaultAt as StopsAt, FaultAtEnd as StopsAtEnd}
-use Rattle.parser.specs.Machine.{plain_of}
-use Rattle.parser.specs.Parses.{Stop, IsParseOf, AreStacked, AreExpectedAt, verdict_in}
 use Rattle.parser.proofs.StopDecides.{settled_after}
 
 abbrev pub IsFault : Verdict → Type 0

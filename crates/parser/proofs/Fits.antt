@@ -1,17 +1,7 @@
 -- A run adds a node for each branch that it makes, so there is a node for each branch on the stack where there was one for each of
 -- the input.
 use Rattle.std.proofs.Common.{◌≡◌, ℕ, ◌+◌, ◌≤◌, List, [], ◌∷◌, length, drop, refl, ap, arith}
-use Rattle.definitions.specs.declared.Kind.{Kind}
-use Rattle.definitions.specs.Nodes.{branches, all_branches}
-use Rattle.definitions.specs.Trees.{Grammar, Tree, Branch, Leaf, all_kinds, trees}
-use Rattle.theory.specs.Reuse.{NextInput, Take, AtToken, AtEnd, Tries, Nothing_left, Dropped, Passed, Opened, At_token, Goes_on, Ends, Reuses, Takes_token, Makes}
-use Rattle.theory.proofs.KeptIsReused.{branches-append, branches-trees}
-use Rattle.trees.specs.declared.store.Child.{Child}
-use Rattle.trees.specs.Cells.{Cell}
-use Rattle.tables.specs.Tables.{Sets}
-use Rattle.parser.specs.Machine.{plain_of}
-use Rattle.parser.specs.Input.{leaves, input_of}
-use Rattle.parser.specs.Run.{IsMadeByRun, makes}
+use Rattle.parser.proofs.Common.{Kind, branches, all_branches, Grammar, Tree, Branch, Leaf, all_kinds, trees, NextInput, Take, AtToken, AtEnd, Tries, Nothing_left, Dropped, Passed, Opened, At_token, Goes_on, Ends, Reuses, Takes_token, Makes, branches-append, branches-trees, Child, Cell, Sets, plain_of, leaves, input_of, IsMadeByRun, makes}
 
 -- the branches of what an offer leaves
 abbrev offered : NextInput → ℕ

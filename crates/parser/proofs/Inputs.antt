@@ -1,18 +1,6 @@
 -- What is taken from the start of the input, and put back there.
 use Rattle.std.proofs.Common.{◌≡◌, ℕ, ◌-◌, ◌<◌, ◌≤◌, min, List, [], ◌∷◌, ◌++◌, length, drop, Option, Some, None, MatchOption, refl, sym, ap, ◌∙◌, arith, length-append, append_assoc}
-use mathlib.Core.List.{tail-eq_of_cons-eq, head-eq_of_cons-eq}
-use Rattle.std.proofs.Math.Seq.{drop-append_seam}
-use Rattle.std.proofs.lemmas.List.{append-nil}
-use Rattle.definitions.specs.declared.Kind.{Kind}
-use Rattle.definitions.specs.Trees.{all_kinds, yield}
-use Rattle.definitions.specs.TreeEdits.{StampedBranch, plain, plain_all}
-use Rattle.theory.proofs.StackIsRead.{kinds-append, kinds-trees}
-use Rattle.trees.specs.declared.store.Child.{Child}
-use Rattle.trees.specs.declared.store.Child.TheVariants.{Node}
-use Rattle.trees.specs.declared.store.NodeId.{NodeId}
-use Rattle.trees.specs.Cells.{Cell, AreBelow, most, tree, trees_from, forest_of}
-use Rattle.parser.specs.Input.{BeginsWith, IsFull, IsOpened, Skips}
-use Rattle.parser.specs.Machine.{plain_of}
+use Rattle.parser.proofs.Common.{tail-eq_of_cons-eq, head-eq_of_cons-eq, drop-append_seam, append-nil, Kind, all_kinds, yield, StampedBranch, plain, plain_all, kinds-append, kinds-trees, Child, Node, NodeId, Cell, AreBelow, most, tree, trees_from, forest_of, BeginsWith, IsFull, IsOpened, Skips, plain_of}
 use Rattle.parser.proofs.Reductions.{plain-append, plain-children}
 
 pub taken : (r : Option Child) (old new rest : List Child) (c : Child) → MatchOption r ((old ≡ []) × (new ≡ [])) (λ x. old ≡ x ∷ new) → old ≡ c ∷ rest → old ≡ c ∷ new

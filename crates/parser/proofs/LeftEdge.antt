@@ -1,21 +1,6 @@
 -- The left edge of the input, opened step by step.
 use Rattle.std.proofs.Common.{◌≡◌, ℕ, ◌+◌, ◌<◌, ◌≤◌, zero, suc, List, [], ◌∷◌, ◌++◌, length, drop, refl, sym, ap, ◌∙◌, subst, arith, append_assoc, length-append, length-drop}
-use Rattle.definitions.specs.declared.Kind.{Kind}
-use Rattle.definitions.specs.declared.Symbol.{Symbol}
-use Rattle.definitions.specs.declared.Symbol.TheVariants.{Rule as Terminal, Nonterminal}
-use Rattle.definitions.specs.Trees.{Grammar, Tree, Leaf, Branch, Forest, Nil, Cons, trees, IsTree, AreTrees, HaveRoots, yield, yields, all_kinds}
-use Rattle.definitions.specs.Nodes.{branches, all_branches}
-use Rattle.definitions.specs.TreeEdits.{StampedBranch, plain, plain_all}
-use Rattle.theory.proofs.StackIsRead.{kinds-append, kinds-trees}
-use Rattle.theory.proofs.KeptIsReused.{branches-append, branches-trees}
-use Rattle.theory.specs.Reuse.{CanReuse, Tries, Dropped, Opened}
-use Rattle.trees.specs.declared.store.Child.{Child}
-use Rattle.trees.specs.declared.store.NodeId.{NodeId}
-use Rattle.trees.specs.declared.store.Child.TheVariants.{Node}
-use Rattle.trees.specs.Cells.{Cell, tree, trees_from, forest_of}
-use Rattle.parser.specs.Machine.{plain_of}
-use Rattle.parser.specs.Input.{leaves, before_leaves, AreParts, IsPart}
-use Rattle.parser.specs.FirstInput.{Offers}
+use Rattle.parser.proofs.Common.{Kind, Symbol, Terminal, Nonterminal, Grammar, Tree, Leaf, Branch, Forest, Nil, Cons, trees, IsTree, AreTrees, HaveRoots, yield, yields, all_kinds, branches, all_branches, StampedBranch, plain, plain_all, kinds-append, kinds-trees, branches-append, branches-trees, CanReuse, Tries, Dropped, Opened, Child, NodeId, Node, Cell, tree, trees_from, forest_of, plain_of, leaves, before_leaves, AreParts, IsPart, Offers}
 use Rattle.parser.proofs.Inputs.{no_kinds}
 use Rattle.parser.proofs.Reductions.{plain-append, plain-children}
 

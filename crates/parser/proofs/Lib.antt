@@ -1,3 +1,4 @@
+pub mod Common
 pub mod Reductions
 pub mod Moves
 pub mod Stamps

@@ -1,23 +1,6 @@
 -- The old trees, with the new kinds between the parts that a splice leaves of them.
 use Rattle.std.proofs.Common.{◌≡◌, ◌≢◌, ◌⊎◌, ℕ, ◌+◌, ◌-◌, ◌<◌, ◌≤◌, List, [], ◌∷◌, ◌++◌, length, refl, sym, ap, ◌∙◌, subst, inl, inr, ⊎_elim, arith, length-append}
-use mathlib.Core.List.{head-eq_of_cons-eq, tail-eq_of_cons-eq}
-use Rattle.std.proofs.lemmas.Bool.{cases_lt}
-use Rattle.std.proofs.lemmas.List.{append-nil}
-use Rattle.definitions.specs.declared.Kind.{Kind}
-use Rattle.definitions.specs.Trees.{Tree, Forest, Leaf, Branch, yields, all_kinds}
-use Rattle.definitions.specs.Nodes.{StandsIn, Top, Below, Past, place_of}
-use Rattle.definitions.specs.TokenEdits.{Splice}
-use Rattle.definitions.specs.TreeEdits.{IsKept, IsMoved, IsTouched}
-use Rattle.theory.specs.Reuse.{IsPrepared}
-use Rattle.theory.proofs.StackIsRead.{kinds-append}
-use Rattle.theory.proofs.Stack.{nowhere, stands_after, stands_in_prefix}
-use Rattle.theory.proofs.ReuseIsExact.{stands_split}
-use Rattle.theory.proofs.KeptIsReused.{stands_length}
-use Rattle.trees.specs.declared.store.Child.{Child}
-use Rattle.trees.specs.Cells.{Cell}
-use Rattle.parser.specs.Machine.{plain_of}
-use Rattle.parser.specs.Input.{leaves}
-use Rattle.parser.specs.Cuts.{IsSplitAt}
+use Rattle.parser.proofs.Common.{head-eq_of_cons-eq, tail-eq_of_cons-eq, cases_lt, append-nil, Kind, Tree, Forest, Leaf, Branch, yields, all_kinds, StandsIn, Top, Below, Past, place_of, Splice, IsKept, IsMoved, IsTouched, IsPrepared, kinds-append, nowhere, stands_after, stands_in_prefix, stands_split, stands_length, Child, Cell, plain_of, leaves, IsSplitAt}
 use Rattle.parser.proofs.Running.{kinds_leaves}
 use Rattle.parser.proofs.Cuts.{cut_from, cut_keeps, cut_kinds}
 

@@ -1,25 +1,6 @@
 -- A reduction puts one tree in the place of those of its production's right side, and there is a state to go to.
 use Rattle.std.proofs.Common.{◌≡◌, ℕ, ◌+◌, ◌-◌, ◌<◌, ◌≤◌, zero, suc, List, [], ◌∷◌, ◌++◌, length, take, drop, get_or, Option, refl, sym, ap, ◌∙◌, subst, arith, length-append, length-take, length-drop, take-append-drop, ⊎_elim}
-use Rattle.std.proofs.lemmas.Bool.{cases_lt}
-use Rattle.std.proofs.lemmas.List.{take-append-le, get_or_append_left, take_all}
-use Rattle.std.proofs.Math.Seq.{get_or-append_seam}
-use Rattle.definitions.specs.declared.Kind.{Kind}
-use Rattle.definitions.specs.declared.Symbol.{Symbol}
-use Rattle.definitions.specs.declared.Symbol.TheVariants.{Nonterminal}
-use Rattle.definitions.specs.Trees.{Grammar, Tree, Branch, Forest, trees, HasProduction, HaveRoots}
-use Rattle.definitions.specs.TreeEdits.{plain, plain_all, plain_trees, Stamped}
-use Rattle.definitions.specs.Items.{HasMove, Reduce}
-use Rattle.theory.specs.Machine.{Reduces}
-use Rattle.theory.proofs.Unique.{roots_unique}
-use Rattle.theory.proofs.Simulation.{length-roots}
-use Rattle.theory.proofs.Stack.{Handle}
-use Rattle.trees.specs.declared.store.NodeId.{NodeId}
-use Rattle.trees.specs.declared.store.Child.{Child}
-use Rattle.trees.specs.declared.store.Child.TheVariants.{Node}
-use Rattle.trees.specs.Cells.{Cell, AreBelow, IsGrown, tree, tree_of, trees_of, trees_from, forest_of}
-use Rattle.trees.proofs.Cells.{grown-tree, grown-new}
-use Rattle.tables.specs.Tables.{Sets, IsStateOf}
-use Rattle.parser.specs.Machine.{plain_of, HasStates, HasMade}
+use Rattle.parser.proofs.Common.{cases_lt, take-append-le, get_or_append_left, take_all, get_or-append_seam, Kind, Symbol, Nonterminal, Grammar, Tree, Branch, Forest, trees, HasProduction, HaveRoots, plain, plain_all, plain_trees, Stamped, HasMove, Reduce, Reduces, roots_unique, length-roots, Handle, NodeId, Child, Node, Cell, AreBelow, IsGrown, tree, tree_of, trees_of, trees_from, forest_of, grown-tree, grown-new, Sets, IsStateOf, plain_of, HasStates, HasMade}
 
 pub plain-length : (cells : List Cell) (cs : List Child) → length (plain_of cells cs) ≡ length cs
 plain-length cells [] = refl

@@ -1,19 +1,7 @@
 -- Children that are renamed mean what they meant.
 use Rattle.std.proofs.Common.{refl, sym, ap, ◌++◌, take, arith, ◌≡◌, ℕ, suc, ◌+◌, List, [], ◌∷◌, length}
-use Rattle.std.proofs.lemmas.List.{take_at}
-use mathlib.Core.List.{head-eq_of_cons-eq, tail-eq_of_cons-eq}
-use Rattle.definitions.specs.Nodes.{branches}
-use Rattle.definitions.specs.TreeEdits.{StampedLeaf, plain}
-use Rattle.trees.specs.declared.store.NodeId.{NodeId}
-use Rattle.trees.specs.declared.store.Child.{Child}
-use Rattle.trees.specs.declared.store.Child.TheVariants.{Token, Node}
-use Rattle.trees.specs.Cells.{Cell, AreBelow, all_trees, tree}
-use Rattle.trees.specs.Compaction.{nodes, sizes}
-use Rattle.definitions.specs.Sentences.{HasTree}
-use Rattle.parser.specs.declared.machine.Halt.{Halt}
-use Rattle.parser.specs.declared.machine.Halt.TheVariants.{Accepted, FaultAt, FaultAtEnd}
-use Rattle.parser.specs.Compact.{node_ids, renamed}
-use Rattle.parser.specs.Parses.{verdict_in, verdict_of}
+use Rattle.parser.proofs.Common.{take_at, head-eq_of_cons-eq, tail-eq_of_cons-eq, branches, StampedLeaf, plain, NodeId, Child, Token, Node, Cell, AreBelow, all_trees, tree, nodes, sizes, HasTree, Halt, Accepted, node_ids, renamed, verdict_in, verdict_of}
+use Rattle.parser.specs.declared.machine.Halt.TheVariants.{FaultAt, FaultAtEnd}
 
 pub renamed_trees : (old new : List Cell) (cs : List Child) (names : List NodeId) → all_trees new (nodes names) ≡ all_trees old (nodes (node_ids cs)) → all_trees new (renamed cs names) ≡ all_trees old cs
 renamed_trees old new [] names e = refl

@@ -1,25 +1,6 @@
 -- The children that a splice leaves, with the new kinds between them, are an input for the kinds after the splice.
 use Rattle.std.proofs.Common.{◌≡◌, ◌≢◌, ◌⊎◌, ℕ, ◌+◌, ◌-◌, ◌<◌, ◌≤◌, List, [], ◌∷◌, ◌++◌, length, take, drop, map, refl, sym, ap, ◌∙◌, subst, inl, inr, ⊎_elim, arith, append_assoc, length-append, take-append-drop}
-use Rattle.std.proofs.Math.Seq.{drop-append_seam, take-append_seam, take-append-add}
-use Rattle.std.proofs.lemmas.Bool.{cases_lt}
-use Rattle.std.proofs.lemmas.List.{append-nil}
-use Rattle.definitions.specs.declared.Kind.{Kind}
-use Rattle.definitions.specs.Trees.{Grammar, Tree, Branch, Leaf, all_kinds}
-use Rattle.definitions.specs.TreeEdits.{plain_all, plain_trees, StampedForest, StampedIn}
-use Rattle.definitions.specs.Nodes.{StandsIn, all_branches, place_of}
-use Rattle.definitions.specs.TokenEdits.{Splice, spliced}
-use Rattle.theory.specs.Reuse.{IsPrepared}
-use Rattle.theory.proofs.MadeIsBuilt.{stamped_stands}
-use Rattle.theory.proofs.KeptIsReused.{branches-append, stands_length}
-use Rattle.theory.proofs.StackIsRead.{kinds-append}
-use Rattle.trees.specs.declared.store.Child.{Child}
-use Rattle.trees.specs.declared.store.Child.TheVariants.{Token}
-use Rattle.trees.specs.Cells.{Cell, AreBelow, all_trees, trees_from}
-use Rattle.parser.specs.Machine.{plain_of}
-use Rattle.parser.specs.Input.{AreParts, IsInput, before_leaves, input_of, leaves}
-use Rattle.parser.specs.Run.{MoveFrom}
-use Rattle.parser.specs.Stamps.{AreOlder}
-use Rattle.parser.specs.Cuts.{IsSplitAt}
+use Rattle.parser.proofs.Common.{drop-append_seam, take-append_seam, take-append-add, cases_lt, append-nil, Kind, Grammar, Tree, Branch, Leaf, all_kinds, plain_all, plain_trees, StampedForest, StampedIn, StandsIn, all_branches, place_of, Splice, spliced, IsPrepared, stamped_stands, branches-append, stands_length, kinds-append, Child, Token, Cell, AreBelow, all_trees, trees_from, plain_of, AreParts, IsInput, before_leaves, input_of, leaves, MoveFrom, AreOlder, IsSplitAt}
 use Rattle.parser.proofs.Fits.{no_branches}
 use Rattle.parser.proofs.Running.{kinds_leaves}
 use Rattle.parser.proofs.LeftEdge.{parts-append}

@@ -1,20 +1,6 @@
 -- What the answers of the tables say of the test that a tree is taken over by.
-use Rattle.std.specs.Option.{is_some}
+use Rattle.parser.proofs.Common.{is_some, Kind, Symbol, Nonterminal, Grammar, Tree, HaveRoots, HasProduction, IsTree, AreTrees, yield, Stamped, StampedBranch, StampedForest, plain, plain_all, HasMove, HasItem, look_at, CanReuse, roots_unique, root_unique, production_unique, most, TableMove, plain_move, Sets, IsStateOf, IsAction, HasStates}
 use Rattle.std.proofs.Common.{◌^◌, min, true, false, ◌≡◌, ℕ, ◌-◌, ◌<◌, List, [], ◌∷◌, ◌++◌, length, drop, get_or, slice_get, zero, suc, Option, Some, None, refl, sym, ap, ◌∙◌, subst, arith}
-use Rattle.definitions.specs.declared.Kind.{Kind}
-use Rattle.definitions.specs.declared.Symbol.{Symbol}
-use Rattle.definitions.specs.declared.Symbol.TheVariants.{Nonterminal}
-use Rattle.definitions.specs.Trees.{Grammar, Tree, HaveRoots, HasProduction, IsTree, AreTrees, yield}
-use Rattle.definitions.specs.TreeEdits.{Stamped, StampedBranch, StampedForest, plain, plain_all}
-use Rattle.definitions.specs.Items.{HasMove, HasItem}
-use Rattle.theory.specs.Machine.{look_at}
-use Rattle.theory.specs.Reuse.{CanReuse}
-use Rattle.theory.proofs.Unique.{roots_unique, root_unique, production_unique}
-use Rattle.trees.specs.Cells.{most}
-use Rattle.tables.specs.declared.decisions.Move.{Move as TableMove}
-use Rattle.tables.specs.Actions.{plain as plain_move}
-use Rattle.tables.specs.Tables.{Sets, IsStateOf, IsAction}
-use Rattle.parser.specs.Machine.{HasStates}
 use Rattle.parser.proofs.Moves.{top_stands}
 
 pub look_drop : (ks : List Kind) (i : ℕ) → slice_get ks i ≡ look_at (drop i ks) None

@@ -1,34 +1,7 @@
 -- What a move of the machine makes of how far the run has come.
 use Rattle.std.proofs.Common.{◌≡◌, ◌↔◌, inl, ⊎_elim, ℕ, ◌+◌, ◌<◌, zero, suc, List, [], ◌∷◌, ◌++◌, length, take, drop, slice_get, Option, Some, None, MatchOption, refl, sym, ap, ◌∙◌, subst, arith, length-append, take-append-drop, get_or}
-use Rattle.std.proofs.lemmas.List.{append_cancel_right}
-use mathlib.Core.List.{head-eq_of_cons-eq}
-use Rattle.definitions.specs.declared.Kind.{Kind}
+use Rattle.parser.proofs.Common.{append_cancel_right, head-eq_of_cons-eq, Kind, Terminal, Nonterminal, Grammar, Tree, Leaf, Branch, HaveRoots, yield, all_kinds, StampedBranch, StampedLeaf, plain, plain_all, AllProductive, HasMove, Shift, Reduce, look_at, Reduces, Shifts, Run, IsStackAfter, NextInput, Take, AtToken, AtEnd, IsNoTree, CanReuse, Tries, Nothing_left, Passed, At_token, Goes_on, Ends, Reuses, Takes_token, Makes, MakesAt, goes_on_passes, ends_equal, goes_on_join, roots-append, last_of, run_split, NodeId, Child, TokenChild, Node, Cell, AreBelow, all_trees, forest_in, tree, trees_from, all_below-more, Sets, IsStateOf, plain_of, HasStates, HasMade, leaves, input_of, AreParts, IsInput, Skips, Offers, IsReusable, BeginsWithNoNode, AreUpTo, all_branches_by, makes, AreStampedBy, ComeFrom, SoFar, AreOlder}
 use Rattle.definitions.specs.declared.Kind.TheVariants.{Rule as Token}
-use Rattle.definitions.specs.declared.Symbol.TheVariants.{Rule as Terminal, Nonterminal}
-use Rattle.definitions.specs.Trees.{Grammar, Tree, Leaf, Branch, HaveRoots, yield, all_kinds}
-use Rattle.definitions.specs.TreeEdits.{StampedBranch, StampedLeaf, plain, plain_all}
-use Rattle.definitions.specs.Sentences.{AllProductive}
-use Rattle.definitions.specs.Items.{HasMove, Shift, Reduce}
-use Rattle.theory.specs.Machine.{look_at, Reduces, Shifts, Run, IsStackAfter}
-use Rattle.theory.specs.Reuse.{NextInput, Take, AtToken, AtEnd, IsNoTree, CanReuse, Tries, Nothing_left, Passed, At_token, Goes_on, Ends, Reuses, Takes_token, Makes, MakesAt}
-use Rattle.theory.proofs.Incremental.{goes_on_passes}
-use Rattle.theory.proofs.Lists.{ends_equal}
-use Rattle.theory.proofs.MadeIsBuilt.{goes_on_join}
-use Rattle.theory.proofs.Simulation.{roots-append}
-use Rattle.theory.proofs.Theorems.{last_of}
-use Rattle.theory.proofs.Unique.{run_split}
-use Rattle.trees.specs.declared.store.NodeId.{NodeId}
-use Rattle.trees.specs.declared.store.Child.{Child}
-use Rattle.trees.specs.declared.store.Child.TheVariants.{Token as TokenChild, Node}
-use Rattle.trees.specs.Cells.{Cell, AreBelow, all_trees, forest_in, tree, trees_from}
-use Rattle.trees.proofs.Cells.{all_below-more}
-use Rattle.tables.specs.Tables.{Sets, IsStateOf}
-use Rattle.parser.specs.Machine.{plain_of, HasStates, HasMade}
-use Rattle.parser.specs.Input.{leaves, input_of, AreParts, IsInput, Skips}
-use Rattle.parser.specs.FirstInput.{Offers, IsReusable, BeginsWithNoNode}
-use Rattle.parser.specs.Parses.{AreUpTo, all_branches_by}
-use Rattle.parser.specs.Run.{makes, AreStampedBy, ComeFrom, SoFar}
-use Rattle.parser.specs.Stamps.{AreOlder}
 use Rattle.parser.proofs.WhereBranchesComeFrom.{come_after, come_older}
 use Rattle.parser.proofs.Counts.{by-append, by-branch, by-none}
 use Rattle.parser.proofs.LeftEdge.{after_drop, dropped, first_fits}

@@ -1,16 +1,6 @@
 -- The kind with which trees begin, where it is found a few steps from their start.
 use Rattle.std.proofs.Common.{◌≡◌, ℕ, ◌+◌, List, [], ◌∷◌, ◌++◌, length, drop, slice_get, Option, Some, None, IfSome, sym, ap, ◌∙◌, append_assoc}
-use mathlib.Core.List.{tail-eq_of_cons-eq}
-use Rattle.definitions.specs.declared.Kind.{Kind}
-use Rattle.definitions.specs.Trees.{all_kinds, yield}
-use Rattle.definitions.specs.TreeEdits.{StampedBranch, plain}
-use Rattle.theory.proofs.StackIsRead.{kinds-append}
-use Rattle.trees.specs.declared.store.Child.{Child}
-use Rattle.trees.specs.declared.store.Child.TheVariants.{Node}
-use Rattle.trees.specs.declared.store.NodeId.{NodeId}
-use Rattle.trees.specs.Cells.{Cell, tree, trees_from, forest_of}
-use Rattle.parser.specs.Input.{input_of, leaves}
-use Rattle.parser.specs.Machine.{plain_of}
+use Rattle.parser.proofs.Common.{tail-eq_of_cons-eq, Kind, all_kinds, yield, StampedBranch, plain, kinds-append, Child, Node, NodeId, Cell, tree, trees_from, forest_of, input_of, leaves, plain_of}
 use Rattle.parser.proofs.LeftEdge.{after_drop}
 use Rattle.parser.proofs.Inputs.{kids_kinds}
 use Rattle.parser.proofs.Reusing.{look_first}

@@ -1,18 +1,7 @@
 -- The nodes and the kinds of what stands on the stack.
 use Rattle.std.proofs.Common.{◌≡◌, ◌↔◌, ◌⊎◌, ℕ, ◌≤◌, List, [], ◌∷◌, ◌++◌, length, take, drop, refl, sym, ap, ◌∙◌, subst, inl, inr, ⊎_elim, arith, length-append, take-append-drop}
-use Rattle.std.proofs.lemmas.List.{append-nil}
-use Rattle.definitions.specs.declared.Kind.{Kind}
-use Rattle.definitions.specs.Trees.{Grammar, Tree, Forest, Leaf, Branch, all_kinds, yield}
-use Rattle.definitions.specs.Sentences.{Verdict, HasTree, FaultAt, FaultAtEnd, IsVerdict}
-use Rattle.definitions.specs.Settled.{IsSettled}
-use Rattle.definitions.specs.Nodes.{StandsIn}
-use Rattle.definitions.specs.DocumentNodes.{IsNodeOf}
+use Rattle.parser.proofs.Common.{append-nil, Kind, Grammar, Tree, Forest, Leaf, Branch, all_kinds, yield, Verdict, HasTree, FaultAt, FaultAtEnd, IsVerdict, IsSettled, StandsIn, IsNodeOf, stands_split, not_in_leaf, kinds-append, nowhere, stands_in_prefix, AreStacked, last_leaf}
 use Rattle.definitions.specs.Answers.{Node}
-use Rattle.theory.proofs.ReuseIsExact.{stands_split}
-use Rattle.theory.proofs.MadeIsBuilt.{not_in_leaf}
-use Rattle.theory.proofs.StackIsRead.{kinds-append}
-use Rattle.theory.proofs.Stack.{nowhere, stands_in_prefix}
-use Rattle.parser.specs.Parses.{AreStacked, last_leaf}
 use Rattle.parser.proofs.StopDecides.{last-append}
 
 leaf_cases : (x : List Kind) → (last_leaf x ≡ []) ⊎ ((k : Kind) × (last_leaf x ≡ Leaf k ∷ []))

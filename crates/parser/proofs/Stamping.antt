@@ -1,20 +1,6 @@
 -- The stamps that a run leaves: of the branches on its stack, those that it has made carry its number.
 use Rattle.std.proofs.Common.{◌≡◌, ◌↔◌, ◌⊎◌, ◌≤◌, ◌<◌, ℕ, List, [], ◌∷◌, ◌++◌, refl, sym, ap, ◌∙◌, subst, inl, inr, ⊎_elim, arith}
-use Rattle.std.proofs.lemmas.List.{append-nil}
-use mathlib.Core.List.{head-eq_of_cons-eq, tail-eq_of_cons-eq}
-use Rattle.definitions.specs.declared.Kind.{Kind}
-use Rattle.definitions.specs.Trees.{Grammar, Tree, Branch, trees, all_kinds}
-use Rattle.definitions.specs.Nodes.{StandsIn, branches, all_branches}
-use Rattle.definitions.specs.TreeEdits.{Stamped, StampedLeaf, StampedBranch, StampedForest, StampedNil, StampedCons, plain, plain_all, stamped_trees, plain_trees, StampedIn, StampedTop, StampedBelow, StampedPast}
-use Rattle.theory.specs.Reuse.{Take, CanReuse, Tries, Goes_on, Ends, Reuses, Takes_token, Makes, MakesAt}
-use Rattle.theory.proofs.MadeIsBuilt.{goes_on_join, join_makes, join_takes, not_both, stamped_stands}
-use Rattle.theory.proofs.KeptIsReused.{stands_branches, branches-trees}
-use Rattle.trees.specs.declared.store.Child.{Child}
-use Rattle.trees.specs.Cells.{tree_of, trees_of, forest_of}
-use Rattle.parser.specs.Machine.{IsMadeBy, AreMadeBy}
-use Rattle.parser.specs.Parses.{AreUpTo}
-use Rattle.parser.specs.Run.{AreStampedBy}
-use Rattle.parser.specs.Stamps.{AreOlder}
+use Rattle.parser.proofs.Common.{append-nil, head-eq_of_cons-eq, tail-eq_of_cons-eq, Kind, Grammar, Tree, Branch, trees, all_kinds, StandsIn, branches, all_branches, Stamped, StampedLeaf, StampedBranch, StampedForest, StampedNil, StampedCons, plain, plain_all, stamped_trees, plain_trees, StampedIn, StampedTop, StampedBelow, StampedPast, Take, CanReuse, Tries, Goes_on, Ends, Reuses, Takes_token, Makes, MakesAt, goes_on_join, join_makes, join_takes, not_both, stamped_stands, stands_branches, branches-trees, Child, tree_of, trees_of, forest_of, IsMadeBy, AreMadeBy, AreUpTo, AreStampedBy, AreOlder}
 
 -- a stamped branch of two lists joined
 pub stamped_split : (one two : List Stamped) {lefts : List Tree} {p born : ℕ} {us : StampedForest} → StampedIn (one ++ two) lefts p born us → StampedIn one lefts p born us ⊎ ((more : List Tree) × StampedIn two more p born us × (lefts ≡ plain_trees one ++ more))

@@ -1,31 +1,6 @@
 -- What follows from the place where the machine stops.
 use Rattle.std.proofs.Common.{◌≡◌, ℕ, ◌<◌, ◌≤◌, zero, suc, List, [], ◌∷◌, ◌++◌, length, take, drop, slice_get, Option, Some, None, refl, sym, ap, ◌∙◌, subst, arith, length-take}
-use Rattle.std.proofs.lemmas.List.{take_all}
-use Rattle.std.proofs.lemmas.Option.{slice_get_past}
-use Rattle.definitions.specs.declared.Kind.{Kind}
-use Rattle.definitions.specs.declared.Kind.TheVariants.{Rule as TokenRule, Invalid}
-use Rattle.definitions.specs.declared.Symbol.TheVariants.{Nonterminal}
-use Rattle.definitions.specs.Trees.{Grammar, Tree, Leaf, IsTree, all_kinds}
-use Rattle.definitions.specs.TreeEdits.{plain}
-use Rattle.definitions.specs.Sentences.{IsVerdict, IsTreeOf, AllProductive, FaultAt}
-use Rattle.definitions.specs.Settled.{IsSettledIn, IsSettled}
-use Rattle.definitions.specs.Items.{Move, HasMove, HasNoConflict, Accept}
-use Rattle.theory.specs.Machine.{Run, IsStackAfter, StackHasMove}
-use Rattle.theory.proofs.Unique.{roots_unique}
-use Rattle.theory.proofs.Stack.{accepted_tree}
-use Rattle.theory.proofs.Theorems.{read_settled, settled_run}
-use Rattle.theory.proofs.Verdicts.{verdict_at_kind, verdict_at_end, stuck_at_kind, stuck_at_end}
-use Rattle.trees.specs.declared.store.NodeId.{NodeId}
-use Rattle.trees.specs.declared.store.Child.{Child}
-use Rattle.trees.specs.declared.store.Child.TheVariants.{Token, Node}
-use Rattle.trees.specs.Cells.{Cell, tree}
-use Rattle.tables.specs.Tables.{Sets, IsAccepted}
-use Rattle.parser.specs.declared.parse.Verdict.TheVariants.{Tree as TreeAt, FaultAt as StopsAt, FaultAtEnd as StopsAtEnd}
-use Rattle.parser.specs.declared.machine.Halt.TheVariants.{Accepted, FaultAt as HaltsAt, FaultAtEnd as HaltsAtEnd}
-use Rattle.parser.specs.Machine.{plain_of}
-use Rattle.definitions.specs.DocumentNodes.{AreDocumentTrees}
-use Rattle.definitions.specs.Sentences.{Verdict as Answer}
-use Rattle.parser.specs.Parses.{AreStacked, IsStoppedAt, before_fault, last_leaf, verdict_of}
+use Rattle.parser.proofs.Common.{take_all, slice_get_past, Kind, TokenRule, Invalid, Nonterminal, Grammar, Tree, Leaf, IsTree, all_kinds, plain, IsVerdict, IsTreeOf, AllProductive, FaultAt, IsSettledIn, IsSettled, Move, HasMove, HasNoConflict, Accept, Run, IsStackAfter, StackHasMove, roots_unique, accepted_tree, read_settled, settled_run, verdict_at_kind, verdict_at_end, stuck_at_kind, stuck_at_end, NodeId, Child, Token, Node, Cell, tree, Sets, IsAccepted, TreeAt, StopsAt, StopsAtEnd, Accepted, HaltsAt, HaltsAtEnd, plain_of, AreDocumentTrees, Answer, AreStacked, IsStoppedAt, before_fault, last_leaf, verdict_of}
 use Rattle.parser.proofs.Moves.{Reached, top_stands, run_on}
 
 pub last-append : (before : List Kind) (last : Kind) → last_leaf (before ++ (last ∷ [])) ≡ Leaf last ∷ []

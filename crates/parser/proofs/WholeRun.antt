@@ -1,23 +1,7 @@
 -- A run on kinds alone takes nothing over: it makes each branch of its stack.
 use Rattle.std.proofs.Common.{◌≡◌, ℕ, ◌+◌, List, [], ◌∷◌, refl, sym, ap, ◌∙◌, subst, ⊎_elim, arith, length, None}
-use mathlib.Core.List.{head-eq_of_cons-eq, tail-eq_of_cons-eq}
-use Rattle.definitions.specs.declared.Kind.{Kind}
-use Rattle.definitions.specs.declared.Kind.TheVariants.{Rule as Token, Invalid}
-use Rattle.definitions.specs.declared.Symbol.TheVariants.{Nonterminal}
-use Rattle.definitions.specs.Trees.{Grammar, Tree, Leaf, Branch, Forest, IsTree, yield, all_kinds}
-use Rattle.definitions.specs.TreeEdits.{StampedIn, plain_all}
-use Rattle.definitions.specs.Nodes.{StandsIn, all_branches}
-use Rattle.theory.specs.Reuse.{NextInput, Take, AtToken, AtEnd, Tries, Nothing_left, Dropped, Passed, Opened, At_token, Goes_on, Ends, Reuses, Takes_token, Makes, MakesAt}
-use Rattle.theory.specs.Machine.{look_at}
-use Rattle.theory.proofs.MadeIsBuilt.{made_or_taken, stamped_stands}
-use Rattle.theory.proofs.KeptIsReused.{TakesOver, branches-append}
-use Rattle.theory.proofs.Stack.{nowhere}
-use Rattle.trees.specs.declared.store.Child.{Child}
-use Rattle.trees.specs.Cells.{Cell, forest_in, trees_from}
-use Rattle.tables.specs.Tables.{Sets}
-use Rattle.parser.specs.Input.{leaves}
-use Rattle.parser.specs.Machine.{plain_of, AreMadeBy}
-use Rattle.parser.specs.Run.{makes, IsMadeByRun, SoFar}
+use Rattle.parser.proofs.Common.{head-eq_of_cons-eq, tail-eq_of_cons-eq, Kind, Invalid, Nonterminal, Grammar, Tree, Leaf, Branch, Forest, IsTree, yield, all_kinds, StampedIn, plain_all, StandsIn, all_branches, NextInput, Take, AtToken, AtEnd, Tries, Nothing_left, Dropped, Passed, Opened, At_token, Goes_on, Ends, Reuses, Takes_token, Makes, MakesAt, look_at, made_or_taken, stamped_stands, TakesOver, branches-append, nowhere, Child, Cell, forest_in, trees_from, Sets, leaves, plain_of, AreMadeBy, makes, IsMadeByRun, SoFar}
+use Rattle.definitions.specs.declared.Kind.TheVariants.{Rule as Token}
 use Rattle.parser.proofs.Counts.{reduce_count}
 use Rattle.parser.proofs.Stamping.{made_forest, stamped-children}
 

@@ -1,13 +1,6 @@
 -- Blanks before a part and after it.
 use Rattle.std.proofs.Common.{◌≡◌, ℕ, ◌≤◌, List, [], ◌∷◌, ◌++◌, length, refl, sym, ◌∙◌, ap, subst, inl, inr, append_assoc, arith}
-use Rattle.std.proofs.lemmas.List.{append-nil}
-use Rattle.std.specs.List.{AllByRecursion}
-use Rattle.definitions.specs.declared.expression.Expression.{Expression}
-use Rattle.definitions.specs.PatternText.{Written}
-use Rattle.definitions.specs.PatternFaults.{Before, Nothing, Outside, fault_from}
-use Rattle.definitions.specs.Spelling.{IsBlank, Level, SpellsAt, blank_before, blank_after}
-use Rattle.patterns.specs.declared.characters.Character.{Character}
-use Rattle.patterns.specs.Reading.{writing, HasNoBlank, IsBlankAt, IsBlanks, IsPart, IsRead}
+use Rattle.patterns.proofs.Common.{append-nil, AllByRecursion, Expression, Written, Before, Nothing, Outside, fault_from, IsBlank, Level, SpellsAt, blank_before, blank_after, Character, writing, HasNoBlank, IsBlankAt, IsBlanks, IsPart, IsRead}
 use Rattle.patterns.proofs.Literals.{by_plain}
 
 all_after : (P : Written → Type 0) (us : List Written) (w : Written) → AllByRecursion P us → P w → AllByRecursion P (us ++ w ∷ [])

@@ -1,3 +1,4 @@
+pub mod Common
 pub mod Blanks
 pub mod Literals
 pub mod Readings

@@ -1,16 +1,6 @@
 -- Literals and classes that are read so far.
 use Rattle.std.proofs.Common.{◌≡◌, ◌≢◌, ◌⊎◌, inl, inr, ℕ, ◌==◌, Bool, true, false, List, [], ◌∷◌, ◌++◌, Some, refl, sym, ◌∙◌, ap, subst, append_assoc, arith}
-use Rattle.std.specs.List.{list_all}
-use Rattle.std.proofs.lemmas.List.{append-nil}
-use Rattle.std.proofs.lemmas.List.Folds.{list_all-append}
-use Rattle.std.proofs.lemmas.Bool.Decides.{nat_tests}
-use Rattle.definitions.specs.declared.expression.Interval.{Interval}
-use Rattle.definitions.specs.declared.expression.PatternCause.TheVariants.{Syntax}
-use Rattle.definitions.specs.PatternText.{Written, Plain, Escaped, BadEscape}
-use Rattle.definitions.specs.PatternFaults.{InLiteral, InClass, Items, First, Dash, Opened, fault_from, or_later, char_in_class}
-use Rattle.definitions.specs.Spelling.{IsSign, IsLiteralChar, IsLiteralRest, IsClassChar, IsClassRest}
-use Rattle.patterns.specs.Reading.{IsLiteralPrefix, IsClassPrefix, IsItemPrefix, Begins, HasNoClassChar, place, place_of, HasNoLiteralChar}
-use Rattle.patterns.specs.Empty.{is_empty}
+use Rattle.patterns.proofs.Common.{list_all, append-nil, list_all-append, nat_tests, Interval, Syntax, Written, Plain, Escaped, BadEscape, InLiteral, InClass, Items, First, Dash, Opened, fault_from, or_later, char_in_class, IsSign, IsLiteralChar, IsLiteralRest, IsClassChar, IsClassRest, IsLiteralPrefix, IsClassPrefix, IsItemPrefix, Begins, HasNoClassChar, place, place_of, HasNoLiteralChar, is_empty}
 
 -- what holds of a sign that is written as itself holds of each word that is that sign
 pub by_plain : (P : Written → Type 0) (c : ℕ) (w : Written) → ((o : ℕ) → P (Plain o c)) → IsSign c w → P w

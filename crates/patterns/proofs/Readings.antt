@@ -1,16 +1,6 @@
 -- A text and the characters that it writes.
 use Rattle.std.proofs.Common.{◌≡◌, ℕ, Bool, true, false, List, length, refl, sym, ◌∙◌, ap, subst, inl, inr, Some, None}
-use Rattle.definitions.specs.declared.expression.Expression.{Expression}
-use Rattle.definitions.specs.declared.expression.PatternCause.TheVariants.{MatchesEmpty}
-use Rattle.definitions.specs.PatternText.{Written, written}
-use Rattle.definitions.specs.PatternFaults.{Outside, Nothing, fault_from, first_fault, IsFault}
-use Rattle.definitions.specs.Spelling.{Alt, SpellsAt, Spells, IsPattern}
-use Rattle.patterns.specs.declared.refusals.Refusal.{Refusal}
-use Rattle.patterns.specs.declared.refusals.Refusal.TheVariants.{Fault, Memory}
-use Rattle.patterns.specs.Empty.{matches_empty}
-use Rattle.patterns.specs.Sound.{is_sound}
-use Rattle.patterns.specs.Reading.{Reports, fault_at, writing}
-use Rattle.patterns.specs.declared.characters.Character.{Character}
+use Rattle.patterns.proofs.Common.{Expression, MatchesEmpty, Written, written, Outside, Nothing, fault_from, first_fault, IsFault, Alt, SpellsAt, Spells, IsPattern, Refusal, Fault, Memory, matches_empty, is_sound, Reports, fault_at, writing, Character}
 use Rattle.patterns.proofs.WellMade.{well_made, empty_matched, empty_tested}
 
 -- ws is what the text t writes, and n its length

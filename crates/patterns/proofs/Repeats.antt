@@ -1,21 +1,6 @@
 -- An atom with its sign of repetition, and what goes on after it.
 use Rattle.std.proofs.Common.{◌≡◌, ℕ, zero, suc, ◌+◌, ◌-◌, ◌<◌, ◌==◌, ◌&&◌, ◌||◌, nat_lt, Bool, true, false, List, [], ◌∷◌, ◌++◌, length, refl, sym, ◌∙◌, ap, subst, append_assoc, add-one, arith, None, Vec, Result, Ok, Err}
-use Rattle.std.specs.Result.{IsErr, IsErrAnd, IfErr}
-use Rattle.std.proofs.lemmas.Bool.Decides.{nat_tests}
-use Rattle.definitions.specs.declared.expression.Expression.{Expression}
-use Rattle.definitions.specs.declared.expression.Expression.TheVariants.{Literal, Class}
-use Rattle.definitions.specs.declared.expression.Interval.{Interval}
-use Rattle.definitions.specs.declared.expression.PatternFault.{PatternFault}
-use Rattle.std.specs.declared.alloc.Global.{Global}
-use Rattle.patterns.specs.declared.refusals.Refusal.{Refusal}
-use Rattle.patterns.specs.declared.refusals.Refusal.TheVariants.{Fault, Memory}
-use Rattle.definitions.specs.PatternText.{Written, Plain}
-use Rattle.definitions.specs.PatternFaults.{Before, Outside, Nothing, AnAtom, ARepetition, fault_from}
-use Rattle.definitions.specs.Spelling.{Level, Alt, Rep, Atom, SpellsAt, literal, class, group}
-use Rattle.patterns.specs.Reading.{writing, Begins, HasNoBlank, IsPart, IsRead, IsRepeated, IsAtEnd, IsLiteralPrefix, IsClassBody, IsClosed, Reports, stops}
-use Rattle.std.proofs.lemmas.List.{append-nil}
-use Rattle.patterns.specs.declared.characters.Character.{Character}
-use Rattle.patterns.specs.Sound.{is_sound}
+use Rattle.patterns.proofs.Common.{IsErr, IsErrAnd, IfErr, nat_tests, Expression, Literal, Class, Interval, PatternFault, Global, Refusal, Fault, Memory, Written, Plain, Before, Outside, Nothing, AnAtom, ARepetition, fault_from, Level, Alt, Rep, Atom, SpellsAt, literal, class, group, writing, Begins, HasNoBlank, IsPart, IsRead, IsRepeated, IsAtEnd, IsLiteralPrefix, IsClassBody, IsClosed, Reports, stops, append-nil, Character, is_sound}
 use Rattle.patterns.proofs.Blanks.{Skips, blanks_after_part, blanks_skipped}
 use Rattle.patterns.proofs.Literals.{not_equal}
 

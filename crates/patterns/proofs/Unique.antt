@@ -1,14 +1,7 @@
 -- All expressions that one text spells mean the same texts: a machine that reads the text makes one form, which means what each of
 -- them does.
 use Rattle.std.proofs.Common.{◌≡◌, ◌⊎◌, ◌↔◌, inl, inr, ℕ, ◌==◌, Bool, true, false, cond, List, [], ◌∷◌, ◌++◌, Option, Some, None, refl, sym, ◌∙◌, ap, subst, append_assoc, IsTrue}
-use Rattle.std.specs.List.{AllByRecursion}
-use Rattle.std.proofs.lemmas.List.{append-nil}
-use Rattle.definitions.specs.declared.expression.Interval.{Interval}
-use Rattle.definitions.specs.declared.expression.Expression.{Expression}
-use Rattle.definitions.specs.Text.{IsCharacter}
-use Rattle.definitions.specs.Patterns.{IsJoin, IsNonemptyJoin, is_in_class, Matches}
-use Rattle.definitions.specs.PatternText.{Written, Plain, Escaped, BadEscape, written}
-use Rattle.definitions.specs.Spelling.{Level, Alt, Seq, Rep, Atom, SpellsAt, Spells, choice, sequence, star, plus, optional, literal, class, group, one_seq, one_rep, one_atom, blank_before, blank_after, IsSign, IsBlank, IsLiteralRest, IsLiteral, IsClassRest, IsClass, IsClassChar}
+use Rattle.patterns.proofs.Common.{AllByRecursion, append-nil, Interval, Expression, IsCharacter, IsJoin, IsNonemptyJoin, is_in_class, Matches, Written, Plain, Escaped, BadEscape, written, Level, Alt, Seq, Rep, Atom, SpellsAt, Spells, choice, sequence, star, plus, optional, literal, class, group, one_seq, one_rep, one_atom, blank_before, blank_after, IsSign, IsBlank, IsLiteralRest, IsLiteral, IsClassRest, IsClass, IsClassChar}
 use Rattle.patterns.proofs.Literals.{by_plain, not_equal}
 
 -- a set of texts

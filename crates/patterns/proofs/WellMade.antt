@@ -1,17 +1,6 @@
 -- The tests of an expression decide what they are meant to.
 use Rattle.std.proofs.Common.{◌≡◌, ◌≢◌, inl, inr, ℕ, ◌+◌, ◌==◌, ◌≤◌, nat_le, Bool, true, false, not, ◌&&◌, ◌||◌, List, [], ◌∷◌, ◌++◌, refl, sym, ap, subst, arith, lit≤}
-use Rattle.std.proofs.lemmas.Bool.Decides.{nat_tests}
-use Rattle.std.specs.List.{list_all, concat, AllByRecursion}
-use Rattle.definitions.specs.declared.expression.Interval.{Interval}
-use Rattle.definitions.specs.declared.expression.Expression.{Expression}
-use Rattle.definitions.specs.declared.expression.Expression.TheVariants.{Literal, Class, Sequence', Choice', Star', Plus', Optional'}
-use Rattle.definitions.specs.Text.{IsCharacter}
-use Rattle.definitions.specs.Patterns.{is_member, is_in_class, Matches}
-use Rattle.definitions.specs.PatternText.{is_scalar}
-use Rattle.definitions.specs.PatternFaults.{code_after, is_everything, is_nothing}
-use Rattle.definitions.specs.Spelling.{IsWellMade}
-use Rattle.patterns.specs.Empty.{is_empty, matches_empty}
-use Rattle.patterns.specs.Sound.{is_range, is_sound}
+use Rattle.patterns.proofs.Common.{nat_tests, list_all, concat, AllByRecursion, Interval, Expression, Literal, Class, Sequence', Choice', Star', Plus', Optional', IsCharacter, is_member, is_in_class, Matches, is_scalar, code_after, is_everything, is_nothing, IsWellMade, is_empty, matches_empty, is_range, is_sound}
 use Rattle.patterns.proofs.Literals.{eq_or_not, not_equal}
 
 pub and_both : (a b : Bool) → (a && b) ≡ true → (a ≡ true) × (b ≡ true)

@@ -1,8 +1,6 @@
 -- The characters that are written so far.
 use Rattle.std.proofs.Common.{◌≡◌, List, [], ◌∷◌, ◌++◌, refl, sym, ◌∙◌, ap, append_assoc}
-use Rattle.definitions.specs.PatternText.{Written}
-use Rattle.patterns.specs.declared.characters.Character.{Character}
-use Rattle.patterns.specs.Reading.{written_as, writing}
+use Rattle.patterns.proofs.Common.{Written, Character, written_as, writing}
 
 writing-append : (xs ys : List Character) → writing (xs ++ ys) ≡ writing xs ++ writing ys
 writing-append [] ys = refl

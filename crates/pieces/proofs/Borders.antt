@@ -1,14 +1,8 @@
 -- Where a text may be cut.
-use Rattle.std.specs.Str.{IsUtf8, IsCharBoundary, all_scalars, chars}
+use Rattle.pieces.proofs.Common.{IsUtf8, IsCharBoundary, all_scalars, chars, cases_lt, and_parts, and_from, take-append-drop, take-append_seam, drop-append_seam, units, Utf8, IsUtf8-drop, IsCharBoundary-past_char, IsCharBoundary-at_seam, len_utf8_bounds, chars-encodes, scalars-chars, encodes-chars, encodes-append, len_utf8}
 use Rattle.std.proofs.Common.{arith, refl, sym, ap, subst, inl, inr, ◌∙◌, ◌≡◌, ℕ, zero, suc, ◌+◌, ◌<◌, ◌≤◌, ◌⊎◌, true, List, [], ◌∷◌, ◌++◌, length, take, drop, encode_utf8_all}
-use Rattle.std.proofs.lemmas.Bool.{cases_lt, and_parts, and_from}
-use Rattle.std.proofs.lemmas.List.{length-drop, take-append-drop}
-use Rattle.std.proofs.Math.Seq.{take-append_seam, drop-append_seam}
-use Rattle.definitions.specs.Text.{units}
-use Rattle.definitions.specs.declared.Unit.TheVariants.{Utf8}
+use Rattle.std.proofs.lemmas.List.{length-drop}
 use Rattle.pieces.proofs.Joins.{units-bytes}
-use Rattle.std.proofs.lemmas.Str.{IsUtf8-drop, IsCharBoundary-past_char, IsCharBoundary-at_seam, len_utf8_bounds, chars-encodes, scalars-chars, encodes-chars, encodes-append}
-use Rattle.std.specs.Char.{len_utf8}
 
 -- the last place up to n at which a longer text may be cut is less than the 4 bytes of a character before it
 pub near : (bs : List ℕ) (at n : ℕ) → IsUtf8 bs → IsCharBoundary bs at → at ≤ n → n < length bs → ((i : ℕ) → at < i → i ≤ n → ¬ (IsCharBoundary bs i)) → n < at + 4

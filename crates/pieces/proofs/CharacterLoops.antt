@@ -1,11 +1,6 @@
 -- What a loop over the characters t of a text has yielded, and what is left.
 use Rattle.std.proofs.Common.{arith, sym, ap, ◌∙◌, ◌≡◌, ℕ, ◌+◌, ◌<◌, ◌≤◌, List, [], ◌∷◌, ◌++◌, length, take, drop, slice_index_or, Option, Some, None}
-use Rattle.std.specs.Iterator.{Yields}
-use Rattle.std.proofs.lemmas.Iterator.{YieldsList}
-use Rattle.std.proofs.lemmas.Iterator.Consumers.{YieldsList-so_far, YieldsList-turn, YieldsList-end}
-use Rattle.std.proofs.lemmas.List.{append_assoc, take_more, drop_more, take-append-drop, map-id}
-use Rattle.definitions.specs.declared.Unit.TheVariants.{Utf8}
-use Rattle.definitions.specs.Text.{units}
+use Rattle.pieces.proofs.Common.{Yields, YieldsList, YieldsList-so_far, YieldsList-turn, YieldsList-end, append_assoc, take_more, drop_more, take-append-drop, map-id, Utf8, units}
 use Rattle.pieces.proofs.Joins.{units-append}
 
 -- the characters yielded are a prefix of the text, and c is the next one

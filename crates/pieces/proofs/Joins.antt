@@ -1,23 +1,7 @@
 -- The sum of a text joins those of its parts.
-use Rattle.std.specs.Prelude.{◌≡◌, ℕ, zero, suc, ◌+◌, ◌≤◌, ◌⊎◌, Bool, true, false, not, ◌||◌, ◌&&◌, ◌==◌, nat_lt, List, [], ◌∷◌, ◌++◌, length, take_while, encode_utf8, encode_utf8_all}
-use Rattle.std.specs.Char.{len_utf8}
-use Rattle.std.specs.List.{prefix_len}
+use Rattle.pieces.proofs.Common.{zero, suc, Bool, true, false, ◌||◌, take_while, encode_utf8, len_utf8, prefix_len, cases_Bool, eqb-true, eq-eqb, false≢true, ltb-true, ltb-false, take_while-cons, sum_by-cons, sum_by-take-le, sum_by-append, IsUtf8, chars, len_utf8_bounds, length-encode, encodes-chars, saturated-exact, saturated-zero_left, Encoding, Utf8, Utf16, Utf32, begins_with, ends_break, unit, units, in_line, Units, Sums, Counts, Filled, ends_with, counts_of, sums_of, shown_units, most, sum, after_joined, counts_joined, joined, joined-assoc}
+use Rattle.std.specs.Prelude.{◌≡◌, ℕ, ◌+◌, ◌≤◌, ◌⊎◌, not, ◌&&◌, ◌==◌, nat_lt, List, [], ◌∷◌, ◌++◌, length, encode_utf8_all}
 use Rattle.std.proofs.Common.{arith, length-append, refl, sym, ap, subst, inl, inr, ◌∙◌, cond}
-use Rattle.std.proofs.lemmas.Bool.{cases_Bool, eqb-true, eq-eqb, false≢true, ltb-true, ltb-false}
-use Rattle.std.proofs.lemmas.List.Sums.{take_while-cons, sum_by-cons, sum_by-take-le, sum_by-append}
-use Rattle.std.specs.Str.{IsUtf8, chars}
-use Rattle.std.proofs.lemmas.Str.{len_utf8_bounds, length-encode, encodes-chars}
-use Rattle.seqtree.specs.Saturated.{saturated-exact, saturated-zero_left}
-use Rattle.definitions.specs.declared.Unit.{Unit as Encoding}
-use Rattle.definitions.specs.declared.Unit.TheVariants.{Utf8, Utf16, Utf32}
-use Rattle.definitions.specs.Text.{begins_with, ends_break, unit, units}
-use Rattle.definitions.proofs.OffsetsInLine.{in_line}
-use Rattle.pieces.specs.declared.sums.Units.{Units}
-use Rattle.pieces.specs.declared.sums.Sums.{Sums}
-use Rattle.pieces.specs.declared.sums.Counts.{Counts}
-use Rattle.pieces.specs.declared.sums.Sums.TheVariants.{Filled}
-use Rattle.pieces.specs.Sums.{ends_with, counts_of, sums_of, shown_units, most, sum, after_joined, counts_joined, joined}
-use Rattle.pieces.specs.Laws.{joined-assoc}
 use Rattle.pieces.proofs.Prefixes.{ended_in, after_in, units_after-none, units_after-some, position-prefix}
 
 -- what a `\n` after a text leaves: the breaks that end in it, and the units after them

@@ -1,17 +1,6 @@
 -- What is known of a prefix of a text: by its sum, with one character more, and by what comes next.
 use Rattle.std.proofs.Common.{arith, refl, sym, ap, subst, inl, inr, ◌∙◌, cond, length-append, ◌≡◌, ℕ, zero, suc, ◌+◌, ◌-◌, ◌^◌, ◌≤◌, ◌⊎◌, ◌<◌, ◌≢◌, min, Bool, true, false, not, nat_lt, ◌==◌, List, [], ◌∷◌, ◌++◌, length}
-use Rattle.std.proofs.lemmas.Str.{len_utf8_ascii}
-use Rattle.std.proofs.lemmas.Bool.{lt-ltb, ltb-true, ltb-false, not-true, and_parts, eq-eqb, ne_eqb, and_from, and_left, and_right, false≢true}
-use Rattle.definitions.specs.declared.Position.{Position}
-use Rattle.definitions.specs.declared.Unit.{Unit as Encoding}
-use Rattle.definitions.specs.declared.Unit.TheVariants.{Utf8, Utf16, Utf32}
-use Rattle.definitions.specs.Text.{begins_with, unit, units, position}
-use Rattle.pieces.specs.declared.look_up.Prefix.{Prefix}
-use Rattle.pieces.specs.declared.sums.Counts.{Counts}
-use Rattle.pieces.specs.declared.sums.Sums.{Sums}
-use Rattle.pieces.specs.declared.sums.Sums.TheVariants.{Empty, Filled}
-use Rattle.pieces.specs.Sums.{ends_with, end_before_feed, counts_of, sums_of, count_of}
-use Rattle.pieces.specs.Prefixes.{prefix_of, goes_on, with_ones, room, IsPast}
+use Rattle.pieces.proofs.Common.{len_utf8_ascii, lt-ltb, ltb-true, ltb-false, not-true, and_parts, eq-eqb, ne_eqb, and_from, and_left, and_right, false≢true, Position, Encoding, Utf8, Utf16, Utf32, begins_with, unit, units, position, Prefix, Counts, Sums, Empty, Filled, ends_with, end_before_feed, counts_of, sums_of, count_of, prefix_of, goes_on, with_ones, room, IsPast}
 use Rattle.pieces.proofs.Prefixes.{ended_in, after_in, whole_if_none, position-prefix}
 use Rattle.pieces.proofs.Joins.{feed, turned, ended-le, length-le, units-append, units-nil, units-cons, units-le, line-le as line_units-le}
 use Rattle.pieces.proofs.Steps.{breaks_at_end, end_at, end-is, end-as_before_feed, end-in_next_line, end-feed, end-return, end-other}

@@ -1,18 +1,7 @@
 -- The sum of a text by the units of what is after its last `\r` or `\n`, with one character more.
-use Rattle.std.specs.Prelude.{◌≡◌, ℕ, zero, suc, ◌+◌, ◌<◌, ◌≤◌, ◌⊎◌, true, false, ◌||◌, ◌==◌, List, [], ◌∷◌, ◌++◌, length, take}
+use Rattle.pieces.proofs.Common.{zero, suc, true, false, ◌||◌, cases_Bool, and_parts, eqb-true, ne_eqb, lt-ltb, IsAscii, chars-IsAscii, IsUtf8-from_ascii, len_utf8_ascii, saturated-zero_left, saturated-exact, Utf8, Utf16, Utf32, unit, units, Counts, Sums, Empty, Filled, Units, sums_of, most, sum, units_joined, later_breaks, after_joined, joined, no_units, units_of, ascii_units, shown_units, HaveRoom, is_none, line_sums, joined-assoc}
+use Rattle.std.specs.Prelude.{◌≡◌, ℕ, ◌+◌, ◌<◌, ◌≤◌, ◌⊎◌, ◌==◌, List, [], ◌∷◌, ◌++◌, length, take}
 use Rattle.std.proofs.Common.{arith, refl, sym, ap, subst, inl, inr, ◌∙◌, cond}
-use Rattle.std.proofs.lemmas.Bool.{cases_Bool, and_parts, eqb-true, ne_eqb, lt-ltb}
-use Rattle.std.specs.Str.{IsAscii}
-use Rattle.std.proofs.lemmas.Str.{chars-IsAscii, IsUtf8-from_ascii, len_utf8_ascii}
-use Rattle.seqtree.specs.Saturated.{saturated-zero_left, saturated-exact}
-use Rattle.definitions.specs.declared.Unit.TheVariants.{Utf8, Utf16, Utf32}
-use Rattle.definitions.specs.Text.{unit, units}
-use Rattle.pieces.specs.declared.sums.Counts.{Counts}
-use Rattle.pieces.specs.declared.sums.Sums.{Sums}
-use Rattle.pieces.specs.declared.sums.Sums.TheVariants.{Empty, Filled}
-use Rattle.pieces.specs.declared.sums.Units.{Units}
-use Rattle.pieces.specs.Sums.{sums_of, most, sum, units_joined, later_breaks, after_joined, joined, no_units, units_of, ascii_units, shown_units, HaveRoom, is_none, line_sums}
-use Rattle.pieces.specs.Laws.{joined-assoc}
 use Rattle.pieces.proofs.Joins.{sums_of_one, sums_of-more, units-chars, unit-le, length-le, units-append, units-cons, units-nil}
 use Rattle.pieces.proofs.KnownPrefix.{character-le}
 use Rattle.pieces.proofs.CharacterLoops.{few-take}

@@ -1,18 +1,6 @@
 -- What the place of a piece that was looked for says of the text.
-use Rattle.pieces.specs.Pieces.{text_in}
+use Rattle.pieces.proofs.Common.{text_in, ltb-true, ltb-false, lt-ltb, eqb-true, eq-eqb, or_cases, or_left, or_right, and_from, and_parts, false≢true, append_assoc, take-append-drop, total, Position, Utf8, begins_with, units, Sums, Empty, AfterCharacter, AfterPosition, sums_of, joined, most, end_before_feed, count_of, counts_of, is_after_character, is_after_position, IsPast}
 use Rattle.std.proofs.Common.{arith, refl, sym, ap, inl, inr, ◌∙◌, length-append, length-take, ◌≡◌, ℕ, zero, suc, ◌+◌, ◌-◌, ◌^◌, ◌<◌, ◌≤◌, ◌⊎◌, Bool, true, false, ◌&&◌, ◌==◌, nat_lt, List, [], ◌∷◌, ◌++◌, length, take, drop}
-use Rattle.std.proofs.lemmas.Bool.{ltb-true, ltb-false, lt-ltb, eqb-true, eq-eqb, or_cases, or_left, or_right, and_from, and_parts, false≢true}
-use Rattle.std.proofs.lemmas.List.{append_assoc, take-append-drop}
-use Rattle.seqtree.specs.Monoid.{total}
-use Rattle.definitions.specs.declared.Position.{Position}
-use Rattle.definitions.specs.declared.Unit.TheVariants.{Utf8}
-use Rattle.definitions.specs.Text.{begins_with, units}
-use Rattle.pieces.specs.declared.sums.Sums.{Sums}
-use Rattle.pieces.specs.declared.sums.Sums.TheVariants.{Empty}
-use Rattle.pieces.specs.declared.sums.AfterCharacter.{AfterCharacter}
-use Rattle.pieces.specs.declared.sums.AfterPosition.{AfterPosition}
-use Rattle.pieces.specs.Sums.{sums_of, joined, most, end_before_feed, count_of, counts_of, is_after_character, is_after_position}
-use Rattle.pieces.specs.Prefixes.{IsPast}
 use Rattle.pieces.proofs.KnownPrefix.{same_line, same_character, line-le, nothing-end}
 use Rattle.pieces.proofs.Summed.{text_before, total-pieces, few_before}
 

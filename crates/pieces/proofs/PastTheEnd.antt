@@ -1,15 +1,7 @@
 -- Past the end of a text: an offset there has the position of the end, and no position has an offset there.
-use Rattle.std.specs.Prelude.{◌≡◌, ℕ, zero, suc, ◌+◌, ◌-◌, ◌≤◌, Bool, true, false, List, [], ◌∷◌, length, take, drop, slice_index_or}
-use Rattle.std.specs.List.{prefix_len}
+use Rattle.pieces.proofs.Common.{zero, suc, Bool, true, false, slice_index_or, prefix_len, le-leb, take_all, Position, Encoding, ends_break, break_ends, line_of, line_start, line_from, units, offset, position, in_line, ended, ended-cons, IsOffset-offset}
+use Rattle.std.specs.Prelude.{◌≡◌, ℕ, ◌+◌, ◌-◌, ◌≤◌, List, [], ◌∷◌, length, take, drop}
 use Rattle.std.proofs.Common.{arith, refl, sym, ap, ◌∙◌, cond, length-drop, length-take}
-use Rattle.std.proofs.lemmas.Bool.{le-leb}
-use Rattle.std.proofs.lemmas.List.{take_all}
-use Rattle.definitions.specs.declared.Position.{Position}
-use Rattle.definitions.specs.declared.Unit.{Unit as Encoding}
-use Rattle.definitions.specs.Text.{ends_break, break_ends, line_of, line_start, line_from, units, offset, position}
-use Rattle.definitions.proofs.OffsetsInLine.{in_line}
-use Rattle.definitions.proofs.OffsetOfPosition.{ended, ended-cons}
-use Rattle.definitions.proofs.TextLaws.{IsOffset-offset}
 
 -- each break of a text ends at or before an offset past its end
 all_ended : (o p : ℕ) (t : List ℕ) → p + length t ≤ o → ended o (break_ends p t) ≡ length (break_ends p t)

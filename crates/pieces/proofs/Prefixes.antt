@@ -1,13 +1,8 @@
 -- The position of the end of a prefix of a text: what lies after its last break, given what follows it.
-use Rattle.std.specs.Prelude.{◌≡◌, ℕ, zero, suc, ◌+◌, ◌-◌, ◌≤◌, Bool, true, false, List, [], ◌∷◌, ◌++◌, length, take, drop, take_while, slice_index_or}
+use Rattle.pieces.proofs.Common.{zero, suc, Bool, true, false, take_while, slice_index_or, le-leb, take_while-cons, Encoding, ends_break, break_ends, line_of, line_start, line_from, units, position, ended, ended-cons, none_ended, line_start-le, in_line}
+use Rattle.std.specs.Prelude.{◌≡◌, ℕ, ◌+◌, ◌-◌, ◌≤◌, List, [], ◌∷◌, ◌++◌, length, take, drop}
 use Rattle.std.proofs.Common.{arith, refl, sym, ap, subst, ◌∙◌, cond}
-use Rattle.std.proofs.lemmas.Bool.{le-leb}
 use Rattle.std.proofs.lemmas.List.{length-drop}
-use Rattle.std.proofs.lemmas.List.Sums.{take_while-cons}
-use Rattle.definitions.specs.declared.Unit.{Unit as Encoding}
-use Rattle.definitions.specs.Text.{ends_break, break_ends, line_of, line_start, line_from, units, position}
-use Rattle.definitions.proofs.OffsetOfPosition.{ended, ended-cons, none_ended, line_start-le}
-use Rattle.definitions.proofs.OffsetsInLine.{in_line}
 
 -- how many breaks end in t, where r follows
 abbrev pub ended_in : List ℕ → List ℕ → ℕ

@@ -1,13 +1,6 @@
 -- The sum of a text that is a list of pieces, and of what lies before one of them.
-use Rattle.pieces.specs.Pieces.{text_in}
+use Rattle.pieces.proofs.Common.{text_in, take-append-drop, joined-append, total, Utf8, units, Empty, sums_of, joined, most}
 use Rattle.std.proofs.Common.{arith, refl, sym, ap, ◌∙◌, ◌≡◌, ℕ, ◌≤◌, List, [], ◌∷◌, ◌++◌, take, drop}
-use Rattle.std.proofs.lemmas.List.{take-append-drop}
-use Rattle.chunks.proofs.Joined.{joined-append}
-use Rattle.seqtree.specs.Monoid.{total}
-use Rattle.definitions.specs.declared.Unit.TheVariants.{Utf8}
-use Rattle.definitions.specs.Text.{units}
-use Rattle.pieces.specs.declared.sums.Sums.TheVariants.{Empty}
-use Rattle.pieces.specs.Sums.{sums_of, joined, most}
 use Rattle.pieces.proofs.Joins.{sums_of_append, units-append}
 
 pub total-pieces : (pieces : List (List ℕ)) → units Utf8 (text_in pieces) ≤ most → total Empty joined sums_of pieces ≡ sums_of (text_in pieces)

@@ -1,22 +1,8 @@
 -- Of each edit an answer is given: whether a node is kept can be decided, so that those that lie in no kept one can be counted.
 use Rattle.std.proofs.Common.{◌≡◌, ◌<◌, ◌≤◌, ℕ, ◌+◌, List, [], ◌∷◌, length, refl, sym, ap, subst, ◌∙◌, ◌⊎◌, inl, inr, ⊎_elim, arith, Option}
-use Rattle.std.proofs.lemmas.Bool.{cases_lt, cases_eq}
-use mathlib.Core.List.{head-eq_of_cons-eq, tail-eq_of_cons-eq}
-use Rattle.definitions.specs.declared.Edit.{Edit}
-use Rattle.definitions.specs.declared.Kind.{Kind}
-use Rattle.definitions.specs.declared.Kind.TheVariants.{Rule as Terminal, Invalid}
-use Rattle.definitions.specs.Nodes.{StandsIn, Top, Below, Past, place_of, all_branches}
-use Rattle.definitions.specs.Text.{changed}
-use Rattle.definitions.specs.TokenEdits.{Splice, made, splice}
-use Rattle.definitions.specs.TreeEdits.{IsTouched, IsMoved, IsKept, Built, Nothing, Token, Kept, New}
-use Rattle.definitions.specs.Trees.{Tree, Forest, Leaf, Branch, Nil, Cons, trees, yield, yields}
-use Rattle.grammar.specs.Grammars.{FileGrammar}
-use Rattle.theory.proofs.ReuseIsExact.{stands_split}
-use Rattle.theory.proofs.MadeIsBuilt.{not_in_leaf}
-use Rattle.theory.proofs.Stack.{nowhere, stands_in_prefix}
-use Rattle.readings.specs.Answers.{Reading, AlwaysAnswers}
-use Rattle.readings.specs.Edits.{Makes, AlwaysCounts, IsAbove, number_after, edit_of}
-use Rattle.readings.specs.Texts.{LastEdit}
+use Rattle.readings.proofs.Common.{cases_lt, cases_eq, head-eq_of_cons-eq, tail-eq_of_cons-eq, Edit, Kind, Invalid, StandsIn, Top, Below, Past, place_of, all_branches, changed, Splice, made, splice, IsTouched, IsMoved, IsKept, Built, Nothing, Kept, New, Tree, Forest, Leaf, Branch, Nil, Cons, trees, yield, yields, FileGrammar, stands_split, not_in_leaf, nowhere, stands_in_prefix, Reading, AlwaysAnswers, Makes, AlwaysCounts, IsAbove, number_after, edit_of, LastEdit}
+use Rattle.definitions.specs.declared.Kind.TheVariants.{Rule as Terminal}
+use Rattle.definitions.specs.TreeEdits.{Token}
 use Rattle.readings.proofs.EachEditIsCountedOnce.{above_or_not}
 
 -- ---- what can be decided

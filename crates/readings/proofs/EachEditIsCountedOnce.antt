@@ -1,15 +1,6 @@
 -- Of each edit at most one answer is given, and of each document at most one list of counts.
 use Rattle.std.proofs.Common.{◌≡◌, ℕ, List, length, sym, ap, subst, ◌∙◌, ◌⊎◌, inl, inr, ⊎_elim, arith, Option, Some, None}
-use Rattle.std.proofs.lemmas.Bool.{cases_lt}
-use Rattle.definitions.specs.declared.Range.{Range}
-use Rattle.definitions.specs.declared.Stats.{Stats}
-use Rattle.definitions.specs.declared.Unit.{Unit as Encoding}
-use Rattle.definitions.specs.Nodes.{all_branches}
-use Rattle.grammar.specs.Grammars.{FileGrammar}
-use Rattle.theory.proofs.TreeEditLemmas.{one_built}
-use Rattle.readings.specs.Answers.{Reading, AnswersOnce}
-use Rattle.readings.specs.Edits.{IsNext, Makes, AreStats, ReportsLast, CountsOnce, IsAbove, number_after, edit_of, without_nodes}
-use Rattle.readings.specs.Texts.{LastEdit, OpenDocument}
+use Rattle.readings.proofs.Common.{cases_lt, Range, Stats, Encoding, all_branches, FileGrammar, one_built, Reading, AnswersOnce, IsNext, Makes, AreStats, ReportsLast, CountsOnce, IsAbove, number_after, edit_of, without_nodes, LastEdit, OpenDocument}
 
 pub above_or_not : (last : Option LastEdit) (number : ℕ) → IsAbove last number ⊎ (¬ IsAbove last number)
 above_or_not None number = ⊎_elim (λ some. inl some) (λ none. inr (λ some. omega (arith, none, some))) (cases_lt 0 number)

@@ -1,20 +1,6 @@
 -- Each text that fits has a reading, and each reading an answer to each question.
 use Rattle.std.proofs.Common.{◌≡◌, ℕ, zero, suc, ◌+◌, true, List, [], ◌∷◌, take, refl, subst, arith, Option, None}
-use Rattle.definitions.specs.declared.Kind.{Kind}
-use Rattle.definitions.specs.declared.Position.{Position}
-use Rattle.definitions.specs.declared.Range.{Range}
-use Rattle.definitions.specs.declared.Unit.{Unit as Encoding}
-use Rattle.definitions.specs.Answers.{Diagnostic}
-use Rattle.definitions.specs.DocumentNodes.{AreDocumentTrees}
-use Rattle.definitions.specs.Sentences.{IsVerdict, IsViable, Verdict, HasTree, FaultAt, FaultAtEnd}
-use Rattle.definitions.specs.Text.{offset}
-use Rattle.definitions.specs.Tokens.{Token, kinds}
-use Rattle.definitions.specs.Trees.{Tree}
-use Rattle.grammar.specs.Grammars.{FileGrammar}
-use Rattle.readings.specs.Diagnostics.{IsDiagnosis, IsFaultAfter}
-use Rattle.readings.specs.Texts.{fits}
-use Rattle.readings.specs.Answers.{Reading, IsReading, AreSelections, AlwaysAnswers}
-use Rattle.readings.specs.Layers.{LayersAnswer}
+use Rattle.readings.proofs.Common.{Kind, Position, Range, Encoding, Diagnostic, AreDocumentTrees, IsVerdict, IsViable, Verdict, HasTree, FaultAt, FaultAtEnd, offset, Token, kinds, Tree, FileGrammar, IsDiagnosis, IsFaultAfter, fits, Reading, IsReading, AreSelections, AlwaysAnswers, LayersAnswer}
 use Rattle.readings.proofs.Texts.{is_text}
 use Rattle.readings.proofs.Trees.{document_rooted}
 

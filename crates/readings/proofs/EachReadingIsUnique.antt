@@ -1,21 +1,6 @@
 -- A text has one reading by a grammar file, and a reading has one answer to each question.
 use Rattle.std.proofs.Common.{◌≡◌, ℕ, Bool, List, [], ◌∷◌, sym, ap, subst, ◌∙◌, reverse, map, length, Option, Some}
-use Rattle.definitions.specs.declared.Kind.{Kind}
-use Rattle.definitions.specs.declared.Position.{Position}
-use Rattle.definitions.specs.declared.Range.{Range}
-use Rattle.definitions.specs.declared.Unit.{Unit as Encoding}
-use Rattle.definitions.specs.declared.expression.Expression.{Expression}
-use Rattle.definitions.specs.Answers.{AreFolds, Diagnostic, IsSelection, diagnostic, range_of}
-use Rattle.definitions.specs.DocumentNodes.{AreDocumentTrees, IsNodeOf}
-use Rattle.definitions.specs.Items.{HasNoConflict}
-use Rattle.definitions.specs.Sentences.{IsExpected, IsVerdict, Verdict, HasTree, FaultAt, FaultAtEnd}
-use Rattle.definitions.specs.Text.{offset}
-use Rattle.definitions.specs.Tokens.{AreTokens, Placed, Token, kinds}
-use Rattle.definitions.specs.Trees.{Grammar, Tree}
-use Rattle.grammar.specs.Grammars.{FileGrammar}
-use Rattle.reports.specs.Contents.{AreFoldsOf, IsSelectionOf, placed_parts}
-use Rattle.readings.specs.Diagnostics.{IsDiagnosis, IsFaultAfter, looks}
-use Rattle.readings.specs.Answers.{Reading, IsReading, AreSelections, AnswersOnce}
+use Rattle.readings.proofs.Common.{Kind, Position, Range, Encoding, Expression, AreFolds, Diagnostic, IsSelection, diagnostic, range_of, AreDocumentTrees, IsNodeOf, HasNoConflict, IsExpected, IsVerdict, Verdict, HasTree, FaultAt, FaultAtEnd, offset, AreTokens, Placed, Token, kinds, Grammar, Tree, FileGrammar, AreFoldsOf, IsSelectionOf, placed_parts, IsDiagnosis, IsFaultAfter, looks, Reading, IsReading, AreSelections, AnswersOnce}
 
 -- of each thing that an answer is made of there is one
 pub record Unique : Type 0 where

@@ -1,13 +1,6 @@
 -- The trees of a document: they are trees of the grammar, and cover no more kinds than there are.
 use Rattle.std.proofs.Common.{◌≡◌, ◌≤◌, ◌+◌, ℕ, zero, suc, List, [], ◌∷◌, length, take, sym, ap, subst, ◌∙◌, arith}
-use Rattle.std.proofs.lemmas.List.{append-nil, length-append}
-use Rattle.definitions.specs.declared.Kind.{Kind}
-use Rattle.definitions.specs.declared.Symbol.{Symbol}
-use Rattle.definitions.specs.declared.Symbol.TheVariants.{Rule as Terminal, Nonterminal}
-use Rattle.definitions.specs.DocumentNodes.{AreDocumentTrees}
-use Rattle.definitions.specs.Sentences.{Verdict, HasTree, FaultAt, FaultAtEnd, IsVerdict}
-use Rattle.definitions.specs.Settled.{Way, WayAmong, At, Down, This, Next, IsSettled}
-use Rattle.definitions.specs.Trees.{Grammar, Tree, Forest, IsTree, AreTrees, HaveRoots, all_kinds}
+use Rattle.readings.proofs.Common.{append-nil, length-append, Kind, Symbol, Terminal, Nonterminal, AreDocumentTrees, Verdict, HasTree, FaultAt, FaultAtEnd, IsVerdict, Way, WayAmong, At, Down, This, Next, IsSettled, Grammar, Tree, Forest, IsTree, AreTrees, HaveRoots, all_kinds}
 
 module _ (g : Grammar) where
   -- left siblings on a way through a tree are trees

@@ -1,18 +1,7 @@
 -- The branches of trees around an offset: the spans are those of the nodes there, and each holds the later ones.
 use Rattle.std.proofs.Common.{◌≡◌, ◌⊎◌, inl, inr, ◌+◌, ◌<◌, ◌≤◌, ℕ, Bool, true, false, List, [], ◌∷◌, ◌++◌, length, refl, sym, ap, ◌∙◌, subst, arith, cond, nat_lt, AllPairs, Contains}
-use Rattle.std.proofs.lemmas.Bool.{cases_Bool, and_parts, and_from, and_left, lt-ltb, le-ltb, ltb-true}
-use Rattle.std.proofs.lemmas.List.{append-nil}
-use Rattle.std.proofs.lemmas.List.Elements.{Contains-append_cases, Contains-append_left, Contains-append_right}
-use Rattle.std.proofs.lemmas.List.Kept.{AllPairs-cons}
-use Rattle.definitions.specs.declared.Symbol.{Symbol}
-use Rattle.definitions.specs.declared.Symbol.TheVariants.{Rule as Terminal, Nonterminal}
-use Rattle.definitions.specs.Trees.{Grammar, Tree, Forest, Leaf, Branch, Nil, Cons, IsTree, AreTrees, HaveRoots, trees, yield, yields, all_kinds}
-use Rattle.definitions.specs.Answers.{Node}
-use Rattle.definitions.proofs.Ordered.{Contains-first, Contains-later, Contains-cases, Contains-none}
-use Rattle.theory.proofs.StackIsRead.{kinds-trees}
-use Rattle.reports.specs.NodesFrom.{IsNodeFrom}
+use Rattle.reports.proofs.Common.{cases_Bool, and_parts, and_from, and_left, lt-ltb, le-ltb, ltb-true, append-nil, Contains-append_cases, Contains-append_left, Contains-append_right, AllPairs-cons, Symbol, Terminal, Nonterminal, Grammar, Tree, Forest, Leaf, Branch, Nil, Cons, IsTree, AreTrees, HaveRoots, trees, yield, yields, all_kinds, Node, Contains-first, Contains-later, Contains-cases, Contains-none, kinds-trees, IsNodeFrom, is_around, spans_of, spans_in, spans_all, Holds}
 use Rattle.reports.proofs.NodesFrom.{nodes_from_none, nodes_from_leaf, nodes_from_branch, nodes_from_append, nodes_from_within, BranchParts, ListParts}
-use Rattle.reports.specs.Around.{is_around, spans_of, spans_in, spans_all, Holds}
 use Rattle.reports.proofs.Nested.{All-each, AllPairs-none, AllPairs-one}
 
 -- below a branch stands a list of trees

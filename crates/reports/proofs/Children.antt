@@ -1,17 +1,8 @@
 -- The spans of children in a store.
 use Rattle.std.proofs.Common.{◌≡◌, ◌+◌, ◌^◌, ◌<◌, ◌≤◌, min, ℕ, true, false, List, [], ◌∷◌, ◌++◌, length, refl, sym, ap, ◌∙◌, subst, arith, length-append, Option, Some, None, MatchOption, IfSome}
-use Rattle.definitions.specs.Trees.{trees, yield, yields, all_kinds}
-use Rattle.definitions.specs.TreeEdits.{Stamped, StampedBranch, plain, plain_all, plain_trees}
-use Rattle.theory.proofs.StackIsRead.{kinds-trees}
-use Rattle.trees.specs.declared.store.Child.{Child}
+use Rattle.reports.proofs.Common.{trees, yield, yields, all_kinds, Stamped, StampedBranch, plain_all, plain_trees, kinds-trees, Child, NodeId, Cell, most, tree, tree_of, trees_of, trees_from, forest_of, IsBelow, AreBelow, all_below-more, Found, Point, trees_of_roots, is_around, spans_of, spans_in, spans_all, branch_at, IsBranchAround}
+use Rattle.definitions.specs.TreeEdits.{plain}
 use Rattle.trees.specs.declared.store.Child.TheVariants.{Token, Node}
-use Rattle.trees.specs.declared.store.NodeId.{NodeId}
-use Rattle.trees.specs.Cells.{Cell, most, tree, tree_of, trees_of, trees_from, forest_of, IsBelow, AreBelow}
-use Rattle.trees.proofs.Cells.{all_below-more}
-use Rattle.reports.specs.declared.selections.Branch.{Branch as Found}
-use Rattle.reports.specs.declared.selections.Point.{Point}
-use Rattle.reports.specs.Contents.{trees_of_roots}
-use Rattle.reports.specs.Around.{is_around, spans_of, spans_in, spans_all, branch_at, IsBranchAround}
 use Rattle.reports.proofs.BranchesAround.{spans_trees, around_span, around_none, only_first}
 
 -- the trees below a node are those of its children

@@ -1,22 +1,6 @@
 -- The walk over trees that gathers the lines of the nodes that fold: what is still ahead of it, and each of its steps.
 use Rattle.std.proofs.Common.{◌≡◌, ◌⊎◌, inl, inr, ⊎_elim, ◌↔◌, ◌+◌, ◌-◌, ◌<◌, ◌≤◌, ℕ, List, [], ◌∷◌, ◌++◌, length, refl, sym, ap, ◌∙◌, subst, arith, length-append, Bool, true, false, Contains, All, slice_index_or}
-use Rattle.std.proofs.Math.Seq.{get_or-append_seam}
-use Rattle.std.proofs.lemmas.Bool.{cases_lt}
-use Rattle.std.proofs.lemmas.List.{append-nil, get_or_append_left}
-use Rattle.std.proofs.lemmas.List.Elements.{All-push, Contains-append_left, Contains-push, Contains-push_cases}
-use Rattle.definitions.specs.declared.Kind.{Kind}
-use Rattle.definitions.specs.declared.Symbol.{Symbol}
-use Rattle.definitions.specs.declared.Symbol.TheVariants.{Rule as Terminal, Nonterminal}
-use Rattle.definitions.specs.Trees.{Grammar, Tree, Forest, Leaf, Branch, HasProduction, IsTree, HaveRoots, trees, yield, yields, all_kinds}
-use Rattle.definitions.specs.Nodes.{branches, all_branches}
-use Rattle.definitions.specs.Answers.{Node}
-use Rattle.definitions.specs.DocumentNodes.{IsNodeOf}
-use Rattle.theory.proofs.Simulation.{roots-trees}
-use Rattle.theory.proofs.StackIsRead.{kinds-trees}
-use Rattle.theory.proofs.KeptIsReused.{branches-trees}
-use Rattle.theory.proofs.Unique.{production_unique}
-use Rattle.reports.specs.Folds.{line_at, SpanLines, AreAscending, IsFold, AreSpanned, with_own}
-use Rattle.reports.specs.NodesFrom.{IsNodeFrom}
+use Rattle.reports.proofs.Common.{get_or-append_seam, cases_lt, append-nil, get_or_append_left, All-push, Contains-append_left, Contains-push, Contains-push_cases, Kind, Symbol, Terminal, Nonterminal, Grammar, Tree, Forest, Leaf, Branch, HasProduction, IsTree, HaveRoots, trees, yield, yields, all_kinds, branches, all_branches, Node, IsNodeOf, roots-trees, kinds-trees, branches-trees, production_unique, line_at, SpanLines, AreAscending, IsFold, AreSpanned, with_own, IsNodeFrom}
 use Rattle.reports.proofs.NodesFrom.{IsBranchAt, nodes_from_start, nodes_from_none, nodes_from_leaf, nodes_from_branch, nodes_from_first, nodes_from_within}
 
 -- trees that are still to be gone over, and the place where the first one begins

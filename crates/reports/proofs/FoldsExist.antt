@@ -1,16 +1,6 @@
 -- Trees have a list of folds: those of their parts, in order.
 use Rattle.std.proofs.Common.{arith, refl, sym, subst, inl, inr, ⊎_elim, ◌∙◌, ◌≡◌, ◌⊎◌, ◌↔◌, ℕ, suc, ◌+◌, ◌<◌, ◌≤◌, Bool, true, false, List, [], ◌∷◌, length, slice_index_or, slice_get, Option, Some, None, AllPairs, Contains, IsTrue}
-use Rattle.std.proofs.lemmas.Bool.{cases_lt}
-use Rattle.std.proofs.lemmas.List.Elements.{Contains-get_or}
-use Rattle.std.proofs.lemmas.List.Kept.{AllPairs-cons}
-use Rattle.definitions.specs.Text.{line_of}
-use Rattle.definitions.specs.Tokens.{Placed}
-use Rattle.definitions.specs.Trees.{Grammar, Production, Tree, Forest, Leaf, Branch, Nil, Cons, trees, yield, yields}
-use Rattle.definitions.specs.Answers.{Node, IsBefore, SpansLines, AreFolds, span}
-use Rattle.definitions.specs.DocumentNodes.{IsNodeOf}
-use Rattle.definitions.proofs.Ordered.{Contains-first, Contains-later, Contains-cases, Contains-none}
-use Rattle.theory.proofs.Unique.{production_unique}
-use Rattle.reports.specs.NodesFrom.{IsNodeFrom}
+use Rattle.reports.proofs.Common.{cases_lt, Contains-get_or, AllPairs-cons, line_of, Placed, Grammar, Production, Tree, Forest, Leaf, Branch, Nil, Cons, trees, yield, yields, Node, IsBefore, SpansLines, AreFolds, span, IsNodeOf, Contains-first, Contains-later, Contains-cases, Contains-none, production_unique, IsNodeFrom}
 use Rattle.reports.proofs.NodesFrom.{IsBranchAt, nodes_from_start, nodes_from_none, nodes_from_leaf, nodes_from_branch, nodes_from_first}
 
 -- pairs in order, each once: those that are such

@@ -1,23 +1,8 @@
 -- The lines that were gathered, sorted and each once, are the folds.
-use Rattle.std.specs.Cmp.{IsEquivalence, IsTotalOrder, both_tied, unsigned_tied}
-use Rattle.std.specs.List.{dedup}
-use Rattle.std.specs.List.Sorted.{IsPermutation, IsSorted, IsStrictlySortedBy}
-use Rattle.std.specs.declared.cmp.Ordering.{Ordering}
-use Rattle.std.specs.declared.cmp.Ordering.TheVariants.{Less, Equal, Greater}
-use Rattle.std.specs.Ordering.{nat_cmp, ordering_then, eq_by_cmp}
+use Rattle.reports.proofs.Common.{IsEquivalence, IsTotalOrder, both_tied, unsigned_tied, dedup, IsPermutation, IsSorted, IsStrictlySortedBy, Ordering, Less, Equal, Greater, nat_cmp, ordering_then, eq_by_cmp, eqb-true, on_total, then_total, nat_cmp_total, and_equiv, on_equiv, ranked, Contains-dedup, Contains-from_dedup, IsStrictlySortedBy-dedup, Contains-permutation, IsPermutation-sym, Less-from_sorted, kinds, Tree, all_kinds, Node, IsBefore, IsNodeOf, FileGrammar, lines_of, AreSpanned, AreFoldsOf, placed_parts}
 use Rattle.std.proofs.Common.{arith, refl, sym, subst, inl, inr, ◌≡◌, ℕ, ◌≤◌, Bool, true, false, ◌&&◌, List, length, AllPairs, Contains, nat_eq}
-use Rattle.std.proofs.lemmas.Bool.{eqb-true}
-use Rattle.std.proofs.lemmas.Cmp.{on_total, then_total, nat_cmp_total, nat_eq_equiv, and_equiv, on_equiv, ranked}
-use Rattle.std.proofs.lemmas.List.Kept.{Contains-dedup, Contains-from_dedup, IsStrictlySortedBy-dedup}
-use Rattle.std.proofs.lemmas.List.Sorted.{Contains-permutation, IsPermutation-sym}
-use Rattle.std.proofs.lemmas.Map.Keys.{Less-from_sorted}
-use Rattle.definitions.specs.Tokens.{Token, kinds}
-use Rattle.definitions.specs.Trees.{Tree, all_kinds}
-use Rattle.definitions.specs.Answers.{Node, IsBefore}
-use Rattle.definitions.specs.DocumentNodes.{IsNodeOf}
-use Rattle.grammar.specs.Grammars.{FileGrammar}
-use Rattle.reports.specs.Folds.{lines_of, AreSpanned}
-use Rattle.reports.specs.Contents.{AreFoldsOf, placed_parts}
+use Rattle.std.proofs.lemmas.Cmp.{nat_eq_equiv}
+use Rattle.definitions.specs.Tokens.{Token}
 use Rattle.reports.proofs.LinesOfTokens.{length-significant, spans_lines}
 use Rattle.reports.proofs.NodesFrom.{nodes_from_start, nodes_from_within}
 

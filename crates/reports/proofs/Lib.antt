@@ -1,3 +1,4 @@
+pub mod Common
 pub mod SignificantOrder
 pub mod BranchesAround
 pub mod Children

@@ -1,22 +1,8 @@
 -- The lines of tokens: listed one after another, ascending, and those that nodes span.
-use Rattle.std.specs.Prelude.{◌≡◌, ◌↔◌, ℕ, zero, suc, ◌+◌, ◌-◌, ◌<◌, ◌≤◌, min, nat_le, Bool, true, false, not, List, [], ◌∷◌, ◌++◌, length, map, slice_index, slice_index_or, All, AllPairs}
+use Rattle.reports.proofs.Common.{min, nat_le, not, slice_index, le-leb, leb-true, append-nil, length-map, All-nil, All-cons, All-head, All-tail, All-weaker, AllPairs-cons, AllPairs-filter, Invalid, Utf16, line_of, position, break_ends, PlainToken, Placed, placed, is_skipped, significant, kinds, Node, SpansLines, end_of, ended, ended-cons, map-significant, Token, kind_in, plain, Place, lines_of, line_at, SpanLines, AreAscending}
+use Rattle.std.specs.Prelude.{◌≡◌, ◌↔◌, ℕ, zero, suc, ◌+◌, ◌-◌, ◌<◌, ◌≤◌, Bool, true, false, List, [], ◌∷◌, ◌++◌, length, map, slice_index_or, All, AllPairs}
 use Rattle.std.proofs.Common.{arith, refl, sym, ap, ◌∙◌, cond, append_assoc}
-use Rattle.std.proofs.lemmas.Bool.{le-leb, leb-true}
-use Rattle.std.proofs.lemmas.List.{append-nil, length-map}
-use Rattle.std.proofs.lemmas.List.Elements.{All-nil, All-cons, All-head, All-tail, All-weaker}
-use Rattle.std.proofs.lemmas.List.Kept.{AllPairs-cons, AllPairs-filter}
-use Rattle.definitions.specs.declared.Kind.TheVariants.{Invalid}
-use Rattle.definitions.specs.declared.Unit.TheVariants.{Utf16}
-use Rattle.definitions.specs.Text.{line_of, position, break_ends}
-use Rattle.definitions.specs.Tokens.{Token as PlainToken, Placed, placed, is_skipped, significant, kinds}
-use Rattle.definitions.specs.Answers.{Node, SpansLines, end_of}
-use Rattle.definitions.proofs.OffsetOfPosition.{ended, ended-cons}
-use Rattle.definitions.proofs.Significant.{map-significant}
-use Rattle.lexer.specs.declared.sums.Token.{Token}
-use Rattle.lexer.specs.Tokens.{kind_in, plain}
-use Rattle.text.specs.Places.{Place}
 use Rattle.reports.proofs.RowsOfTokens.{position-place, min-more}
-use Rattle.reports.specs.Folds.{lines_of, line_at, SpanLines, AreAscending}
 
 -- the lines of the significant ones of tokens, of which the first starts at offset o
 abbrev pub lines_from : List Bool → List ℕ → ℕ → List Token → List (ℕ × ℕ)

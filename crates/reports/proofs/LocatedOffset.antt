@@ -1,23 +1,8 @@
 -- The sums of tokens give the two places of an offset.
 use Rattle.std.proofs.Common.{arith, refl, sym, ap, subst, ◌∙◌, ◌≡◌, ℕ, zero, suc, ◌+◌, ◌<◌, ◌≤◌, ◌^◌, true, false, List, [], ◌∷◌, length, map, take, drop, count_by, slice_get, Some, None, All, IsTrue, nat_lt, if◌then◌else◌}
-use Rattle.std.proofs.lemmas.Bool.{ltb-true, ltb-false}
-use Rattle.std.proofs.lemmas.List.{length-take}
-use Rattle.std.proofs.lemmas.List.Sums.{sum_by-take-le}
-use Rattle.std.proofs.lemmas.List.Elements.{All-nil, All-cons, All-take}
-use Rattle.definitions.specs.declared.expression.Expression.{Expression}
-use Rattle.definitions.specs.Tokens.{AreTokens, is_skipped, kinds, placed, significant}
+use Rattle.reports.proofs.Common.{ltb-true, ltb-false, length-take, sum_by-take-le, All-nil, All-cons, All-take, Expression, AreTokens, is_skipped, kinds, placed, significant, IsPiece-inside, FileGrammar, lexicon_of, Sums, Token, AreTokensOf, characters, is_significant, kind_in, plain, length-plain, chars-plain, plain-take, tokens_length, kinds_plain, length-kinds, tot, count-cons, length-le-characters, total_characters, total_significant, IsAround}
 use Rattle.definitions.proofs.TokensLead.{chars}
-use Rattle.definitions.proofs.TokensUnique.{IsPiece-inside}
-use Rattle.grammar.specs.Grammars.{FileGrammar, lexicon_of}
-use Rattle.lexer.specs.declared.sums.Sums.{Sums}
-use Rattle.lexer.specs.declared.sums.Token.{Token}
 use Rattle.lexer.specs.Rescans.{plain_all}
-use Rattle.lexer.specs.Tokens.{AreTokensOf, characters, is_significant, kind_in, plain}
-use Rattle.lexer.proofs.Boundaries.{length-plain}
-use Rattle.lexer.proofs.Remakes.{chars-plain, plain-take, tokens_length}
-use Rattle.lexer.proofs.SignificantKinds.{kinds_plain, length-kinds}
-use Rattle.lexer.proofs.Totals.{tot, count-cons, length-le-characters, total_characters, total_significant}
-use Rattle.reports.specs.Around.{IsAround}
 use Rattle.reports.proofs.SignificantOrder.{IsPlaceOf, places_around}
 
 -- the place that a search for more than o characters finds, and the sum before it

@@ -1,12 +1,6 @@
 -- Lists of spans of which each holds the later ones.
-use Rattle.std.specs.List.{dedup}
+use Rattle.reports.proofs.Common.{dedup, append-nil, All-nil, All-head, All-weaker, All-contains, All-contains_itself, AllPairs-cons, Contains-from_dedup, Encloses, Holds, Contains-cases}
 use Rattle.std.proofs.Common.{arith, refl, sym, ap, subst, inl, inr, cond, slice_index_or, drop, ◌≡◌, ◌≢◌, ℕ, zero, suc, ◌⊎◌, Bool, true, false, List, [], ◌∷◌, ◌++◌, All, AllPairs, Contains}
-use Rattle.std.proofs.lemmas.List.{append-nil}
-use Rattle.std.proofs.lemmas.List.Elements.{All-nil, All-head, All-weaker, All-contains, All-contains_itself}
-use Rattle.std.proofs.lemmas.List.Kept.{AllPairs-cons, Contains-from_dedup}
-use Rattle.definitions.specs.Answers.{Encloses}
-use Rattle.reports.specs.Around.{Holds}
-use Rattle.definitions.proofs.Ordered.{Contains-cases}
 
 pub All-each : {X : Type 0} (P : X → Type 0) (xs : List X) → ((x : X) → Contains xs x → P x) → All P xs
 All-each P xs h = All-weaker (Contains xs) P h xs (All-contains_itself xs)

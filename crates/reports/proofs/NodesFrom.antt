@@ -1,16 +1,6 @@
 -- The nodes of a list of trees, by its parts.
 use Rattle.std.proofs.Common.{◌≡◌, ◌⊎◌, inl, inr, ◌↔◌, ◌+◌, ◌≤◌, ℕ, List, [], ◌∷◌, ◌++◌, length, refl, sym, ap, ◌∙◌, subst, arith, length-append}
-use Rattle.std.proofs.lemmas.List.{append-nil}
-use Rattle.definitions.specs.declared.Kind.{Kind}
-use Rattle.definitions.specs.declared.Symbol.{Symbol}
-use Rattle.definitions.specs.Trees.{Grammar, Tree, Forest, Leaf, Branch, HasProduction, trees, yield, yields, all_kinds}
-use Rattle.definitions.specs.Nodes.{StandsIn, Top, Below, Past, place_of}
-use Rattle.definitions.specs.Answers.{Node}
-use Rattle.definitions.specs.DocumentNodes.{IsNodeOf}
-use Rattle.theory.proofs.StackIsRead.{kinds-append}
-use Rattle.theory.proofs.Stack.{nowhere, stands_after, stands_in_prefix, stands_kinds}
-use Rattle.theory.proofs.ReuseIsExact.{stands_split}
-use Rattle.reports.specs.NodesFrom.{IsNodeFrom}
+use Rattle.reports.proofs.Common.{append-nil, Kind, Symbol, Grammar, Tree, Forest, Leaf, Branch, HasProduction, trees, yield, yields, all_kinds, StandsIn, Top, Below, Past, place_of, Node, IsNodeOf, kinds-append, nowhere, stands_after, stands_in_prefix, stands_kinds, stands_split, IsNodeFrom}
 
 -- the node is this branch, which begins at this place
 abbrev pub IsBranchAt : Grammar → ℕ → ℕ → Forest → Node → Type 0

@@ -1,18 +1,7 @@
 -- The rows of tokens, listed one after another.
-use Rattle.std.specs.Str.{chars, IsUtf8}
+use Rattle.reports.proofs.Common.{IsUtf8, append-nil, map-append, Encoding, position, kind_name, range_of, position-min, encodes-chars, Place, FileGrammar, Token, kind_in, Row, row_of, row_bytes, in_utf8, rows_from, rows_of}
+use Rattle.std.specs.Str.{chars}
 use Rattle.std.proofs.Common.{arith, refl, sym, ap, ◌∙◌, append_assoc, ◌≡◌, ℕ, ◌+◌, min, List, [], ◌∷◌, ◌++◌, length, map, encode_utf8_all}
-use Rattle.std.proofs.lemmas.List.{append-nil, map-append}
-use Rattle.definitions.specs.declared.Unit.{Unit as Encoding}
-use Rattle.definitions.specs.Text.{position}
-use Rattle.definitions.specs.Answers.{kind_name, range_of}
-use Rattle.definitions.proofs.PastTheEnd.{position-min}
-use Rattle.definitions.proofs.Characters.{encodes-chars}
-use Rattle.text.specs.Places.{Place}
-use Rattle.grammar.specs.Grammars.{FileGrammar}
-use Rattle.lexer.specs.declared.sums.Token.{Token}
-use Rattle.lexer.specs.Tokens.{kind_in}
-use Rattle.reports.specs.declared.rows.Row.{Row}
-use Rattle.reports.specs.Views.{row_of, row_bytes, in_utf8, rows_from, rows_of}
 
 -- These rows are listed, of the tokens before an offset. The walk stands there, or at the end of the text where that comes before
 -- it, and the rest of the tokens begins there.

@@ -1,22 +1,7 @@
 -- The selection that the two places of an offset give, and that each offset has one.
-use Rattle.std.specs.List.{dedup}
+use Rattle.reports.proofs.Common.{dedup, length-map, count_by-le-length, Range, Symbol, Encoding, range_of, shortened, Placed, AreTokens, kinds, Tree, HaveRoots, all_kinds, map-significant, FileGrammar, lexicon_of, Stored, AreTokensOf, is_significant, plain, Child, Cell, IsAround, IsSpanOf, inside, is_same, offsets_of, spans_all, AreRootsOf, IsSelectionOf, placed_parts, trees_of_roots}
 use Rattle.std.proofs.Common.{arith, refl, sym, ap, subst, ◌∙◌, ◌≡◌, ◌<◌, ◌≤◌, ◌^◌, ℕ, suc, List, ◌∷◌, length, map, take, reverse, count_by, All}
-use Rattle.std.proofs.lemmas.List.{length-map}
-use Rattle.std.proofs.lemmas.List.Sums.{count_by-le-length}
-use Rattle.definitions.specs.declared.Range.{Range}
-use Rattle.definitions.specs.declared.Symbol.{Symbol}
-use Rattle.definitions.specs.declared.Unit.{Unit as Encoding}
-use Rattle.definitions.specs.Answers.{range_of, shortened}
-use Rattle.definitions.specs.Tokens.{Placed, Token, AreTokens, kinds}
-use Rattle.definitions.specs.Trees.{Tree, HaveRoots, all_kinds}
-use Rattle.definitions.proofs.Significant.{map-significant}
-use Rattle.grammar.specs.Grammars.{FileGrammar, lexicon_of}
-use Rattle.lexer.specs.declared.sums.Token.{Token as Stored}
-use Rattle.lexer.specs.Tokens.{AreTokensOf, is_significant, plain}
-use Rattle.trees.specs.declared.store.Child.{Child}
-use Rattle.trees.specs.Cells.{Cell}
-use Rattle.reports.specs.Around.{IsAround, IsSpanOf, inside, is_same, offsets_of, spans_all}
-use Rattle.reports.specs.Contents.{AreRootsOf, IsSelectionOf, placed_parts, trees_of_roots}
+use Rattle.definitions.specs.Tokens.{Token}
 use Rattle.reports.proofs.SignificantOrder.{place_of_offset, places_around}
 use Rattle.reports.proofs.LocatedOffset.{few}
 use Rattle.reports.proofs.SpansAround.{are_spans, shown_cover}

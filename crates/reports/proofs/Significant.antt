@@ -1,15 +1,6 @@
 -- The significant tokens of a list at their places.
 use Rattle.std.proofs.Common.{arith, refl, sym, ap, subst, ◌∙◌, ◌≡◌, ℕ, zero, suc, ◌+◌, Bool, true, false, List, [], ◌∷◌, length, map, take, count_by, slice_get, Some, IsSomeAnd, All, if◌then◌else◌}
-use Rattle.std.proofs.lemmas.List.{length-map}
-use Rattle.std.proofs.lemmas.List.Elements.{All-head, All-tail}
-use Rattle.definitions.specs.declared.Kind.{Kind}
-use Rattle.definitions.specs.Answers.{end_of}
-use Rattle.definitions.specs.Tokens.{Placed, is_skipped, kinds, placed, significant}
-use Rattle.lexer.specs.declared.sums.Token.{Token}
-use Rattle.lexer.specs.Tokens.{characters, is_significant, kind_in, plain}
-use Rattle.lexer.specs.Rescans.{significant_kinds}
-use Rattle.lexer.proofs.Totals.{characters-cons, count-cons}
-use Rattle.lexer.proofs.SignificantKinds.{length-kinds, kinds_plain}
+use Rattle.reports.proofs.Common.{length-map, All-head, All-tail, Kind, end_of, Placed, is_skipped, kinds, placed, significant, Token, characters, is_significant, kind_in, plain, significant_kinds, characters-cons, count-cons, length-kinds, kinds_plain}
 
 -- the token is marked where its kind is skipped
 abbrev pub IsMarked : List Bool → Token → Type 0

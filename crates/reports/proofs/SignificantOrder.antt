@@ -1,16 +1,9 @@
 -- The significant tokens of a text stand apart, in order, and an offset has its two places among them.
 use Rattle.std.proofs.Common.{arith, subst, inl, inr, cond, length-drop, ◌≡◌, ℕ, zero, suc, ◌+◌, ◌<◌, ◌≤◌, ◌⊎◌, ◌↔◌, Bool, true, false, not, List, [], ◌∷◌, length, take, drop, slice_index_or, All, AllPairs}
-use Rattle.std.proofs.lemmas.Bool.{cases_lt}
+use Rattle.reports.proofs.Common.{cases_lt, All-nil, All-cons, All-weaker, AllPairs-cons, Invalid, Expression, Placed, AreTokens, placed, significant, is_skipped, kinds, end_of, chars-cons, IsPiece-inside, IsAround, starts_at, ends_at}
 use Rattle.std.proofs.lemmas.List.{get_or-map}
-use Rattle.std.proofs.lemmas.List.Elements.{All-nil, All-cons, All-weaker}
-use Rattle.std.proofs.lemmas.List.Kept.{AllPairs-cons}
-use Rattle.definitions.specs.declared.Kind.TheVariants.{Invalid}
-use Rattle.definitions.specs.declared.expression.Expression.{Expression}
-use Rattle.definitions.specs.Tokens.{Token, Placed, AreTokens, placed, significant, is_skipped, kinds}
-use Rattle.definitions.specs.Answers.{end_of}
-use Rattle.definitions.proofs.TokensLead.{chars, chars-cons}
-use Rattle.definitions.proofs.TokensUnique.{IsPiece-inside}
-use Rattle.reports.specs.Around.{IsAround, starts_at, ends_at}
+use Rattle.definitions.specs.Tokens.{Token}
+use Rattle.definitions.proofs.TokensLead.{chars}
 use Rattle.reports.proofs.Nested.{AllPairs-none}
 
 -- a token that isn't empty, from offset o on and up to offset e

@@ -1,21 +1,8 @@
 -- The offsets of the spans around an offset are those of the nodes that cover it.
-use Rattle.std.specs.List.{dedup}
-use Rattle.std.specs.Cmp.{IsEquivalence, nat_eq_equiv}
+use Rattle.reports.proofs.Common.{dedup, IsEquivalence, nat_eq_equiv, and_parts, and_from, and_cases, eqb-true, eqb-false, eq-eqb, cases_lt, cases_order, lt-ltb, le-ltb, get_or-map, length-map, All-head, All-tail, All-map, All-weaker, All-contains, AllPairs-cons, Contains-dedup, Contains-from_dedup, Symbol, Expression, Node, AreCovering, Covers, Encloses, shortened, span, IsNodeOf, Placed, AreTokens, placed, significant, Grammar, Tree, HaveRoots, all_kinds, Contains-first, Contains-later, Contains-cases, Contains-none, IsAround, starts_at, ends_at, offsets_of, spans_all, is_same, inside, IsSpanOf, Holds}
 use Rattle.std.proofs.Common.{arith, refl, sym, ap, subst, inl, inr, ◌∙◌, cond, ◌≡◌, ◌≢◌, ℕ, suc, ◌+◌, ◌-◌, ◌<◌, ◌≤◌, ◌⊎◌, ◌&&◌, ◌==◌, Bool, true, false, List, [], ◌∷◌, length, map, drop, All, AllPairs, Contains}
-use Rattle.std.proofs.lemmas.Bool.{and_parts, and_from, and_cases, eqb-true, eqb-false, eq-eqb, cases_lt, cases_order, lt-ltb, le-ltb}
-use Rattle.std.proofs.Math.ListN.{get_or-map}
-use Rattle.std.proofs.lemmas.List.{length-map}
-use Rattle.std.proofs.lemmas.List.Elements.{All-head, All-tail, All-map, All-weaker, All-contains}
-use Rattle.std.proofs.lemmas.List.Kept.{AllPairs-cons, Contains-dedup, Contains-from_dedup}
-use Rattle.definitions.specs.declared.Symbol.{Symbol}
-use Rattle.definitions.specs.declared.expression.Expression.{Expression}
-use Rattle.definitions.specs.Answers.{Node, AreCovering, Covers, Encloses, shortened, span}
-use Rattle.definitions.specs.DocumentNodes.{IsNodeOf}
-use Rattle.definitions.specs.Tokens.{Token, Placed, AreTokens, placed, significant}
-use Rattle.definitions.specs.Trees.{Grammar, Tree, HaveRoots, all_kinds}
-use Rattle.definitions.proofs.Ordered.{Contains-first, Contains-later, Contains-cases, Contains-none}
+use Rattle.definitions.specs.Tokens.{Token}
 use Rattle.reports.proofs.NodesFrom.{nodes_from_start, nodes_from_within}
-use Rattle.reports.specs.Around.{IsAround, starts_at, ends_at, offsets_of, spans_all, is_same, inside, IsSpanOf, Holds}
 use Rattle.reports.proofs.Nested.{All-each, AllPairs-none, AllPairs-head, AllPairs-tail, same_span, nested_dedup}
 use Rattle.reports.proofs.BranchesAround.{IsSpanFrom, span_all, node_all, nested_all}
 use Rattle.reports.proofs.SignificantOrder.{IsWithin, Ends, significant_within, significant_apart, start_before_end, end_within, ends_before}

@@ -1,25 +1,10 @@
 -- The walk over the nodes of a store that gathers the lines of those that fold.
-use Rattle.std.specs.Prelude.{◌≡◌, ℕ, ◌+◌, ◌<◌, ◌≤◌, min, Bool, false, List, [], ◌∷◌, ◌++◌, length, map, slice_index_or, All}
+use Rattle.reports.proofs.Common.{min, get_or-append_seam, map-append, get_or_append_left, All-nil, All-push, get_or_from_slice_get, slice_get_within, Kind, Symbol, Forest, Branch, HaveRoots, HasProduction, trees, yield, yields, all_kinds, left_of, Stamped, StampedBranch, StampedForest, plain_all, plain_trees, FileGrammar, NodeId, Child, Cell, most, tree, tree_of, trees_of, trees_from, forest_of, IsBelow, AreBelow, all_below-more, SpanLines, AreAscending, IsFold, AreSpanned, with_own, IsNodeFrom, trees_of_roots, Siblings}
+use Rattle.std.specs.Prelude.{◌≡◌, ℕ, ◌+◌, ◌<◌, ◌≤◌, Bool, false, List, [], ◌∷◌, ◌++◌, length, map, slice_index_or, All}
 use Rattle.std.proofs.Common.{arith, refl, sym, ap, subst, subst₂, ◌∙◌, length-append}
-use Rattle.std.proofs.Math.Seq.{get_or-append_seam}
-use Rattle.std.proofs.lemmas.List.{map-append, get_or_append_left}
-use Rattle.std.proofs.lemmas.List.Elements.{All-nil, All-push}
-use Rattle.std.proofs.lemmas.Option.{get_or_from_slice_get, slice_get_within}
-use Rattle.definitions.specs.declared.Kind.{Kind}
-use Rattle.definitions.specs.declared.Symbol.{Symbol}
-use Rattle.definitions.specs.Trees.{Forest, Branch, HaveRoots, HasProduction, trees, yield, yields, all_kinds, left_of}
-use Rattle.definitions.specs.TreeEdits.{Stamped, StampedBranch, StampedForest, plain, plain_all, plain_trees}
-use Rattle.grammar.specs.Grammars.{FileGrammar}
-use Rattle.trees.specs.declared.store.NodeId.{NodeId}
-use Rattle.trees.specs.declared.store.Child.{Child}
+use Rattle.definitions.specs.TreeEdits.{plain}
 use Rattle.trees.specs.declared.store.Child.TheVariants.{Token, Node}
-use Rattle.trees.specs.Cells.{Cell, most, tree, tree_of, trees_of, trees_from, forest_of, IsBelow, AreBelow}
-use Rattle.trees.proofs.Cells.{all_below-more}
 use Rattle.definitions.specs.Answers.{Node as Place}
-use Rattle.reports.specs.Folds.{SpanLines, AreAscending, IsFold, AreSpanned, with_own}
-use Rattle.reports.specs.NodesFrom.{IsNodeFrom}
-use Rattle.reports.specs.Contents.{trees_of_roots}
-use Rattle.reports.specs.declared.foldable.Siblings.{Siblings}
 use Rattle.reports.proofs.FoldSteps.{Ahead, IsGathered, work, gathered_none, all_gathered, gathered_end, gathered_past, gathered_into, first_within, left_side, smaller_past, smaller_into, smaller_end, free_leaf, free_line, own_kept, own_only, all_own}
 
 abbrev pub ahead : List Cell → Siblings → Ahead

@@ -1,21 +1,10 @@
 -- The text of a tree, written from start to end.
-use Rattle.std.specs.Prelude.{◌≡◌, ℕ, ◌<◌, List, [], ◌∷◌, ◌++◌, length, map, flat_map, codes, All, slice_index, slice_index_or}
-use Rattle.std.specs.Str.{chars, IsUtf8}
+use Rattle.reports.proofs.Common.{flat_map, codes, slice_index, IsUtf8, get_or-append_seam, append-nil, get_or_append_left, flat_map-cons, flat_map-map, All-nil, All-cons, All-append, chars-append, chars-nil, tree_texts, Stamped, StampedBranch, StampedForest, plain_all, FileGrammar, lefts, NodeId, Child, Cell, tree, tree_of, trees_from, forest_of, IsBelow, AreBelow, text_of, rest_text, IsBegun}
+use Rattle.std.specs.Prelude.{◌≡◌, ℕ, ◌<◌, List, [], ◌∷◌, ◌++◌, length, map, All, slice_index_or}
+use Rattle.std.specs.Str.{chars}
 use Rattle.std.proofs.Common.{arith, refl, sym, ap, subst, ◌∙◌, append_assoc, length-append}
-use Rattle.std.proofs.Math.Seq.{get_or-append_seam}
-use Rattle.std.proofs.lemmas.List.{append-nil, get_or_append_left}
-use Rattle.std.proofs.lemmas.List.Concat.{flat_map-cons}
-use Rattle.std.proofs.lemmas.List.Folds.{flat_map-map}
-use Rattle.std.proofs.lemmas.List.Elements.{All-nil, All-cons, All-append}
-use Rattle.std.proofs.lemmas.Str.{chars-append, chars-nil}
-use Rattle.definitions.specs.DocumentNodes.{tree_texts}
-use Rattle.definitions.specs.TreeEdits.{Stamped, StampedBranch, StampedForest, plain, plain_all}
-use Rattle.grammar.specs.Grammars.{FileGrammar, lefts}
-use Rattle.trees.specs.declared.store.NodeId.{NodeId}
-use Rattle.trees.specs.declared.store.Child.{Child}
+use Rattle.definitions.specs.TreeEdits.{plain}
 use Rattle.trees.specs.declared.store.Child.TheVariants.{Node}
-use Rattle.trees.specs.Cells.{Cell, tree, tree_of, trees_from, forest_of, IsBelow, AreBelow}
-use Rattle.reports.specs.Views.{text_of, rest_text, IsBegun}
 
 -- the text of a child
 abbrev pub child_text : FileGrammar → List Cell → Child → List ℕ

@@ -1,17 +1,7 @@
 -- The first item at which a goal is reached, where the run with it is known.
-use Rattle.std.specs.Prelude.{◌≡◌, ℕ, zero as nought, suc, ◌+◌, ◌-◌, ◌<◌, ◌≤◌, ◌⊎◌, Bool, true, false, List, ◌++◌, length, take, drop, slice_get, Some}
+use Rattle.runs.proofs.Common.{nought, suc, ◌<◌, ◌⊎◌, Bool, true, false, cases_lt, false≢true, take-append-le, take-append-drop, take_all, take-append-add, MonoidLaws, total, IsLeast, total-append, not_earlier, Counted, most, flattened, prefix-more, whole_at}
+use Rattle.std.specs.Prelude.{◌≡◌, ℕ, ◌+◌, ◌-◌, ◌≤◌, List, ◌++◌, length, take, drop, slice_get, Some}
 use Rattle.std.proofs.Common.{arith, refl, sym, ap, subst, inl, inr, ◌∙◌, length-append}
-use Rattle.std.proofs.lemmas.Bool.{cases_lt, false≢true}
-use Rattle.std.proofs.lemmas.List.{take-append-le, take-append-drop, take_all}
-use Rattle.std.proofs.Math.Seq.{take-append-add}
-use Rattle.seqtree.specs.Monoid.{MonoidLaws, total}
-use Rattle.seqtree.specs.Goal.{IsLeast}
-use Rattle.seqtree.proofs.Totals.{total-append}
-use Rattle.seqtree.proofs.FirstReached.{not_earlier}
-use Rattle.runs.specs.declared.counted.Counted.{Counted}
-use Rattle.runs.specs.Counted.{most}
-use Rattle.runs.specs.Runs.{flattened}
-use Rattle.chunks.proofs.Joined.{prefix-more, whole_at}
 use Rattle.runs.proofs.Totals.{prefix, all_of, total-sum, items_before}
 
 -- i is the least number of items that go before the one at which the goal is reached

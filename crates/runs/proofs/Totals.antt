@@ -1,15 +1,7 @@
 -- What runs add up to, and how many items lie before the run with a given one.
-use Rattle.std.specs.Prelude.{◌≡◌, ℕ, zero as nought, suc, ◌+◌, ◌<◌, ◌≤◌, true, false, nat_lt, List, [], ◌∷◌, ◌++◌, length, take, slice_index_or}
+use Rattle.runs.proofs.Common.{nought, suc, ◌<◌, true, false, nat_lt, slice_index_or, ltb-true, ltb-false, take_more, MonoidLaws, total, saturated, saturated-exact, total-append, Counted, most, nothing, join_three, counted, flattened, prefix-le}
+use Rattle.std.specs.Prelude.{◌≡◌, ℕ, ◌+◌, ◌≤◌, List, [], ◌∷◌, ◌++◌, length, take}
 use Rattle.std.proofs.Common.{arith, refl, sym, ap, ◌∙◌, length-append}
-use Rattle.std.proofs.lemmas.Bool.{ltb-true, ltb-false}
-use Rattle.std.proofs.lemmas.List.{take_more}
-use Rattle.seqtree.specs.Monoid.{MonoidLaws, total}
-use Rattle.seqtree.specs.Saturated.{saturated, saturated-exact}
-use Rattle.seqtree.proofs.Totals.{total-append}
-use Rattle.runs.specs.declared.counted.Counted.{Counted}
-use Rattle.runs.specs.Counted.{most, nothing, join_three, counted}
-use Rattle.runs.specs.Runs.{flattened}
-use Rattle.chunks.proofs.Joined.{prefix-le}
 
 -- the items before the run at place i
 abbrev pub prefix : {A : Type 0} → List (List A) → ℕ → List A

@@ -1,28 +1,7 @@
 -- All sets are among the states: what follows for conflicts and for the number of sets.
 use Rattle.std.proofs.Common.{◌≡◌, ◌+◌, ◌<◌, ◌≤◌, ℕ, List, [], ◌∷◌, ◌++◌, Option, Some, None, All, length, slice_index_or, refl, sym, ap, ◌∙◌, subst, arith, IfSome}
-use Rattle.definitions.specs.declared.Kind.{Kind}
-use Rattle.definitions.specs.declared.Kind.TheVariants.{Rule as Token}
-use Rattle.definitions.specs.declared.Symbol.{Symbol}
-use Rattle.definitions.specs.declared.Symbol.TheVariants.{Rule as Terminal}
-use Rattle.definitions.specs.Derivations.{first}
-use Rattle.definitions.specs.Items.{Item as LrItem, IsValid, HasItem, HaveSameItems, HasNoConflict, Move, Shift, Reduce, Accept, CallsFor, HasMove, kind_of}
-use Rattle.definitions.specs.Sentences.{AllProductive}
-use Rattle.theory.proofs.Rules.{rules_valid, valid_rules}
-use Rattle.theory.proofs.Sets.{goto_from, all_sets}
-use Rattle.item_sets.specs.declared.item.Item.{Item}
-use Rattle.tables.specs.declared.decisions.Move.{Move as TableMove}
-use Rattle.tables.specs.Actions.{IsMoveAt, AreMoves}
-use Rattle.item_sets.specs.Collection.{kernel_at, IsStep}
-use Rattle.tables.specs.Gotos.{HasSteps}
-use Rattle.first_sets.specs.Productions.{Shape, IsSound, IsKnown}
-use Rattle.first_sets.specs.Lookaheads.{lookahead_at}
-use Rattle.item_sets.specs.Sets.{IsItem, item_of}
-use Rattle.item_sets.specs.States.{HasKernel}
-use Rattle.item_sets.proofs.FirstKernel.{start_item, start_kernel}
-use Rattle.item_sets.proofs.InRange.{in_known}
-use Rattle.first_sets.proofs.Columns.{lookahead_at-rule, lookahead_small, column_there}
-use Rattle.item_sets.proofs.InRange.{after_first_known}
-use Rattle.item_sets.proofs.Valid.{set_complete}
+use Rattle.tables.proofs.Common.{Kind, Token, Symbol, Terminal, first, LrItem, IsValid, HasItem, HaveSameItems, HasNoConflict, CallsFor, HasMove, kind_of, AllProductive, rules_valid, valid_rules, goto_from, all_sets, Item, TableMove, IsMoveAt, AreMoves, kernel_at, IsStep, HasSteps, Shape, IsSound, IsKnown, lookahead_at, IsItem, item_of, HasKernel, start_item, start_kernel, in_known, lookahead_at-rule, lookahead_small, column_there, after_first_known, set_complete}
+use Rattle.definitions.specs.Items.{Move, Shift, Reduce, Accept}
 
 module _ (g : Shape) (sound : IsSound g) (productive : AllProductive g.grammar) (kernels : List (List Item)) (known : (s : ℕ) → s < length kernels → All (IsItem g) (kernel_at kernels s)) where
   -- some state stands for the prefix

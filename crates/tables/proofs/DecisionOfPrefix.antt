@@ -1,19 +1,7 @@
 -- What a decision on the items of a set says of a prefix.
 use Rattle.std.proofs.Common.{◌≡◌, ℕ, List, Option, Contains, sym, subst, inl, inr, ⊎_elim}
-use Rattle.definitions.specs.declared.Symbol.{Symbol}
-use Rattle.definitions.specs.Trees.{Grammar}
-use Rattle.definitions.specs.Items.{Move, HasMove, IsConflict, CallsFor, kind_of}
-use Rattle.item_sets.specs.declared.item.Item.{Item}
-use Rattle.first_sets.specs.Lookaheads.{lookahead_at}
-use Rattle.item_sets.specs.Sets.{item_of}
-use Rattle.item_sets.specs.States.{HasSet}
-use Rattle.tables.specs.declared.moves.Call.{Call}
-use Rattle.tables.specs.declared.decisions.Decided.{Decided}
-use Rattle.tables.specs.declared.decisions.Decided.TheVariants.{Moves, Clash}
-use Rattle.tables.specs.declared.moves.Decision.{Decision}
-use Rattle.tables.specs.declared.moves.Decision.TheVariants.{Nothing, Agreed, Conflict}
-use Rattle.tables.specs.Moves.{move_of, IsDecision}
-use Rattle.tables.specs.Rows.{IsDecided}
+use Rattle.tables.proofs.Common.{Symbol, Grammar, HasMove, IsConflict, CallsFor, kind_of, Item, lookahead_at, item_of, HasSet, Call, Decided, Moves, Clash, Decision, Nothing, Agreed, Conflict, move_of, IsDecision, IsDecided}
+use Rattle.definitions.specs.Items.{Move}
 
 module _ (g : Grammar) (items : List Item) (prefix : List Symbol) (set : HasSet g items prefix) (look : Option ℕ) where
   pub no_move : IsDecision g items look Nothing → (m : Move) → HasMove g prefix (kind_of look) m → ⊥

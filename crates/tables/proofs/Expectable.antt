@@ -1,18 +1,6 @@
 -- Where it is decided what items call for, each viable list of kinds has a list of the rules that may follow.
 use Rattle.std.proofs.Common.{◌≡◌, ◌≤◌, ◌<◌, ◌⊎◌, ◌↔◌, ◌+◌, ℕ, zero, suc, Bool, true, false, List, [], ◌∷◌, ◌++◌, length, refl, sym, subst, inl, inr, ⊎_elim, arith, Some, None, slice_get, slice_index, Contains}
-use Rattle.std.specs.List.Sorted.{IsStrictlyIncreasing}
-use Rattle.std.proofs.lemmas.Bool.{cases_lt}
-use Rattle.definitions.specs.declared.Kind.{Kind}
-use Rattle.definitions.specs.declared.Kind.TheVariants.{Rule as Token, Invalid}
-use Rattle.definitions.specs.declared.Symbol.{Symbol}
-use Rattle.definitions.specs.declared.Symbol.TheVariants.{Rule as Terminal, Nonterminal}
-use Rattle.definitions.specs.Trees.{Grammar, Production, Tree, Forest, Leaf, Branch, Nil, Cons, IsTree, AreTrees, yield, yields}
-use Rattle.definitions.specs.Sentences.{IsViable, IsSentence, IsExpected}
-use Rattle.definitions.proofs.Ordered.{Contains-first, Contains-later, Contains-cases, Contains-none}
-use Rattle.theory.proofs.LawProofs.{stack_exists}
-use Rattle.theory.proofs.Theorems.{move_iff_viable, move_iff_sentence}
-use Rattle.tables.specs.Decidable.{AreMovesDecided}
-use Rattle.tables.specs.Tables.{IsAccepted}
+use Rattle.tables.proofs.Common.{IsStrictlyIncreasing, cases_lt, Kind, Token, Invalid, Symbol, Terminal, Nonterminal, Grammar, Production, Tree, Forest, Leaf, Branch, Nil, Cons, IsTree, AreTrees, yield, yields, IsViable, IsSentence, IsExpected, Contains-first, Contains-later, Contains-cases, Contains-none, stack_exists, move_iff_viable, move_iff_sentence, AreMovesDecided, IsAccepted}
 use Rattle.tables.proofs.Total.{stack_decided}
 
 -- ---- a number above all token rules that a grammar names

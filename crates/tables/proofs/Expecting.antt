@@ -1,23 +1,6 @@
 -- The moves of a state are what is expected.
 use Rattle.std.proofs.Common.{◌≡◌, ◌<◌, ◌≤◌, ◌+◌, ◌↔◌, Bool, true, false, ℕ, zero, suc, List, ◌∷◌, ◌++◌, [], Option, Some, None, Contains, length, drop, slice_index_or, slice_index, refl, sym, ap, ◌∙◌, subst, inl, inr, ⊎_elim, arith, is_some, if◌then◌else◌}
-use Rattle.std.specs.List.Sorted.{IsStrictlyIncreasing}
-use Rattle.std.proofs.lemmas.Bool.{cases_lt}
-use Rattle.std.proofs.lemmas.List.{drop_all, get_or-drop, get_or_past}
-use Rattle.std.proofs.Math.Seq.{drop-cons}
-use Rattle.definitions.specs.declared.Kind.{Kind}
-use Rattle.definitions.specs.declared.Kind.TheVariants.{Rule as Token}
-use Rattle.definitions.specs.declared.Symbol.{Symbol}
-use Rattle.definitions.specs.Trees.{Grammar, Tree, HaveRoots}
-use Rattle.definitions.specs.Items.{HasMove}
-use Rattle.definitions.specs.Sentences.{IsSentence, IsViable}
-use Rattle.definitions.proofs.Ordered.{Contains-first, Contains-later, Contains-cases, Contains-none}
-use Rattle.theory.specs.Machine.{IsStackAfter, StackHasMove}
-use Rattle.theory.proofs.Theorems.{move_iff_viable, move_iff_sentence}
-use Rattle.theory.proofs.Unique.{roots_unique}
-use Rattle.tables.specs.declared.decisions.Move.{Move}
-use Rattle.tables.specs.Actions.{plain}
-use Rattle.tables.specs.Expected.{AreExpected, in_file_order, rules_with_move}
-use Rattle.tables.specs.Tables.{IsAction, IsAccepted}
+use Rattle.tables.proofs.Common.{IsStrictlyIncreasing, cases_lt, drop_all, get_or-drop, get_or_past, drop-cons, Kind, Token, Symbol, Grammar, Tree, HaveRoots, HasMove, IsSentence, IsViable, Contains-first, Contains-later, Contains-cases, Contains-none, IsStackAfter, StackHasMove, move_iff_viable, move_iff_sentence, roots_unique, Move, plain, AreExpected, in_file_order, rules_with_move, IsAction, IsAccepted}
 
 -- the rules with a move, from one place of a row on
 pub rules_from : (moves : List (Option Move)) (k : ℕ) → k < length moves → rules_with_move k (drop k moves) ≡ (if is_some (slice_index_or moves k None) then k ∷ rules_with_move (k + 1) (drop (k + 1) moves) else rules_with_move (k + 1) (drop (k + 1) moves))

@@ -1,20 +1,10 @@
 -- The tables of all states.
 use Rattle.std.proofs.Common.{◌≡◌, ◌<◌, ◌≤◌, ℕ, [], None, MatchOption, length, slice_index_or, sym, ◌∙◌, subst, arith}
-use Rattle.definitions.specs.Sentences.{AllProductive}
-use Rattle.tables.specs.Actions.{AreMoves, AreAllMoves, IsClashAt, Made, AreMade}
-use Rattle.item_sets.specs.Collection.{Found, AreStates}
-use Rattle.first_sets.specs.Productions.{Shape}
-use Rattle.tables.specs.Tables.{seen, AreTables}
-use Rattle.theory.proofs.Knuth.{lr1_no_conflict}
+use Rattle.tables.proofs.Common.{AllProductive, AreMoves, AreAllMoves, IsClashAt, Made, AreMade, Found, AreStates, Shape, seen, AreTables, lr1_no_conflict, Grammar, HasDistinctProductions, HasMoreSetsThan, kind_of, item_of, TableFault, TooManySets, Memory, IsConflictOf, IsRight, RefutesLr1}
 use Rattle.tables.proofs.AllSets.{no_conflict}
 use Rattle.tables.proofs.SetCount.{no_more_sets}
 use Rattle.tables.proofs.Right.{right}
-use Rattle.definitions.specs.Trees.{Grammar, HasDistinctProductions}
-use Rattle.definitions.specs.Items.{HasMoreSetsThan, kind_of}
-use Rattle.item_sets.specs.Sets.{item_of}
-use Rattle.tables.specs.declared.tables.TableFault.{TableFault}
-use Rattle.tables.specs.declared.tables.TableFault.TheVariants.{TooManySets, Conflict, Memory}
-use Rattle.tables.specs.Faults.{IsConflictOf, IsRight, RefutesLr1}
+use Rattle.tables.specs.declared.tables.TableFault.TheVariants.{Conflict}
 
 pub tables_all : (g : Shape) (t : Found) → AreStates g t → (m : Made) → AreMade g t.kernels m → length m.gotos ≡ length t.kernels → m.clash ≡ None → AreTables g.nonterminals (seen g.grammar m.gotos m.moves)
 tables_all g t states m made all none =

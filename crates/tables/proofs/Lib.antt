@@ -1,3 +1,4 @@
+pub mod Common
 pub mod OneMoreItem
 pub mod DecisionOfPrefix
 pub mod LookaheadMarks

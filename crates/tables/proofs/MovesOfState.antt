@@ -1,37 +1,8 @@
 -- The moves of a state, and the gotos and moves of one state more.
 use Rattle.std.proofs.Common.{◌≡◌, ◌+◌, ◌<◌, ℕ, List, [], ◌∷◌, ◌++◌, Option, Some, None, MatchOption, All, drop, length, length-append, slice_index_or, refl, sym, ap, ◌∙◌, subst, inl, inr, ⊎_elim, arith, IfSome, option_map}
-use Rattle.std.proofs.lemmas.Bool.{cases_lt}
-use Rattle.std.proofs.lemmas.List.{get_or-drop, length-drop}
-use Rattle.definitions.specs.declared.Symbol.{Symbol}
-use Rattle.definitions.specs.declared.Symbol.TheVariants.{Rule as Terminal, Nonterminal}
-use Rattle.definitions.specs.Trees.{Grammar}
-use Rattle.definitions.specs.Items.{Item as LrItem, IsValid, Shift as LrShift, HasMove, HasItem, kind_of}
-use Rattle.theory.specs.Closure.{ByRules, Goto}
-use Rattle.theory.proofs.Rules.{rules_valid, valid_rules}
+use Rattle.tables.proofs.Common.{cases_lt, get_or-drop, length-drop, Symbol, Terminal, Nonterminal, Grammar, LrItem, IsValid, LrShift, HasMove, HasItem, kind_of, ByRules, Goto, rules_valid, valid_rules, Decided, Moves, AClash, Move, Shift, Reduce, Accept, Item, Call, ToShift, ToReduce, ToAccept, ClashAt, IsOnlyMove, IsMoveAt, AreMoves, IsClashAt, Made, AddsMoves, AreAllMoves, AreMade, kernel_at, GoesOn, IsStep, IsRow, AreGotos, HasSteps, lookahead_at, Shape, IsKnown, move_of, chosen, AreChosen, IsClash, IsDecided, IsItem, HasKernel, HasSet, number, lookahead_small, symbol_of-number, each_more, step_goes_on}
 use Rattle.tables.specs.declared.decisions.Clash.{Clash}
-use Rattle.tables.specs.declared.decisions.Decided.{Decided}
-use Rattle.tables.specs.declared.decisions.Decided.TheVariants.{Moves, Clash as AClash}
-use Rattle.tables.specs.declared.decisions.Move.{Move}
-use Rattle.tables.specs.declared.decisions.Move.TheVariants.{Shift, Reduce, Accept}
-use Rattle.item_sets.specs.declared.item.Item.{Item}
-use Rattle.tables.specs.declared.moves.Call.{Call}
-use Rattle.tables.specs.declared.moves.Call.TheVariants.{Shift as ToShift, Reduce as ToReduce, Accept as ToAccept}
-use Rattle.tables.specs.declared.progress.ClashAt.{ClashAt}
-use Rattle.tables.specs.Actions.{IsOnlyMove, IsMoveAt, AreMoves, IsClashAt, Made, AddsMoves, AreAllMoves, AreMade}
-use Rattle.item_sets.specs.Collection.{kernel_at, GoesOn, IsStep, IsRow}
-use Rattle.tables.specs.Gotos.{AreGotos, HasSteps}
-use Rattle.first_sets.specs.Lookaheads.{lookahead_at}
-use Rattle.first_sets.specs.Productions.{Shape, IsKnown}
-use Rattle.tables.specs.Moves.{move_of}
-use Rattle.tables.specs.Rows.{chosen, AreChosen, IsClash, IsDecided}
-use Rattle.item_sets.specs.Sets.{IsItem}
-use Rattle.item_sets.specs.States.{HasKernel, HasSet}
-use Rattle.first_sets.specs.Symbols.{number}
-use Rattle.first_sets.proofs.Columns.{lookahead_small}
 use Rattle.tables.proofs.DecisionOfPrefix.{no_move, the_move, is_conflict}
-use Rattle.first_sets.proofs.SymbolNumbers.{symbol_of-number}
-use Rattle.first_sets.proofs.EachMore.{each_more}
-use Rattle.item_sets.proofs.GotosGrow.{step_goes_on}
 
 module _ (g : Grammar) where
   shift_item : (prefix : List Symbol) (a : ℕ) (i : LrItem) (rest : List Symbol) → IsValid g prefix i → i.after ≡ Terminal a ∷ rest → HasItem g (prefix ++ Terminal a ∷ [])

@@ -1,26 +1,8 @@
 -- The rows that are made are right for each prefix that leads to their state.
 use Rattle.std.proofs.Common.{◌≡◌, ◌+◌, ◌<◌, ◌≤◌, ℕ, List, [], ◌∷◌, ◌++◌, Option, Some, None, length, slice_index_or, sym, subst, inl, inr, ⊎_elim, arith, IfSome}
-use Rattle.std.proofs.lemmas.Bool.{cases_lt}
-use Rattle.std.proofs.lemmas.List.{get_or_past}
-use Rattle.std.proofs.lemmas.List.Elements.{Contains-get_or}
-use Rattle.definitions.specs.declared.Kind.TheVariants.{Rule as Token}
-use Rattle.definitions.specs.declared.Symbol.{Symbol}
-use Rattle.definitions.specs.declared.Symbol.TheVariants.{Rule as Terminal, Nonterminal}
-use Rattle.definitions.specs.Items.{HasItem, kind_of}
-use Rattle.item_sets.proofs.FirstKernel.{start_item, start_kernel}
-use Rattle.item_sets.proofs.AddedKernels.{no_item}
-use Rattle.first_sets.proofs.Columns.{lookahead_at-rule}
-use Rattle.item_sets.specs.Collection.{kernel_at, Found, AreStates, IsStep}
-use Rattle.first_sets.specs.Productions.{Shape}
-use Rattle.item_sets.specs.Sets.{item_of}
-use Rattle.item_sets.specs.States.{HasKernel}
+use Rattle.tables.proofs.Common.{cases_lt, get_or_past, Contains-get_or, Token, Symbol, Terminal, Nonterminal, HasItem, kind_of, start_item, start_kernel, no_item, lookahead_at-rule, kernel_at, Found, AreStates, IsStep, Shape, item_of, HasKernel, AreMoves, IsMoveAt, AreGotos, Sets, seen, move_at, goto_at, shifted_to, follower, state_after, IsAction, IsRightAt, Move, Shift, Reduce, Accept}
 use Rattle.tables.proofs.AllSets.{Stands, no_far_move, next_known}
 use Rattle.tables.proofs.Leading.{holds_after}
-use Rattle.tables.specs.Actions.{AreMoves, IsMoveAt}
-use Rattle.tables.specs.Gotos.{AreGotos}
-use Rattle.tables.specs.Tables.{Sets, seen, move_at, goto_at, shifted_to, follower, state_after, IsAction, IsRightAt}
-use Rattle.tables.specs.declared.decisions.Move.{Move}
-use Rattle.tables.specs.declared.decisions.Move.TheVariants.{Shift, Reduce, Accept}
 
 module _ (g : Shape) (found : Found) (states : AreStates g found) (gotos : List (List (Option ℕ))) (moves : List (List (Option Move))) (filled : length moves ≡ length found.kernels) (are_gotos : (s : ℕ) → s < length found.kernels → AreGotos g found.kernels s (slice_index_or gotos s [])) (are_moves : (s : ℕ) → s < length found.kernels → AreMoves g.grammar found.kernels s (slice_index_or moves s [])) where
   abbrev made : Sets

@@ -1,12 +1,7 @@
 -- What tables say of a prefix that leads to a state.
 use Rattle.std.proofs.Common.{◌≡◌, ◌+◌, ◌≤◌, ℕ, List, [], ◌∷◌, ◌++◌, Option, Some, None, MatchOption, slice_index_or, ap, ◌∙◌, arith}
-use Rattle.std.proofs.lemmas.List.{get_or_past}
-use Rattle.definitions.specs.declared.Symbol.{Symbol}
-use Rattle.definitions.specs.declared.Symbol.TheVariants.{Rule as Terminal, Nonterminal}
-use Rattle.definitions.specs.Items.{HasItem}
+use Rattle.tables.proofs.Common.{get_or_past, Symbol, Terminal, Nonterminal, HasItem, Sets, IsStateOf, IsRightAt, AreTables, move_at, goto_at, shifted_to, state_after, Shift}
 use Rattle.tables.proofs.Leading.{state_after-more, state_after-none}
-use Rattle.tables.specs.Tables.{Sets, IsStateOf, IsRightAt, AreTables, move_at, goto_at, shifted_to, state_after}
-use Rattle.tables.specs.declared.decisions.Move.TheVariants.{Shift}
 
 module _ (nonterminals : ℕ) (t : Sets) (tables : AreTables nonterminals t) where
   state_there : (prefix : List Symbol) (s : ℕ) → state_after t prefix ≡ Some s → IsStateOf t prefix s

@@ -1,29 +1,7 @@
 -- The number of sets: as many as there are states.
 use Rattle.std.proofs.Common.{◌≡◌, ◌≢◌, ◌<◌, ◌≤◌, ℕ, zero, suc, true, List, [], ◌∷◌, All, Contains, length, slice_index_or, refl, sym, ap, ◌∙◌, subst, inl, inr, arith, AllPairs}
-use Rattle.std.specs.List.{list_any}
-use Rattle.std.proofs.Math.Dec.{eqb}
-use Rattle.std.proofs.lemmas.Bool.Decides.{Decides-eqb}
-use Rattle.std.proofs.lemmas.Bool.{eqb-true}
-use Rattle.std.proofs.lemmas.List.{get_or_default, length-take-le}
-use Rattle.std.proofs.lemmas.List.Elements.{All-head, All-tail}
-use Rattle.std.proofs.lemmas.List.Folds.{Any-from_list_any}
-use Rattle.std.proofs.lemmas.Map.Made.{IsDistinct-from_AllPairs}
-use Rattle.std.proofs.lemmas.Map.Steps.{length-le_from_distinct_below}
-use Rattle.definitions.specs.declared.Symbol.{Symbol}
-use Rattle.definitions.specs.Items.{HasItem, HaveSameItems, HasMoreSetsThan}
-use Rattle.definitions.specs.Sentences.{AllProductive}
-use Rattle.theory.specs.Closure.{IsKernel}
-use Rattle.item_sets.specs.declared.item.Item.{Item}
-use Rattle.item_sets.specs.Collection.{kernel_at, IsReached, Found, AreStates}
-use Rattle.item_sets.specs.Order.{IsOrdered}
-use Rattle.tables.specs.Gotos.{HasSteps}
-use Rattle.first_sets.specs.Productions.{Shape, IsSound}
-use Rattle.item_sets.specs.Order.{IsInside}
-use Rattle.item_sets.specs.Sets.{side, item_of, IsItem}
-use Rattle.item_sets.specs.States.{HasKernel}
-use Rattle.item_sets.proofs.FirstKernel.{start_item, same_sets}
+use Rattle.tables.proofs.Common.{list_any, eqb, Decides-eqb, eqb-true, get_or_default, length-take-le, All-head, All-tail, Any-from_list_any, IsDistinct-from_AllPairs, length-le_from_distinct_below, Symbol, HasItem, HaveSameItems, HasMoreSetsThan, AllProductive, IsKernel, Item, kernel_at, IsReached, Found, AreStates, IsOrdered, HasSteps, Shape, IsSound, IsInside, side, item_of, IsItem, HasKernel, start_item, same_sets, rising_same}
 use Rattle.tables.proofs.AllSets.{all_stand}
-use Rattle.item_sets.proofs.Ordered.{rising_same}
 
 module _ (g : Shape) where
   before_long : (i : Item) → IsItem g i → length (item_of g.grammar i).before ≡ i.dot

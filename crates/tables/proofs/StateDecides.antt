@@ -1,18 +1,8 @@
 -- Every prefix with an item leads to a state, whose moves decide what its items call for.
 use Rattle.std.proofs.Common.{◌≡◌, ◌⊎◌, ℕ, List, [], ◌∷◌, ◌++◌, Option, Some, None, refl, inl, inr}
-use Rattle.definitions.specs.declared.Kind.{Kind}
-use Rattle.definitions.specs.declared.Kind.TheVariants.{Rule as Token, Invalid}
-use Rattle.definitions.specs.declared.Symbol.{Symbol}
-use Rattle.definitions.specs.declared.Symbol.TheVariants.{Rule as Terminal, Nonterminal}
-use Rattle.definitions.specs.Trees.{Grammar}
-use Rattle.definitions.specs.Items.{Item as LrItem, Move as LrMove, Shift, Reduce, Accept, HasMove, HasItem, kind_of}
-use Rattle.theory.specs.Closure.{ByRules, Start, Goto, Close}
-use Rattle.theory.proofs.Rules.{rules_valid, valid_rules}
-use Rattle.tables.specs.declared.decisions.Move.{Move}
+use Rattle.tables.proofs.Common.{Kind, Token, Invalid, Symbol, Terminal, Nonterminal, Grammar, LrItem, LrMove, HasMove, HasItem, kind_of, ByRules, Start, Goto, Close, rules_valid, valid_rules, Move, plain, AreMovesDecided, Sets, IsStateOf, IsAction, AreTables, move_at, goto_at}
+use Rattle.definitions.specs.Items.{Shift, Reduce, Accept}
 use Rattle.tables.specs.declared.decisions.Move.TheVariants.{Shift as ToShift, Reduce as ToReduce, Accept as ToAccept}
-use Rattle.tables.specs.Actions.{plain}
-use Rattle.tables.specs.Decidable.{AreMovesDecided}
-use Rattle.tables.specs.Tables.{Sets, IsStateOf, IsAction, AreTables, move_at, goto_at}
 use Rattle.tables.proofs.RowsOfPrefix.{start_state, right, shift_state, goes}
 
 no_lookahead : (look : Option ℕ) → Some Invalid ≡ kind_of look → ⊥

@@ -1,23 +1,7 @@
 -- Where it is decided what items call for, each list of kinds has a verdict.
 use Rattle.std.proofs.Common.{◌≡◌, ◌⊎◌, ℕ, List, [], ◌∷◌, ◌++◌, Option, Some, None, length, refl, sym, subst, inl, inr, ⊎_elim, append_assoc}
-use Rattle.std.proofs.lemmas.List.{append-nil}
-use Rattle.definitions.specs.declared.Kind.{Kind}
-use Rattle.definitions.specs.declared.Kind.TheVariants.{Rule as Token}
-use Rattle.definitions.specs.declared.Symbol.{Symbol}
-use Rattle.definitions.specs.declared.Symbol.TheVariants.{Rule as Terminal}
-use Rattle.definitions.specs.Trees.{Grammar, Tree, Leaf, HaveRoots}
-use Rattle.definitions.specs.Sentences.{Verdict, HasTree, FaultAt, FaultAtEnd, IsVerdict, IsTreeOf}
-use Rattle.definitions.specs.Items.{HasMove, HasItem, Shift}
-use Rattle.theory.specs.Closure.{ByRules, Start, Goto}
-use Rattle.theory.specs.Machine.{Stay, IsStackAfter, StackHasMove}
-use Rattle.theory.proofs.LawProofs.{stack_exists}
-use Rattle.theory.proofs.Rules.{rules_valid, valid_rules}
-use Rattle.theory.proofs.Simulation.{roots-append}
-use Rattle.theory.proofs.Theorems.{move_iff_viable, move_iff_sentence}
-use Rattle.theory.proofs.Unique.{roots_unique}
-use Rattle.theory.proofs.Verdicts.{verdict_at_kind, verdict_at_end}
-use Rattle.tables.specs.Decidable.{AreMovesDecided}
-use Rattle.tables.specs.Tables.{IsAccepted}
+use Rattle.tables.proofs.Common.{append-nil, Kind, Token, Symbol, Terminal, Grammar, Tree, Leaf, HaveRoots, Verdict, HasTree, FaultAt, FaultAtEnd, IsVerdict, IsTreeOf, HasMove, HasItem, ByRules, Start, Goto, Stay, IsStackAfter, StackHasMove, stack_exists, rules_valid, valid_rules, roots-append, move_iff_viable, move_iff_sentence, roots_unique, verdict_at_kind, verdict_at_end, AreMovesDecided, IsAccepted}
+use Rattle.definitions.specs.Items.{Shift}
 
 module _ (g : Grammar) where
   -- after a token rule that the items call for, an item is valid

@@ -1,3 +1,4 @@
+pub mod Common
 pub mod AsciiStart
 mod Lines
 mod Sizes

@@ -1,17 +1,7 @@
 -- How the position of an offset follows from that of the offset before it.
-use Rattle.std.specs.Prelude.{◌≡◌, ℕ, zero, suc, ◌+◌, ◌-◌, ◌*◌, ◌<◌, ◌≤◌, ◌⊎◌, Bool, true, false, not, ◌||◌, ◌==◌, nat_lt, List, [], ◌∷◌, length, take, drop, slice_index}
-use Rattle.std.specs.List.{prefix_len}
+use Rattle.text.proofs.Common.{zero, suc, ◌*◌, ◌⊎◌, Bool, false, not, ◌||◌, ◌==◌, nat_lt, slice_index, prefix_len, cases_lt, cases_Bool, false≢true, ne_eqb, len_utf8_bounds, drop_more, get_or-drop, get_or-take, length-take, take_more, take_all, length-prefix_len, prefix_len_passes, sum_by_push, sum_by-cons, Position, Encoding, Utf8, Utf16, Utf32, ends_break, line_of, line_start, line_from, unit, units, position, in_line_end}
+use Rattle.std.specs.Prelude.{◌≡◌, ℕ, ◌+◌, ◌-◌, ◌<◌, ◌≤◌, true, List, [], ◌∷◌, length, take, drop}
 use Rattle.std.proofs.Common.{arith, cond, length-drop, refl, sym, ap, subst, inl, inr, ◌∙◌}
-use Rattle.std.proofs.lemmas.Bool.{cases_lt, cases_Bool, false≢true, ne_eqb}
-use Rattle.std.proofs.lemmas.Str.{len_utf8_bounds}
-use Rattle.std.proofs.lemmas.List.{drop_more, get_or-drop, get_or-take, length-take, take_more, take_all}
-use Rattle.std.proofs.lemmas.List.Folds.{length-prefix_len}
-use Rattle.std.proofs.lemmas.List.Sums.{prefix_len_passes, sum_by_push, sum_by-cons}
-use Rattle.definitions.specs.declared.Position.{Position}
-use Rattle.definitions.specs.declared.Unit.{Unit as Encoding}
-use Rattle.definitions.specs.declared.Unit.TheVariants.{Utf8, Utf16, Utf32}
-use Rattle.definitions.specs.Text.{ends_break, line_of, line_start, line_from, unit, units, position}
-use Rattle.definitions.proofs.OffsetsInLine.{in_line_end}
 use Rattle.text.proofs.Lines.{Reached, Reached-start, Reached-break, Reached-same, Reached-end}
 
 -- the character is of the line

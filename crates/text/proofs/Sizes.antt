@@ -1,18 +1,7 @@
 -- How many bytes a text and its parts have in UTF-8.
-use Rattle.std.specs.Str.{IsUtf8, chars}
+use Rattle.text.proofs.Common.{IsUtf8, chars, take-append-drop, take-add, encodes-append, length-le-encodes, edit, units, Utf8, text_in, Cut, IsCut, units-bytes, IsStored}
 use Rattle.std.proofs.Common.{arith, sym, ap, ◌∙◌, length-append, ◌≡◌, ℕ, ◌+◌, ◌-◌, ◌≤◌, List, ◌++◌, length, take, drop, encode_utf8_all}
-use Rattle.std.proofs.lemmas.List.{take-append-drop}
-use Rattle.std.proofs.Math.Seq.{take-add}
-use Rattle.std.proofs.lemmas.Str.{encodes-append, length-le-encodes}
-use Rattle.definitions.specs.Text.{edit}
 use Rattle.definitions.proofs.Characters.{encodes-chars}
-use Rattle.definitions.specs.Text.{units}
-use Rattle.definitions.specs.declared.Unit.TheVariants.{Utf8}
-use Rattle.pieces.specs.Pieces.{text_in}
-use Rattle.pieces.specs.declared.places.Cut.{Cut}
-use Rattle.pieces.specs.Places.{IsCut}
-use Rattle.pieces.proofs.Joins.{units-bytes}
-use Rattle.text.specs.Stored.{IsStored}
 
 -- how many bytes the characters have
 abbrev pub size : List ℕ → ℕ

@@ -1,23 +1,7 @@
 -- A grammar without a conflict, all of whose symbols are productive, and one edit: the premises of the laws can be met.
 use Rattle.std.proofs.Common.{◌≡◌, ◌⊎◌, ℕ, zero, suc, List, [], ◌∷◌, ◌++◌, Option, Some, None, refl, sym, ap, ◌∙◌, subst, inl, inr, All}
-use mathlib.Core.List.{head-eq_of_cons-eq, tail-eq_of_cons-eq}
-use Rattle.std.proofs.lemmas.List.Elements.{All-nil, All-cons}
-use Rattle.definitions.specs.declared.Kind.{Kind}
-use Rattle.definitions.specs.declared.Kind.TheVariants.{Rule as Token}
-use Rattle.definitions.specs.declared.Symbol.{Symbol}
-use Rattle.definitions.specs.declared.Symbol.TheVariants.{Rule as Terminal, Nonterminal}
-use Rattle.definitions.specs.Trees.{Grammar, Production, HasProduction, Tree, Leaf, Branch, Nil, Cons, HaveRoots, all_kinds}
-use Rattle.definitions.specs.Sentences.{IsProductive, AllProductive}
-use Rattle.definitions.specs.Items.{Item, Move, Shift, Reduce, Accept, kind_of, CallsFor, HasNoConflict}
-use Rattle.theory.specs.Machine.{look_at}
-use Rattle.theory.specs.Closure.{IsFirst, ByRules, Start, Goto, Close}
+use Rattle.theory.proofs.Common.{head-eq_of_cons-eq, tail-eq_of_cons-eq, All-nil, All-cons, Kind, Token, Symbol, Terminal, Nonterminal, Grammar, Production, HasProduction, Tree, Leaf, Branch, Nil, Cons, HaveRoots, all_kinds, IsProductive, AllProductive, Item, Move, Shift, Reduce, Accept, kind_of, CallsFor, HasNoConflict, look_at, IsFirst, ByRules, Start, Goto, Close, Here, Splice, Stamped, StampedForest, StampedLeaf, StampedBranch, StampedNil, StampedCons, plain_all, stamped_trees, StampedIn, StampedTop, StampedBelow, StampedPast, AreStampedExactly, Shifts, Reduces, AtEnd, Nothing_left, At_token, Goes_on, Ends, Takes_token, Makes, IsPrepared, AreStampedByRun}
 use Rattle.theory.proofs.Rules.{valid_rules, kind_same}
-use Rattle.definitions.specs.Derivations.{Here}
-use Rattle.definitions.specs.TokenEdits.{Splice}
-use Rattle.definitions.specs.TreeEdits.{Stamped, StampedForest, StampedLeaf, StampedBranch, StampedNil, StampedCons, plain_all, stamped_trees, StampedIn, StampedTop, StampedBelow, StampedPast, AreStampedExactly}
-use Rattle.theory.specs.Machine.{Shifts, Reduces}
-use Rattle.theory.specs.Reuse.{AtEnd, Nothing_left, At_token, Goes_on, Ends, Takes_token, Makes, IsPrepared}
-use Rattle.theory.specs.Laws.{AreStampedByRun}
 use Rattle.theory.proofs.Stack.{nowhere}
 use Rattle.theory.proofs.MadeIsBuilt.{not_in_leaf}
 use Rattle.theory.proofs.LawProofs.{exact}

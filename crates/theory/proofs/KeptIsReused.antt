@@ -1,20 +1,11 @@
 -- What could be taken over is taken over: no node that the edit keeps is broken before it is tried.
 use Rattle.std.proofs.Common.{◌≡◌, ◌⊎◌, ◌+◌, ◌<◌, ◌≤◌, List, [], ◌∷◌, ◌++◌, length, Option, Some, None, refl, sym, ap, ◌∙◌, subst, inl, inr, ⊎_elim, arith, append_assoc, length-append}
-use Rattle.std.proofs.lemmas.List.{append-nil, append_cancel_left, append_cancel_right}
-use Rattle.std.proofs.lemmas.Bool.{cases_lt}
-use mathlib.Core.List.{head-eq_of_cons-eq, tail-eq_of_cons-eq}
-use Rattle.definitions.specs.declared.Kind.{Kind}
-use Rattle.definitions.specs.Trees.{Grammar, Tree, Forest, Leaf, Branch, Nil, Cons, trees, yield, yields, all_kinds}
-use Rattle.definitions.specs.Sentences.{AllProductive}
-use Rattle.definitions.specs.Items.{HasNoConflict}
-use Rattle.theory.specs.Machine.{look_at, Reduces, Shifts, Run, Stay, Reduced, Shifted}
-use Rattle.definitions.specs.Nodes.{StandsIn, Top, Below, Past, branches, branches_of, all_branches}
+use Rattle.theory.proofs.Common.{append-nil, append_cancel_left, append_cancel_right, cases_lt, head-eq_of_cons-eq, tail-eq_of_cons-eq, Kind, Grammar, Tree, Forest, Leaf, Branch, Nil, Cons, trees, yield, yields, all_kinds, AllProductive, HasNoConflict, look_at, Reduces, Shifts, Run, Stay, Reduced, Shifted, StandsIn, Top, Below, Past, branches, branches_of, all_branches, CanReuse, NextInput, Take, AtToken, AtEnd, Tries, Nothing_left, Dropped, Passed, Opened, At_token, IsNoTree, Goes_on, Ends, Reuses, Takes_token, Makes}
 use Rattle.theory.proofs.Simulation.{look-append}
 use Rattle.theory.proofs.Unique.{reduces_unique, no_reduction_at_shift}
 use Rattle.theory.proofs.StackIsRead.{kinds-append, kinds-trees, run_kinds}
 use Rattle.theory.proofs.Theorems.{reuse}
 use Rattle.theory.proofs.Stack.{stands_in_prefix, stands_after, stands_kinds, stands_later, stands_on_top, nowhere}
-use Rattle.theory.specs.Reuse.{CanReuse, NextInput, Take, AtToken, AtEnd, Tries, Nothing_left, Dropped, Passed, Opened, At_token, IsNoTree, Goes_on, Ends, Reuses, Takes_token, Makes}
 use Rattle.theory.proofs.Incremental.{Passes, tries_kinds, tries_finds, goes_on_passes, passes_linear}
 
 pub branches-trees : (ts : Forest) → all_branches (trees ts) ≡ branches_of ts

@@ -1,18 +1,7 @@
 -- The proofs of the laws, from the lemmas of the other files.
 use Rattle.std.proofs.Common.{◌∙◌, ◌≡◌, ◌⊎◌, ◌+◌, ◌<◌, ◌≤◌, ℕ, List, [], ◌∷◌, ◌++◌, take, None, refl, sym, ap, subst, inl, inr, arith}
-use Rattle.std.proofs.lemmas.List.{append-nil}
-use Rattle.std.proofs.lemmas.Bool.{cases_lt}
-use Rattle.definitions.specs.declared.Kind.{Kind}
-use Rattle.definitions.specs.Trees.{Grammar, Tree, Leaf, Branch, yield, all_kinds}
-use Rattle.definitions.specs.Sentences.{AllProductive, IsSentence, IsViable, Verdict, HasTree, FaultAt, FaultAtEnd, IsVerdict}
-use Rattle.definitions.specs.Items.{HasNoConflict}
-use Rattle.definitions.specs.Nodes.{StandsIn}
-use Rattle.definitions.specs.DocumentNodes.{AreDocumentTrees}
-use Rattle.definitions.specs.TreeEdits.{plain_trees}
-use Rattle.theory.specs.Machine.{look_at, Run, IsStackAfter}
-use Rattle.theory.specs.Reuse.{CanReuse, Goes_on}
+use Rattle.theory.proofs.Common.{append-nil, cases_lt, Kind, Grammar, Tree, Leaf, Branch, yield, all_kinds, AllProductive, IsSentence, IsViable, Verdict, HasTree, FaultAt, FaultAtEnd, IsVerdict, HasNoConflict, StandsIn, AreDocumentTrees, plain_trees, look_at, Run, IsStackAfter, CanReuse, Goes_on, AreAnswer, StampsExactly}
 use Rattle.theory.proofs.Incremental.{goes_on_passes}
-use Rattle.theory.specs.Laws.{AreAnswer, StampsExactly}
 use Rattle.theory.proofs.ReusableNodes.{Taken}
 use Rattle.theory.proofs.Theorems.{one_tree, settled_exists, settled_unique, settled_run, reuse}
 use Rattle.theory.proofs.Verdicts.{viable_take}

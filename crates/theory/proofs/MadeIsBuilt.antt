@@ -1,18 +1,8 @@
 -- What the incremental machine makes is exactly what lies in no kept node.
 use Rattle.std.proofs.Common.{◌≡◌, ◌⊎◌, ◌↔◌, ◌<◌, ℕ, List, [], ◌∷◌, ◌++◌, length, refl, sym, ap, ◌∙◌, subst, inl, inr, ⊎_elim, arith, append_assoc}
-use Rattle.std.proofs.lemmas.List.{append-nil}
-use mathlib.Core.List.{head-eq_of_cons-eq, tail-eq_of_cons-eq}
-use Rattle.definitions.specs.declared.Kind.{Kind}
-use Rattle.definitions.specs.Trees.{Grammar, Tree, Forest, Leaf, Branch, Nil, trees, yields, all_kinds}
-use Rattle.definitions.specs.Sentences.{IsTreeOf, AllProductive}
-use Rattle.definitions.specs.Items.{HasNoConflict}
-use Rattle.definitions.specs.Settled.{IsSettledIn}
-use Rattle.definitions.specs.Nodes.{StandsIn, Top, Below, Past, branches, all_branches}
-use Rattle.definitions.specs.TokenEdits.{Splice}
-use Rattle.definitions.specs.TreeEdits.{LiesInKept, Stamped, StampedForest, StampedNil, StampedCons, plain, plain_all, stamped_trees, plain_trees, StampedIn, StampedTop, StampedBelow, StampedPast, AreStampedExactly}
+use Rattle.theory.proofs.Common.{append-nil, head-eq_of_cons-eq, tail-eq_of_cons-eq, Kind, Grammar, Tree, Forest, Leaf, Branch, Nil, trees, yields, all_kinds, IsTreeOf, AllProductive, HasNoConflict, IsSettledIn, StandsIn, Top, Below, Past, branches, all_branches, Splice, LiesInKept, Stamped, StampedForest, StampedNil, StampedCons, plain, plain_all, stamped_trees, plain_trees, StampedIn, StampedTop, StampedBelow, StampedPast, AreStampedExactly, MakesAt, IsPrepared, Goes_on, Ends, Reuses, Takes_token, Makes}
 use Rattle.theory.proofs.Stack.{stands_in_prefix, stands_after, stands_in_fold, stands_on_top, nowhere}
 use Rattle.theory.proofs.ReusableNodes.{Taken, sentence_node}
-use Rattle.theory.specs.Reuse.{MakesAt, IsPrepared, Goes_on, Ends, Reuses, Takes_token, Makes}
 use Rattle.theory.proofs.KeptIsReused.{TakesOver, stands_branches, branches-append, branches-trees}
 use Rattle.theory.proofs.ReuseIsExact.{stands_split, settled_node, EachTaken, TakenIsKept, taken_is_kept, kept_is_taken}
 

@@ -1,18 +1,7 @@
 -- Each node of a tree is one that the machine could take over whole: at its left siblings, goto by its root
 -- leads to a set with a move on what follows it.
 use Rattle.std.proofs.Common.{◌≡◌, ℕ, List, [], ◌∷◌, ◌++◌, Option, Some, None, refl, sym, ap, ◌∙◌, subst, append_assoc}
-use Rattle.std.proofs.lemmas.List.{append-nil}
-use mathlib.Core.List.{head-eq_of_cons-eq, tail-eq_of_cons-eq}
-use Rattle.definitions.specs.declared.Kind.{Kind}
-use Rattle.definitions.specs.declared.Kind.TheVariants.{Rule as Token, Invalid}
-use Rattle.definitions.specs.declared.Symbol.{Symbol}
-use Rattle.definitions.specs.declared.Symbol.TheVariants.{Rule as Terminal, Nonterminal}
-use Rattle.definitions.specs.Trees.{Grammar, HasProduction, Tree, Forest, Leaf, Branch, Nil, Cons, IsTree, AreTrees, forest, yield, yields, HaveRoots, all_kinds}
-use Rattle.definitions.specs.Sentences.{IsTreeOf}
-use Rattle.definitions.specs.Derivations.{tokens, first, Here, Reaches}
-use Rattle.definitions.specs.Items.{Move, Shift, Accept, kind_of, HasMove}
-use Rattle.theory.specs.Machine.{look_at, Run, Stay}
-use Rattle.definitions.specs.Nodes.{StandsIn, Top, Below, Past}
+use Rattle.theory.proofs.Common.{append-nil, head-eq_of_cons-eq, tail-eq_of_cons-eq, Kind, Token, Invalid, Symbol, Terminal, Nonterminal, Grammar, HasProduction, Tree, Forest, Leaf, Branch, Nil, Cons, IsTree, AreTrees, forest, yield, yields, HaveRoots, all_kinds, IsTreeOf, tokens, first, Here, Reaches, Move, Shift, Accept, kind_of, HasMove, look_at, Run, Stay, StandsIn, Top, Below, Past}
 use Rattle.theory.proofs.Words.{words, yields-words, tokens-append}
 use Rattle.theory.proofs.Simulation.{look-append, look-tokens, run_join, leaf_of, reach_next, roots-append, roots-trees}
 use Rattle.theory.proofs.StackIsRead.{yields-forest, kinds-trees, roots-forest}

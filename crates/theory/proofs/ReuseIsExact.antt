@@ -1,24 +1,12 @@
 -- What the incremental machine takes over is exactly what the edit keeps.
 use Rattle.std.proofs.Common.{◌≡◌, ◌⊎◌, inl, inr, ⊎_elim, ◌+◌, ◌<◌, ℕ, List, [], ◌∷◌, ◌++◌, length, None, refl, sym, ap, ◌∙◌, subst, arith, append_assoc, length-append}
-use Rattle.std.proofs.lemmas.List.{append-nil, append_cancel_left}
-use Rattle.definitions.specs.declared.Kind.{Kind}
-use Rattle.definitions.specs.declared.Symbol.TheVariants.{Nonterminal}
-use Rattle.definitions.specs.declared.Kind.TheVariants.{Rule as Token, Invalid}
-use Rattle.definitions.specs.Trees.{IsTree, Grammar, Tree, Forest, Leaf, Branch, trees, yield, yields, all_kinds}
-use Rattle.definitions.specs.Sentences.{AllProductive}
-use Rattle.definitions.specs.Items.{HasMove, HasNoConflict}
-use Rattle.definitions.specs.Settled.{Way, WayAmong, At, Down, This, Next, IsSettledIn}
-use Rattle.theory.specs.Machine.{look_at, Run, Stay, Reduced}
-use Rattle.definitions.specs.Nodes.{StandsIn, Top, Below, Past, place_of}
-use Rattle.definitions.specs.TokenEdits.{Splice}
-use Rattle.definitions.specs.TreeEdits.{IsKept}
+use Rattle.theory.proofs.Common.{append-nil, append_cancel_left, Kind, Nonterminal, Token, Invalid, IsTree, Grammar, Tree, Forest, Leaf, Branch, trees, yield, yields, all_kinds, AllProductive, HasMove, HasNoConflict, Way, WayAmong, At, Down, This, Next, IsSettledIn, look_at, Run, Stay, Reduced, StandsIn, Top, Below, Past, place_of, Splice, IsKept, IsPrepared, CanReuse, NextInput, Take, AtToken, AtEnd, Tries, Nothing_left, Dropped, Passed, Opened, At_token, Goes_on, Ends, Reuses, Takes_token, Makes}
 use Rattle.theory.proofs.StackIsRead.{kinds-append, kinds-trees, run_kinds}
 use Rattle.theory.proofs.Lists.{ends_equal}
 use Rattle.theory.proofs.Simulation.{look-append}
 use Rattle.theory.proofs.Stack.{stands_in_prefix, stands_kinds, stands_later, stands_on_top, nowhere}
 use Rattle.theory.proofs.PathToLeaf.{way_kinds}
 use Rattle.theory.proofs.ReusableNodes.{Taken, sentence_node}
-use Rattle.theory.specs.Reuse.{IsPrepared, CanReuse, NextInput, Take, AtToken, AtEnd, Tries, Nothing_left, Dropped, Passed, Opened, At_token, Goes_on, Ends, Reuses, Takes_token, Makes}
 use Rattle.theory.proofs.Incremental.{goes_on_passes}
 use Rattle.theory.proofs.KeptIsReused.{TakesOver, kept_taken_over, taken_of, rest_of}
 

@@ -1,19 +1,6 @@
 -- The copy of a tree into another store, node by node.
 use Rattle.std.proofs.Common.{◌≡◌, ℕ, ◌+◌, ◌*◌, ◌-◌, ◌<◌, ◌≤◌, zero, suc, List, [], ◌∷◌, ◌++◌, length, take, drop, slice_get, Some, None, append_assoc, length-append, length-take, take-append-drop, get_or, reverse, Option, refl, sym, ap, ◌∙◌, subst, arith}
-use Rattle.std.proofs.lemmas.List.{append-nil, take_all, take_more, reverse-append, length-reverse}
-use Rattle.std.proofs.lemmas.Option.{slice_get_within}
-use Rattle.std.proofs.Math.Seq.{take-append_seam, drop-append_seam}
-use mathlib.Core.List.{head-eq_of_cons-eq, tail-eq_of_cons-eq}
-use Rattle.definitions.specs.declared.Kind.{Kind}
-use Rattle.definitions.specs.Trees.{yield, yields, all_kinds}
-use Rattle.definitions.specs.Nodes.{branches, branches_of, all_branches}
-use Rattle.definitions.specs.TreeEdits.{Stamped, StampedBranch, StampedCons, plain, plain_all, plain_trees, StampedLeaf}
-use Rattle.trees.specs.declared.store.NodeId.{NodeId}
-use Rattle.trees.specs.declared.store.Child.{Child}
-use Rattle.trees.specs.declared.store.Child.TheVariants.{Node}
-use Rattle.trees.specs.declared.compaction.Begun.{Begun}
-use Rattle.trees.specs.Cells.{Cell, blank, cell_of, tree, tree_of, trees_of, trees_from, forest_of, all_trees, IsStore, AreBelow, KeepsTrees}
-use Rattle.trees.specs.Compaction.{nodes}
+use Rattle.trees.proofs.Common.{append-nil, take_all, take_more, reverse-append, length-reverse, slice_get_within, take-append_seam, drop-append_seam, head-eq_of_cons-eq, tail-eq_of_cons-eq, Kind, yield, yields, all_kinds, branches, branches_of, all_branches, Stamped, StampedBranch, StampedCons, plain, plain_all, plain_trees, StampedLeaf, NodeId, Child, Node, Begun, Cell, blank, cell_of, tree, tree_of, trees_of, trees_from, forest_of, all_trees, IsStore, AreBelow, KeepsTrees, nodes}
 use Rattle.trees.proofs.Cells.{store_at}
 
 -- lists of trees, in parts

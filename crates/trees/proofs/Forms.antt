@@ -1,12 +1,7 @@
 -- Children that lie in a node itself, and what stands after them.
 use Rattle.std.proofs.Common.{◌≡◌, ℕ, List, [], ◌∷◌, ◌++◌, length, map, take, drop, ap, sym, subst, ◌∙◌}
-use Rattle.std.proofs.Math.Seq.{take-append_seam}
-use Rattle.std.proofs.lemmas.List.{drop-map, map-append, take-append-drop, take-map}
-use Rattle.trees.specs.declared.store.Child.{Child}
-use Rattle.trees.specs.Cells.{AreBelow, IsBelow}
-use Rattle.trees.specs.Forms.{AreInvalid, IsFilled}
-use Rattle.trees.specs.Packing.{unpack}
-use Rattle.trees.specs.Slides.{renamed}
+use Rattle.trees.proofs.Common.{take-append_seam, drop-map, map-append, take-map, Child, AreBelow, IsBelow, AreInvalid, IsFilled, unpack, renamed}
+use Rattle.std.proofs.lemmas.List.{take-append-drop}
 use Rattle.trees.proofs.Copies.{below-append}
 
 -- invalid tokens are below every count

@@ -1,20 +1,7 @@
 -- Marks, ranks, and the trees of nodes that slide down.
 use Rattle.std.proofs.Common.{◌≡◌, ◌≢◌, ℕ, ◌+◌, ◌<◌, ◌≤◌, zero, suc, Bool, true, false, List, [], ◌∷◌, ◌++◌, length, map, take, drop, min, cond, count_by, get_or, set, refl, sym, ap, ◌∙◌, subst, arith, inl, inr}
-use Rattle.std.proofs.lemmas.List.{drop-drop, drop-set-lt, get_or-set_other, get_or-set_same, get_or_read_under, length-set, length-take, take-set-le, take-take, take_more_set}
-use Rattle.std.proofs.lemmas.List.Sums.{count_by-le-length, count_by_more_no, count_by_more_yes, sum_by-take-le}
-use Rattle.std.proofs.lemmas.Bool.{cases_lt}
-use Rattle.std.specs.List.{SwappedAt}
-use Rattle.definitions.specs.declared.Kind.TheVariants.{Invalid}
-use Rattle.definitions.specs.Nodes.{branches_of}
-use Rattle.definitions.specs.TreeEdits.{StampedBranch, StampedCons, StampedLeaf, plain_all}
-use Rattle.definitions.specs.Trees.{yields}
-use Rattle.trees.specs.declared.store.NodeId.{NodeId}
-use Rattle.trees.specs.declared.store.Child.{Child}
-use Rattle.trees.specs.declared.store.Child.TheVariants.{Token, Node}
-use Rattle.trees.specs.Cells.{Cell, all_trees, blank, branch_of, forest_in, most, tree, trees_from, AreBelow, IsBelow, IsCell, IsStore}
-use Rattle.trees.specs.Compaction.{nodes}
-use Rattle.trees.specs.Packing.{unpack}
-use Rattle.trees.specs.Slides.{mark_all, rank, renamed, AreMarked, AreRanks, IsClosed, IsClosedFrom, IsMarked}
+use Rattle.trees.proofs.Common.{drop-drop, drop-set-lt, get_or-set_other, get_or-set_same, get_or_read_under, length-set, take-set-le, take-take, take_more_set, count_by-le-length, count_by_more_no, count_by_more_yes, sum_by-take-le, cases_lt, SwappedAt, Invalid, branches_of, StampedBranch, StampedCons, StampedLeaf, plain_all, yields, NodeId, Child, Token, Node, Cell, all_trees, blank, branch_of, forest_in, most, tree, trees_from, AreBelow, IsBelow, IsCell, IsStore, nodes, unpack, mark_all, rank, renamed, AreMarked, AreRanks, IsClosed, IsClosedFrom, IsMarked}
+use Rattle.std.proofs.lemmas.List.{length-take}
 use Rattle.trees.proofs.Cells.{all_below-more, below-at, cell_made, cells-push, grown-new, grown-tree, store_at}
 use Rattle.trees.proofs.Copies.{root_below}
 

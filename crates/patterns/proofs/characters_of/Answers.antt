@@ -1,5 +1,5 @@
 use Rattle.std.proofs.Common.{rules}
-use Rattle.std.proofs.lemmas.Str.{chars_from_encodes}
+use Rattle.patterns.proofs.Common.{chars_from_encodes}
 use Rattle.patterns.proofs.characters_of.Goals as goal
 
 pub returns : goal.returns

@@ -1,10 +1,5 @@
 use Rattle.std.proofs.Common.{◌≡◌, ◌∙◌, true, false, ap, ap₂, codes, Result, Ok, Err, IfOk, IsOkAnd}
-use Rattle.std.specs.declared.alloc.AllocError.{AllocError}
-use Rattle.clap.specs.Words.{AddsSubcommand, App, app_of, with_subcommand}
-use Rattle.clap.specs.Simple.{app_of_fields, on_top}
-use Rattle.clap.specs.declared.builder.command.Command.{Command}
-use Rattle.clap.specs.declared.builder.command.Command.TheViews.{out-Command as fields_of}
-use Rattle.command_line.specs.Arguments.{alone, one, two}
+use Rattle.command_line.proofs.Common.{AllocError, AddsSubcommand, App, app_of, with_subcommand, app_of_fields, on_top, Command, fields_of, alone, one, two}
 use Rattle.command_line.proofs.tasks.command.Goals as goal
 
 with_one_more : (r below : Result Command AllocError) (old : Command) (above b : App) → app_of old ≡ above → IfOk below (λ x. app_of x ≡ b)

@@ -1,6 +1,6 @@
 use Rattle.std.proofs.Common.{◌≡◌, ◌∙◌, inl, inr, true, [], map, ap, subst, Result, Ok, Err, IfOk}
-use Rattle.clap.specs.Words.{app_of, fault_of, is_simple_and_free, kind_of}
-use Rattle.clap.specs.Kinds.{HasKind, IsAmong}
+use Rattle.command_line.proofs.Common.{app_of, fault_of, is_simple_and_free, HasKind, IsAmong}
+use Rattle.clap.specs.Words.{kind_of}
 use Rattle.command_line.proofs.Read.{none_of_refused, read_of_taken, simple_and_free}
 use Rattle.command_line.proofs.tasks.task_of.Goals as goal
 

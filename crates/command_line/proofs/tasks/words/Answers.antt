@@ -1,10 +1,5 @@
 use Rattle.std.proofs.Common.{◌≡◌, ◌∙◌, [], ◌∷◌, ap, List, map, codes, string_bytes, String}
-use Rattle.std.specs.List.{All}
-use Rattle.std.specs.Str.{IsUtf8}
-use Rattle.std.proofs.lemmas.List.{take_all}
-use Rattle.std.proofs.lemmas.List.Elements.{All-cons, All-nil}
-use Rattle.std.proofs.lemmas.Result.{IfOk-weaker}
-use Rattle.std.proofs.lemmas.Str.{IsUtf8-string_bytes}
+use Rattle.command_line.proofs.Common.{All, IsUtf8, take_all, All-cons, All-nil, IfOk-weaker, IsUtf8-string_bytes}
 use Rattle.command_line.proofs.tasks.words.Goals as goal
 
 texts : {Z : Type 0} (strings : List (String Z)) → All IsUtf8 (map string_bytes strings)

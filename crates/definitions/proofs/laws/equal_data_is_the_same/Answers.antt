@@ -1,8 +1,5 @@
 use Rattle.std.proofs.Common.{refl, ap, ◌≡◌, ◌↔◌, Bool, true}
-use Rattle.std.proofs.lemmas.Bool.{eq-eqb, eqb-true}
-use Rattle.definitions.specs.declared.Kind.{Kind}
-use Rattle.definitions.specs.declared.Kind.TheVariants.{Rule, Invalid}
-use Rattle.definitions.specs.contracts.KindPartialEq.TheImpl.{eq-value}
+use Rattle.definitions.proofs.Common.{eq-eqb, eqb-true, Kind, Rule, Invalid, eq-value}
 use Rattle.definitions.proofs.EqualSplices.{same_splices}
 use Rattle.definitions.proofs.laws.equal_data_is_the_same.Goals as goal
 

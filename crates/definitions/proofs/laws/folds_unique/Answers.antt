@@ -1,4 +1,4 @@
-use Rattle.definitions.specs.DocumentNodes.{IsNodeOf}
+use Rattle.definitions.proofs.Common.{IsNodeOf}
 use Rattle.definitions.proofs.AnswersUnique.{AreFolds-unique}
 use Rattle.definitions.proofs.laws.folds_unique.Goals as goal
 

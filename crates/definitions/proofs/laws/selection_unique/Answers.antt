@@ -1,4 +1,4 @@
-use Rattle.definitions.specs.DocumentNodes.{IsNodeOf}
+use Rattle.definitions.proofs.Common.{IsNodeOf}
 use Rattle.definitions.proofs.AnswersUnique.{IsSelection-unique}
 use Rattle.definitions.proofs.laws.selection_unique.Goals as goal
 

@@ -1,7 +1,5 @@
 use Rattle.std.proofs.Common.{◌≡◌, ◌+◌, ◌++◌, sym, ap, refl, inl, inr}
-use Rattle.std.proofs.lemmas.Result.{IfOk-weaker}
-use Rattle.dfa.specs.Alphabet.{cuts}
-use Rattle.dfa.specs.Positions.{positions}
+use Rattle.dfa.proofs.Common.{IfOk-weaker, cuts, positions}
 use Rattle.dfa.proofs.Loops.{joined_at}
 use Rattle.dfa.proofs.alphabet.+cuts.Goals as goal
 

@@ -1,5 +1,5 @@
 use Rattle.std.proofs.Common.{◌+◌, drop, ap}
-use Rattle.dfa.specs.Alphabet.{all_cuts, cuts}
+use Rattle.dfa.proofs.Common.{all_cuts, cuts}
 use Rattle.dfa.proofs.JoinedLists.{one_more}
 use Rattle.dfa.proofs.Loops.{at_element}
 use Rattle.dfa.proofs.alphabet.all_cuts.Goals as goal

@@ -1,6 +1,5 @@
 use Rattle.std.proofs.Common.{◌≡◌, ◌++◌, drop, All}
-use Rattle.definitions.specs.Text.{IsCharacter}
-use Rattle.dfa.specs.Alphabet.{all_cuts}
+use Rattle.dfa.proofs.Common.{IsCharacter, all_cuts}
 use Rattle.dfa.proofs.alphabet.all_cuts.Given as goal
 
 abbrev pub invariant-loop-pattern : goal.invariant-loop-pattern

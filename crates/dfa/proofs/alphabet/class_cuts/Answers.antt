@@ -1,7 +1,5 @@
 use Rattle.std.proofs.Common.{rules, ◌≡◌, ◌+◌, ◌++◌, drop, slice_index_or}
-use Rattle.std.proofs.lemmas.List.{at_drop_more}
-use Rattle.definitions.specs.declared.expression.Interval.{Interval}
-use Rattle.dfa.specs.Alphabet.{cut, class_cuts}
+use Rattle.dfa.proofs.Common.{at_drop_more, Interval, cut, class_cuts}
 use Rattle.dfa.proofs.JoinedLists.{one_more}
 use Rattle.dfa.proofs.alphabet.class_cuts.Goals as goal
 

@@ -1,6 +1,5 @@
 use Rattle.std.proofs.Common.{◌≡◌, ◌++◌, drop, All}
-use Rattle.definitions.specs.Text.{IsCharacter}
-use Rattle.dfa.specs.Alphabet.{class_cuts}
+use Rattle.dfa.proofs.Common.{IsCharacter, class_cuts}
 use Rattle.dfa.proofs.alphabet.class_cuts.Given as goal
 
 abbrev pub invariant-loop-i : goal.invariant-loop-i

@@ -1,6 +1,5 @@
 use Rattle.std.proofs.Common.{◌+◌, ◌∷◌, drop, ap, sym, ◌∙◌}
-use Rattle.std.proofs.lemmas.List.{at_drop_more}
-use Rattle.dfa.specs.Alphabet.{cut, literal_cuts}
+use Rattle.dfa.proofs.Common.{at_drop_more, cut, literal_cuts}
 use Rattle.dfa.proofs.JoinedLists.{one_more}
 use Rattle.dfa.proofs.alphabet.literal_cuts.Goals as goal
 

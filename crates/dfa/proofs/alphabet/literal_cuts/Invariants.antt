@@ -1,6 +1,5 @@
 use Rattle.std.proofs.Common.{◌≡◌, ◌++◌, drop, All}
-use Rattle.definitions.specs.Text.{IsCharacter}
-use Rattle.dfa.specs.Alphabet.{literal_cuts}
+use Rattle.dfa.proofs.Common.{IsCharacter, literal_cuts}
 use Rattle.dfa.proofs.alphabet.literal_cuts.Given as goal
 
 abbrev pub invariant-loop-c : goal.invariant-loop-c

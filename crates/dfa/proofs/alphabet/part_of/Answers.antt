@@ -1,6 +1,5 @@
 use Rattle.std.proofs.Common.{rules, of_calls, arith, sym, ℕ, nat_le}
-use Rattle.std.proofs.lemmas.Fn.{always_returns_same}
-use Rattle.std.proofs.lemmas.List.Sums.{prefix_len_is}
+use Rattle.dfa.proofs.Common.{always_returns_same, prefix_len_is}
 use Rattle.dfa.proofs.Numbers.{le_trans_test}
 use Rattle.dfa.proofs.alphabet.part_of.Goals as goal
 

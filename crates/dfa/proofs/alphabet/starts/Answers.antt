@@ -1,10 +1,5 @@
 use Rattle.std.proofs.Common.{◌≡◌, arith, inl, inr, Contains}
-use Rattle.std.proofs.lemmas.Bool.{cases_lt}
-use Rattle.std.proofs.lemmas.List.Filters.{dedup_is, All-dedup}
-use Rattle.std.proofs.lemmas.List.Kept.{AllPairs-from_increasing, Contains-dedup_nat}
-use Rattle.std.proofs.lemmas.List.Sorted.{Contains-permutation, All-permutation}
-use Rattle.std.proofs.lemmas.Map.Keys.{IsStrictlyIncreasing-dedup}
-use Rattle.definitions.specs.Text.{IsCharacter}
+use Rattle.dfa.proofs.Common.{cases_lt, dedup_is, All-dedup, AllPairs-from_increasing, Contains-dedup_nat, Contains-permutation, All-permutation, IsStrictlyIncreasing-dedup, IsCharacter}
 use Rattle.dfa.proofs.alphabet.starts.Goals as goal
 
 pub returns-clause-ascending : goal.returns-clause-ascending

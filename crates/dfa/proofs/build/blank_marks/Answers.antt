@@ -1,8 +1,5 @@
 use Rattle.std.proofs.Common.{◌+◌, ◌++◌, ◌∷◌, drop, sym, ap, ◌∙◌, subst}
-use Rattle.std.proofs.lemmas.List.{at_drop_more}
-use Rattle.definitions.specs.Spelling.{IsWellMade}
-use Rattle.dfa.specs.Marks.{all_positions, unmarked}
-use Rattle.dfa.specs.Positions.{positions}
+use Rattle.dfa.proofs.Common.{at_drop_more, IsWellMade, all_positions, unmarked, positions}
 use Rattle.dfa.proofs.JoinedLists.{one_more, unmarked-add, all_made}
 use Rattle.dfa.proofs.build.blank_marks.Goals as goal
 

@@ -1,6 +1,5 @@
 use Rattle.std.proofs.Common.{◌≡◌, ◌++◌, drop}
-use Rattle.dfa.specs.Marks.{all_positions, unmarked}
-use Rattle.dfa.specs.Sets.{AllMade}
+use Rattle.dfa.proofs.Common.{all_positions, unmarked, AllMade}
 use Rattle.dfa.proofs.build.blank_marks.Given as goal
 
 abbrev pub invariant-loop-pattern : goal.invariant-loop-pattern

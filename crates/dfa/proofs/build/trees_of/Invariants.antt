@@ -1,6 +1,5 @@
 use Rattle.std.proofs.Common.{◌++◌, List, drop}
-use Rattle.dfa.specs.declared.tree.Tree.{Tree}
-use Rattle.dfa.specs.Trees.{AreTreesOf}
+use Rattle.dfa.proofs.Common.{Tree, AreTreesOf}
 use Rattle.dfa.proofs.build.trees_of.Given as goal
 
 abbrev pub invariant-loop-pattern : goal.invariant-loop-pattern

@@ -1,7 +1,5 @@
 use Rattle.std.proofs.Common.{◌≡◌, ◌+◌, ◌++◌, sym, ap, ◌∙◌, refl, inl, inr}
-use Rattle.std.proofs.lemmas.Result.{IfOk-weaker}
-use Rattle.dfa.specs.Positions.{positions}
-use Rattle.dfa.specs.Marks.{unmarked}
+use Rattle.dfa.proofs.Common.{IfOk-weaker, positions, unmarked}
 use Rattle.dfa.proofs.JoinedLists.{unmarked-add}
 use Rattle.dfa.proofs.Loops.{joined_at}
 use Rattle.dfa.proofs.positions.+blank.Goals as goal

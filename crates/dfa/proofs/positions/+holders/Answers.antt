@@ -1,7 +1,5 @@
 use Rattle.std.proofs.Common.{◌≡◌, ◌+◌, ◌++◌, sym, ap, inl, inr}
-use Rattle.std.proofs.lemmas.Result.{IfOk-weaker}
-use Rattle.dfa.specs.Positions.{positions}
-use Rattle.dfa.specs.Marks.{holders}
+use Rattle.dfa.proofs.Common.{IfOk-weaker, positions, holders}
 use Rattle.dfa.proofs.Loops.{joined_at, sum_at}
 use Rattle.dfa.proofs.positions.+holders.Goals as goal
 

@@ -1,6 +1,5 @@
 use Rattle.std.proofs.Common.{◌++◌, ◌∷◌, [], false, ap, ◌∙◌}
-use Rattle.std.proofs.lemmas.List.{append_assoc}
-use Rattle.dfa.specs.Marks.{unmarked}
+use Rattle.dfa.proofs.Common.{append_assoc, unmarked}
 use Rattle.dfa.proofs.JoinedLists.{unmarked-more}
 use Rattle.dfa.proofs.positions.blank_literal.Goals as goal
 

@@ -1,5 +1,5 @@
 use Rattle.std.proofs.Common.{◌≡◌, ◌+◌, ◌++◌, drop}
-use Rattle.dfa.specs.Marks.{literal_holders}
+use Rattle.dfa.proofs.Common.{literal_holders}
 use Rattle.dfa.proofs.positions.literal_holders.Given as goal
 
 abbrev pub invariant-loop-d : goal.invariant-loop-d

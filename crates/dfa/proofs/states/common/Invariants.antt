@@ -1,6 +1,5 @@
 use Rattle.std.proofs.Common.{◌≡◌, ◌++◌, drop}
-use Rattle.dfa.specs.Built.{kept}
-use Rattle.dfa.specs.Marks.{marks_of}
+use Rattle.dfa.proofs.Common.{kept, marks_of}
 use Rattle.dfa.proofs.states.common.Given as goal
 
 abbrev pub invariant-loop-p : goal.invariant-loop-p

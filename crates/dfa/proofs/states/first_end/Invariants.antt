@@ -1,6 +1,5 @@
 use Rattle.std.proofs.Common.{◌≡◌, ◌+◌, drop}
-use Rattle.dfa.specs.Marks.{marks_of}
-use Rattle.dfa.specs.Trees.{all_counts, first_tree_end}
+use Rattle.dfa.proofs.Common.{marks_of, all_counts, first_tree_end}
 use Rattle.dfa.proofs.states.first_end.Given as goal
 
 abbrev pub invariant-loop-k : goal.invariant-loop-k

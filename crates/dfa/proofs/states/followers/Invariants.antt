@@ -1,6 +1,5 @@
 use Rattle.std.proofs.Common.{◌≡◌, ◌+◌, ◌++◌, drop}
-use Rattle.dfa.specs.Marks.{marks_of}
-use Rattle.dfa.specs.Trees.{all_counts, all_tree_next}
+use Rattle.dfa.proofs.Common.{marks_of, all_counts, all_tree_next}
 use Rattle.dfa.proofs.states.followers.Given as goal
 
 abbrev pub invariant-loop-tree : goal.invariant-loop-tree

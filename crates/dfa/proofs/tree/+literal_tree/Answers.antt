@@ -1,6 +1,5 @@
 use Rattle.std.proofs.Common.{◌≡◌, ◌+◌, ◌++◌, length, false, sym, ap, ◌∙◌, subst}
-use Rattle.std.proofs.lemmas.List.{take-append-drop, length-append}
-use Rattle.dfa.specs.Trees.{IsLiteralTree, count}
+use Rattle.dfa.proofs.Common.{take-append-drop, length-append, IsLiteralTree, count}
 use Rattle.dfa.proofs.Trees.{literal_one_of, literal_parts, node}
 use Rattle.dfa.proofs.tree.+literal_tree.Goals as goal
 

@@ -1,5 +1,5 @@
 use Rattle.std.proofs.Common.{◌∙◌}
-use Rattle.std.proofs.lemmas.List.Sorted.{searched}
+use Rattle.dfa.proofs.Common.{searched}
 use Rattle.dfa.proofs.MarkedSets.{found_marked}
 use Rattle.dfa.proofs.Sets.{rises_ascending}
 use Rattle.dfa.proofs.tree.has.Goals as goal

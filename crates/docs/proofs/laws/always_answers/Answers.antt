@@ -1,10 +1,5 @@
 use Rattle.std.proofs.Common.{[], subst, refl, ◌∙◌, ap}
-use Rattle.definitions.specs.Sentences.{IsViable}
-use Rattle.definitions.specs.Trees.{Grammar, yield}
-use Rattle.tables.specs.Decidable.{AreMovesDecided}
-use Rattle.tables.specs.Tables.{IsAccepted, Sets}
-use Rattle.reports.specs.Contents.{placed_parts}
-use Rattle.readings.specs.Layers.{LayersAnswer}
+use Rattle.docs.proofs.Common.{IsViable, Grammar, yield, AreMovesDecided, IsAccepted, Sets, placed_parts, LayersAnswer}
 use Rattle.docs.proofs.laws.always_answers.Goals as goal
 
 pub returns-clause-always : goal.returns-clause-always

@@ -1,6 +1,5 @@
 use Rattle.std.proofs.Common.{◌+◌, ◌-◌, arith, refl, ap}
-use Rattle.std.proofs.Math.Nat.{min-le_left, min-le_right, le-max_left, le-max_right, max-le}
-use Rattle.definitions.specs.declared.Edit.{Edit}
+use Rattle.docs.proofs.Common.{min-le_left, min-le_right, le-max_left, le-max_right, max-le, Edit}
 use Rattle.docs.proofs.JoinedEdits.{inserted_within, leads_by_both}
 use Rattle.docs.proofs.pending.as_one_edit.Goals as goal
 

@@ -1,6 +1,5 @@
 use Rattle.std.proofs.Common.{rules, ◌≡◌, ◌<◌, ◌∷◌, ◌++◌, [], length, slice_index_or, slice_set, length-set, sym, subst, ap, ◌∙◌}
-use Rattle.std.proofs.lemmas.List.{get_or_default}
-use Rattle.definitions.specs.Trees.{left_of, right_of}
+use Rattle.first_sets.proofs.Common.{get_or_default, left_of, right_of}
 use Rattle.first_sets.proofs.Lefts.{after, theirs_more, all_more}
 use Rattle.first_sets.proofs.Numbers.{has_production}
 use Rattle.first_sets.proofs.augmented.by_left.Goals as goal

@@ -1,5 +1,5 @@
 use Rattle.std.proofs.Common.{◌≡◌, ◌<◌, ℕ, [], All, Contains, length, slice_index_or}
-use Rattle.definitions.specs.Trees.{left_of}
+use Rattle.first_sets.proofs.Common.{left_of}
 use Rattle.first_sets.proofs.augmented.by_left.Given as goal
 
 abbrev pub invariant-loop-index : goal.invariant-loop-index

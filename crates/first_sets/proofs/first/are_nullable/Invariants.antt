@@ -1,5 +1,5 @@
 use Rattle.std.proofs.Common.{◌≡◌, drop}
-use Rattle.first_sets.specs.First.{nullable_by}
+use Rattle.first_sets.proofs.Common.{nullable_by}
 use Rattle.first_sets.proofs.first.are_nullable.Given as goal
 
 abbrev pub invariant-loop-s : goal.invariant-loop-s

@@ -1,5 +1,5 @@
 use Rattle.std.proofs.Common.{◌≡◌, drop}
-use Rattle.first_sets.specs.First.{begin_by}
+use Rattle.first_sets.proofs.Common.{begin_by}
 use Rattle.first_sets.proofs.first.begin.Given as goal
 
 abbrev pub invariant-loop-s : goal.invariant-loop-s

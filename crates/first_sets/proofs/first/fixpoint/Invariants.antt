@@ -1,5 +1,5 @@
 use Rattle.std.proofs.Common.{◌≡◌, ◌+◌, length, false}
-use Rattle.first_sets.specs.First.{AreTrue, AreClosed, on, unmarked}
+use Rattle.first_sets.proofs.Common.{AreTrue, AreClosed, on, unmarked}
 use Rattle.first_sets.proofs.first.fixpoint.Given as goal
 
 abbrev pub invariant-loop-more : goal.invariant-loop-more

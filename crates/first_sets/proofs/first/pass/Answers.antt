@@ -1,6 +1,5 @@
 use Rattle.std.proofs.Common.{rules, ◌≡◌, ◌<◌, ◌≤◌, true, false, length, slice_index_or, slice_set, arith, ap, sym, ◌∙◌, subst, length-set}
-use Rattle.first_sets.specs.First.{holds_by}
-use Rattle.definitions.specs.Trees.{left_of, right_of}
+use Rattle.first_sets.proofs.Common.{holds_by, left_of, right_of}
 use Rattle.first_sets.proofs.Numbers.{has_production, production_below}
 use Rattle.first_sets.proofs.Fixpoint.{true_more, unmarked_less, closed_more}
 use Rattle.first_sets.proofs.first.pass.Goals as goal

@@ -1,7 +1,5 @@
 use Rattle.std.proofs.Common.{◌≡◌, ◌<◌, ◌≤◌, ℕ, List, length, slice_index_or, true, false}
-use Rattle.definitions.specs.declared.Symbol.{Symbol}
-use Rattle.definitions.specs.Trees.{HasProduction}
-use Rattle.first_sets.specs.First.{AreTrue, holds_by, unmarked}
+use Rattle.first_sets.proofs.Common.{Symbol, HasProduction, AreTrue, holds_by, unmarked}
 use Rattle.first_sets.proofs.first.pass.Given as goal
 
 abbrev pub invariant-loop-index : goal.invariant-loop-index

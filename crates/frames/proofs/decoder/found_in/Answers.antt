@@ -1,7 +1,5 @@
 use Rattle.std.proofs.Common.{List, sym, subst, refl, arith}
-use Rattle.frames.specs.declared.decoder.Frame.{Frame}
-use Rattle.frames.specs.Contents.{contents}
-use Rattle.frames.specs.Frames.{Open, Splits}
+use Rattle.frames.proofs.Common.{Frame, contents, Open, Splits}
 use Rattle.frames.proofs.KeptBytes.{few_begin, more_begin}
 use Rattle.frames.proofs.decoder.found_in.Goals as goal
 

@@ -1,10 +1,6 @@
 use Rattle.std.proofs.Common.{◌≡◌, ◌+◌, ◌-◌, ◌<◌, ◌≤◌, ℕ, List, [], ◌∷◌, ◌++◌, length, drop, sym, subst, ap, ◌∙◌, arith, length-drop, Some, None}
-use Rattle.std.proofs.lemmas.List.{map-append}
-use Rattle.frames.specs.declared.decoder.Frame.{Frame}
-use Rattle.frames.specs.declared.header.Start.TheVariants.{NeedsMore, Announces}
-use Rattle.frames.specs.Contents.{contents}
+use Rattle.frames.proofs.Common.{map-append, Frame, NeedsMore, Announces, contents, Awaits}
 use Rattle.frames.proofs.Splits.{one_more, IsSplitTo, ends, begun, faulty, begins}
-use Rattle.frames.specs.Kept.{Awaits}
 use Rattle.frames.proofs.KeptBytes.{kept_anew, awaits_none}
 use Rattle.frames.proofs.PrefixDecides.{awaits_frame}
 use Rattle.frames.proofs.decoder.split.Goals as goal

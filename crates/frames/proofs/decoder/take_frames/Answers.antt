@@ -1,8 +1,5 @@
 use Rattle.std.proofs.Common.{◌≡◌, ℕ, List, ◌++◌, length, take, drop, sym, subst, ap, ◌∙◌, arith}
-use Rattle.std.proofs.lemmas.List.{take-append-le, take_all}
-use Rattle.frames.specs.Contents.{contents}
-use Rattle.frames.specs.Frames.{Splits, tail_of}
-use Rattle.frames.specs.Kept.{Awaits, HoldsNone, IsDecoder}
+use Rattle.frames.proofs.Common.{take-append-le, take_all, contents, Splits, tail_of, Awaits, HoldsNone, IsDecoder}
 use Rattle.frames.proofs.KeptBytes.{awaits_more, holds_more}
 use Rattle.frames.proofs.decoder.take_frames.Goals as goal
 

@@ -1,5 +1,5 @@
 use Rattle.std.proofs.Common.{sym, arith}
-use Rattle.std.proofs.lemmas.List.{take_all}
+use Rattle.frames.proofs.Common.{take_all}
 use Rattle.frames.proofs.header.longest_header_of.Goals as goal
 
 pub returns-then-bytes-lt-LONGEST_HEADER : goal.returns-then-bytes-lt-LONGEST_HEADER

@@ -1,5 +1,5 @@
 use Rattle.std.proofs.Common.{refl, ◌∙◌}
-use Rattle.std.proofs.lemmas.Str.Ascii.{trim_ascii_is}
+use Rattle.frames.proofs.Common.{trim_ascii_is}
 use Rattle.frames.proofs.Trimmed.{trimmed_is}
 use Rattle.frames.proofs.header.trim.Goals as goal
 

@@ -1,5 +1,5 @@
 use Rattle.std.proofs.Common.{◌∙◌, sym, subst}
-use Rattle.definitions.specs.Sentences.{IsUsed}
+use Rattle.grammar.proofs.Common.{IsUsed}
 use Rattle.grammar.proofs.NotesOfUses.{rule_used}
 use Rattle.grammar.proofs.notes.is_used.Goals as goal
 

@@ -1,6 +1,5 @@
 use Rattle.std.proofs.Common.{sym, subst, refl, take, [], arith}
-use Rattle.std.proofs.lemmas.List.{take_all}
-use Rattle.grammar.specs.Notes.{AreNotes, none}
+use Rattle.grammar.proofs.Common.{take_all, AreNotes, none}
 use Rattle.grammar.proofs.NotesOfUses.{one_more}
 use Rattle.grammar.proofs.notes.notes.Goals as goal
 

@@ -1,7 +1,5 @@
 use Rattle.std.proofs.Common.{◌≡◌, take}
-use Rattle.grammar.specs.Grammars.{FileGrammar}
-use Rattle.grammar.specs.Notes.{AreNotes}
-use Rattle.grammar.specs.Uses.{AreUsed}
+use Rattle.grammar.proofs.Common.{FileGrammar, AreNotes, AreUsed}
 use Rattle.grammar.proofs.notes.notes.Given as goal
 
 abbrev pub invariant-loop-symbol : goal.invariant-loop-symbol

@@ -1,6 +1,6 @@
 use Rattle.std.proofs.Common.{◌≡◌, take, map}
 use Rattle.std.specs.Str.{chars}
-use Rattle.grammar_line.specs.Kept.{texts}
+use Rattle.grammar.proofs.Common.{texts}
 use Rattle.grammar.proofs.numbers.copy_names.Given as goal
 
 abbrev pub invariant-loop-name : goal.invariant-loop-name

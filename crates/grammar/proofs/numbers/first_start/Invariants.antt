@@ -1,7 +1,5 @@
 use Rattle.std.proofs.Common.{◌≡◌, drop}
-use Rattle.grammar_file.specs.Contents.{starts}
-use Rattle.grammar.specs.Contents.{first_of}
-use Rattle.grammar_file.specs.Kept.{lines_view}
+use Rattle.grammar.proofs.Common.{starts, first_of, lines_view}
 use Rattle.grammar.proofs.numbers.first_start.Given as goal
 
 abbrev pub invariant-loop-statement : goal.invariant-loop-statement

@@ -1,7 +1,5 @@
 use Rattle.std.proofs.Common.{◌∙◌, ap, arith, take_all, map}
-use Rattle.grammar.specs.Contents.{is_fold}
-use Rattle.grammar_line.specs.Kept.{texts}
-use Rattle.grammar_file.specs.Kept.{lines_view}
+use Rattle.grammar.proofs.Common.{is_fold, texts, lines_view}
 use Rattle.grammar.proofs.numbers.folds.Goals as goal
 
 pub returns : goal.returns

@@ -1,9 +1,5 @@
 use Rattle.std.proofs.Common.{rules, tests, ◌∙◌, sym}
-use Rattle.std.proofs.lemmas.Iterator.{YieldsList-from_slice}
-use Rattle.std.proofs.lemmas.Iterator.Search.{any_from_yields_List}
-use Rattle.grammar.specs.Contents.{folds_name}
-use Rattle.grammar_file.specs.Kept.{statement_of}
-use Rattle.grammar_file.proofs.TestedItems.{list_any-map}
+use Rattle.grammar.proofs.Common.{YieldsList-from_slice, any_from_yields_List, folds_name, statement_of, list_any-map}
 use Rattle.grammar.proofs.numbers.is_fold.Goals as goal
 
 pub returns : goal.returns

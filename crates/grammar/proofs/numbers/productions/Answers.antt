@@ -1,9 +1,5 @@
 use Rattle.std.proofs.Common.{◌∙◌, ◌++◌, [], ap, sym, take, map}
-use Rattle.std.specs.List.{cons_option}
-use Rattle.grammar_file.specs.Contents.{productions}
-use Rattle.grammar.specs.Contents.{production_of}
-use Rattle.grammar_file.specs.Kept.{lines_view}
-use Rattle.grammar_file.proofs.Splits.{productions_more}
+use Rattle.grammar.proofs.Common.{cons_option, productions, production_of, lines_view, productions_more}
 use Rattle.grammar.proofs.numbers.productions.Goals as goal
 
 pub loop-statement-preserved : goal.loop-statement-preserved

@@ -1,7 +1,5 @@
 use Rattle.std.proofs.Common.{◌≡◌, take, map}
-use Rattle.grammar_file.specs.Contents.{productions}
-use Rattle.grammar.specs.Contents.{production_of}
-use Rattle.grammar_file.specs.Kept.{lines_view}
+use Rattle.grammar.proofs.Common.{productions, production_of, lines_view}
 use Rattle.grammar.proofs.numbers.productions.Given as goal
 
 abbrev pub invariant-loop-statement : goal.invariant-loop-statement

@@ -1,6 +1,5 @@
 use Rattle.std.proofs.Common.{◌≡◌, take, map}
-use Rattle.grammar.specs.Contents.{symbol_of}
-use Rattle.grammar_line.specs.Kept.{texts}
+use Rattle.grammar.proofs.Common.{symbol_of, texts}
 use Rattle.grammar.proofs.numbers.symbols_of.Given as goal
 
 abbrev pub invariant-loop-name : goal.invariant-loop-name

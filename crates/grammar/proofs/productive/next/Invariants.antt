@@ -1,5 +1,5 @@
 use Rattle.std.proofs.Common.{take}
-use Rattle.grammar.specs.Marks.{IsClosed}
+use Rattle.grammar.proofs.Common.{IsClosed}
 use Rattle.grammar.proofs.productive.next.Given as goal
 
 abbrev pub invariant-loop-production : goal.invariant-loop-production

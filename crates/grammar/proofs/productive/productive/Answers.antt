@@ -1,6 +1,5 @@
 use Rattle.std.proofs.Common.{◌<◌, ◌∙◌, Bool, true, List, length, subst, arith}
-use Rattle.std.proofs.lemmas.List.{length-set}
-use Rattle.grammar.specs.Marks.{IsClosed, IsNext}
+use Rattle.grammar.proofs.Common.{length-set, IsClosed, IsNext}
 use Rattle.grammar.proofs.NonterminalMarks.{complete, sound_more, next_within}
 use Rattle.grammar.proofs.productive.productive.Goals as goal
 

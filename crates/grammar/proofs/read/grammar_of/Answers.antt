@@ -1,6 +1,5 @@
 use Rattle.std.proofs.Common.{◌∙◌, sym}
-use Rattle.grammar_file.specs.Kept.{lines_view}
-use Rattle.grammar.specs.Meaning.{grammar_with}
+use Rattle.grammar.proofs.Common.{lines_view, grammar_with}
 use Rattle.grammar.proofs.FaultlessFile.{same_parts, made, start_within, all_within, are_notes}
 use Rattle.grammar.proofs.read.grammar_of.Goals as goal
 

@@ -1,6 +1,5 @@
-use Rattle.std.proofs.lemmas.Result.{err_from_is_err_and}
+use Rattle.grammar.proofs.Common.{err_from_is_err_and, lines_view}
 use Rattle.std.proofs.Common.{◌∙◌}
-use Rattle.grammar_file.specs.Kept.{lines_view}
 use Rattle.grammar.proofs.FaultlessFile.{productions_are, below, productive, unproductive_is}
 use Rattle.grammar.proofs.read.productions_of.Goals as goal
 

@@ -1,6 +1,6 @@
 use Rattle.std.proofs.Common.{◌≡◌, take, map}
 use Rattle.std.specs.Str.{chars}
-use Rattle.grammar_file.specs.Kept.{rule_line}
+use Rattle.grammar.proofs.Common.{rule_line}
 use Rattle.grammar.proofs.read.rule_names.Given as goal
 
 abbrev pub invariant-loop-rule : goal.invariant-loop-rule

@@ -1,5 +1,5 @@
 use Rattle.std.proofs.Common.{◌≡◌, take, map}
-use Rattle.grammar_file.specs.Kept.{rule_line}
+use Rattle.grammar.proofs.Common.{rule_line}
 use Rattle.grammar.proofs.read.skips.Given as goal
 
 abbrev pub invariant-loop-rule : goal.invariant-loop-rule

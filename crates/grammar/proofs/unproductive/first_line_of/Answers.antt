@@ -1,6 +1,5 @@
 use Rattle.std.proofs.Common.{refl, sym, take, drop, ◌+◌}
-use Rattle.grammar_file.specs.Kept.{lines_view, statement_of}
-use Rattle.grammar_file.proofs.Splits.{said_split}
+use Rattle.grammar.proofs.Common.{lines_view, statement_of, said_split}
 use Rattle.grammar.proofs.unproductive.first_line_of.Goals as goal
 
 pub returns-then-is_production_of : goal.returns-then-is_production_of

@@ -1,7 +1,5 @@
 use Rattle.std.proofs.Common.{◌≡◌, false, take}
-use Rattle.std.specs.List.{list_any}
-use Rattle.grammar.specs.Faults.{is_production_of}
-use Rattle.grammar_file.specs.Kept.{lines_view}
+use Rattle.grammar.proofs.Common.{list_any, is_production_of, lines_view}
 use Rattle.grammar.proofs.unproductive.first_line_of.Given as goal
 
 abbrev pub invariant-loop-statement : goal.invariant-loop-statement

@@ -1,6 +1,5 @@
 use Rattle.std.proofs.Common.{◌<◌, Bool, List, length, refl, subst, arith}
-use Rattle.grammar.specs.Marks.{IsFirstUnmarked}
-use Rattle.grammar_file.specs.Kept.{lines_view}
+use Rattle.grammar.proofs.Common.{IsFirstUnmarked, lines_view}
 use Rattle.grammar.proofs.Lefts.{named_has_production, text_at}
 use Rattle.grammar.proofs.NonterminalMarks.{first_unproductive}
 use Rattle.grammar.proofs.unproductive.test_productive.Goals as goal

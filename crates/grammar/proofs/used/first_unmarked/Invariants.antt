@@ -1,5 +1,5 @@
 use Rattle.std.proofs.Common.{◌≡◌, true, take}
-use Rattle.grammar.specs.Marks.{are_marked}
+use Rattle.grammar.proofs.Common.{are_marked}
 use Rattle.grammar.proofs.used.first_unmarked.Given as goal
 
 abbrev pub invariant-loop-symbol : goal.invariant-loop-symbol

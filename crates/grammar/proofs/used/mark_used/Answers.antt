@@ -1,9 +1,7 @@
 use Rattle.std.proofs.Common.{◌≡◌, ◌∙◌, arith, ◌<◌, Bool, true, false, List, sym, ap, length, set, subst, replicate}
-use Rattle.std.proofs.lemmas.List.{length-set, length-replicate}
-use Rattle.grammar.specs.Uses.{IsSpread, IsReached, AreOnlyUsed}
+use Rattle.grammar.proofs.Common.{length-set, length-replicate, IsSpread, IsReached, AreOnlyUsed, get_or-set_same}
 use Rattle.grammar.proofs.NonterminalMarks.{fewer_unmarked}
 use Rattle.grammar.proofs.UsedMarks.{used_more, all_used, reached_within, start_used, still_marked}
-use Rattle.std.proofs.lemmas.List.{get_or-set_same}
 use Rattle.grammar.proofs.used.mark_used.Goals as goal
 
 pub loop-nonterminal-init : goal.loop-nonterminal-init

@@ -1,5 +1,5 @@
 use Rattle.std.proofs.Common.{refl}
-use Rattle.std.proofs.lemmas.Option.{slice_get_read}
+use Rattle.grammar.proofs.Common.{slice_get_read}
 use Rattle.grammar.proofs.UsedMarks.{spread_more}
 use Rattle.grammar.proofs.used.next.Goals as goal
 

@@ -1,6 +1,5 @@
-use Rattle.std.proofs.lemmas.Result.{err_from_is_err_and}
+use Rattle.grammar_file.proofs.Common.{err_from_is_err_and, lines_view}
 use Rattle.std.proofs.Common.{◌∙◌, ap}
-use Rattle.grammar_file.specs.Kept.{lines_view}
 use Rattle.grammar_file.proofs.Files.{reference_fault}
 use Rattle.grammar_file.proofs.file.fill.Goals as goal
 

@@ -1,5 +1,4 @@
-use Rattle.grammar_line.specs.Statements.{statements}
-use Rattle.grammar_file.specs.Kept.{IsWrittenOut}
+use Rattle.grammar_file.proofs.Common.{statements, IsWrittenOut}
 use Rattle.grammar_file.proofs.AndOk.{ok_of_and, err_of_and}
 use Rattle.grammar_file.proofs.file.read_file.Goals as goal
 

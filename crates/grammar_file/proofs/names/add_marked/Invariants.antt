@@ -1,6 +1,5 @@
 use Rattle.std.proofs.Common.{◌≡◌, take}
-use Rattle.grammar_file.specs.WrittenOut.{with_marked}
-use Rattle.grammar_line.specs.Kept.{texts}
+use Rattle.grammar_file.proofs.Common.{with_marked, texts}
 use Rattle.grammar_file.proofs.names.add_marked.Given as goal
 
 abbrev pub invariant-loop-word : goal.invariant-loop-word

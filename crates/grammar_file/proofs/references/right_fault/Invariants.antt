@@ -1,9 +1,5 @@
 use Rattle.std.proofs.Common.{◌≡◌, drop, List, map}
-use Rattle.grammar_line.specs.Words.{plain}
-use Rattle.grammar_line.specs.Statements.{Statement}
-use Rattle.grammar_file.specs.Faults.{right_fault}
-use Rattle.grammar_line.specs.Kept.{texts}
-use Rattle.grammar_file.specs.Kept.{AreNames}
+use Rattle.grammar_file.proofs.Common.{plain, Statement, right_fault, texts, AreNames}
 use Rattle.grammar_file.proofs.references.right_fault.Given as goal
 
 abbrev pub invariant-loop-word : goal.invariant-loop-word

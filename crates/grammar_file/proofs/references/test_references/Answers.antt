@@ -1,5 +1,5 @@
 use Rattle.std.proofs.Common.{refl, sym, take, drop, ◌+◌}
-use Rattle.grammar_file.specs.Kept.{lines_view, statement_of}
+use Rattle.grammar_file.proofs.Common.{lines_view, statement_of}
 use Rattle.grammar_file.proofs.Splits.{said_split, referents_more}
 use Rattle.grammar_file.proofs.references.test_references.Goals as goal
 

@@ -1,6 +1,5 @@
 use Rattle.std.proofs.Common.{take}
-use Rattle.grammar_file.specs.Faults.{HaveReferents}
-use Rattle.grammar_file.specs.Kept.{lines_view}
+use Rattle.grammar_file.proofs.Common.{HaveReferents, lines_view}
 use Rattle.grammar_file.proofs.references.test_references.Given as goal
 
 abbrev pub invariant-loop-statement : goal.invariant-loop-statement

@@ -1,7 +1,5 @@
 use Rattle.std.proofs.Common.{◌∙◌, ◌++◌, ◌∷◌, [], sym, subst}
-use Rattle.std.specs.Str.{bytes_eq}
-use Rattle.indexmap.proofs.CallerLemmas.{insert_entry-new}
-use Rattle.grammar_file.specs.Numbers.{AreNumbers}
+use Rattle.grammar_file.proofs.Common.{bytes_eq, insert_entry-new, AreNumbers}
 use Rattle.grammar_file.proofs.NameLookUps.{numbers-new, numbers-again, none_from}
 use Rattle.grammar_file.proofs.rules.add_number.Goals as goal
 

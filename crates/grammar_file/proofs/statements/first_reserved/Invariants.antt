@@ -1,7 +1,5 @@
 use Rattle.std.proofs.Common.{◌≡◌, drop, map}
-use Rattle.grammar_line.specs.Words.{plain}
-use Rattle.grammar_file.specs.Faults.{reserved}
-use Rattle.grammar_line.specs.Kept.{texts}
+use Rattle.grammar_file.proofs.Common.{plain, reserved, texts}
 use Rattle.grammar_file.proofs.statements.first_reserved.Given as goal
 
 abbrev pub invariant-loop-word : goal.invariant-loop-word

@@ -1,8 +1,5 @@
 use Rattle.std.proofs.Common.{sym, subst}
-use Rattle.std.proofs.lemmas.Result.{on_ok_weaker}
-use Rattle.grammar_line.specs.Statements.{Production}
-use Rattle.grammar_line.specs.Kept.{texts}
-use Rattle.grammar_file.specs.Kept.{lines_view, AreNames}
+use Rattle.grammar_file.proofs.Common.{on_ok_weaker, Production, texts, lines_view, AreNames}
 use Rattle.grammar_file.proofs.Lines.{names-step}
 use Rattle.grammar_file.proofs.written_out.add_production.Goals as goal
 

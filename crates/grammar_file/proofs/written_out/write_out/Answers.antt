@@ -1,8 +1,5 @@
 use Rattle.std.proofs.Common.{◌≡◌, ◌++◌, ◌∙◌, ap, arith, rules, take_all}
-use Rattle.std.specs.List.{flat_map}
-use Rattle.grammar_file.specs.WrittenOut.{added, marked}
-use Rattle.grammar_line.specs.Kept.{texts}
-use Rattle.grammar_file.specs.Kept.{lines_view}
+use Rattle.grammar_file.proofs.Common.{flat_map, added, marked, texts, lines_view}
 use Rattle.grammar_file.proofs.WritingOut.{added_more}
 use Rattle.grammar_file.proofs.written_out.write_out.Goals as goal
 

@@ -1,8 +1,5 @@
 use Rattle.std.proofs.Common.{◌≡◌, ◌+◌, ◌*◌, ◌≤◌, ◌++◌, take}
-use Rattle.std.specs.List.{flat_map}
-use Rattle.grammar_file.specs.WrittenOut.{added}
-use Rattle.grammar_line.specs.Kept.{texts}
-use Rattle.grammar_file.specs.Kept.{lines_view, AreNames}
+use Rattle.grammar_file.proofs.Common.{flat_map, added, texts, lines_view, AreNames}
 use Rattle.grammar_file.proofs.written_out.write_out.Given as goal
 
 abbrev pub invariant-loop-word : goal.invariant-loop-word

@@ -1,8 +1,5 @@
 use Rattle.std.proofs.Common.{length, slice_index_or, subst, ◌∙◌}
-use Rattle.std.proofs.lemmas.List.Elements.{Contains-get_or}
-use Rattle.std.proofs.lemmas.Result.{IfOk-weaker}
-use Rattle.item_sets.specs.States.{IsSetOf}
-use Rattle.item_sets.specs.Worklist.{AreCalledFor, HaveBeginnings}
+use Rattle.item_sets.proofs.Common.{Contains-get_or, IfOk-weaker, IsSetOf, AreCalledFor, HaveBeginnings}
 use Rattle.item_sets.proofs.InRange.{has_all, only_in, in_known}
 use Rattle.item_sets.proofs.Valid.{set_of}
 use Rattle.item_sets.proofs.closure.close.Goals as goal

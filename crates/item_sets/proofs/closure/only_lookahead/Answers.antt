@@ -1,7 +1,5 @@
 use Rattle.std.proofs.Common.{◌<◌, length, arith, sym, ◌∙◌}
-use Rattle.std.proofs.lemmas.Bool.{eqb-true, eqb-false}
-use Rattle.definitions.specs.declared.Symbol.TheVariants.{Rule}
-use Rattle.first_sets.proofs.Follows.{follows_nothing, follows_first}
+use Rattle.item_sets.proofs.Common.{eqb-true, eqb-false, Rule, follows_nothing, follows_first}
 use Rattle.item_sets.proofs.closure.only_lookahead.Goals as goal
 
 pub returns-then-is_empty : goal.returns-then-is_empty

@@ -1,11 +1,5 @@
 use Rattle.std.proofs.Common.{rules, ◌≡◌, ◌<◌, ◌∷◌, ◌++◌, [], Some, None, length, slice_index_or, slice_set, length-set, ap, sym, subst, ◌∙◌, arith, IfSome}
-use Rattle.std.proofs.lemmas.List.{get_or_default}
-use Rattle.definitions.specs.Derivations.{first}
-use Rattle.item_sets.specs.declared.item.Item.{Item}
-use Rattle.first_sets.specs.Productions.{IsKnown}
-use Rattle.item_sets.specs.Sets.{after_dot}
-use Rattle.item_sets.specs.States.{step, ShiftsUpTo}
-use Rattle.first_sets.specs.Symbols.{number, symbol_of}
+use Rattle.item_sets.proofs.Common.{get_or_default, first, Item, IsKnown, after_dot, step, ShiftsUpTo, number, symbol_of}
 use Rattle.item_sets.proofs.KernelsAfter.{kernels_more, kernels_same, shifts_none, kernel_after}
 use Rattle.item_sets.proofs.goto.kernels_after.Goals as goal
 use Rattle.item_sets.proofs.goto.kernels_after.Goals.{in-Some+in_ok-add, in_default}

@@ -1,6 +1,5 @@
 use Rattle.std.proofs.Common.{◌≡◌, ◌+◌, ◌<◌, ℕ, [], length, slice_index_or}
-use Rattle.item_sets.specs.States.{ShiftsUpTo}
-use Rattle.first_sets.specs.Symbols.{symbol_of}
+use Rattle.item_sets.proofs.Common.{ShiftsUpTo, symbol_of}
 use Rattle.item_sets.proofs.goto.kernels_after.Given as goal
 
 abbrev pub invariant-loop-item : goal.invariant-loop-item

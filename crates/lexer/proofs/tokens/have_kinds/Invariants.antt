@@ -1,6 +1,5 @@
 use Rattle.std.proofs.Common.{◌≡◌, ◌-◌, drop, slice_range, take}
-use Rattle.definitions.specs.TokenEdits.{same_kinds}
-use Rattle.lexer.specs.Rescans.{significant_kinds}
+use Rattle.lexer.proofs.Common.{same_kinds, significant_kinds}
 use Rattle.lexer.proofs.tokens.have_kinds.Given as goal
 
 abbrev pub invariant-loop : goal.invariant-loop

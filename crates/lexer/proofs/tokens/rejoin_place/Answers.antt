@@ -1,5 +1,5 @@
 use Rattle.std.proofs.Common.{arith, sym, subst, ◌≡◌, ◌+◌, ◌-◌}
-use Rattle.lexer.specs.Walks.{IsPassed, horizon}
+use Rattle.lexer.proofs.Common.{IsPassed, horizon}
 use Rattle.lexer.proofs.Boundaries.{not_after, rejoined_is}
 use Rattle.lexer.proofs.tokens.rejoin_place.Goals as goal
 

@@ -1,10 +1,5 @@
-use Rattle.definitions.specs.Tokens.{Leads}
+use Rattle.lexer.proofs.Common.{Leads, is_rejoined, characters, plain_all, prefix_end, AreMade, IsPassed, horizon}
 use Rattle.std.proofs.Common.{ℕ, ◌≡◌, ◌≤◌, ◌<◌, ◌+◌, ◌-◌, length, drop, take, false}
-use Rattle.definitions.specs.TokenEdits.{is_rejoined}
-use Rattle.lexer.specs.Tokens.{characters}
-use Rattle.lexer.specs.Rescans.{plain_all, prefix_end}
-use Rattle.lexer.specs.Scans.{AreMade}
-use Rattle.lexer.specs.Walks.{IsPassed, horizon}
 use Rattle.lexer.proofs.tokens.remake.Given as goal
 
 abbrev pub invariant-loop-at : goal.invariant-loop-at

@@ -1,9 +1,5 @@
 use Rattle.std.proofs.Common.{refl, sym, ap, ◌≡◌, ◌∙◌, ℕ, true, false, List, [], take, count_by, slice_range}
-use Rattle.definitions.specs.declared.Kind.{Kind}
-use Rattle.definitions.specs.TokenEdits.{same_kinds}
-use Rattle.lexer.specs.Tokens.{is_significant}
-use Rattle.lexer.specs.Rescans.{significant_kinds, change}
-use Rattle.lexer.specs.declared.sums.Token.{Token}
+use Rattle.lexer.proofs.Common.{Kind, same_kinds, is_significant, significant_kinds, change, Token}
 use Rattle.lexer.proofs.tokens.splice_of.Goals as goal
 
 same_change : (xs : List Token) (kept_before to from : ℕ) (kinds : List Kind) → from ≡ count_by is_significant (take kept_before xs) → same_kinds (significant_kinds (slice_range xs kept_before to)) kinds ≡ true

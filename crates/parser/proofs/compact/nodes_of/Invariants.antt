@@ -1,5 +1,5 @@
 use Rattle.std.proofs.Common.{◌≡◌, ◌++◌, drop}
-use Rattle.parser.specs.Compact.{node_ids}
+use Rattle.parser.proofs.Common.{node_ids}
 use Rattle.parser.proofs.compact.nodes_of.Given as goal
 
 abbrev pub invariant-loop-child : goal.invariant-loop-child

@@ -1,12 +1,5 @@
 use Rattle.std.proofs.Common.{◌≡◌, List, [], ◌∷◌, ◌++◌, length, sym, ap, ◌∙◌, subst, arith}
-use Rattle.std.proofs.lemmas.List.{append-nil}
-use Rattle.definitions.specs.declared.Kind.{Kind}
-use Rattle.definitions.specs.Trees.{all_kinds, yield}
-use Rattle.definitions.specs.TreeEdits.{plain}
-use Rattle.trees.specs.declared.store.Child.TheVariants.{Node, Token}
-use Rattle.trees.specs.Cells.{AreBelow, tree}
-use Rattle.trees.proofs.Cells.{all_below-more}
-use Rattle.parser.specs.Machine.{plain_of}
+use Rattle.parser.proofs.Common.{append-nil, Kind, all_kinds, yield, plain, Node, Token, AreBelow, tree, all_below-more, plain_of}
 use Rattle.parser.proofs.Inputs.{no_kinds, none_counted}
 use Rattle.parser.proofs.SecondKind.{into_node, past_empty}
 use Rattle.parser.proofs.input.first_kind.Goals.{then-tokens-gt0, else-tokens-gt0}

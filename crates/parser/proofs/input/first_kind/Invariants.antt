@@ -1,8 +1,5 @@
 use Rattle.std.proofs.Common.{◌≡◌, List, ◌++◌, length}
-use Rattle.definitions.specs.declared.Kind.{Kind}
-use Rattle.definitions.specs.Trees.{all_kinds}
-use Rattle.trees.specs.Cells.{AreBelow}
-use Rattle.parser.specs.Machine.{plain_of}
+use Rattle.parser.proofs.Common.{Kind, all_kinds, AreBelow, plain_of}
 use Rattle.parser.proofs.input.first_kind.Given as goal
 
 abbrev pub invariant-edge : goal.invariant-edge

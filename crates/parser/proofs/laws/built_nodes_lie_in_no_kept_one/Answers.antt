@@ -1,4 +1,4 @@
-use Rattle.theory.proofs.TreeEditLemmas.{one_built}
+use Rattle.parser.proofs.Common.{one_built}
 use Rattle.parser.proofs.Built.{built_counts}
 use Rattle.parser.proofs.laws.built_nodes_lie_in_no_kept_one.Goals as goal
 

@@ -1,4 +1,4 @@
-use Rattle.parser.specs.Parses.{before_fault}
+use Rattle.parser.proofs.Common.{before_fault}
 use Rattle.parser.proofs.StackNodes.{same_nodes, stacked_length}
 use Rattle.parser.proofs.laws.stack_has_the_nodes_of_the_document.Goals as goal
 

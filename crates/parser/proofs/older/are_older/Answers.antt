@@ -1,11 +1,5 @@
 use Rattle.std.proofs.Common.{◌≡◌, ◌<◌, ◌+◌, ◌∷◌, ◌++◌, ℕ, [], length, sym, ap, ◌∙◌, subst, arith}
-use Rattle.definitions.specs.TreeEdits.{StampedBranch, StampedForest, StampedIn, StampedLeaf, StampedTop, stamped_trees}
-use Rattle.trees.specs.Cells.{AreBelow, all_trees, forest_of, trees_from}
-use Rattle.trees.specs.declared.store.Child.TheVariants.{Node, Token}
-use Rattle.parser.specs.Cuts.{AreChildren}
-use Rattle.parser.specs.Machine.{plain_of}
-use Rattle.parser.specs.Run.{ComeFrom}
-use Rattle.parser.specs.Stamps.{AreOlder}
+use Rattle.parser.proofs.Common.{StampedBranch, StampedForest, StampedIn, StampedLeaf, StampedTop, stamped_trees, AreBelow, all_trees, forest_of, trees_from, Node, Token, AreChildren, plain_of, ComeFrom, AreOlder}
 use Rattle.parser.proofs.WhereBranchesComeFrom.{come_after, come_on, older_node, older_token, opened_came}
 use Rattle.parser.proofs.Cuts.{opened_below, opened_lighter}
 use Rattle.parser.proofs.LeftEdge.{weight}

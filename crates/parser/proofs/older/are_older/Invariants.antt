@@ -1,8 +1,5 @@
 use Rattle.std.proofs.Common.{ℕ, length}
-use Rattle.trees.specs.Cells.{AreBelow, all_trees}
-use Rattle.parser.specs.Machine.{plain_of}
-use Rattle.parser.specs.Run.{ComeFrom}
-use Rattle.parser.specs.Stamps.{AreOlder}
+use Rattle.parser.proofs.Common.{AreBelow, all_trees, plain_of, ComeFrom, AreOlder}
 use Rattle.parser.proofs.LeftEdge.{weight}
 use Rattle.parser.proofs.older.are_older.Given as goal
 

@@ -1,7 +1,5 @@
 use Rattle.std.proofs.Common.{◌≡◌, ◌+◌, ◌≤◌, min, drop}
-use Rattle.definitions.specs.Nodes.{all_branches}
-use Rattle.trees.specs.Cells.{most}
-use Rattle.parser.specs.Machine.{plain_of}
+use Rattle.parser.proofs.Common.{all_branches, most, plain_of}
 use Rattle.parser.proofs.parse.branches_of.Given as goal
 
 -- what is counted, with what is left to count, is the whole

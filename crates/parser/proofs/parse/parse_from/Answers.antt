@@ -1,12 +1,7 @@
 use Rattle.std.proofs.Common.{sym, subst, ap, arith, min, ◌∙◌, ◌<◌, ◌≤◌, ◌^◌, [], ◌∷◌, length}
-use Rattle.parser.specs.Input.{input_of}
-use Rattle.trees.specs.Cells.{all_trees, most}
-use Rattle.definitions.specs.Nodes.{all_branches}
-use Rattle.parser.specs.Machine.{plain_of}
-use Rattle.parser.specs.Parses.{IsStop, verdict_of}
+use Rattle.parser.proofs.Common.{input_of, all_trees, most, all_branches, plain_of, IsStop, verdict_of, CameFrom, SoFar}
 use Rattle.parser.proofs.Cuts.{counted}
 use Rattle.parser.proofs.Fits.{stack_fits}
-use Rattle.parser.specs.Run.{CameFrom, SoFar}
 use Rattle.parser.proofs.WhereBranchesComeFrom.{came_begins}
 use Rattle.parser.proofs.Running.{begun}
 use Rattle.parser.proofs.parse.parse_from.Goals as goal

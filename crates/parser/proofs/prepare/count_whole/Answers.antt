@@ -1,13 +1,5 @@
 use Rattle.std.proofs.Common.{◌≡◌, ◌+◌, ◌<◌, ℕ, List, length, take, get_or, refl, sym, ap, ◌∙◌, subst, arith}
-use Rattle.std.proofs.lemmas.List.{take_more}
-use Rattle.definitions.specs.Nodes.{place_of}
-use Rattle.definitions.specs.declared.Kind.TheVariants.{Rule}
-use Rattle.trees.specs.declared.store.Child.{Child}
-use Rattle.trees.specs.declared.store.Child.TheVariants.{Token}
-use Rattle.trees.specs.Cells.{Cell}
-use Rattle.trees.proofs.Cells.{below-at}
-use Rattle.parser.specs.Cuts.{kinds_in}
-use Rattle.parser.specs.Machine.{plain_of}
+use Rattle.parser.proofs.Common.{take_more, place_of, Rule, Child, Token, Cell, below-at, kinds_in, plain_of}
 use Rattle.parser.proofs.Cuts.{counted, counted_in, place_push}
 use Rattle.parser.proofs.prepare.count_whole.Goals as goal
 

@@ -1,6 +1,5 @@
 use Rattle.std.proofs.Common.{◌≡◌, ◌+◌, take}
-use Rattle.definitions.specs.Nodes.{place_of}
-use Rattle.parser.specs.Machine.{plain_of}
+use Rattle.parser.proofs.Common.{place_of, plain_of}
 use Rattle.parser.proofs.prepare.count_whole.Given as goal
 
 abbrev pub invariant-loop-child : goal.invariant-loop-child

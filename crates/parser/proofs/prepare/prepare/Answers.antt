@@ -1,17 +1,6 @@
 use Rattle.std.proofs.Common.{◌≡◌, ◌≢◌, ℕ, ◌+◌, ◌-◌, ◌<◌, zero, suc, ◌≤◌, ◌∷◌, length-append, List, [], ◌++◌, length, take, drop, map, sym, ap, ◌∙◌, subst, arith, rules, length-drop}
-use Rattle.std.proofs.lemmas.List.{append-nil, take_all}
-use Rattle.definitions.specs.Trees.{all_kinds, yield}
-use Rattle.definitions.specs.TreeEdits.{plain}
-use Rattle.theory.specs.Reuse.{IsPrepared}
-use Rattle.definitions.specs.Nodes.{all_branches, place_of}
-use Rattle.trees.specs.Cells.{AreBelow, Cell, all_trees, tree}
-use Rattle.parser.specs.Run.{MoveFrom}
-use Rattle.parser.specs.Machine.{plain_of}
-use Rattle.parser.specs.Input.{input_of}
+use Rattle.parser.proofs.Common.{append-nil, take_all, all_kinds, yield, plain, IsPrepared, all_branches, place_of, AreBelow, Cell, all_trees, tree, MoveFrom, plain_of, input_of, plain_splice, Child, Token}
 use Rattle.parser.proofs.Reductions.{below-drop}
-use Rattle.definitions.specs.TokenEdits.{plain_splice}
-use Rattle.trees.specs.declared.store.Child.{Child}
-use Rattle.trees.specs.declared.store.Child.TheVariants.{Token}
 use Rattle.parser.proofs.Cuts.{cut_below, cut_kinds}
 use Rattle.parser.proofs.Prepared.{prepared_same, unmoved}
 use Rattle.parser.proofs.Replaced.{IsReplaced, replaced_fits, replaced_input, replaced_moved, replaced_older, replaced_prepared, within, short}

@@ -1,13 +1,6 @@
 use Rattle.std.proofs.Common.{◌≡◌, ◌<◌, ◌+◌, ◌≤◌, length-append, min, ◌++◌, ◌∷◌, [], List, length, sym, ap, ◌∙◌, subst, arith, append_assoc}
-use Rattle.std.proofs.lemmas.List.{append-nil}
-use Rattle.definitions.specs.Nodes.{place_of}
-use Rattle.definitions.specs.Trees.{all_kinds, yield}
-use Rattle.definitions.specs.TreeEdits.{plain}
-use Rattle.trees.specs.declared.store.Child.{Child}
-use Rattle.trees.specs.declared.store.Child.TheVariants.{Node}
-use Rattle.trees.specs.Cells.{AreBelow, most, tree}
-use Rattle.parser.specs.Cuts.{kinds_in, AreChildren, IsSplitAt, Here, Used_up, Whole, Opened}
-use Rattle.parser.specs.Machine.{plain_of}
+use Rattle.parser.proofs.Common.{append-nil, place_of, all_kinds, yield, plain, Child, Node, AreBelow, most, tree, kinds_in, AreChildren, IsSplitAt, Here, Used_up, Whole, plain_of}
+use Rattle.parser.specs.Cuts.{Opened}
 use Rattle.parser.proofs.LeftEdge.{weight}
 use Rattle.parser.proofs.Cuts.{counted, not_counted, opened_below, opened_kinds, opened_lighter, place_push, taken_lighter}
 use Rattle.parser.proofs.prepare.take_prefix.Goals as goal

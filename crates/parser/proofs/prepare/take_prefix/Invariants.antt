@@ -1,9 +1,5 @@
 use Rattle.std.proofs.Common.{◌≡◌, ◌+◌, ◌≤◌, ◌++◌, List, length}
-use Rattle.definitions.specs.Nodes.{place_of}
-use Rattle.trees.specs.declared.store.Child.{Child}
-use Rattle.trees.specs.Cells.{AreBelow, most}
-use Rattle.parser.specs.Cuts.{IsSplitAt}
-use Rattle.parser.specs.Machine.{plain_of}
+use Rattle.parser.proofs.Common.{place_of, Child, AreBelow, most, IsSplitAt, plain_of}
 use Rattle.parser.proofs.LeftEdge.{weight}
 use Rattle.parser.proofs.prepare.take_prefix.Given as goal
 

@@ -1,5 +1,5 @@
 use Rattle.std.proofs.Common.{◌≡◌, Bool, true, false}
-use Rattle.patterns.specs.Empty.{matches_empty}
+use Rattle.patterns.proofs.Common.{matches_empty}
 use Rattle.patterns.proofs.WellMade.{well_made, empty_tested}
 use Rattle.patterns.proofs.Pattern.expression.Goals as goal
 

@@ -1,10 +1,5 @@
 use Rattle.std.proofs.Common.{◌≡◌, ℕ, List, subst}
-use Rattle.std.specs.Str.{chars}
-use Rattle.definitions.specs.declared.expression.PatternFault.{PatternFault}
-use Rattle.definitions.specs.PatternFaults.{IsFault}
-use Rattle.patterns.specs.declared.refusals.Refusal.{Refusal}
-use Rattle.patterns.specs.declared.refusals.Refusal.TheVariants.{Fault}
-use Rattle.patterns.specs.Reading.{Reports}
+use Rattle.patterns.proofs.Common.{chars, PatternFault, IsFault, Refusal, Fault, Reports}
 use Rattle.patterns.proofs.Runs.{refused}
 use Rattle.patterns.proofs.Pattern.read.Goals as goal
 

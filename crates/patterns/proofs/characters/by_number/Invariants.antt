@@ -1,5 +1,5 @@
 use Rattle.std.proofs.Common.{◌≡◌, ◌+◌, ◌<◌, ◌≤◌, ◌^◌, drop}
-use Rattle.definitions.specs.PatternText.{braced, digits}
+use Rattle.patterns.proofs.Common.{braced, digits}
 use Rattle.patterns.proofs.characters.by_number.Given as goal
 
 abbrev pub invariant-loop-count : goal.invariant-loop-count

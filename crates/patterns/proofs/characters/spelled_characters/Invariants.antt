@@ -1,6 +1,5 @@
 use Rattle.std.proofs.Common.{◌≡◌, ◌-◌, ◌≤◌, ◌++◌, length, drop}
-use Rattle.definitions.specs.PatternText.{written}
-use Rattle.patterns.specs.Reading.{writing}
+use Rattle.patterns.proofs.Common.{written, writing}
 use Rattle.patterns.proofs.characters.spelled_characters.Given as goal
 
 abbrev pub invariant-loop-place : goal.invariant-loop-place

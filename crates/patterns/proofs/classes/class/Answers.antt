@@ -1,5 +1,5 @@
 use Rattle.std.proofs.Common.{◌∙◌}
-use Rattle.patterns.specs.Reading.{writing}
+use Rattle.patterns.proofs.Common.{writing}
 use Rattle.patterns.proofs.Literals.{no_caret}
 use Rattle.patterns.proofs.Repeats.{hands_on}
 use Rattle.patterns.proofs.classes.class.Goals as goal

@@ -1,8 +1,5 @@
 use Rattle.std.proofs.Common.{ℕ, [], ◌∷◌, refl, sym, ◌∙◌, ap, subst}
-use Rattle.definitions.specs.PatternText.{Plain}
-use Rattle.definitions.specs.PatternFaults.{InClass, Items, fault_from}
-use Rattle.definitions.specs.Spelling.{IsClassChar}
-use Rattle.patterns.specs.Reading.{writing, place}
+use Rattle.patterns.proofs.Common.{Plain, InClass, Items, fault_from, IsClassChar, writing, place}
 use Rattle.patterns.proofs.Literals.{no_item, no_last, first_step}
 use Rattle.patterns.proofs.classes.item.Goals as goal
 

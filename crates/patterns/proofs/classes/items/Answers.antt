@@ -1,9 +1,5 @@
 use Rattle.std.proofs.Common.{List, sym, ◌∙◌, ap, subst, arith}
-use Rattle.std.specs.List.{list_all}
-use Rattle.definitions.specs.declared.expression.Interval.{Interval}
-use Rattle.definitions.specs.PatternFaults.{InClass, Items, fault_from}
-use Rattle.patterns.specs.Sound.{is_range}
-use Rattle.patterns.specs.Reading.{writing}
+use Rattle.patterns.proofs.Common.{list_all, Interval, InClass, Items, fault_from, is_range, writing}
 use Rattle.patterns.proofs.Literals.{IsClassSoFar, class_closed, one_more_item, all_and_one}
 use Rattle.patterns.proofs.classes.items.Goals as goal
 

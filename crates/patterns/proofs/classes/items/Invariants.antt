@@ -1,8 +1,5 @@
 use Rattle.std.proofs.Common.{◌≡◌, ℕ, ◌≤◌, [], length, Bool, true}
-use Rattle.std.specs.List.{list_all}
-use Rattle.definitions.specs.PatternFaults.{InClass, Items, fault_from}
-use Rattle.patterns.specs.Sound.{is_range}
-use Rattle.patterns.specs.Reading.{writing}
+use Rattle.patterns.proofs.Common.{list_all, InClass, Items, fault_from, is_range, writing}
 use Rattle.patterns.proofs.Literals.{IsClassSoFar}
 use Rattle.patterns.proofs.classes.items.Given as goal
 

@@ -1,7 +1,5 @@
 use Rattle.std.proofs.Common.{List, ℕ, sym, ◌∙◌, ap, subst, arith}
-use Rattle.definitions.specs.PatternFaults.{InLiteral, fault_from}
-use Rattle.patterns.specs.Empty.{is_empty}
-use Rattle.patterns.specs.Reading.{writing}
+use Rattle.patterns.proofs.Common.{InLiteral, fault_from, is_empty, writing}
 use Rattle.patterns.proofs.Literals.{IsLiteralSoFar, literal_closed, one_more_literal, literal_step, not_empty_after, no_literal_char}
 use Rattle.patterns.proofs.classes.literal.Goals as goal
 

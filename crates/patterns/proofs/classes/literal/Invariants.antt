@@ -1,7 +1,5 @@
 use Rattle.std.proofs.Common.{◌≡◌, ℕ, ◌≤◌, length, true}
-use Rattle.definitions.specs.PatternFaults.{InLiteral, fault_from}
-use Rattle.patterns.specs.Empty.{is_empty}
-use Rattle.patterns.specs.Reading.{writing}
+use Rattle.patterns.proofs.Common.{InLiteral, fault_from, is_empty, writing}
 use Rattle.patterns.proofs.Literals.{IsLiteralSoFar}
 use Rattle.patterns.proofs.classes.literal.Given as goal
 

@@ -1,6 +1,5 @@
 use Rattle.std.proofs.Common.{◌∷◌, refl, ◌∙◌, ap, arith}
-use Rattle.definitions.specs.PatternText.{Plain, Escaped}
-use Rattle.patterns.specs.Reading.{writing}
+use Rattle.patterns.proofs.Common.{Plain, Escaped, writing}
 use Rattle.patterns.proofs.classes.literal_char.Goals as goal
 
 pub returns-in-Some-Sign-default : goal.returns-in-Some-Sign-default

@@ -1,10 +1,5 @@
 use Rattle.std.proofs.Common.{not, [], ◌∷◌, refl, sym, ◌∙◌, ap}
-use Rattle.std.proofs.Math.Nat.{lt_trans}
-use Rattle.definitions.specs.PatternFaults.{Outside, Nothing, ARepetition, fault_from}
-use Rattle.definitions.specs.Spelling.{one_seq, one_rep, sequence, choice}
-use Rattle.definitions.specs.PatternText.{Plain}
-use Rattle.patterns.specs.Reading.{writing}
-use Rattle.patterns.specs.Sound.{is_sound}
+use Rattle.patterns.proofs.Common.{lt_trans, Outside, Nothing, ARepetition, fault_from, one_seq, one_rep, sequence, choice, Plain, writing, is_sound}
 use Rattle.patterns.proofs.Blanks.{among_blanks, blanks_skipped}
 use Rattle.patterns.proofs.Repeats.{of_level, repeated, no_stop, joined, enclosed, literal_part, class_part, group_opens, as_group, hands_on}
 use Rattle.patterns.proofs.parts.+parts.Goals as goal

@@ -1,7 +1,5 @@
 use Rattle.std.proofs.Common.{◌≡◌, ◌+◌, ◌-◌, ◌*◌, length, true}
-use Rattle.definitions.specs.PatternFaults.{ARepetition}
-use Rattle.definitions.specs.Spelling.{Alt, Seq}
-use Rattle.patterns.specs.Reading.{writing, stops, IsRead, HasNoBlank}
+use Rattle.patterns.proofs.Common.{ARepetition, Alt, Seq, writing, stops, IsRead, HasNoBlank}
 use Rattle.patterns.proofs.parts.+parts.Given as goal
 
 abbrev pub decreases-alternatives : goal.decreases-alternatives

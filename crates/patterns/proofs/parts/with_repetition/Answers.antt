@@ -1,7 +1,5 @@
 use Rattle.std.proofs.Common.{refl, ap, arith}
-use Rattle.definitions.specs.Spelling.{star, plus, optional, one_atom}
-use Rattle.patterns.specs.Reading.{writing}
-use Rattle.patterns.specs.Sound.{is_sound}
+use Rattle.patterns.proofs.Common.{star, plus, optional, one_atom, writing, is_sound}
 use Rattle.patterns.proofs.Repeats.{signed, no_sign}
 use Rattle.patterns.proofs.parts.with_repetition.Goals as goal
 

@@ -1,11 +1,5 @@
 use Rattle.std.proofs.Common.{◌≡◌, ◌≤◌, length, List, ℕ, [], ◌∷◌, ◌++◌, arith, refl, sym, ap, subst, ◌∙◌}
-use Rattle.std.specs.Str.{IsUtf8, chars}
-use Rattle.std.proofs.lemmas.List.{take-append-drop, append-nil}
-use Rattle.std.proofs.lemmas.Str.{IsUtf8-take, IsUtf8-drop, chars-append, chars-nil}
-use Rattle.chunks.proofs.Cutting.{first, more, last, done}
-use Rattle.definitions.specs.Text.{units}
-use Rattle.definitions.specs.declared.Unit.TheVariants.{Utf8}
-use Rattle.pieces.specs.Laws.{bytes_measure}
+use Rattle.pieces.proofs.Common.{IsUtf8, chars, take-append-drop, append-nil, IsUtf8-take, IsUtf8-drop, chars-append, chars-nil, first, more, last, done, units, Utf8, bytes_measure}
 use Rattle.pieces.proofs.Joins.{units-chars}
 use Rattle.pieces.proofs.cuts.pieces_of.Goals.{then-rest-gt0+in_ok-new-2+in_ok-push-2, else-rest-gt0}
 use Rattle.pieces.proofs.cuts.pieces_of.Goals as goal

@@ -1,12 +1,5 @@
 use Rattle.std.proofs.Common.{length}
-use denote.Text.{Utf8 as IsText}
-use denote.Shadow.{shadow}
-use Rattle.std.specs.Str.{chars}
-use Rattle.chunks.specs.Chunks.{IsCutting}
-use Rattle.definitions.specs.Text.{units}
-use Rattle.definitions.specs.declared.Unit.TheVariants.{Utf8}
-use Rattle.pieces.specs.declared.cuts.TheConstants.{SHORTEST_OF_SEVERAL}
-use Rattle.pieces.specs.declared.piece.TheConstants.{LONGEST_PIECE}
+use Rattle.pieces.proofs.Common.{IsText, shadow, chars, IsCutting, units, Utf8, SHORTEST_OF_SEVERAL, LONGEST_PIECE}
 use Rattle.pieces.proofs.cuts.pieces_of.Given as goal
 
 abbrev pub invariant-loop-rest : goal.invariant-loop-rest

@@ -1,6 +1,5 @@
 use Rattle.std.proofs.Common.{ap, ◌∙◌, ◌≡◌, ◌++◌, string_bytes}
-use Rattle.std.specs.Str.{chars}
-use Rattle.std.proofs.lemmas.Str.{IsUtf8-append, chars-append}
+use Rattle.pieces.proofs.Common.{chars, IsUtf8-append, chars-append}
 use Rattle.pieces.proofs.piece.join_three.Goals as goal
 
 pub returns : goal.returns

@@ -1,8 +1,5 @@
 use Rattle.std.proofs.Common.{sym, ◌≡◌, ◌∙◌, List, ℕ, [], ◌∷◌, rules}
-use Rattle.pieces.specs.declared.sums.Sums.TheVariants.{Empty}
-use Rattle.definitions.specs.Text.{units}
-use Rattle.definitions.specs.declared.Unit.TheVariants.{Utf8}
-use Rattle.pieces.specs.Sums.{sums_of}
+use Rattle.pieces.proofs.Common.{Empty, units, Utf8, sums_of}
 use Rattle.pieces.proofs.Joins.{units-nil}
 use Rattle.pieces.proofs.places.bytes_in.Goals as goal
 

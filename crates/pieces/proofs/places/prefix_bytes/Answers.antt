@@ -1,10 +1,7 @@
 use Rattle.std.proofs.Common.{◌+◌, List, ℕ, take, drop, sym, ap, ◌∙◌, ◌≡◌, length, arith, encode_utf8_all}
-use Rattle.definitions.specs.Text.{units}
-use Rattle.definitions.specs.declared.Unit.TheVariants.{Utf8}
+use Rattle.pieces.proofs.Common.{units, Utf8, take-append-drop, encodes-chars}
 use Rattle.pieces.proofs.CutAt.{one_byte, stepped}
 use Rattle.pieces.proofs.Joins.{units-append, units-bytes, units-chars}
-use Rattle.std.proofs.lemmas.List.{take-append-drop}
-use Rattle.std.proofs.lemmas.Str.{encodes-chars}
 use Rattle.pieces.proofs.places.prefix_bytes.Goals as goal
 
 pub returns-then-characters_in-text : goal.returns-then-characters_in-text

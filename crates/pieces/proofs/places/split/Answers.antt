@@ -1,7 +1,5 @@
 use Rattle.std.proofs.Common.{sym, ap, ◌∙◌, take, drop}
-use Rattle.std.specs.Str.{chars}
-use Rattle.definitions.specs.Text.{units}
-use Rattle.definitions.specs.declared.Unit.TheVariants.{Utf8}
+use Rattle.pieces.proofs.Common.{chars, units, Utf8}
 use Rattle.pieces.proofs.Borders.{border}
 use Rattle.pieces.proofs.places.split.Goals as goal
 

@@ -1,9 +1,5 @@
 use Rattle.std.proofs.Common.{arith, sym, ap, ◌∙◌, ◌≡◌, ◌+◌, ◌≤◌, ℕ, List, [], ◌∷◌, ◌++◌, take, slice_index}
-use Rattle.std.proofs.lemmas.List.{take_more}
-use Rattle.definitions.specs.Text.{units}
-use Rattle.definitions.specs.declared.Unit.TheVariants.{Utf8}
-use Rattle.pieces.specs.Sums.{sums_of, most, joined, line_sums, ascii_units}
-use Rattle.pieces.specs.Laws.{sums_laws}
+use Rattle.pieces.proofs.Common.{take_more, units, Utf8, sums_of, most, joined, line_sums, ascii_units, sums_laws}
 use Rattle.pieces.proofs.Joins.{sums_of-more}
 use Rattle.pieces.proofs.Lines.{ascii-more, ascii-fits}
 use Rattle.pieces.proofs.sums.of_ascii.Goals as goal

@@ -1,5 +1,5 @@
 use Rattle.std.proofs.Common.{◌≡◌, ◌≤◌, take}
-use Rattle.pieces.specs.Sums.{sums_of, joined, line_sums, ascii_units}
+use Rattle.pieces.proofs.Common.{sums_of, joined, line_sums, ascii_units}
 use Rattle.pieces.proofs.sums.of_ascii.Given as goal
 
 abbrev pub invariant-loop-byte : goal.invariant-loop-byte

@@ -1,11 +1,5 @@
 use Rattle.std.proofs.Common.{◌≡◌, ◌≤◌, ℕ, List, [], ◌∷◌, ◌++◌, arith, refl, sym, ap, subst, ◌∙◌}
-use Rattle.std.specs.Str.{chars}
-use Rattle.std.proofs.lemmas.Iterator.{YieldsList-from_chars}
-use Rattle.std.proofs.lemmas.Str.{chars-IsAscii}
-use Rattle.definitions.specs.Text.{units}
-use Rattle.definitions.specs.declared.Unit.TheVariants.{Utf8}
-use Rattle.pieces.specs.Sums.{sums_of, joined, line_sums, most}
-use Rattle.pieces.specs.Laws.{sums_laws}
+use Rattle.pieces.proofs.Common.{chars, YieldsList-from_chars, chars-IsAscii, units, Utf8, sums_of, joined, line_sums, most, sums_laws}
 use Rattle.pieces.proofs.Joins.{sums_of-more, units-chars}
 use Rattle.pieces.proofs.Lines.{joined-line-more, line-room}
 use Rattle.pieces.proofs.KnownPrefix.{few_prefix}

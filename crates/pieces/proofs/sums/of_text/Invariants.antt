@@ -1,7 +1,5 @@
 use Rattle.std.proofs.Common.{◌≡◌, ◌≤◌}
-use Rattle.definitions.specs.Text.{units}
-use Rattle.definitions.specs.declared.Unit.TheVariants.{Utf8}
-use Rattle.pieces.specs.Sums.{sums_of, joined, line_sums, most}
+use Rattle.pieces.proofs.Common.{units, Utf8, sums_of, joined, line_sums, most}
 use Rattle.pieces.proofs.sums.of_text.Given as goal
 
 abbrev pub invariant-loop-c : goal.invariant-loop-c

@@ -1,6 +1,5 @@
 use Rattle.std.proofs.Common.{arith, ◌≡◌, ◌≤◌, ◌+◌, ◌∷◌, ◌++◌, [], length, subst, subst₂, sym, ap, ◌∙◌, refl}
-use Rattle.trees.specs.Cells.{most, IsBelow}
-use Rattle.reports.specs.declared.foldable.Siblings.{Siblings}
+use Rattle.reports.proofs.Common.{most, IsBelow, Siblings}
 use Rattle.reports.proofs.WalkGathersFolds.{IsWalking, walking_none, walked, walking_end, walking_end-smaller, count_within, walking_token, walking_line, walking_past-smaller, child_below, production_within, walking_into, walking_into-smaller}
 use Rattle.reports.proofs.foldable.foldable_lines.Goals as goal
 

@@ -1,8 +1,5 @@
 use Rattle.std.proofs.Common.{arith, ℕ, List, ap, length, map, subst, sym, ◌∙◌}
-use Rattle.std.proofs.lemmas.List.Filters.{dedup_is}
-use Rattle.lexer.specs.Tokens.{plain}
-use Rattle.reports.specs.Folds.{AreAscending, AreSpanned}
-use Rattle.reports.specs.Contents.{placed_parts, trees_of_roots}
+use Rattle.reports.proofs.Common.{dedup_is, plain, AreAscending, AreSpanned, placed_parts, trees_of_roots}
 use Rattle.reports.proofs.LinesOfTokens.{lines_ascend, length-lines, length-significant}
 use Rattle.reports.proofs.FoldsSorted.{shown_are_folds}
 use Rattle.reports.proofs.foldable.folds.Goals as goal

@@ -1,6 +1,5 @@
 use Rattle.std.proofs.Common.{◌≡◌, ◌∙◌, ◌∷◌, ◌++◌, [], ap, sym, subst}
-use Rattle.definitions.specs.Answers.{kind_name}
-use Rattle.reports.specs.declared.rows.Row.{Row}
+use Rattle.reports.proofs.Common.{kind_name, Row}
 use Rattle.reports.proofs.RowsOfTokens.{IsReported, shown_more}
 use Rattle.reports.proofs.rows.token_rows.Goals as goal
 

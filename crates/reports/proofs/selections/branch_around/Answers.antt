@@ -1,6 +1,5 @@
 use Rattle.std.proofs.Common.{◌≡◌, ◌+◌, true, false, nat_lt, arith}
-use Rattle.std.proofs.lemmas.Bool.{and_from, and_left, and_right, lt-ltb, le-ltb}
-use Rattle.reports.specs.Around.{is_around}
+use Rattle.reports.proofs.Common.{and_from, and_left, and_right, lt-ltb, le-ltb, is_around}
 use Rattle.reports.proofs.Children.{end_fits, searching_below, searching_found, searching_next}
 use Rattle.reports.proofs.selections.branch_around.Goals as goal
 use Rattle.reports.proofs.selections.branch_around.Goals.{else-start-point-via-then-start-point+else-point-end, else-start-point-via-else-start-point}

@@ -1,5 +1,5 @@
 use Rattle.std.proofs.Common.{sym, ◌∙◌, subst}
-use Rattle.std.proofs.lemmas.Bool.{not-true, not-false}
+use Rattle.reports.proofs.Common.{not-true, not-false}
 use Rattle.reports.proofs.LocatedOffset.{IsLocated, point_inside, point_skipped, point_after}
 use Rattle.reports.proofs.selections.point_of.Goals as goal
 

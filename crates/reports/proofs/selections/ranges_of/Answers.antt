@@ -1,8 +1,5 @@
 use Rattle.std.proofs.Common.{ℕ, List, sym, ap, ◌≡◌, ◌∙◌, ◌++◌, ◌∷◌, [], map, append_assoc, reverse}
-use Rattle.std.specs.List.{push}
-use Rattle.std.proofs.lemmas.List.{append-nil, map-append, nil_from_length, reverse-append}
-use Rattle.definitions.specs.declared.Range.{Range}
-use Rattle.definitions.specs.Answers.{range_of}
+use Rattle.reports.proofs.Common.{push, append-nil, map-append, nil_from_length, reverse-append, Range, range_of}
 use Rattle.reports.proofs.selections.ranges_of.Goals as goal
 
 one_more : (f : ℕ × ℕ → Range) (reported : List Range) (old rest : List (ℕ × ℕ)) (x : ℕ × ℕ) → old ≡ push rest x → (reported ++ f x ∷ []) ++ reverse (map f rest) ≡ reported ++ reverse (map f old)

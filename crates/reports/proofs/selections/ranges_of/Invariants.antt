@@ -1,5 +1,5 @@
 use Rattle.std.proofs.Common.{◌≡◌, ◌++◌, map, reverse}
-use Rattle.definitions.specs.Answers.{range_of}
+use Rattle.reports.proofs.Common.{range_of}
 use Rattle.reports.proofs.selections.ranges_of.Given as goal
 
 abbrev pub invariant-loop-start : goal.invariant-loop-start

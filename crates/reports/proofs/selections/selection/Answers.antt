@@ -1,10 +1,5 @@
 use Rattle.std.proofs.Common.{ap, ◌≤◌, map, sym, ◌∙◌, subst, arith, All, length, count_by, reverse}
-use Rattle.std.proofs.lemmas.Result.{IfOk-weaker}
-use Rattle.definitions.specs.Answers.{range_of}
-use Rattle.grammar.specs.Grammars.{FileGrammar}
-use Rattle.lexer.specs.Tokens.{is_significant, plain}
-use Rattle.reports.specs.Around.{IsAround, IsSpanOf}
-use Rattle.reports.specs.Contents.{placed_parts}
+use Rattle.reports.proofs.Common.{IfOk-weaker, range_of, FileGrammar, is_significant, plain, IsAround, IsSpanOf, placed_parts}
 use Rattle.reports.proofs.SelectionOfOffset.{roots_fit, spans_stand, selected_roots}
 use Rattle.reports.proofs.selections.selection.Goals as goal
 

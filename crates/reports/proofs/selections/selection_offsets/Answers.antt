@@ -1,10 +1,5 @@
 use Rattle.std.proofs.Common.{◌≡◌, ◌+◌, ◌-◌, ◌<◌, ℕ, List, [], ◌∷◌, ◌++◌, length, map, take, drop, get_or, sym, ap, ◌∙◌, arith}
-use Rattle.std.specs.List.{between}
-use Rattle.std.proofs.lemmas.List.{take_more, take_all, map-append, length-map, drop-map}
-use Rattle.std.proofs.lemmas.Slice.{between_to_end}
-use Rattle.definitions.specs.Tokens.{Placed, placed, significant}
-use Rattle.lexer.specs.Tokens.{plain}
-use Rattle.reports.specs.Around.{inside, offsets_of}
+use Rattle.reports.proofs.Common.{between, take_more, take_all, map-append, length-map, drop-map, between_to_end, Placed, placed, significant, plain, inside, offsets_of}
 use Rattle.reports.proofs.SpansAround.{shortened_is}
 use Rattle.reports.proofs.selections.selection_offsets.Goals as goal
 

@@ -1,7 +1,5 @@
 use Rattle.std.proofs.Common.{◌≡◌, ◌∷◌, Bool, List, map, take, All}
-use Rattle.definitions.specs.Tokens.{is_skipped, placed, significant}
-use Rattle.lexer.specs.Tokens.{kind_in, plain}
-use Rattle.reports.specs.Around.{offsets_of}
+use Rattle.reports.proofs.Common.{is_skipped, placed, significant, kind_in, plain, offsets_of}
 use Rattle.reports.proofs.selections.selection_offsets.Given as goal
 
 abbrev pub invariant-loop-span : goal.invariant-loop-span

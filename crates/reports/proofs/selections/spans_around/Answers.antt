@@ -1,10 +1,5 @@
 use Rattle.std.proofs.Common.{◌≡◌, [], ◌∷◌, ◌++◌, length, sym, ap, ◌∙◌, subst, arith, append_assoc, IfSome}
-use Rattle.std.specs.List.{dedup}
-use Rattle.std.proofs.lemmas.List.{append-nil}
-use Rattle.std.proofs.lemmas.List.Filters.{dedup_is}
-use Rattle.trees.specs.Cells.{AreBelow}
-use Rattle.reports.specs.Around.{is_same, spans_all}
-use Rattle.reports.specs.Contents.{trees_of_roots}
+use Rattle.reports.proofs.Common.{dedup, append-nil, dedup_is, AreBelow, is_same, spans_all, trees_of_roots}
 use Rattle.reports.proofs.Children.{pending, IsNext, found_next, found_pending, children_fit, children_pending, children_below}
 use Rattle.reports.proofs.selections.spans_around.Goals as goal
 

@@ -1,6 +1,5 @@
 use Rattle.std.proofs.Common.{◌≡◌, ◌++◌, length, IfSome}
-use Rattle.reports.specs.Around.{spans_all}
-use Rattle.reports.specs.Contents.{trees_of_roots}
+use Rattle.reports.proofs.Common.{spans_all, trees_of_roots}
 use Rattle.reports.proofs.Children.{pending, IsNext}
 use Rattle.reports.proofs.selections.spans_around.Given as goal
 

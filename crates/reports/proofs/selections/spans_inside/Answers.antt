@@ -1,7 +1,5 @@
 use Rattle.std.proofs.Common.{◌≡◌, true, false, List, map, sym, ap, ◌∙◌}
-use Rattle.definitions.specs.Tokens.{Placed, placed, significant}
-use Rattle.lexer.specs.Tokens.{plain}
-use Rattle.reports.specs.Around.{is_same, offsets_of}
+use Rattle.reports.proofs.Common.{Placed, placed, significant, plain, is_same, offsets_of}
 use Rattle.reports.proofs.SpansAround.{inside_same, inside_other}
 use Rattle.reports.proofs.selections.spans_inside.Goals as goal
 

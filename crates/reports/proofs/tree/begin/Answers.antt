@@ -1,6 +1,5 @@
 use Rattle.std.proofs.Common.{arith, ap, lit<, ◌∙◌, ◌++◌, string_bytes}
-use Rattle.std.proofs.lemmas.Str.{IsUtf8-string_bytes}
-use Rattle.trees.proofs.Cells.{all_below-more}
+use Rattle.reports.proofs.Common.{IsUtf8-string_bytes, all_below-more}
 use Rattle.reports.proofs.Writing.{begun}
 use Rattle.reports.proofs.tree.begin.Goals as goal
 

@@ -1,9 +1,5 @@
 use Rattle.std.proofs.Common.{◌≡◌, slice_index, sym, ◌∙◌, ap, arith, []}
-use Rattle.std.proofs.Math.ListN.{get_or-map}
-use Rattle.std.proofs.lemmas.List.{get_or_past}
-use Rattle.std.proofs.lemmas.Str.{chars-nil}
-use Rattle.definitions.specs.Trees.{Production, left_of}
-use Rattle.grammar.specs.Grammars.{FileGrammar, lefts}
+use Rattle.reports.proofs.Common.{get_or-map, get_or_past, chars-nil, Production, left_of, FileGrammar, lefts}
 use Rattle.reports.proofs.tree.name_of.Goals as goal
 use Rattle.reports.proofs.tree.name_of.Goals.{then-production-productions, else-production-productions}
 

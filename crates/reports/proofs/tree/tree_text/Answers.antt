@@ -1,14 +1,8 @@
 use Rattle.std.proofs.Common.{◌≡◌, ◌++◌, ◌∷◌, [], List, ℕ, length, lit<, refl, sym, ap, ◌∙◌, ◌<◌, arith, string_bytes, encode_utf8_all}
 use Rattle.std.specs.Str.{chars}
-use Rattle.std.proofs.lemmas.Str.{IsUtf8-string_bytes}
+use Rattle.reports.proofs.Common.{IsUtf8-string_bytes, encodes-chars, NodeId, Child, Cell, tree, FileGrammar, text_of}
 use Rattle.definitions.specs.TreeEdits.{plain}
-use Rattle.definitions.proofs.Characters.{encodes-chars}
-use Rattle.trees.specs.declared.store.NodeId.{NodeId}
-use Rattle.trees.specs.declared.store.Child.{Child}
 use Rattle.trees.specs.declared.store.Child.TheVariants.{Node}
-use Rattle.trees.specs.Cells.{Cell, tree}
-use Rattle.grammar.specs.Grammars.{FileGrammar}
-use Rattle.reports.specs.Views.{text_of}
 use Rattle.reports.proofs.Writing.{IsWriting, pending, writing_begun, writing_closed, writing_token, writing_node, smaller_closed, smaller_token, smaller_node, child_text, written}
 use Rattle.reports.proofs.tree.tree_text.Goals as goal
 use Rattle.reports.proofs.tree.tree_text.Goals.{In_ok-push-2, In_ok-push_str-in-Token, In_ok-push-in-Node}

@@ -1,8 +1,7 @@
 use Rattle.std.proofs.Common.{length, string_bytes}
 use Rattle.definitions.specs.TreeEdits.{plain}
 use Rattle.trees.specs.declared.store.Child.TheVariants.{Node}
-use Rattle.trees.specs.Cells.{tree}
-use Rattle.reports.specs.Views.{text_of}
+use Rattle.reports.proofs.Common.{tree, text_of}
 use Rattle.reports.proofs.Writing.{pending, IsWriting}
 use Rattle.reports.proofs.tree.tree_text.Given as goal
 

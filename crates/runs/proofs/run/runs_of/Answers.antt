@@ -1,7 +1,5 @@
 use Rattle.std.proofs.Common.{◌≡◌, ◌≤◌, ◌++◌, [], List, ◌∷◌, length, arith, refl, sym, ap, ◌∙◌}
-use Rattle.std.proofs.lemmas.List.{take-append-drop, append-nil}
-use Rattle.chunks.proofs.Cutting.{first, more, last, done}
-use Rattle.runs.specs.Laws.{length_measures}
+use Rattle.runs.proofs.Common.{take-append-drop, append-nil, first, more, last, done, length_measures}
 use Rattle.runs.proofs.run.runs_of.Goals.{then-rest-gt0+in_ok-new-2+in_ok-push-2, else-rest-gt0}
 use Rattle.runs.proofs.run.runs_of.Goals as goal
 

@@ -1,6 +1,5 @@
 use Rattle.std.proofs.Common.{length}
-use Rattle.chunks.specs.Chunks.{IsCutting}
-use Rattle.runs.specs.declared.run.TheConstants.{LONGEST_RUN, SHORTEST_OF_SEVERAL}
+use Rattle.runs.proofs.Common.{IsCutting, LONGEST_RUN, SHORTEST_OF_SEVERAL}
 use Rattle.runs.proofs.run.runs_of.Given as goal
 
 abbrev pub invariant-loop-rest : goal.invariant-loop-rest

@@ -1,11 +1,5 @@
 use Rattle.std.proofs.Common.{rules, ◌≡◌, ◌<◌, ◌∷◌, ◌++◌, [], ℕ, Bool, false, Option, Some, None, length, Contains, slice_index_or, ap, sym, subst, ⊎_elim, arith, ◌∙◌, is_some}
-use Rattle.std.proofs.lemmas.Bool.{cases_eq}
-use Rattle.std.proofs.lemmas.List.{get_or_default}
-use Rattle.std.proofs.lemmas.List.Elements.{Contains-get_or, Contains-push, Contains-push_cases, Contains-append_left, All-push}
-use Rattle.first_sets.specs.Lookaheads.{rank}
-use Rattle.definitions.specs.Items.{CallsFor, kind_of}
-use Rattle.item_sets.specs.declared.item.Item.{Item}
-use Rattle.item_sets.specs.Sets.{IsItem, item_of}
+use Rattle.tables.proofs.Common.{cases_eq, get_or_default, Contains-get_or, Contains-push, Contains-push_cases, Contains-append_left, All-push, rank, CallsFor, kind_of, Item, IsItem, item_of}
 use Rattle.tables.proofs.decisions.callers.Goals as goal
 use Rattle.tables.proofs.decisions.callers.Goals.{then-is_some+in_ok-push, else-is_some}
 

@@ -1,7 +1,6 @@
 use Rattle.std.proofs.Common.{◌<◌, ℕ, Option, All, Contains, slice_index_or}
-use Rattle.definitions.specs.Items.{Move, CallsFor, kind_of}
-use Rattle.item_sets.specs.declared.item.Item.{Item}
-use Rattle.item_sets.specs.Sets.{IsItem, item_of}
+use Rattle.tables.proofs.Common.{CallsFor, kind_of, Item, IsItem, item_of}
+use Rattle.definitions.specs.Items.{Move}
 use Rattle.tables.proofs.decisions.callers.Given as goal
 
 abbrev pub invariant-loop-item : goal.invariant-loop-item

@@ -1,9 +1,6 @@
 use Rattle.std.proofs.Common.{◌≡◌, ◌<◌, ◌+◌, None, Option, ℕ, true, length, slice_index_or, sym, subst, ◌∙◌, arith, IfSome}
-use Rattle.std.proofs.lemmas.List.{length-set}
-use Rattle.definitions.specs.Items.{Move, CallsFor, kind_of}
-use Rattle.item_sets.specs.declared.item.Item.{Item}
-use Rattle.first_sets.specs.Lookaheads.{rank}
-use Rattle.item_sets.specs.Sets.{item_of}
+use Rattle.tables.proofs.Common.{length-set, CallsFor, kind_of, Item, rank, item_of}
+use Rattle.definitions.specs.Items.{Move}
 use Rattle.tables.proofs.LookaheadMarks.{mark_more, mark_none}
 use Rattle.tables.proofs.decisions.columns_of_calls.Goals as goal
 use Rattle.tables.proofs.decisions.columns_of_calls.Goals.{in-Some, in_default}

@@ -1,8 +1,6 @@
 use Rattle.std.proofs.Common.{◌≡◌, ◌<◌, ◌+◌, Option, true, false, length, slice_index_or, ℕ}
-use Rattle.definitions.specs.Items.{Move, CallsFor, kind_of}
-use Rattle.item_sets.specs.declared.item.Item.{Item}
-use Rattle.item_sets.specs.Sets.{item_of}
-use Rattle.first_sets.specs.Lookaheads.{rank}
+use Rattle.tables.proofs.Common.{CallsFor, kind_of, Item, item_of, rank}
+use Rattle.definitions.specs.Items.{Move}
 use Rattle.tables.proofs.decisions.columns_of_calls.Given as goal
 
 abbrev pub invariant-loop-item : goal.invariant-loop-item

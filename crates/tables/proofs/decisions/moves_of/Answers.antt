@@ -1,6 +1,5 @@
 use Rattle.std.proofs.Common.{subst, IfOk}
-use Rattle.std.proofs.lemmas.Result.{IfOk-weaker}
-use Rattle.tables.specs.Rows.{IsDecided}
+use Rattle.tables.proofs.Common.{IfOk-weaker, IsDecided}
 use Rattle.tables.proofs.DecisionOfPrefix.{decided_all}
 use Rattle.tables.proofs.decisions.moves_of.Goals as goal
 

@@ -1,11 +1,5 @@
 use Rattle.std.proofs.Common.{arith, ◌≡◌, ◌<◌, ◌+◌, ◌∷◌, ◌++◌, [], None, Option, ℕ, true, false, length, length-append, slice_index_or, ap, sym, subst, refl, inl, inr, ◌∙◌}
-use Rattle.tables.specs.declared.decisions.Move.{Move}
-use Rattle.tables.specs.declared.moves.Decision.TheVariants.{Nothing, Agreed}
-use Rattle.tables.specs.Moves.{IsDecision}
-use Rattle.first_sets.specs.Lookaheads.{lookahead_at, rank}
-use Rattle.tables.specs.Rows.{AreChosen, IsChosen, chosen}
-use Rattle.first_sets.proofs.Columns.{rank-lookahead_at}
-use Rattle.first_sets.proofs.EachMore.{each_more}
+use Rattle.tables.proofs.Common.{Move, Nothing, Agreed, IsDecision, lookahead_at, rank, AreChosen, IsChosen, chosen, rank-lookahead_at, each_more}
 use Rattle.tables.proofs.decisions.moves_of_callers.Goals as goal
 use Rattle.tables.proofs.decisions.moves_of_callers.Goals.{then-has+in-Nothing+in_ok-push-in-Nothing, then-has+in-Agreed+in_ok-push-in-Agreed, else-has+in_ok-push}
 

@@ -1,6 +1,5 @@
 use Rattle.std.proofs.Common.{◌≡◌, ◌<◌, ℕ, None, length, slice_index_or}
-use Rattle.first_sets.specs.Lookaheads.{lookahead_at}
-use Rattle.tables.specs.Rows.{IsChosen}
+use Rattle.tables.proofs.Common.{lookahead_at, IsChosen}
 use Rattle.tables.proofs.decisions.moves_of_callers.Given as goal
 
 abbrev pub invariant-loop-column : goal.invariant-loop-column

@@ -1,8 +1,5 @@
 use Rattle.std.proofs.Common.{◌≡◌, List, length, sym, ap, subst, ◌∙◌}
-use Rattle.definitions.specs.declared.Symbol.{Symbol}
-use Rattle.item_sets.specs.Collection.{kernel_at, IsRow}
-use Rattle.item_sets.specs.States.{HasKernel, HasSet}
-use Rattle.tables.specs.Rows.{IsDecided}
+use Rattle.tables.proofs.Common.{Symbol, kernel_at, IsRow, HasKernel, HasSet, IsDecided}
 use Rattle.tables.proofs.MovesOfState.{made_more}
 use Rattle.tables.proofs.progress.advance.Goals as goal
 

@@ -1,6 +1,5 @@
 use Rattle.std.proofs.Common.{◌≤◌, ◌-◌, length}
-use Rattle.tables.specs.Actions.{AreMade}
-use Rattle.item_sets.specs.Collection.{AreStates}
+use Rattle.tables.proofs.Common.{AreMade, AreStates}
 use Rattle.tables.proofs.tables.complete.Given as goal
 
 abbrev pub invariant-loop-states : goal.invariant-loop-states

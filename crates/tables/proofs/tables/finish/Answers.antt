@@ -1,5 +1,5 @@
 use Rattle.std.proofs.Common.{length, sym, ap, subst, ◌∙◌}
-use Rattle.tables.specs.Actions.{Made, AreMade}
+use Rattle.tables.proofs.Common.{Made, AreMade}
 use Rattle.tables.proofs.Finishing.{tables_all}
 use Rattle.tables.proofs.tables.finish.Goals as goal
 

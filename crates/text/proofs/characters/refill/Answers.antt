@@ -1,7 +1,5 @@
 use Rattle.std.proofs.Common.{arith, ap, sym, ◌∙◌, ◌≡◌, ◌++◌, ℕ, List, [], ◌∷◌, length}
-use Rattle.pieces.specs.Pieces.{text_in}
-use Rattle.std.specs.Str.{chars}
-use Rattle.std.proofs.lemmas.Str.{chars-nil}
+use Rattle.text.proofs.Common.{text_in, chars, chars-nil}
 use Rattle.text.proofs.characters.refill.Goals as goal
 
 none : (bs : List ℕ) → length bs ≡ 0 → chars bs ≡ []

@@ -1,6 +1,5 @@
-use Rattle.std.proofs.lemmas.Str.{chars_past_char}
+use Rattle.text.proofs.Common.{chars_past_char, chars}
 use Rattle.std.proofs.Common.{sym, ap, ◌∷◌, ◌∙◌}
-use Rattle.std.specs.Str.{chars}
 use Rattle.text.proofs.characters.split_first.Goals as goal
 
 pub returns : goal.returns

@@ -1,8 +1,5 @@
 use Rattle.std.proofs.Common.{◌≡◌, ◌∷◌, ◌++◌, [], ap, sym, ◌∙◌, append_assoc}
-use Rattle.std.specs.Str.{chars}
-use Rattle.std.proofs.lemmas.Iterator.{YieldsList-from_chars}
-use Rattle.std.proofs.lemmas.Iterator.Consumers.{YieldsList-end}
-use Rattle.std.proofs.lemmas.List.{map-id}
+use Rattle.text.proofs.Common.{chars, YieldsList-from_chars, YieldsList-end, map-id}
 use Rattle.text.proofs.document.add_characters.Goals as goal
 
 pub loop-c-preserved : goal.loop-c-preserved

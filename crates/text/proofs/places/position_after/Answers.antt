@@ -1,6 +1,5 @@
 use Rattle.std.proofs.Common.{sym, ◌∙◌, ◌≡◌, ◌+◌}
-use Rattle.definitions.specs.declared.Position.{Position}
-use Rattle.definitions.specs.Text.{unit}
+use Rattle.text.proofs.Common.{Position, unit}
 use Rattle.text.proofs.NextPosition.{after_break, after_return, after_other}
 use Rattle.text.proofs.places.position_after.Goals as goal
 

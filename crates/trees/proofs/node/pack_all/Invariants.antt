@@ -1,5 +1,5 @@
 use Rattle.std.proofs.Common.{◌≡◌, map, take}
-use Rattle.trees.specs.Packing.{unpack}
+use Rattle.trees.proofs.Common.{unpack}
 use Rattle.trees.proofs.node.pack_all.Given as goal
 
 abbrev pub invariant-loop-child : goal.invariant-loop-child

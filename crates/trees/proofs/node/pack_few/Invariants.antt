@@ -1,6 +1,5 @@
 use Rattle.std.proofs.Common.{◌≡◌, length, map, take}
-use Rattle.trees.specs.Forms.{IsFilled}
-use Rattle.trees.specs.Packing.{unpack}
+use Rattle.trees.proofs.Common.{IsFilled, unpack}
 use Rattle.trees.proofs.node.pack_few.Given as goal
 
 abbrev pub invariant-loop-child : goal.invariant-loop-child

@@ -1,6 +1,5 @@
 use Rattle.std.proofs.Common.{rules, ◌<◌, length}
-use Rattle.definitions.specs.declared.Kind.TheVariants.{Rule}
-use Rattle.trees.specs.declared.store.Child.TheVariants.{Node, Token}
+use Rattle.trees.proofs.Common.{Rule, Node, Token}
 use Rattle.trees.proofs.Slides.{next_below}
 use Rattle.trees.proofs.node.rename_children.Goals as goal
 

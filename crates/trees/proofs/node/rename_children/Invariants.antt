@@ -1,5 +1,5 @@
 use Rattle.std.proofs.Common.{◌≡◌, ◌++◌, drop, length, map, take}
-use Rattle.trees.specs.Slides.{renamed}
+use Rattle.trees.proofs.Common.{renamed}
 use Rattle.trees.proofs.node.rename_children.Given as goal
 
 abbrev pub invariant-loop-child : goal.invariant-loop-child

@@ -1,6 +1,5 @@
 use Rattle.std.proofs.Common.{◌∙◌, ap, sym, subst, length}
-use Rattle.trees.specs.Cells.{IsBelow}
-use Rattle.trees.specs.Packing.{unpack}
+use Rattle.trees.proofs.Common.{IsBelow, unpack}
 use Rattle.trees.proofs.Slides.{same_next, unpacked_below}
 use Rattle.trees.proofs.node.rename_numbers.Goals as goal
 

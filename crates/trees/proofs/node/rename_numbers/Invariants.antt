@@ -1,6 +1,5 @@
 use Rattle.std.proofs.Common.{◌≡◌, ◌++◌, drop, length, map, take}
-use Rattle.trees.specs.Packing.{unpack}
-use Rattle.trees.specs.Slides.{renamed}
+use Rattle.trees.proofs.Common.{unpack, renamed}
 use Rattle.trees.proofs.node.rename_numbers.Given as goal
 
 abbrev pub invariant-loop-number : goal.invariant-loop-number

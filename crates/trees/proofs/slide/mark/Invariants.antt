@@ -1,6 +1,5 @@
 use Rattle.std.proofs.Common.{◌≡◌, length}
-use Rattle.trees.specs.Cells.{AreBelow}
-use Rattle.trees.specs.Slides.{mark_all}
+use Rattle.trees.proofs.Common.{AreBelow, mark_all}
 use Rattle.trees.proofs.slide.mark.Given as goal
 
 abbrev pub invariant-loop-child : goal.invariant-loop-child

@@ -1,7 +1,5 @@
 use Rattle.std.proofs.Common.{◌≡◌, ◌+◌, ◌-◌, ◌<◌, length, get_or, sym, ap, ◌∙◌, subst, arith, refl}
-use Rattle.std.proofs.lemmas.List.{get_or_read_under}
-use Rattle.trees.specs.Cells.{blank, AreBelow}
-use Rattle.trees.specs.Slides.{mark_all, AreMarked, IsClosedFrom}
+use Rattle.trees.proofs.Common.{get_or_read_under, blank, AreBelow, mark_all, AreMarked, IsClosedFrom}
 use Rattle.trees.proofs.Cells.{all_below-more, store_at}
 use Rattle.trees.proofs.Slides.{all-kept, closed_next, mark-long}
 use Rattle.trees.proofs.slide.mark_below.Goals as goal

@@ -1,6 +1,5 @@
 use Rattle.std.proofs.Common.{◌≡◌, ◌≤◌, List, length}
-use Rattle.trees.specs.declared.store.Child.{Child}
-use Rattle.trees.specs.Slides.{IsClosedFrom, AreMarked}
+use Rattle.trees.proofs.Common.{Child, IsClosedFrom, AreMarked}
 use Rattle.trees.proofs.slide.mark_below.Given as goal
 
 abbrev pub invariant-loop-i : goal.invariant-loop-i

@@ -1,7 +1,5 @@
 use Rattle.std.proofs.Common.{rules, ◌≡◌, ◌<◌, ◌++◌, drop, length, get_or, take, set, true, sym, ap, ◌∙◌, subst, arith}
-use Rattle.std.proofs.lemmas.List.{append-nil, drop_all, length-set, take_all, take_more}
-use Rattle.trees.specs.Compaction.{nodes}
-use Rattle.trees.specs.Slides.{AreMarked}
+use Rattle.trees.proofs.Common.{append-nil, drop_all, length-set, take_all, take_more, nodes, AreMarked}
 use Rattle.trees.proofs.Copies.{root_below}
 use Rattle.trees.proofs.Slides.{roots-marked}
 use Rattle.trees.proofs.slide.marked.Goals as goal

@@ -1,6 +1,5 @@
 use Rattle.std.proofs.Common.{◌≡◌, length, take}
-use Rattle.trees.specs.Compaction.{nodes}
-use Rattle.trees.specs.Slides.{AreMarked}
+use Rattle.trees.proofs.Common.{nodes, AreMarked}
 use Rattle.trees.proofs.slide.marked.Given as goal
 
 abbrev pub invariant-loop-root : goal.invariant-loop-root

@@ -1,5 +1,5 @@
 use Rattle.std.proofs.Common.{◌≡◌, take}
-use Rattle.trees.specs.Slides.{rank, AreRanks}
+use Rattle.trees.proofs.Common.{rank, AreRanks}
 use Rattle.trees.proofs.slide.ranks.Given as goal
 
 abbrev pub invariant-loop-mark : goal.invariant-loop-mark

@@ -1,6 +1,5 @@
 use Rattle.std.proofs.Common.{◌≡◌, ◌++◌, drop, length, map, take}
-use Rattle.trees.specs.Compaction.{nodes}
-use Rattle.trees.specs.Slides.{renamed}
+use Rattle.trees.proofs.Common.{nodes, renamed}
 use Rattle.trees.proofs.slide.rename_roots.Given as goal
 
 abbrev pub invariant-loop-root : goal.invariant-loop-root

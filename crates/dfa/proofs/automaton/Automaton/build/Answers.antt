@@ -1,8 +1,5 @@
 use Rattle.std.proofs.Common.{ℕ, List, sym, ap, ◌∙◌, subst, All, Contains}
-use Rattle.definitions.specs.Text.{IsCharacter}
-use Rattle.dfa.specs.Alphabet.{all_cuts}
-use Rattle.dfa.specs.Built.{AreRows, members}
-use Rattle.dfa.specs.Table.{IsAscending, IsAutomaton, part}
+use Rattle.dfa.proofs.Common.{IsCharacter, all_cuts, AreRows, members, IsAscending, IsAutomaton, part}
 use Rattle.dfa.proofs.CompleteTable.{automaton}
 use Rattle.dfa.proofs.StateCount.{few}
 use Rattle.dfa.proofs.AddedRow.{table_of_rows}

@@ -1,14 +1,6 @@
 use Rattle.std.proofs.Common.{arith, ◌≡◌, ◌⊎◌, ℕ, List, Option, take, suc, IfSome, ◌+◌, ◌*◌, ◌-◌, ◌<◌, ◌≤◌, Some, None, drop, length, length-drop, slice_index_or, subst, sym, ◌∙◌, inl, inr, refl, ap}
-use Rattle.std.proofs.lemmas.List.{get_or-drop}
-use Rattle.std.proofs.lemmas.List.Elements.{All-nil}
+use Rattle.dfa.proofs.Common.{get_or-drop, All-nil, Expression, IsCharacter, IsText, IsCharacter-from_scalar, Match, IsNoted, Table, follower, part, state_after, width, IsAutomaton, IsWithinReach}
 use Rattle.dfa.proofs.Numbers.{numbered_positive}
-use Rattle.definitions.specs.declared.expression.Expression.{Expression}
-use Rattle.definitions.specs.Text.{IsCharacter, IsText}
-use Rattle.definitions.proofs.TextLaws.{IsCharacter-from_scalar}
-use Rattle.dfa.specs.declared.automaton.Match.{Match}
-use Rattle.dfa.specs.Matches.{IsNoted}
-use Rattle.dfa.specs.Table.{Table, follower, part, state_after, width, IsAutomaton}
-use Rattle.dfa.specs.Windows.{IsWithinReach}
 use Rattle.dfa.proofs.LongestMatch.{AreBounds, read_none, read_anew, read_on, kept_noted, kept_prefixes, kept_text, keeps_on, state_after-none, within_reach, Ends, piece_of, reach_of, more_state, more_text, more_prefix, more_first, more_dead, prefixes_more}
 use Rattle.dfa.proofs.automaton.Automaton.longest.Given.{Over}
 use Rattle.dfa.proofs.automaton.Automaton.longest.Goals as goal

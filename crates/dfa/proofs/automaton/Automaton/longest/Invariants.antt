@@ -1,10 +1,5 @@
 use Rattle.std.proofs.Common.{ℕ, ◌+◌, ◌-◌, ◌≡◌, ◌≤◌, List, take, drop, Some}
-use Rattle.definitions.specs.declared.expression.Expression.{Expression}
-use Rattle.definitions.specs.Text.{IsText}
-use Rattle.definitions.specs.Tokens.{IsRulePrefix}
-use Rattle.dfa.specs.Stored.{IsState}
-use Rattle.dfa.specs.Table.{IsAutomaton, state_after}
-use Rattle.dfa.specs.Matches.{IsNoted}
+use Rattle.dfa.proofs.Common.{Expression, IsText, IsRulePrefix, IsState, IsAutomaton, state_after, IsNoted}
 use Rattle.dfa.proofs.LongestMatch.{AreBounds}
 use Rattle.dfa.proofs.automaton.Automaton.longest.Given as goal
 

@@ -1,8 +1,5 @@
 use Rattle.std.proofs.Common.{◌≡◌, ◌<◌, ◌+◌, length, arith, ap, sym, ◌∙◌, subst, slice_index_or, nat_le}
-use Rattle.std.proofs.lemmas.List.{get_or_default}
-use Rattle.std.proofs.lemmas.List.Sums.{prefix_len-le-length}
-use Rattle.dfa.specs.Table.{part, follower, numbered}
-use Rattle.dfa.specs.Stored.{IsState, table_of}
+use Rattle.dfa.proofs.Common.{get_or_default, prefix_len-le-length, part, follower, numbered, IsState, table_of}
 use Rattle.dfa.proofs.Numbers.{entry_is, entry_within, numbered_some}
 use Rattle.dfa.proofs.automaton.Automaton.next.Goals.{After-part, After-from}
 use Rattle.dfa.proofs.automaton.Automaton.next.Goals as goal

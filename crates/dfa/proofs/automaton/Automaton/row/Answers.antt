@@ -1,7 +1,5 @@
 use Rattle.std.proofs.Common.{arith, sym, subst, ◌∙◌, ◌≡◌, ◌-◌, ap, ℕ, List, drop, length, length-drop, take, slice_index_or, Some}
-use Rattle.std.proofs.lemmas.List.{take_all}
-use Rattle.dfa.specs.Stored.{IsState, IsAsciiRow}
-use Rattle.dfa.specs.Table.{follower}
+use Rattle.dfa.proofs.Common.{take_all, IsState, IsAsciiRow, follower}
 use Rattle.dfa.proofs.Numbers.{row_follower, row_wide}
 use Rattle.dfa.proofs.automaton.Automaton.row.Goals as goal
 

@@ -1,8 +1,5 @@
 use Rattle.std.proofs.Common.{◌≡◌, ℕ, ◌<◌, List, [], length, slice_index_or, refl, sym, ap, ◌∙◌, subst, arith}
-use Rattle.std.proofs.lemmas.List.{get_or_default}
-use Rattle.dfa.specs.Marks.{marks_of}
-use Rattle.dfa.specs.Sets.{Rises}
-use Rattle.dfa.specs.Built.{AreEntries, IsNumber, IsReached, kept, members}
+use Rattle.dfa.proofs.Common.{get_or_default, marks_of, Rises, AreEntries, IsNumber, IsReached, kept, members}
 use Rattle.dfa.proofs.StatesGrow.{placed_states, placed_grows, grows_none, grows_more, entries_none, entries_more}
 use Rattle.dfa.proofs.states.States.add_entries.Goals as goal
 

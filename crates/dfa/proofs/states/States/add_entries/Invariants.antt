@@ -1,7 +1,5 @@
 use Rattle.std.proofs.Common.{◌≡◌, ◌≤◌, ◌<◌, ℕ, List, [], length, slice_index_or}
-use Rattle.definitions.specs.declared.expression.Expression.{Expression}
-use Rattle.dfa.specs.Marks.{marks_of}
-use Rattle.dfa.specs.Built.{AreEntries, AreStates, Grows, IsReached, kept, members}
+use Rattle.dfa.proofs.Common.{Expression, marks_of, AreEntries, AreStates, Grows, IsReached, kept, members}
 use Rattle.dfa.proofs.states.States.add_entries.Given as goal
 
 abbrev pub invariant-loop-holders : goal.invariant-loop-holders

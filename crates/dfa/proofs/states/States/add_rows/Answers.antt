@@ -1,6 +1,5 @@
 use Rattle.std.proofs.Common.{ℕ, ◌-◌, ◌<◌, ◌∙◌, Vec, Global, length, arith}
-use Rattle.std.proofs.lemmas.List.{length-map}
-use Rattle.dfa.specs.Built.{members}
+use Rattle.dfa.proofs.Common.{length-map, members}
 use Rattle.dfa.proofs.StateCount.{many_states}
 use Rattle.dfa.proofs.states.States.add_rows.Goals as goal
 

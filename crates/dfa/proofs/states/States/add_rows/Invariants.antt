@@ -1,8 +1,5 @@
 use Rattle.std.proofs.Common.{◌≡◌, ◌-◌, ℕ, List, length}
-use Rattle.definitions.specs.declared.expression.Expression.{Expression}
-use Rattle.dfa.specs.Sets.{AreBlank}
-use Rattle.dfa.specs.Trees.{all_counts}
-use Rattle.dfa.specs.Built.{AreRows, AreRules, members}
+use Rattle.dfa.proofs.Common.{Expression, AreBlank, all_counts, AreRows, AreRules, members}
 use Rattle.dfa.proofs.states.States.add_rows.Given as goal
 
 abbrev pub invariant-rows : goal.invariant-rows

@@ -1,4 +1,4 @@
-use Rattle.dfa.specs.Marks.{marks_of}
+use Rattle.dfa.proofs.Common.{marks_of}
 use Rattle.dfa.proofs.Trees.{none_added}
 use Rattle.dfa.proofs.tree.Tree.+follow.Goals as goal
 

@@ -1,5 +1,5 @@
 use Rattle.std.proofs.Common.{◌+◌, rules}
-use Rattle.std.proofs.lemmas.Result.{IfOk-weaker}
+use Rattle.dfa.proofs.Common.{IfOk-weaker}
 use Rattle.dfa.proofs.Trees.{joined_in}
 use Rattle.dfa.proofs.tree.Tree.+join.Goals as goal
 

@@ -1,5 +1,4 @@
-use Rattle.std.specs.Str.{chars}
-use Rattle.docs.specs.Changes.{IsChanged}
+use Rattle.docs.proofs.Common.{chars, IsChanged}
 use Rattle.docs.proofs.Refusals.{ok_of_and, refusal_of_and}
 use Rattle.docs.proofs.doc.Doc.change.Goals as goal
 

@@ -1,5 +1,4 @@
-use Rattle.std.proofs.lemmas.Result.{IfOk-weaker}
-use Rattle.readings.proofs.Results.{if_ok_both}
+use Rattle.docs.proofs.Common.{IfOk-weaker, if_ok_both}
 use Rattle.docs.proofs.StoredReading.{fault_shown, tree_there}
 use Rattle.docs.proofs.doc.Doc.diagnostic.Goals as goal
 

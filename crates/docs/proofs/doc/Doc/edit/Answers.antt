@@ -1,14 +1,5 @@
 use Rattle.std.proofs.Common.{◌≡◌, ◌≤◌, ◌+◌, ◌-◌, ℕ, List, length, min, refl, ap, sym, subst, ◌∙◌, arith, All}
-use Rattle.std.specs.Str.{chars}
-use Rattle.definitions.specs.Text.{edit}
-use Rattle.definitions.proofs.TokensKept.{length-edit}
-use Rattle.parser.specs.Machine.{AreMadeBy}
-use Rattle.parser.specs.Stamps.{AreOlder}
-use Rattle.trees.specs.Cells.{all_trees, forest_in}
-use Rattle.docs.specs.Docs.{last_edit, IsCurrent}
-use Rattle.readings.specs.Texts.{OpenDocument}
-use Rattle.docs.specs.declared.doc.Doc.{Doc}
-use Rattle.readings.specs.Edits.{edit_of}
+use Rattle.docs.proofs.Common.{chars, edit, length-edit, AreMadeBy, AreOlder, all_trees, forest_in, last_edit, IsCurrent, OpenDocument, Doc, edit_of}
 use Rattle.docs.proofs.Edits.{next_is, next_later, next_positive, number_after_edit, same_edit}
 use Rattle.docs.proofs.Stamps.{born_on, stamped_so}
 use Rattle.docs.proofs.Refusals.{IsText-changed, large_edit, passed_on, after_text, all_made}

@@ -1,5 +1,5 @@
 use Rattle.std.proofs.Common.{◌≡◌, ◌≤◌, length, ap, arith}
-use Rattle.std.proofs.lemmas.List.Elements.{All-weaker}
+use Rattle.docs.proofs.Common.{All-weaker}
 use Rattle.docs.proofs.doc.Doc.of.Goals as goal
 
 pub returns-clause-current : goal.returns-clause-current

@@ -1,6 +1,5 @@
 use Rattle.std.proofs.Common.{refl, rules}
-use Rattle.std.specs.Str.{chars}
-use Rattle.readings.specs.Texts.{fits}
+use Rattle.docs.proofs.Common.{chars, fits}
 use Rattle.docs.proofs.Refusals.{unless, large_text, passed_on, text_made, after_text, all_made}
 use Rattle.docs.proofs.doc.Doc.open.Goals as goal
 

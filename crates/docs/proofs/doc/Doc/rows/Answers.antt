@@ -1,4 +1,4 @@
-use Rattle.std.proofs.lemmas.Result.{IfOk-weaker}
+use Rattle.docs.proofs.Common.{IfOk-weaker}
 use Rattle.docs.proofs.StoredReading.{rows_shown}
 use Rattle.docs.proofs.doc.Doc.rows.Goals as goal
 

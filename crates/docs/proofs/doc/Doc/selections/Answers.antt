@@ -1,9 +1,5 @@
 use Rattle.std.proofs.Common.{◌≡◌, ◌+◌, ◌++◌, List, [], ◌∷◌, map, get_or, take, subst, sym, ap, ◌∙◌}
-use Rattle.std.proofs.lemmas.List.{take_more, map-append, take_all}
-use Rattle.definitions.specs.declared.Position.{Position}
-use Rattle.definitions.specs.declared.Range.{Range}
-use Rattle.reports.specs.Contents.{trees_of_roots}
-use Rattle.readings.specs.Answers.{AreSelections}
+use Rattle.docs.proofs.Common.{take_more, map-append, take_all, Position, Range, trees_of_roots, AreSelections}
 use Rattle.docs.proofs.StoredReading.{has_the_nodes, reading_of, selections_more, selections_read}
 use Rattle.docs.proofs.doc.Doc.selections.Goals as goal
 

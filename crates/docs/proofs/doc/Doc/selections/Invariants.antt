@@ -1,8 +1,5 @@
 use Rattle.std.proofs.Common.{map, take}
-use Rattle.reports.specs.Contents.{trees_of_roots}
-use Rattle.readings.specs.Answers.{AreSelections}
-use Rattle.docs.specs.Docs.{IsCurrent}
-use Rattle.languages.specs.Languages.{LanguageData}
+use Rattle.docs.proofs.Common.{trees_of_roots, AreSelections, IsCurrent, LanguageData}
 use Rattle.docs.proofs.StoredReading.{reading_of}
 use Rattle.docs.proofs.doc.Doc.selections.Given as goal
 

@@ -1,5 +1,5 @@
 use Rattle.std.proofs.Common.{rules}
-use Rattle.definitions.specs.declared.Stats.{Stats}
+use Rattle.docs.proofs.Common.{Stats}
 use Rattle.docs.proofs.Edits.{stats_are}
 use Rattle.docs.proofs.doc.Doc.stats.Goals as goal
 

@@ -1,10 +1,5 @@
 use Rattle.std.proofs.Common.{◌≡◌, ◌≤◌, ◌-◌, ◌∙◌, ℕ, length, sym, ap, subst, arith, Option, Some, None, Err, MatchOption}
-use Rattle.std.specs.Str.{chars}
-use Rattle.definitions.specs.declared.Edit.{Edit}
-use Rattle.definitions.specs.Text.{IsText, edit}
-use Rattle.definitions.proofs.TokensKept.{length-edit}
-use Rattle.docs.specs.declared.doc.DocFault.TheVariants.{TooLarge, Memory}
-use Rattle.docs.specs.Pending.{LeadsTo, number_or}
+use Rattle.docs.proofs.Common.{chars, Edit, IsText, edit, length-edit, TooLarge, Memory, LeadsTo, number_or}
 use Rattle.docs.proofs.JoinedEdits.{small_edit}
 use Rattle.docs.proofs.Refusals.{IsText-changed, large_edit, passed_on, text_made, unless}
 use Rattle.docs.proofs.pending.Pending.change.Goals as goal

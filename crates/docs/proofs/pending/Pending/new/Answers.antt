@@ -1,5 +1,5 @@
 use Rattle.std.proofs.Common.{arith}
-use Rattle.readings.proofs.Texts.{fits_from}
+use Rattle.docs.proofs.Common.{fits_from}
 use Rattle.docs.proofs.pending.Pending.new.Goals as goal
 
 pub returns-clause-fits : goal.returns-clause-fits

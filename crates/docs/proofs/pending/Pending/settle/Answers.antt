@@ -1,6 +1,5 @@
 use Rattle.std.proofs.Common.{◌≡◌, ◌≤◌, arith, refl, sym, subst, rules, Option, MatchOption, All}
-use Rattle.definitions.specs.declared.Edit.{Edit}
-use Rattle.docs.specs.Pending.{LeadsTo}
+use Rattle.docs.proofs.Common.{Edit, LeadsTo}
 use Rattle.docs.proofs.Stamps.{born_on}
 use Rattle.docs.proofs.pending.Pending.settle.Goals as goal
 

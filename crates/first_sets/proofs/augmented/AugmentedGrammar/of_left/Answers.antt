@@ -1,6 +1,5 @@
 use Rattle.std.proofs.Common.{◌≡◌, ◌<◌, [], All, Contains, length, slice_index_or, sym, subst, ap, ◌∙◌}
-use Rattle.std.proofs.lemmas.List.{get_or_default}
-use Rattle.definitions.specs.Trees.{left_of}
+use Rattle.first_sets.proofs.Common.{get_or_default, left_of}
 use Rattle.first_sets.proofs.augmented.AugmentedGrammar.of_left.Goals as goal
 use Rattle.first_sets.proofs.augmented.AugmentedGrammar.of_left.Goals.{After-list}
 

@@ -1,5 +1,5 @@
 use Rattle.std.proofs.Common.{rules, ◌≡◌, ◌∷◌, ◌++◌, [], Some, length, subst, sym}
-use Rattle.first_sets.specs.First.{AreExact}
+use Rattle.first_sets.proofs.Common.{AreExact}
 use Rattle.first_sets.proofs.EachMore.{each_more}
 use Rattle.first_sets.proofs.Fixpoint.{exact_nullable, exact_begin}
 use Rattle.first_sets.proofs.first.First.new.Goals as goal

@@ -1,5 +1,5 @@
 use Rattle.std.proofs.Common.{◌≡◌, ◌<◌, ℕ, [], length, slice_index_or, Some}
-use Rattle.first_sets.specs.First.{AreExact}
+use Rattle.first_sets.proofs.Common.{AreExact}
 use Rattle.first_sets.proofs.first.First.new.Given as goal
 
 abbrev pub invariant-loop-a : goal.invariant-loop-a

@@ -1,4 +1,4 @@
-use Rattle.std.proofs.lemmas.Result.{IfOk-weaker, IfErr-weaker}
+use Rattle.frames.proofs.Common.{IfOk-weaker, IfErr-weaker}
 use Rattle.frames.proofs.LongerStreams.{goes_on_from, some_going_on}
 use Rattle.frames.proofs.PrefixDecides.{reached_fault}
 use Rattle.frames.proofs.decoder.Decoder.feed.Goals as goal

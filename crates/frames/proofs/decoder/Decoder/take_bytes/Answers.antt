@@ -1,10 +1,5 @@
 use Rattle.std.proofs.Common.{◌≡◌, ℕ, List, [], ◌++◌, sym, subst, refl, ap, ◌∙◌}
-use Rattle.std.proofs.lemmas.Result.{IfOk-weaker, IfErr-weaker}
-use Rattle.frames.specs.declared.decoder.Frame.{Frame}
-use Rattle.frames.specs.declared.fault.FrameFault.TheVariants.{Memory}
-use Rattle.frames.specs.Contents.{contents}
-use Rattle.frames.specs.Frames.{Open, Splits, tail_of}
-use Rattle.frames.specs.Kept.{IsDecoder}
+use Rattle.frames.proofs.Common.{IfOk-weaker, IfErr-weaker, Frame, Memory, contents, Open, Splits, tail_of, IsDecoder}
 use Rattle.frames.proofs.PrefixDecides.{fault_is}
 use Rattle.frames.proofs.KeptBytes.{fault_goes_on, open_goes_on, open_has_no_fault, no_fault_is_open, reached, not_err_of}
 use Rattle.frames.proofs.decoder.Decoder.take_bytes.Goals as goal

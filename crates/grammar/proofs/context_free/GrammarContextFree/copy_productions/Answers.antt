@@ -1,5 +1,5 @@
 use Rattle.std.proofs.Common.{◌≡◌, length, sym, ◌∙◌, subst, arith, rules}
-use Rattle.first_sets.specs.Productions.{IsSound}
+use Rattle.grammar.proofs.Common.{IsSound}
 use Rattle.grammar.proofs.ProductionsOfFile.{all_of_them, shape_sound}
 use Rattle.grammar.proofs.context_free.GrammarContextFree.copy_productions.Goals as goal
 

@@ -1,4 +1,4 @@
-use Rattle.grammar.specs.PublicCauses.{public_cause}
+use Rattle.grammar.proofs.Common.{public_cause}
 use Rattle.grammar.proofs.Refused.{no_file}
 use Rattle.grammar.proofs.grammar.Grammar.read.Goals as goal
 

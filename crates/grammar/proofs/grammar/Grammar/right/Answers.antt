@@ -1,5 +1,5 @@
 use Rattle.std.proofs.Common.{arith}
-use Rattle.std.proofs.lemmas.Grind.{common_steps}
+use Rattle.grammar.proofs.Common.{common_steps}
 use Rattle.grammar.proofs.grammar.Grammar.right.Goals as goal
 
 pub returns : goal.returns

@@ -1,5 +1,5 @@
 use Rattle.std.proofs.Common.{subst, sym}
-use Rattle.dfa.specs.Positions.{HasMoreStatesThan}
+use Rattle.grammar.proofs.Common.{HasMoreStatesThan}
 use Rattle.grammar.proofs.scanner.Scanner.new.Goals as goal
 
 pub returns-in-Ok-clause-few : goal.returns-in-Ok-clause-few

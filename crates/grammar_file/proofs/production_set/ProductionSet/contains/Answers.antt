@@ -1,8 +1,5 @@
 use Rattle.std.proofs.Common.{◌∙◌, ap}
-use Rattle.std.specs.List.{list_any}
-use Rattle.std.specs.Str.{bytes_eq}
-use Rattle.std.specs.Cmp.Lexicographic.{pointwise}
-use Rattle.grammar_file.specs.Kept.{are_among}
+use Rattle.grammar_file.proofs.Common.{list_any, bytes_eq, pointwise, are_among}
 use Rattle.grammar_file.proofs.Sets.{among-keys}
 use Rattle.grammar_file.proofs.production_set.ProductionSet.contains.Goals as goal
 

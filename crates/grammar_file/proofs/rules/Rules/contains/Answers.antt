@@ -1,6 +1,5 @@
 use Rattle.std.proofs.Common.{◌∙◌, ap, sym, map, is_some}
-use Rattle.std.specs.List.{list_any}
-use Rattle.std.specs.Str.{bytes_eq}
+use Rattle.grammar_file.proofs.Common.{list_any, bytes_eq}
 use Rattle.grammar_file.proofs.NameLookUps.{is_some-position}
 use Rattle.grammar_file.proofs.TestedItems.{list_any-map}
 use Rattle.grammar_file.proofs.rules.Rules.contains.Goals as goal

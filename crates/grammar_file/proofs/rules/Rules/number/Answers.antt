@@ -1,7 +1,5 @@
 use Rattle.std.proofs.Common.{◌∙◌, ap, sym, map, unwrap_or}
-use Rattle.std.proofs.lemmas.List.{length-map}
-use Rattle.std.specs.Str.{bytes_eq}
-use Rattle.grammar_file.specs.Contents.{number_of}
+use Rattle.grammar_file.proofs.Common.{length-map, bytes_eq, number_of}
 use Rattle.grammar_file.proofs.TestedItems.{place-map}
 use Rattle.grammar_file.proofs.rules.Rules.number.Goals as goal
 

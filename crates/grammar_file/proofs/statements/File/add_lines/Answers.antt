@@ -1,4 +1,4 @@
-use Rattle.std.proofs.lemmas.Result.{err_from_is_err_and}
+use Rattle.grammar_file.proofs.Common.{err_from_is_err_and}
 use Rattle.grammar_file.proofs.Splits.{shows_map, read_more, first_line_fault}
 use Rattle.grammar_file.proofs.statements.File.add_lines.Goals as goal
 

@@ -1,7 +1,5 @@
 use Rattle.std.proofs.Common.{take}
-use Rattle.grammar_line.specs.Statements.{statements_in}
-use Rattle.grammar_line.specs.Kept.{texts}
-use Rattle.grammar_file.specs.Kept.{IsRead}
+use Rattle.grammar_file.proofs.Common.{statements_in, texts, IsRead}
 use Rattle.grammar_file.proofs.statements.File.add_lines.Given as goal
 
 abbrev pub invariant-loop-index : goal.invariant-loop-index

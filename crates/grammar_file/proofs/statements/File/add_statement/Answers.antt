@@ -1,10 +1,5 @@
 use Rattle.std.proofs.Common.{refl, sym, ap, ◌∙◌, ◌++◌, ◌∷◌, [], subst}
-use Rattle.grammar_line.specs.Statements.{at}
-use Rattle.std.proofs.lemmas.Result.{on_ok_weaker, IfErr-weaker}
-use Rattle.grammar_file.specs.Contents.{defines}
-use Rattle.grammar_file.specs.Faults.{limit_fault}
-use Rattle.grammar_line.specs.Kept.{line_view}
-use Rattle.grammar_file.specs.Kept.{lines_view, AreNames}
+use Rattle.grammar_file.proofs.Common.{at, on_ok_weaker, IfErr-weaker, defines, limit_fault, line_view, lines_view, AreNames}
 use Rattle.grammar_file.proofs.Lines.{read-step, limit_line_fault}
 use Rattle.grammar_file.proofs.statements.File.add_statement.Goals as goal
 

@@ -1,5 +1,4 @@
-use Rattle.grammar_line.specs.Kept.{line_view}
-use Rattle.grammar_file.specs.Kept.{lines_view}
+use Rattle.grammar_file.proofs.Common.{line_view, lines_view}
 use Rattle.grammar_file.proofs.Lines.{names-step}
 use Rattle.grammar_file.proofs.statements.File.note.Goals as goal
 

@@ -1,7 +1,5 @@
 use Rattle.std.proofs.Common.{refl, sym, ap, ◌∙◌, option_map}
-use Rattle.grammar_line.specs.Kept.{line_view}
-use Rattle.grammar_file.specs.Kept.{lines_view}
-use Rattle.grammar_file.specs.Causes.{cause_of}
+use Rattle.grammar_file.proofs.Common.{line_view, lines_view, cause_of}
 use Rattle.grammar_file.proofs.Lines.{late-own, late_line_fault}
 use Rattle.grammar_file.proofs.statements.File.test.Goals as goal
 

@@ -1,9 +1,5 @@
 use Rattle.std.proofs.Common.{◌≡◌, ◌<◌, ◌+◌, ◌∷◌, ◌++◌, [], length, length-append, slice_index_or, ap, sym, ◌∙◌, subst, arith}
-use Rattle.std.proofs.lemmas.List.{get_or_default}
-use Rattle.item_sets.specs.Collection.{IsStep}
-use Rattle.item_sets.specs.Order.{IsOrdered}
-use Rattle.item_sets.specs.States.{HasKernel}
-use Rattle.first_sets.specs.Symbols.{symbol_of}
+use Rattle.item_sets.proofs.Common.{get_or_default, IsStep, IsOrdered, HasKernel, symbol_of}
 use Rattle.item_sets.proofs.GotosGrow.{goes_on_trans, steps_more}
 use Rattle.item_sets.proofs.collection.States.gotos.Goals as goal
 

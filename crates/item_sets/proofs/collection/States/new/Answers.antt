@@ -1,7 +1,5 @@
 use Rattle.std.proofs.Common.{◌≡◌, ◌∷◌, ◌++◌, [], None, ap, ◌∙◌}
-use Rattle.definitions.specs.declared.Symbol.TheVariants.{Nonterminal}
-use Rattle.item_sets.specs.declared.item.Item.{Item}
-use Rattle.item_sets.specs.declared.collection.Origin.{Origin}
+use Rattle.item_sets.proofs.Common.{Nonterminal, Item, Origin}
 use Rattle.item_sets.proofs.AddedKernels.{start_states, first_placed}
 use Rattle.item_sets.proofs.collection.States.new.Goals as goal
 

@@ -1,9 +1,5 @@
 use Rattle.std.proofs.Common.{◌≡◌, ◌∷◌, ◌++◌, [], length, reverse, ap, sym, ◌∙◌, subst, arith, append_assoc}
-use Rattle.std.proofs.lemmas.List.{get_or_default, reverse-append}
-use Rattle.definitions.specs.declared.Symbol.TheVariants.{Rule as Terminal}
-use Rattle.item_sets.specs.declared.collection.Origin.{Origin}
-use Rattle.item_sets.specs.Collection.{kernel_at, origin_at}
-use Rattle.item_sets.specs.States.{HasKernel}
+use Rattle.item_sets.proofs.Common.{get_or_default, reverse-append, Terminal, Origin, kernel_at, origin_at, HasKernel}
 use Rattle.item_sets.proofs.FirstKernel.{start_item, start_kernel}
 use Rattle.item_sets.proofs.collection.States.prefix.Goals as goal
 

@@ -1,7 +1,5 @@
 use Rattle.std.proofs.Common.{◌<◌, ◌++◌, List, length, reverse}
-use Rattle.definitions.specs.declared.Symbol.{Symbol}
-use Rattle.item_sets.specs.Collection.{kernel_at}
-use Rattle.item_sets.specs.States.{HasKernel}
+use Rattle.item_sets.proofs.Common.{Symbol, kernel_at, HasKernel}
 use Rattle.item_sets.proofs.collection.States.prefix.Given as goal
 
 abbrev pub invariant-loop-at : goal.invariant-loop-at

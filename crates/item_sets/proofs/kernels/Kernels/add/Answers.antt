@@ -1,5 +1,5 @@
 use Rattle.std.proofs.Common.{refl}
-use Rattle.std.proofs.lemmas.List.{length-map}
+use Rattle.item_sets.proofs.Common.{length-map}
 use Rattle.std.proofs.Common.{arith}
 use Rattle.item_sets.proofs.VectorSets.{items_of, found_items, list_after}
 use Rattle.item_sets.proofs.kernels.Kernels.add.Goals as goal

@@ -1,6 +1,5 @@
 use Rattle.std.proofs.Common.{List}
-use Rattle.item_sets.specs.declared.item.Item.{Item}
-use Rattle.item_sets.specs.Worklist.{HaveBeginnings}
+use Rattle.item_sets.proofs.Common.{Item, HaveBeginnings}
 use Rattle.item_sets.proofs.worklist.Worklist.add_items.Given as goal
 
 abbrev pub invariant-loop-column : goal.invariant-loop-column

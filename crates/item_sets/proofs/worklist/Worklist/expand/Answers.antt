@@ -1,7 +1,5 @@
 use Rattle.std.proofs.Common.{rules, ◌≡◌, ◌<◌, length, slice_index_or, ap, subst, ◌∙◌}
-use Rattle.std.proofs.lemmas.List.{get_or_default}
-use Rattle.definitions.specs.Trees.{right_of}
-use Rattle.item_sets.specs.Worklist.{CallFor, IsGrownBy}
+use Rattle.item_sets.proofs.Common.{get_or_default, right_of, CallFor, IsGrownBy}
 use Rattle.item_sets.proofs.worklist.Worklist.expand.Goals as goal
 
 pub loop-p-preserved : goal.loop-p-preserved

@@ -1,7 +1,5 @@
 use Rattle.std.proofs.Common.{◌<◌, ℕ, slice_index_or}
-use Rattle.definitions.specs.Trees.{right_of}
-use Rattle.first_sets.specs.Lookaheads.{lookahead_at}
-use Rattle.item_sets.specs.Worklist.{IsGrownBy, CallFor}
+use Rattle.item_sets.proofs.Common.{right_of, lookahead_at, IsGrownBy, CallFor}
 use Rattle.item_sets.proofs.worklist.Worklist.expand.Given as goal
 
 abbrev pub invariant-loop-p : goal.invariant-loop-p

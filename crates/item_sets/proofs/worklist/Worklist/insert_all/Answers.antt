@@ -1,10 +1,5 @@
 use Rattle.std.proofs.Common.{rules, ◌≡◌, ◌<◌, ◌≤◌, true, length, slice_index_or, ap, sym, subst, ⊎_elim, arith, ◌∙◌}
-use Rattle.std.proofs.lemmas.Bool.{cases_eq}
-use Rattle.std.proofs.lemmas.List.{get_or_default}
-use Rattle.std.proofs.lemmas.List.Elements.{Contains-get_or}
-use Rattle.item_sets.specs.declared.worklist.Entry.{Entry}
-use Rattle.item_sets.specs.Sets.{after_dot, Kernel}
-use Rattle.item_sets.specs.Worklist.{marked, AreMarked, CallFor, IsExpanded}
+use Rattle.item_sets.proofs.Common.{cases_eq, get_or_default, Contains-get_or, Entry, after_dot, Kernel, marked, AreMarked, CallFor, IsExpanded}
 use Rattle.item_sets.proofs.FirstKernel.{start_item}
 use Rattle.item_sets.proofs.InRange.{all_marked}
 use Rattle.item_sets.proofs.WorklistIsRight.{expanded_called}

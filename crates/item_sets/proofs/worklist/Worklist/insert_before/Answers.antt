@@ -1,7 +1,5 @@
 use Rattle.std.proofs.Common.{rules, ◌≡◌, ℕ, ◌↔◌}
-use Rattle.std.proofs.lemmas.Result.{on_ok_weaker}
-use Rattle.theory.specs.First.{MayFollow}
-use Rattle.first_sets.specs.Lookaheads.{lookahead_at}
+use Rattle.item_sets.proofs.Common.{on_ok_weaker, MayFollow, lookahead_at}
 use Rattle.item_sets.proofs.worklist.Worklist.insert_before.Goals as goal
 
 pub returns-in-Some : goal.returns-in-Some

@@ -1,7 +1,5 @@
 use Rattle.std.proofs.Common.{◌≡◌, ◌<◌}
-use Rattle.theory.specs.First.{MayFollow}
-use Rattle.first_sets.specs.Lookaheads.{lookahead_at}
-use Rattle.item_sets.specs.Worklist.{IsGrownBy}
+use Rattle.item_sets.proofs.Common.{MayFollow, lookahead_at, IsGrownBy}
 use Rattle.item_sets.proofs.worklist.Worklist.insert_before.Given as goal
 
 abbrev pub invariant-loop-column : goal.invariant-loop-column

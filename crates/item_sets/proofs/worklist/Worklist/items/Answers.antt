@@ -1,5 +1,5 @@
 use Rattle.std.proofs.Common.{◌+◌, sym, subst}
-use Rattle.item_sets.specs.Worklist.{HaveBeginnings}
+use Rattle.item_sets.proofs.Common.{HaveBeginnings}
 use Rattle.item_sets.proofs.worklist.Worklist.items.Goals as goal
 
 pub loop-index-preserved : goal.loop-index-preserved

@@ -1,4 +1,4 @@
-use Rattle.item_sets.specs.Worklist.{HaveBeginnings}
+use Rattle.item_sets.proofs.Common.{HaveBeginnings}
 use Rattle.item_sets.proofs.worklist.Worklist.items.Given as goal
 
 abbrev pub invariant-loop-index : goal.invariant-loop-index

@@ -1,5 +1,5 @@
 use Rattle.std.proofs.Common.{◌≡◌, length}
-use Rattle.lexer.specs.Rescans.{significant_kinds}
+use Rattle.lexer.proofs.Common.{significant_kinds}
 use Rattle.lexer.proofs.ahead.KindsAheadIterator.next.Given as goal
 
 -- only skipped tokens were passed

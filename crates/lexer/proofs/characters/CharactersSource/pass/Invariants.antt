@@ -1,5 +1,5 @@
 use Rattle.std.proofs.Common.{length, ◌-◌, true}
-use Rattle.definitions.specs.Text.{IsCharacter}
+use Rattle.lexer.proofs.Common.{IsCharacter}
 use Rattle.lexer.proofs.Passes.{ArePassed}
 use Rattle.lexer.proofs.characters.CharactersSource.pass.Given as goal
 

@@ -1,5 +1,5 @@
 use Rattle.std.proofs.Common.{◌-◌, length}
-use Rattle.lexer.specs.Scans.{AreNext}
+use Rattle.lexer.proofs.Common.{AreNext}
 use Rattle.lexer.proofs.scanner.Scan.scan_batch.Given as goal
 
 abbrev pub invariant-loop-at : goal.invariant-loop-at

@@ -1,9 +1,5 @@
 use Rattle.std.proofs.Common.{drop, subst, sym}
-use Rattle.definitions.specs.Tokens.{IsPiece, IsToken}
-use Rattle.dfa.specs.Table.{IsAutomaton}
-use Rattle.dfa.specs.Lexicon.{Lexicon}
-use Rattle.lexer.specs.declared.sums.Token.{Token}
-use Rattle.lexer.specs.Tokens.{plain}
+use Rattle.lexer.proofs.Common.{IsPiece, IsToken, IsAutomaton, Lexicon, Token, plain}
 use Rattle.lexer.proofs.Scans.{rule_fits}
 use Rattle.lexer.proofs.scanner.Scan.token_at.Goals as goal
 

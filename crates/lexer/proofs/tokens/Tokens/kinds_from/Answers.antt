@@ -1,8 +1,5 @@
 use Rattle.std.proofs.Common.{arith, ap, sym, ◌∙◌, ◌≡◌, inl, inr, drop, count_by}
-use Rattle.std.proofs.lemmas.Bool.{cases_lt}
-use Rattle.std.proofs.lemmas.List.{drop_all}
-use Rattle.lexer.specs.Rescans.{significant_kinds}
-use Rattle.lexer.specs.Tokens.{is_significant}
+use Rattle.lexer.proofs.Common.{cases_lt, drop_all, significant_kinds, is_significant}
 use Rattle.lexer.proofs.SignificantKinds.{kinds_after, length-kinds}
 use Rattle.lexer.proofs.Totals.{significant_before, none_past}
 use Rattle.lexer.proofs.tokens.Tokens.kinds_from.Goals as goal

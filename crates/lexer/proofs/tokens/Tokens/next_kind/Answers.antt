@@ -1,7 +1,5 @@
 use Rattle.std.proofs.Common.{◌≡◌, ◌+◌, suc, List, drop, ap, subst, ◌∙◌, arith}
-use Rattle.std.specs.Iterator.{YieldsFirst}
-use Rattle.definitions.specs.declared.Kind.{Kind}
-use Rattle.lexer.specs.Rescans.{significant_kinds}
+use Rattle.lexer.proofs.Common.{YieldsFirst, Kind, significant_kinds}
 use Rattle.lexer.proofs.SignificantKinds.{next_of}
 use Rattle.lexer.proofs.tokens.Tokens.next_kind.Goals as goal
 

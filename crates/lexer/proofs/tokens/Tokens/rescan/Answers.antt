@@ -1,11 +1,5 @@
 use Rattle.std.proofs.Common.{arith, rules, vec_len, sym, ap, subst, ◌≡◌, ◌∙◌, ℕ, ◌≤◌, List, ◌++◌, length, take, drop, length-append, length-drop}
-use Rattle.std.proofs.lemmas.List.{length-take, append_assoc}
-use Rattle.definitions.specs.declared.Edit.{Edit}
-use Rattle.definitions.specs.TokenEdits.{plain_splice, Splice}
-use Rattle.dfa.specs.Lexicon.{Lexicon}
-use Rattle.lexer.specs.declared.sums.Token.{Token}
-use Rattle.lexer.specs.Tokens.{Fits, TokenList}
-use Rattle.lexer.specs.Rescans.{change, significant_kinds, IsEdited, IsRemade, AreTokensAfter}
+use Rattle.lexer.proofs.Common.{length-take, append_assoc, Edit, plain_splice, Splice, Lexicon, Token, Fits, TokenList, change, significant_kinds, IsEdited, IsRemade, AreTokensAfter}
 use Rattle.lexer.proofs.Totals.{few}
 use Rattle.lexer.proofs.Rescanned.{prefix_to, remade_fits, remade_after}
 use Rattle.lexer.proofs.tokens.Tokens.rescan.Goals.{In_ok-made, In_ok-replace}

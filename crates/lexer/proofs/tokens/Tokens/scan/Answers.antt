@@ -1,6 +1,5 @@
 use Rattle.std.proofs.Common.{◌≡◌, ◌++◌, ◌∙◌, List, ap, arith, length, subst}
-use Rattle.lexer.specs.Scans.{AreNext}
-use Rattle.lexer.specs.declared.sums.Token.{Token}
+use Rattle.lexer.proofs.Common.{AreNext, Token}
 use Rattle.lexer.proofs.Scans.{next_all, next_few, next_join}
 use Rattle.lexer.proofs.tokens.Tokens.scan.Goals as goal
 

@@ -1,5 +1,5 @@
 use Rattle.std.proofs.Common.{◌≡◌, length}
-use Rattle.lexer.specs.Walks.{IsWalk, IsPassed}
+use Rattle.lexer.proofs.Common.{IsWalk, IsPassed}
 use Rattle.lexer.proofs.walk.Walk.go_to.Given as goal
 
 abbrev pub invariant-loop-self : goal.invariant-loop-self

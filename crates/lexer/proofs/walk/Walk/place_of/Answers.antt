@@ -1,6 +1,5 @@
 use Rattle.std.proofs.Common.{arith, sym, ap, subst, ◌≡◌, ◌⊎◌, ◌≤◌, ◌∙◌, length, take}
-use Rattle.lexer.specs.Tokens.{characters, Fits}
-use Rattle.lexer.specs.Walks.{IsPassed}
+use Rattle.lexer.proofs.Common.{characters, Fits, IsPassed}
 use Rattle.lexer.proofs.Walks.{starts_nowhere}
 use Rattle.lexer.proofs.walk.Walk.place_of.Goals as goal
 use Rattle.lexer.proofs.walk.Walk.place_of.Goals.{then-self-offset, else-self-offset}

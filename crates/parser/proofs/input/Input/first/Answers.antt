@@ -1,5 +1,5 @@
 use Rattle.std.proofs.Common.{◌≡◌, ◌<◌, ◌-◌, length, take, get_or, sym, ◌∙◌, rules}
-use Rattle.parser.specs.Input.{backwards}
+use Rattle.parser.proofs.Common.{backwards}
 use Rattle.parser.proofs.Lists.{backwards-last}
 use Rattle.parser.proofs.input.Input.first.Goals as goal
 

@@ -1,5 +1,5 @@
 use Rattle.std.proofs.Common.{◌∷◌, ap, ◌∙◌}
-use Rattle.parser.specs.Input.{backwards}
+use Rattle.parser.proofs.Common.{backwards}
 use Rattle.parser.proofs.Lists.{backwards-push}
 use Rattle.parser.proofs.input.Input.put.Goals as goal
 

@@ -1,11 +1,5 @@
 use Rattle.std.proofs.Common.{◌≡◌, ◌∷◌, ◌++◌, length, refl, sym, ap, ◌∙◌, subst, arith}
-use Rattle.definitions.specs.Trees.{all_kinds, yield}
-use Rattle.definitions.specs.TreeEdits.{plain}
-use Rattle.trees.specs.declared.store.Child.TheVariants.{Node, Token}
-use Rattle.trees.specs.Cells.{AreBelow, tree}
-use Rattle.trees.proofs.Cells.{all_below-more}
-use Rattle.parser.specs.Input.{backwards}
-use Rattle.parser.specs.Machine.{plain_of}
+use Rattle.parser.proofs.Common.{all_kinds, yield, plain, Node, Token, AreBelow, tree, all_below-more, backwards, plain_of}
 use Rattle.parser.proofs.Inputs.{no_kinds, none_counted}
 use Rattle.parser.proofs.Lists.{backwards-push}
 use Rattle.parser.proofs.SecondKind.{second_of}

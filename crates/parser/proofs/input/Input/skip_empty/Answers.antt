@@ -1,7 +1,5 @@
 use Rattle.std.proofs.Common.{length, ◌≡◌, arith, sym, subst, ◌∙◌}
-use Rattle.definitions.specs.Trees.{yield}
-use Rattle.definitions.specs.TreeEdits.{plain}
-use Rattle.trees.specs.Cells.{AreBelow, tree}
+use Rattle.parser.proofs.Common.{yield, plain, AreBelow, tree}
 use Rattle.parser.proofs.Inputs.{below-gone, none_counted, skips_one, taken}
 use Rattle.parser.proofs.input.Input.skip_empty.Goals as goal
 

@@ -1,5 +1,5 @@
 use Rattle.std.proofs.Common.{length}
-use Rattle.parser.specs.Input.{Skips}
+use Rattle.parser.proofs.Common.{Skips}
 use Rattle.parser.proofs.input.Input.skip_empty.Given as goal
 
 abbrev pub invariant-empty : goal.invariant-empty

@@ -1,8 +1,5 @@
 use Rattle.std.proofs.Common.{◌≡◌, [], None, subst, sym, ◌∙◌}
-use Rattle.parser.specs.declared.machine.FirstInput.TheVariants.{Next}
-use Rattle.parser.specs.Input.{IsInput}
-use Rattle.parser.specs.Machine.{plain_of}
-use Rattle.parser.specs.Run.{IsEdge}
+use Rattle.parser.proofs.Common.{Next, IsInput, plain_of, IsEdge}
 use Rattle.parser.proofs.Edges.{none_counted, no_trees}
 use Rattle.parser.proofs.Running.{skipped_on}
 use Rattle.parser.proofs.machine.Machine.edge.Goals as goal

@@ -1,20 +1,10 @@
 use Rattle.std.proofs.Common.{◌≡◌, ◌<◌, ◌∷◌, ◌++◌, [], ◌+◌, drop, length, refl, sym, ap, ◌∙◌, subst, arith, rules}
-use Rattle.definitions.specs.Trees.{yield}
-use Rattle.definitions.specs.TreeEdits.{plain, plain_all}
-use Rattle.trees.specs.declared.store.Child.TheVariants.{Node, Token}
-use Rattle.trees.specs.Cells.{AreBelow, all_trees, tree}
-use Rattle.trees.proofs.Cells.{all_below-more}
-use Rattle.theory.specs.Reuse.{CanReuse, Tries}
-use Rattle.parser.specs.Machine.{plain_of}
-use Rattle.parser.specs.Input.{input_of, IsInput}
+use Rattle.parser.proofs.Common.{yield, plain, plain_all, Node, Token, AreBelow, all_trees, tree, all_below-more, CanReuse, Tries, plain_of, input_of, IsInput, BeginsWithNoNode, ComeFrom, common_steps}
 use Rattle.parser.proofs.LeftEdge.{Step, branch_root, opened, dropped}
 use Rattle.parser.proofs.Inputs.{IsOpening, taken, no_kinds, none_counted, kids_kinds, opening_begins, opening_on}
-use Rattle.parser.specs.FirstInput.{BeginsWithNoNode}
 use Rattle.parser.proofs.Reductions.{below-append}
 use Rattle.parser.proofs.Reusing.{look_first}
-use Rattle.parser.specs.Run.{ComeFrom}
 use Rattle.parser.proofs.WhereBranchesComeFrom.{come_all, come_after, come_on, opened_came}
-use Rattle.std.proofs.lemmas.Grind.{common_steps}
 use Rattle.parser.proofs.machine.Machine.first_input.Goals.{In_ok-put_all-in-Node}
 use Rattle.parser.proofs.machine.Machine.first_input.Goals as goal
 

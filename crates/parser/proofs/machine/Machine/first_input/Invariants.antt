@@ -1,9 +1,5 @@
 use Rattle.std.proofs.Common.{◌≡◌}
-use Rattle.parser.specs.Machine.{plain_of}
-use Rattle.parser.specs.Input.{input_of, IsInput}
-use Rattle.parser.specs.FirstInput.{Offers}
-use Rattle.trees.specs.Cells.{all_trees}
-use Rattle.parser.specs.Run.{ComeFrom}
+use Rattle.parser.proofs.Common.{plain_of, input_of, IsInput, Offers, all_trees, ComeFrom}
 use Rattle.parser.proofs.LeftEdge.{weight}
 use Rattle.parser.proofs.Inputs.{IsOpening}
 use Rattle.parser.proofs.machine.Machine.first_input.Given as goal

@@ -1,8 +1,5 @@
 use Rattle.std.proofs.Common.{◌≡◌, ◌+◌, length, slice_get, ap, ◌∙◌, arith}
-use Rattle.definitions.specs.Trees.{yield}
-use Rattle.definitions.specs.TreeEdits.{plain}
-use Rattle.trees.specs.declared.store.Child.TheVariants.{Node}
-use Rattle.trees.specs.Cells.{tree}
+use Rattle.parser.proofs.Common.{yield, plain, Node, tree}
 use Rattle.parser.proofs.SecondKind.{second_is}
 use Rattle.parser.proofs.Reusing.{counted}
 use Rattle.parser.proofs.machine.Machine.kind_after.Goals as goal

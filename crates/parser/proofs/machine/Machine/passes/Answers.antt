@@ -1,11 +1,5 @@
 use Rattle.std.proofs.Common.{◌+◌, ◌∷◌, ◌++◌, [], length, drop, refl, sym, ◌∙◌, subst}
-use Rattle.definitions.specs.declared.Symbol.TheVariants.{Nonterminal}
-use Rattle.definitions.specs.Trees.{IsTree, yield}
-use Rattle.definitions.specs.TreeEdits.{plain}
-use Rattle.trees.specs.declared.store.Child.TheVariants.{Node}
-use Rattle.trees.specs.Cells.{tree}
-use Rattle.parser.specs.Machine.{plain_of}
-use Rattle.tables.specs.Tables.{IsAction, IsStateOf}
+use Rattle.parser.proofs.Common.{Nonterminal, IsTree, yield, plain, Node, tree, plain_of, IsAction, IsStateOf}
 use Rattle.parser.proofs.Moves.{top_stands}
 use Rattle.parser.proofs.Reusing.{tree_left, no_goto, no_action, can_reuse, goes, look_drop, some_is, none_is}
 use Rattle.parser.proofs.machine.Machine.passes.Goals.{After-production-root, In-Some}

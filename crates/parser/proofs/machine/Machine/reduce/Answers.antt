@@ -1,17 +1,5 @@
 use Rattle.std.proofs.Common.{◌≡◌, ◌+◌, ◌-◌, ◌≤◌, ℕ, List, [], ◌∷◌, ◌++◌, length, length-take, take, drop, get_or, sym, ap, ◌∙◌, subst, rules, arith, length-append, Option}
-use Rattle.definitions.specs.declared.Kind.{Kind}
-use Rattle.definitions.specs.declared.Symbol.{Symbol}
-use Rattle.definitions.specs.declared.Symbol.TheVariants.{Nonterminal}
-use Rattle.definitions.specs.Trees.{Grammar, Tree, HaveRoots}
-use Rattle.std.proofs.lemmas.List.{append_cancel_right}
-use Rattle.theory.proofs.Simulation.{length-roots}
-use Rattle.theory.specs.Machine.{Reduces}
-use Rattle.theory.proofs.Sets.{goto_there}
-use Rattle.theory.proofs.Stack.{handle, reduces_roots}
-use Rattle.trees.specs.Cells.{AreBelow}
-use Rattle.trees.specs.declared.store.Child.TheVariants.{Node}
-use Rattle.tables.specs.Tables.{IsStateOf}
-use Rattle.parser.specs.Machine.{plain_of, HasStates, HasMade}
+use Rattle.parser.proofs.Common.{Kind, Symbol, Nonterminal, Grammar, Tree, HaveRoots, append_cancel_right, length-roots, Reduces, goto_there, handle, reduces_roots, AreBelow, Node, IsStateOf, plain_of, HasStates, HasMade}
 use Rattle.parser.proofs.Reductions.{parts, reduced, states_after, state_under, plain-length, below-take, below-drop}
 use Rattle.parser.proofs.machine.Machine.reduce.Goals as goal
 

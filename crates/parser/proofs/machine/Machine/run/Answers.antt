@@ -1,24 +1,7 @@
 use Rattle.std.proofs.Common.{◌≡◌, ◌+◌, ℕ, List, length, slice_get, Some, refl, sym, ap, ◌∙◌, subst, arith}
-use Rattle.std.proofs.lemmas.Option.{slice_get_within}
-use Rattle.definitions.specs.Items.{HasMove, Shift, Reduce, Accept}
-use Rattle.definitions.specs.declared.Kind.{Kind}
-use Rattle.definitions.specs.Trees.{Tree, yield}
-use Rattle.definitions.specs.TreeEdits.{plain as plain_tree, Stamped}
+use Rattle.parser.proofs.Common.{slice_get_within, HasMove, Shift, Reduce, Accept, Kind, Tree, yield, plain_tree, Stamped, Cell, all_trees, tree, Child, Node, Reduces, Sets, IsStateOf, Offers, IsOffer, FirstInput, OffersTree, OffersNext, input_of, IsInput, plain_of, HasStates, IsStoppedAt, verdict_of, CameFrom, ComeFrom, IsEdge, SoFar, AreOlder}
 use Rattle.definitions.specs.declared.Kind.TheVariants.{Rule as Token}
-use Rattle.trees.specs.Cells.{Cell, all_trees, tree}
-use Rattle.trees.specs.declared.store.Child.{Child}
-use Rattle.trees.specs.declared.store.Child.TheVariants.{Node}
-use Rattle.theory.specs.Machine.{Reduces}
 use Rattle.tables.specs.Actions.{plain}
-use Rattle.tables.specs.Tables.{Sets, IsStateOf}
-use Rattle.parser.specs.FirstInput.{Offers, IsOffer}
-use Rattle.parser.specs.declared.machine.FirstInput.{FirstInput}
-use Rattle.parser.specs.declared.machine.FirstInput.TheVariants.{Tree as OffersTree, Next as OffersNext}
-use Rattle.parser.specs.Input.{input_of, IsInput}
-use Rattle.parser.specs.Machine.{plain_of, HasStates}
-use Rattle.parser.specs.Parses.{IsStoppedAt, verdict_of}
-use Rattle.parser.specs.Run.{CameFrom, ComeFrom, IsEdge, SoFar}
-use Rattle.parser.specs.Stamps.{AreOlder}
 use Rattle.parser.proofs.WhereBranchesComeFrom.{came_reduced, came_shifted, came_taken, come_older, come_on, prefix_came, prefix_from, skipped_came, skipped_left}
 use Rattle.parser.proofs.Inputs.{taken}
 use Rattle.parser.proofs.Moves.{Reached, top_stands}

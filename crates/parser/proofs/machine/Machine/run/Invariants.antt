@@ -1,7 +1,5 @@
 use Rattle.std.proofs.Common.{◌≡◌, ◌+◌, ◌-◌, ◌^◌, length, take}
-use Rattle.trees.specs.Cells.{all_trees}
-use Rattle.parser.specs.Input.{input_of}
-use Rattle.parser.specs.Run.{CameFrom, SoFar}
+use Rattle.parser.proofs.Common.{all_trees, input_of, CameFrom, SoFar}
 use Rattle.parser.proofs.machine.Machine.run.Given as goal
 
 abbrev pub invariant-moves : goal.invariant-moves

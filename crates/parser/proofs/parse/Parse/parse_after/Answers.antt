@@ -1,14 +1,5 @@
 use Rattle.std.proofs.Common.{◌≡◌, ◌+◌, [], ap, arith, ◌∙◌, drop, length, subst, sym, take, Result, Ok, Err, IfOk}
-use Rattle.definitions.specs.TokenEdits.{plain_splice}
-use Rattle.definitions.specs.TreeEdits.{AreStampedExactly, Built}
-use Rattle.theory.specs.Reuse.{IsPrepared}
-use Rattle.trees.specs.Cells.{all_trees, forest_in, trees_from}
-use Rattle.parser.specs.Input.{input_of}
-use Rattle.parser.specs.Machine.{plain_of, AreMadeBy}
-use Rattle.parser.specs.Parses.{all_branches_by, verdict_in}
-use Rattle.parser.specs.Run.{IsMadeByRun}
-use Rattle.parser.specs.Changes.{IsParseAfter}
-use Rattle.parser.specs.Stamps.{AreOlder, KeepStamps, all_numbered}
+use Rattle.parser.proofs.Common.{plain_splice, AreStampedExactly, Built, IsPrepared, all_trees, forest_in, trees_from, input_of, plain_of, AreMadeBy, all_branches_by, verdict_in, IsMadeByRun, IsParseAfter, AreOlder, KeepStamps, all_numbered}
 use Rattle.parser.proofs.CompactedParse.{same_parse, same_plain, same_stamped}
 use Rattle.parser.proofs.WhereBranchesComeFrom.{keep_stamps}
 use Rattle.parser.proofs.Edits.{built_exactly, stamped_exactly}

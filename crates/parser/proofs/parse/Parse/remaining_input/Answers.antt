@@ -1,8 +1,5 @@
 use Rattle.std.proofs.Common.{◌≡◌, ◌≤◌, IfOk, ap, ◌∙◌, subst, sym}
-use Rattle.trees.specs.Cells.{most}
-use Rattle.definitions.specs.Nodes.{place_of}
-use Rattle.parser.specs.Machine.{plain_of}
-use Rattle.parser.specs.Input.{IsInput}
+use Rattle.parser.proofs.Common.{most, place_of, plain_of, IsInput}
 use Rattle.parser.proofs.Edits.{old_input, stack_countable}
 use Rattle.parser.proofs.Running.{no_input}
 use Rattle.parser.proofs.parse.Parse.remaining_input.Goals as goal

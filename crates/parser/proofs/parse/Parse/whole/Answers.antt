@@ -1,10 +1,5 @@
 use Rattle.std.proofs.Common.{[], ◌+◌, ap, arith, drop, length, subst, sym, rules}
-use Rattle.definitions.specs.Nodes.{all_branches}
-use Rattle.parser.specs.Machine.{plain_of}
-use Rattle.trees.specs.Cells.{all_trees}
-use Rattle.parser.specs.Input.{input_of, IsInput}
-use Rattle.parser.specs.Run.{IsMadeByRun}
-use Rattle.parser.specs.Stamps.{AreOlder}
+use Rattle.parser.proofs.Common.{all_branches, plain_of, all_trees, input_of, IsInput, IsMadeByRun, AreOlder}
 use Rattle.parser.proofs.WholeRun.{plain_count, plain_stamps}
 use Rattle.parser.proofs.Running.{no_input}
 use Rattle.parser.proofs.Stamping.{none_in_nothing}

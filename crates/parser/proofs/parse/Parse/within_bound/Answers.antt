@@ -1,9 +1,5 @@
 use Rattle.std.proofs.Common.{refl, ap, sym, subst, ◌∙◌, ◌≡◌, ◌++◌, drop, length, take, arith, rules}
-use Rattle.definitions.specs.Nodes.{all_branches}
-use Rattle.trees.specs.Cells.{AreBelow, all_trees}
-use Rattle.parser.specs.Machine.{plain_of}
-use Rattle.parser.specs.Compact.{renamed}
-use Rattle.parser.specs.Parses.{verdict_in, verdict_of}
+use Rattle.parser.proofs.Common.{all_branches, AreBelow, all_trees, plain_of, renamed, verdict_in, verdict_of}
 use Rattle.parser.proofs.Renaming.{renamed_long, verdict_stays, written}
 use Rattle.parser.proofs.parse.Parse.within_bound.Goals as goal
 

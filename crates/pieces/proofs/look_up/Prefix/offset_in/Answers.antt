@@ -1,15 +1,5 @@
-use Rattle.std.specs.Str.{chars}
+use Rattle.pieces.proofs.Common.{chars, false≢true, YieldsList-from_chars, append_assoc, offset, units, Position, Encoding, Utf8, Prefix, prefix_of, with_ones, room, IsPast, end_before_feed}
 use Rattle.std.proofs.Common.{arith, refl, sym, ap, subst, ◌∙◌, cond, ◌≡◌, ◌-◌, ◌+◌, ◌^◌, ◌≤◌, ◌&&◌, ◌==◌, ℕ, List, ◌∷◌, ◌++◌, [], length, drop}
-use Rattle.std.proofs.lemmas.Bool.{false≢true}
-use Rattle.std.proofs.lemmas.Iterator.{YieldsList-from_chars}
-use Rattle.std.proofs.lemmas.List.{append_assoc}
-use Rattle.definitions.specs.Text.{offset, units}
-use Rattle.definitions.specs.declared.Position.{Position}
-use Rattle.definitions.specs.declared.Unit.{Unit as Encoding}
-use Rattle.definitions.specs.declared.Unit.TheVariants.{Utf8}
-use Rattle.pieces.specs.declared.look_up.Prefix.{Prefix}
-use Rattle.pieces.specs.Prefixes.{prefix_of, with_ones, room, IsPast}
-use Rattle.pieces.specs.Sums.{end_before_feed}
 use Rattle.pieces.proofs.KnownPrefix.{few_prefix, no_ones, ones-more, room-not_past}
 use Rattle.pieces.proofs.Offsets.{offset-step}
 use Rattle.pieces.proofs.CharacterLoops.{IsTurn, turn-from, all-from, turn-whole, few-turn}

@@ -1,9 +1,5 @@
 use Rattle.std.specs.Prelude.{◌≡◌, ℕ, ◌^◌, ◌≤◌, List, ◌++◌}
-use Rattle.std.specs.Str.{chars}
-use Rattle.definitions.specs.declared.Unit.TheVariants.{Utf8}
-use Rattle.definitions.specs.Text.{units}
-use Rattle.pieces.specs.Prefixes.{prefix_of, with_ones, room, IsPast}
-use Rattle.pieces.specs.Sums.{end_before_feed}
+use Rattle.pieces.proofs.Common.{chars, Utf8, units, prefix_of, with_ones, room, IsPast, end_before_feed}
 use Rattle.pieces.proofs.look_up.Prefix.offset_in.Given as goal
 
 abbrev pub invariant-loop-c : goal.invariant-loop-c

@@ -1,8 +1,5 @@
 use Rattle.std.specs.Prelude.{◌≡◌, ℕ, ◌+◌, ◌^◌, ◌≤◌, List, ◌++◌, length}
-use Rattle.std.specs.Str.{chars}
-use Rattle.definitions.specs.declared.Unit.TheVariants.{Utf8}
-use Rattle.definitions.specs.Text.{units}
-use Rattle.pieces.specs.Prefixes.{prefix_of, with_ones}
+use Rattle.pieces.proofs.Common.{chars, Utf8, units, prefix_of, with_ones}
 use Rattle.pieces.proofs.look_up.Prefix.with_first.Given as goal
 
 abbrev pub invariant-loop-c : goal.invariant-loop-c

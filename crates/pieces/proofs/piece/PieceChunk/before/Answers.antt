@@ -1,7 +1,5 @@
 use Rattle.std.proofs.Common.{◌∙◌, ◌++◌}
-use Rattle.std.specs.Str.{chars}
-use Rattle.std.proofs.lemmas.List.{append-nil}
-use Rattle.std.proofs.lemmas.Str.{chars-nil}
+use Rattle.pieces.proofs.Common.{chars, append-nil, chars-nil}
 use Rattle.pieces.proofs.piece.PieceChunk.before.Goals as goal
 
 pub returns : goal.returns

@@ -1,7 +1,5 @@
 use Rattle.std.proofs.Common.{ap, sym, ◌∙◌}
-use Rattle.std.specs.Str.{chars}
-use Rattle.definitions.specs.Text.{units}
-use Rattle.definitions.specs.declared.Unit.TheVariants.{Utf8}
+use Rattle.pieces.proofs.Common.{chars, units, Utf8}
 use Rattle.pieces.proofs.Joins.{units-chars}
 use Rattle.pieces.proofs.piece.PieceChunk.size.Goals as goal
 

@@ -1,8 +1,5 @@
 use Rattle.std.proofs.Common.{arith, ◌∙◌, ◌≤◌}
-use Rattle.pieces.specs.Pieces.{text_in}
-use Rattle.definitions.specs.Text.{units}
-use Rattle.definitions.specs.declared.Unit.TheVariants.{Utf8}
-use Rattle.pieces.specs.Sums.{most}
+use Rattle.pieces.proofs.Common.{text_in, units, Utf8, most}
 use Rattle.pieces.proofs.Summed.{total-pieces}
 use Rattle.pieces.proofs.places.Pieces.bytes.Goals as goal
 

@@ -1,6 +1,5 @@
 use Rattle.std.proofs.Common.{arith, ap, sym, ◌≡◌, ◌∙◌, ◌≤◌, ℕ, List, [], ◌∷◌, length}
-use Rattle.std.specs.Str.{chars}
-use Rattle.std.proofs.lemmas.Str.{chars-nil}
+use Rattle.pieces.proofs.Common.{chars, chars-nil}
 use Rattle.pieces.proofs.CutAt.{some_after}
 use Rattle.pieces.proofs.places.Pieces.character.Goals as goal
 

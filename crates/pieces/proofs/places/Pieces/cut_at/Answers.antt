@@ -1,14 +1,9 @@
 use Rattle.std.proofs.Common.{arith, sym, ap, ◌∙◌, ◌≡◌, ◌+◌, ◌-◌, [], length, take, drop, Some, None, slice_get, option_copied}
-use Rattle.std.specs.Str.{chars}
-use Rattle.std.proofs.lemmas.Str.{chars-nil}
-use Rattle.definitions.specs.Text.{units}
-use Rattle.definitions.specs.declared.Unit.TheVariants.{Utf8}
-use Rattle.chunks.proofs.Joined.{within_chunks, inside, cut_in, cut_at_end}
+use Rattle.pieces.proofs.Common.{chars, chars-nil, units, Utf8, within_chunks, inside, cut_in, cut_at_end, IsCut}
 use Rattle.pieces.proofs.CutAt.{prefix_le}
 use Rattle.pieces.proofs.Joins.{units-nil, units-append}
 use Rattle.pieces.proofs.LocatedPiece.{sum-before, offset-reached, offset-not_before}
 use Rattle.pieces.proofs.Summed.{text_before}
-use Rattle.pieces.specs.Places.{IsCut}
 use Rattle.pieces.proofs.places.Pieces.cut_at.Goals as goal
 
 pub overflow_sub-offset : goal.overflow_sub-offset

@@ -1,7 +1,5 @@
 use Rattle.std.proofs.Common.{arith, ap}
-use Rattle.definitions.specs.Text.{units}
-use Rattle.definitions.specs.declared.Unit.TheVariants.{Utf8}
-use Rattle.pieces.specs.Pieces.{text_in}
+use Rattle.pieces.proofs.Common.{units, Utf8, text_in}
 use Rattle.pieces.proofs.Joins.{units-nil}
 use Rattle.pieces.proofs.places.Pieces.new.Goals as goal
 

@@ -1,15 +1,8 @@
-use Rattle.pieces.specs.Pieces.{text_in}
-use Rattle.std.specs.Str.{chars}
+use Rattle.pieces.proofs.Common.{text_in, chars, append_assoc, offset, units, Utf8, IsPast, end_before_feed, all_before, within_chunks, prefix-more, whole_at}
 use Rattle.std.proofs.Common.{arith, sym, ap, subst, ◌∙◌, cond, ◌≡◌, ◌-◌, ◌+◌, ◌^◌, ◌≤◌, ◌&&◌, ◌==◌, ℕ, List, ◌++◌, drop}
-use Rattle.std.proofs.lemmas.List.{append_assoc}
-use Rattle.definitions.specs.Text.{offset, units}
-use Rattle.definitions.specs.declared.Unit.TheVariants.{Utf8}
-use Rattle.pieces.specs.Prefixes.{IsPast}
-use Rattle.pieces.specs.Sums.{end_before_feed}
 use Rattle.pieces.proofs.LocatedPiece.{sum-before, position-reached, position-not_before}
 use Rattle.pieces.proofs.Offsets.{offset-end}
 use Rattle.pieces.proofs.PastTheEnd.{offset-within}
-use Rattle.chunks.proofs.Joined.{all_before, within_chunks, prefix-more, whole_at}
 use Rattle.pieces.proofs.Summed.{text_before, few_before}
 use Rattle.pieces.proofs.places.Pieces.offset.Goals as goal
 

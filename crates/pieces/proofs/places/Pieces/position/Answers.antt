@@ -1,13 +1,7 @@
-use Rattle.pieces.specs.Pieces.{text_in}
-use Rattle.std.specs.Str.{chars}
+use Rattle.pieces.proofs.Common.{text_in, chars, append-nil, position, units, begins_with, Utf8, prefix_of, all_before, within_chunks, prefix-more, whole_at}
 use Rattle.std.proofs.Common.{arith, refl, sym, ap, subst, ◌∙◌, ◌≡◌, ◌-◌, ◌+◌, ◌^◌, ◌<◌, ◌≤◌, ℕ, List, ◌++◌, [], length, take, drop}
-use Rattle.std.proofs.lemmas.List.{append-nil}
-use Rattle.definitions.specs.Text.{position, units, begins_with}
-use Rattle.definitions.specs.declared.Unit.TheVariants.{Utf8}
-use Rattle.pieces.specs.Prefixes.{prefix_of}
 use Rattle.pieces.proofs.LocatedPiece.{sum-before, offset-reached, offset-not_before, cut-text, cut-length, cut-next}
 use Rattle.pieces.proofs.PastTheEnd.{position-past}
-use Rattle.chunks.proofs.Joined.{all_before, within_chunks, prefix-more, whole_at}
 use Rattle.pieces.proofs.Summed.{text_before, few_before}
 use Rattle.pieces.proofs.CharacterLoops.{few-take}
 use Rattle.pieces.proofs.places.Pieces.position.Goals as goal

@@ -1,6 +1,5 @@
 use Rattle.std.proofs.Common.{arith, ap, ◌∙◌, ◌≤◌, length}
-use Rattle.runs.specs.Counted.{most}
-use Rattle.runs.specs.Runs.{flattened}
+use Rattle.runs.proofs.Common.{most, flattened}
 use Rattle.runs.proofs.Totals.{total-items}
 use Rattle.runs.proofs.list.Runs.len.Goals as goal
 

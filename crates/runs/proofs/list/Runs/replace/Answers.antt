@@ -1,8 +1,5 @@
 use Rattle.std.proofs.Common.{arith, ap, refl, length-append, ◌∙◌, ◌≡◌, ◌≤◌, ◌+◌, ◌-◌, ◌++◌, ℕ, List, length, take, drop}
-use Rattle.std.proofs.lemmas.List.{length-take, length-drop}
-use Rattle.chunks.proofs.Gaps.{filled_between}
-use Rattle.chunks.proofs.Joined.{in_order}
-use Rattle.runs.specs.Runs.{flattened}
+use Rattle.runs.proofs.Common.{length-take, length-drop, filled_between, in_order, flattened}
 use Rattle.runs.proofs.list.Runs.replace.Goals as goal
 
 -- how many items a change leaves

@@ -1,7 +1,5 @@
 use Rattle.std.proofs.Common.{ap, sym, ◌∙◌, take}
-use Rattle.seqtree.specs.Monoid.{total}
-use Rattle.seqtree.proofs.Totals.{total-append}
-use Rattle.runs.specs.Runs.{flattened}
+use Rattle.runs.proofs.Common.{total, total-append, flattened}
 use Rattle.runs.proofs.list.Runs.total_before.Goals as goal
 
 pub returns : goal.returns

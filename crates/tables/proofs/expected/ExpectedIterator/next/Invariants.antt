@@ -1,5 +1,5 @@
 use Rattle.std.proofs.Common.{◌≡◌, ◌-◌, length, drop}
-use Rattle.tables.specs.Expected.{in_file_order, rules_with_move}
+use Rattle.tables.proofs.Common.{in_file_order, rules_with_move}
 use Rattle.tables.proofs.expected.ExpectedIterator.next.Given as goal
 
 -- what is left to list is what was left

@@ -1,10 +1,5 @@
 use Rattle.std.proofs.Common.{◌≡◌, ◌<◌, ◌≤◌, ℕ, List, [], Option, Some, None, length, slice_index_or, sym, ap, ◌∙◌, subst, arith, rules}
-use Rattle.std.proofs.lemmas.List.{get_or_default}
-use Rattle.definitions.specs.declared.Kind.TheVariants.{Rule as Token}
-use Rattle.first_sets.specs.Lookaheads.{rank}
-use Rattle.tables.specs.declared.decisions.Move.{Move}
-use Rattle.tables.specs.declared.decisions.Move.TheVariants.{Shift}
-use Rattle.tables.specs.Tables.{Sets, seen, IsAction, move_at}
+use Rattle.tables.proofs.Common.{get_or_default, Token, rank, Move, Shift, Sets, seen, IsAction, move_at}
 use Rattle.tables.proofs.RowsOfPrefix.{right, far_move, shift_state}
 use Rattle.tables.proofs.tables.Tables.action.Goals as goal
 

@@ -1,10 +1,4 @@
-use Rattle.std.proofs.lemmas.Result.{IfOk-weaker, IfErr-weaker}
-use Rattle.definitions.specs.Items.{HasNoConflict}
-use Rattle.definitions.specs.Derivations.{IsLr1}
-use Rattle.theory.specs.Laws.{HasOneTreeEach}
-use Rattle.theory.proofs.Knuth.{no_conflict_lr1}
-use Rattle.theory.proofs.OneTree.{one_tree_of_used}
-use Rattle.tables.specs.Faults.{IsRight, RefutesLr1}
+use Rattle.tables.proofs.Common.{IfOk-weaker, IfErr-weaker, HasNoConflict, IsLr1, HasOneTreeEach, no_conflict_lr1, one_tree_of_used, IsRight, RefutesLr1}
 use Rattle.tables.proofs.Finishing.{refutes}
 use Rattle.tables.proofs.tables.Tables.build.Goals as goal
 

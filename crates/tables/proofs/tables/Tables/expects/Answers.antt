@@ -1,6 +1,5 @@
 use Rattle.std.proofs.Common.{◌≡◌, ◌<◌, [], Some, None, length, slice_index_or, sym, ◌∙◌, subst, arith}
-use Rattle.std.proofs.lemmas.List.{get_or_default}
-use Rattle.tables.specs.Tables.{seen}
+use Rattle.tables.proofs.Common.{get_or_default, seen}
 use Rattle.tables.proofs.RowsOfPrefix.{right}
 use Rattle.tables.proofs.Expecting.{all_expected}
 use Rattle.tables.proofs.tables.Tables.expects.Goals as goal

@@ -1,6 +1,5 @@
 use Rattle.std.proofs.Common.{◌≡◌, [], None, slice_index_or, sym, ap, ◌∙◌, arith}
-use Rattle.std.proofs.lemmas.List.{get_or_default}
-use Rattle.tables.specs.Tables.{seen}
+use Rattle.tables.proofs.Common.{get_or_default, seen}
 use Rattle.tables.proofs.RowsOfPrefix.{goes, far_goto}
 use Rattle.tables.proofs.tables.Tables.goto.Goals as goal
 

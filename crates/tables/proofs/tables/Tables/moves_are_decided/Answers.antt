@@ -1,6 +1,5 @@
 use Rattle.std.proofs.Common.{subst}
-use Rattle.tables.specs.Decidable.{AreMovesDecided}
-use Rattle.tables.specs.Tables.{seen}
+use Rattle.tables.proofs.Common.{AreMovesDecided, seen}
 use Rattle.tables.proofs.StateDecides.{moves_decided}
 use Rattle.tables.proofs.tables.Tables.moves_are_decided.Goals as goal
 

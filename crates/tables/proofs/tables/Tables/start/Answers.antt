@@ -1,4 +1,4 @@
-use Rattle.tables.specs.Tables.{seen}
+use Rattle.tables.proofs.Common.{seen}
 use Rattle.tables.proofs.RowsOfPrefix.{start_state}
 use Rattle.tables.proofs.tables.Tables.start.Goals as goal
 

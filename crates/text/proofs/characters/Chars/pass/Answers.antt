@@ -1,8 +1,5 @@
 use Rattle.std.proofs.Common.{rules, arith, inl, ap, sym, subst, ◌∙◌, ◌≡◌, ◌<◌, ◌≤◌, ◌++◌, ℕ, All, List, length, take, drop, true}
-use Rattle.std.proofs.lemmas.List.Elements.{All-weaker}
-use Rattle.std.specs.Str.{chars, IsUtf8}
-use Rattle.definitions.specs.Text.{IsCharacter}
-use Rattle.pieces.specs.Pieces.{text_in}
+use Rattle.text.proofs.Common.{All-weaker, chars, IsUtf8, IsCharacter, text_in}
 use Rattle.text.proofs.AsciiStart.{cut_after, enough, first_are, others_are}
 use Rattle.text.proofs.characters.Chars.pass.Goals as goal
 

@@ -1,9 +1,5 @@
 use Rattle.std.proofs.Common.{arith, refl, ap, sym, subst, ◌∙◌, ◌≡◌, ◌<◌, ◌++◌, ℕ, List, [], ◌∷◌, Option, None, Some, length, true, slice_get, is_some}
-use Rattle.pieces.specs.Pieces.{text_in}
-use Rattle.std.specs.Str.{chars}
-use Rattle.std.proofs.lemmas.Bool.{false≢true}
-use Rattle.std.proofs.lemmas.List.{append-nil}
-use Rattle.std.proofs.lemmas.Option.{none-some}
+use Rattle.text.proofs.Common.{text_in, chars, false≢true, append-nil, none-some}
 use Rattle.text.proofs.characters.Chars.peek.Goals as goal
 
 prefix_get : (xs ys : List ℕ) (c : ℕ) → Some c ≡ slice_get xs 0 → Some c ≡ slice_get (xs ++ ys) 0

@@ -1,8 +1,5 @@
 use Rattle.std.proofs.Common.{arith, ap, sym, subst, ◌∙◌, ◌≡◌, ◌++◌, ℕ, List, [], ◌∷◌, length}
-use Rattle.pieces.specs.Pieces.{text_in}
-use Rattle.std.specs.Str.{chars}
-use Rattle.std.specs.Iterator.{YieldsFirst}
-use Rattle.std.proofs.lemmas.Str.{chars-nil}
+use Rattle.text.proofs.Common.{text_in, chars, YieldsFirst, chars-nil}
 use Rattle.text.proofs.characters.CharsIterator.next.Goals as goal
 
 none : (bs : List ℕ) (ps : List (List ℕ)) → length bs ≡ 0 → length ps ≡ 0 → chars bs ++ text_in ps ≡ []

@@ -1,6 +1,5 @@
 use Rattle.std.proofs.Common.{arith, ap, ◌∙◌}
-use Rattle.pieces.specs.Pieces.{text_in}
-use Rattle.pieces.proofs.Joins.{units-bytes}
+use Rattle.text.proofs.Common.{text_in, units-bytes}
 use Rattle.text.proofs.Sizes.{size, bytes_le}
 use Rattle.text.proofs.document.Text.bytes.Goals as goal
 

@@ -1,5 +1,5 @@
 use Rattle.std.proofs.Common.{◌≡◌, ◌++◌}
-use Rattle.pieces.specs.Pieces.{text_in}
+use Rattle.text.proofs.Common.{text_in}
 use Rattle.text.proofs.document.Text.characters.Given as goal
 
 abbrev pub invariant-loop-piece : goal.invariant-loop-piece

@@ -1,11 +1,5 @@
 use Rattle.std.proofs.Common.{arith, ap, sym, subst, ◌∙◌, ◌++◌}
-use Rattle.std.specs.Str.{chars}
-use Rattle.std.proofs.lemmas.List.{append-nil}
-use Rattle.definitions.specs.Text.{IsText, units}
-use Rattle.definitions.specs.declared.Unit.TheVariants.{Utf8}
-use Rattle.definitions.proofs.Characters.{IsText-chars}
-use Rattle.pieces.specs.Pieces.{text_in}
-use Rattle.pieces.proofs.Joins.{units-chars}
+use Rattle.text.proofs.Common.{chars, append-nil, IsText, units, Utf8, IsText-chars, text_in, units-chars}
 use Rattle.text.proofs.Sizes.{size, size-chars}
 use Rattle.text.proofs.document.Text.open.Goals as goal
 

@@ -1,7 +1,5 @@
 use Rattle.std.proofs.Common.{arith, refl, ap, ◌∙◌, ◌≡◌, ◌++◌, ℕ, List, [], ◌∷◌}
-use Rattle.std.specs.List.{concat}
-use Rattle.pieces.specs.Pieces.{text_in}
-use Rattle.pieces.proofs.Joins.{units-bytes}
+use Rattle.text.proofs.Common.{concat, text_in, units-bytes}
 use Rattle.text.proofs.Sizes.{size}
 use Rattle.text.proofs.document.Text.pieces.Goals as goal
 

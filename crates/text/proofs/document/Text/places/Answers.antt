@@ -1,5 +1,5 @@
 use Rattle.std.proofs.Common.{arith, ap, length}
-use Rattle.pieces.specs.Pieces.{text_in}
+use Rattle.text.proofs.Common.{text_in}
 use Rattle.text.proofs.Sizes.{length_le}
 use Rattle.text.proofs.document.Text.places.Goals as goal
 

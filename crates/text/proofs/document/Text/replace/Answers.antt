@@ -1,11 +1,5 @@
 use Rattle.std.proofs.Common.{arith, ap, refl, sym, subst, ◌∙◌, ◌≤◌, string_bytes}
-use Rattle.std.specs.Str.{chars}
-use Rattle.definitions.specs.Text.{IsText, edit, units}
-use Rattle.definitions.specs.declared.Unit.TheVariants.{Utf8}
-use Rattle.pieces.proofs.Joins.{units-bytes}
-use Rattle.definitions.proofs.Characters.{IsText-chars, IsText-edit}
-use Rattle.chunks.proofs.Joined.{in_order}
-use Rattle.chunks.proofs.Gaps.{filled_between}
+use Rattle.text.proofs.Common.{chars, IsText, edit, units, Utf8, units-bytes, IsText-chars, IsText-edit, in_order, filled_between}
 use Rattle.text.proofs.Sizes.{size, size-chars, kept_cut}
 use Rattle.text.proofs.document.Text.replace.Goals as goal
 

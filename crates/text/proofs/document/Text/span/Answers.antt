@@ -1,5 +1,5 @@
 use Rattle.std.proofs.Common.{refl}
-use Rattle.definitions.specs.Text.{changed}
+use Rattle.text.proofs.Common.{changed}
 use Rattle.text.proofs.document.Text.span.Goals as goal
 
 pub returns-in-None-clause-is : goal.returns-in-None-clause-is

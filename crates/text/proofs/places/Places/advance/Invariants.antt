@@ -1,6 +1,5 @@
 use Rattle.std.proofs.Common.{◌≡◌, ◌+◌}
-use Rattle.pieces.specs.Pieces.{text_in}
-use Rattle.text.specs.Places.{IsPlaced}
+use Rattle.text.proofs.Common.{text_in, IsPlaced}
 use Rattle.text.proofs.places.Places.advance.Given as goal
 
 abbrev pub invariant-loop : goal.invariant-loop

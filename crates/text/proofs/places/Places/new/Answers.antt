@@ -1,6 +1,5 @@
 use Rattle.std.proofs.Common.{arith, ◌++◌, ◌∙◌}
-use Rattle.pieces.specs.Pieces.{text_in}
-use Rattle.std.proofs.lemmas.Str.{chars-nil}
+use Rattle.text.proofs.Common.{text_in, chars-nil}
 use Rattle.text.proofs.NextPosition.{position-start}
 use Rattle.text.proofs.places.Places.new.Goals as goal
 

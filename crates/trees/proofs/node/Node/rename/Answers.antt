@@ -1,9 +1,5 @@
 use Rattle.std.proofs.Common.{ap, sym, subst, ◌∙◌, ◌≡◌, drop, length, map}
-use Rattle.std.proofs.lemmas.List.{length-map}
-use Rattle.trees.specs.Cells.{Cell, AreBelow}
-use Rattle.trees.specs.Forms.{cell, cell_in, label_of, IsForm}
-use Rattle.trees.specs.Packing.{unpack}
-use Rattle.trees.specs.Slides.{renamed}
+use Rattle.trees.proofs.Common.{length-map, Cell, AreBelow, cell, cell_in, label_of, IsForm, unpack, renamed}
 use Rattle.trees.proofs.Forms.{filled_below, filled_renamed, own_renamed, written}
 use Rattle.trees.proofs.node.Node.rename.Goals as goal
 use Rattle.trees.proofs.node.Node.rename.Goals.{in-Few, in-Many, in-Wide}

@@ -1,8 +1,6 @@
 use Rattle.std.proofs.Common.{[], ap, sym, ◌∙◌, subst, arith}
-use Rattle.definitions.specs.TreeEdits.{StampedBranch}
-use Rattle.trees.specs.Cells.{trees_from, forest_of}
+use Rattle.trees.proofs.Common.{StampedBranch, trees_from, forest_of, common_steps}
 use Rattle.trees.proofs.Cells.{store_at, IsAt}
-use Rattle.std.proofs.lemmas.Grind.{common_steps}
 use Rattle.trees.proofs.store.Store.born.Goals as goal
 
 pub returns-clause-tree : goal.returns-clause-tree

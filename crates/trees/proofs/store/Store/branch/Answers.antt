@@ -1,7 +1,5 @@
 use Rattle.std.proofs.Common.{[], ◌∷◌, ◌≡◌, ◌++◌, ap, sym, ◌∙◌, subst, refl, rules}
-use Rattle.trees.specs.Cells.{Cell, tree, IsStore}
-use Rattle.trees.specs.declared.store.Child.TheVariants.{Node}
-use Rattle.trees.specs.declared.store.NodeId.{NodeId}
+use Rattle.trees.proofs.Common.{Cell, tree, IsStore, Node, NodeId}
 use Rattle.trees.proofs.Cells.{cell_made, cells-push, grown-new, grown-tree}
 use Rattle.trees.proofs.store.Store.branch.Goals as goal
 

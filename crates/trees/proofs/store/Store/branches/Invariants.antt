@@ -1,6 +1,5 @@
 use Rattle.std.proofs.Common.{◌≡◌, ◌+◌, ◌≤◌, drop, min}
-use Rattle.trees.specs.Cells.{most}
-use Rattle.trees.specs.Compaction.{nodes, sizes}
+use Rattle.trees.proofs.Common.{most, nodes, sizes}
 use Rattle.trees.proofs.store.Store.branches.Given as goal
 
 -- what is counted, with what is left to count, is the whole

@@ -1,5 +1,5 @@
 use Rattle.std.proofs.Common.{[], ap, sym, subst, ◌∙◌, slice_get, IfSome}
-use Rattle.trees.specs.Cells.{IsBelow, trees_from}
+use Rattle.trees.proofs.Common.{IsBelow, trees_from}
 use Rattle.trees.proofs.Cells.{below-get, store_at, IsAt}
 use Rattle.trees.proofs.store.Store.child.Goals as goal
 

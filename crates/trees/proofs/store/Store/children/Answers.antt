@@ -1,6 +1,5 @@
 use Rattle.std.proofs.Common.{[], ap, sym, ◌∙◌, subst}
-use Rattle.trees.specs.Cells.{AreBelow, trees_from, forest_of}
-use Rattle.definitions.specs.TreeEdits.{StampedBranch}
+use Rattle.trees.proofs.Common.{AreBelow, trees_from, forest_of, StampedBranch}
 use Rattle.trees.proofs.Cells.{store_at, IsAt}
 use Rattle.trees.proofs.store.Store.children.Goals as goal
 

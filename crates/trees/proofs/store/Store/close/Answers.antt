@@ -1,6 +1,5 @@
 use Rattle.std.proofs.Common.{◌≡◌, length, drop, sym, ap, ◌∙◌, subst}
-use Rattle.std.proofs.lemmas.List.{take_rest}
-use Rattle.trees.specs.Cells.{AreBelow, all_trees}
+use Rattle.trees.proofs.Common.{take_rest, AreBelow, all_trees}
 use Rattle.trees.proofs.Copies.{below-drop, copied_branch}
 use Rattle.trees.proofs.store.Store.close.Goals as goal
 

@@ -1,10 +1,5 @@
 use Rattle.std.proofs.Common.{◌≡◌, ◌++◌, ◌∷◌, [], length, length-append, get_or, take, sym, ap, ◌∙◌, subst, arith}
-use Rattle.std.proofs.lemmas.List.{take_all}
-use Rattle.definitions.specs.Nodes.{all_branches}
-use Rattle.definitions.specs.TreeEdits.{plain_trees}
-use Rattle.trees.specs.declared.store.Child.TheVariants.{Node}
-use Rattle.trees.specs.Cells.{AreBelow, all_trees, tree}
-use Rattle.trees.specs.Compaction.{nodes, sizes}
+use Rattle.trees.proofs.Common.{take_all, all_branches, plain_trees, Node, AreBelow, all_trees, tree, nodes, sizes}
 use Rattle.trees.proofs.Cells.{all_below-more}
 use Rattle.trees.proofs.Copies.{branches-append, kept-all, root_below, roots-below, roots-last, roots-next}
 use Rattle.trees.proofs.store.Store.copies.Goals as goal

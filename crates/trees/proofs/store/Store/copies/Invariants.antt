@@ -1,6 +1,5 @@
 use Rattle.std.proofs.Common.{◌≡◌, ◌+◌, length, take}
-use Rattle.trees.specs.Cells.{AreBelow, all_trees}
-use Rattle.trees.specs.Compaction.{nodes, sizes}
+use Rattle.trees.proofs.Common.{AreBelow, all_trees, nodes, sizes}
 use Rattle.trees.proofs.store.Store.copies.Given as goal
 
 abbrev pub invariant-loop-root : goal.invariant-loop-root

@@ -1,10 +1,5 @@
 use Rattle.std.proofs.Common.{rules, ◌≡◌, ◌+◌, ◌-◌, ℕ, List, ◌∷◌, [], ◌++◌, Option, None, Some, slice_get, vec_len, length, length-append, reverse, take, drop, ◌≤◌, ◌<◌, refl, sym, ap, ◌∙◌, subst, arith}
-use Rattle.definitions.specs.Nodes.{all_branches}
-use Rattle.definitions.specs.TreeEdits.{StampedLeaf, plain_trees}
-use Rattle.trees.specs.declared.compaction.Begun.{Begun}
-use Rattle.trees.specs.declared.store.Child.{Child}
-use Rattle.trees.specs.declared.store.Child.TheVariants.{Token, Node}
-use Rattle.trees.specs.Cells.{Cell, AreBelow, IsBelow, all_trees, tree, trees_from}
+use Rattle.trees.proofs.Common.{all_branches, StampedLeaf, plain_trees, Begun, Child, Token, Node, Cell, AreBelow, IsBelow, all_trees, tree, trees_from}
 use Rattle.trees.proofs.Cells.{below-more, all_below-more}
 use Rattle.trees.proofs.Copies.{Leads, mass, asked, below-append, below-take, branches-append, closed_branches, closed_mass, closed_trees, kids, last_one, leads_all, leads_begin, leads_first, leads_next, no_more, reverse-last, reverse-long, shrinks, token_mass, trees-append, trees-drop, trees-length}
 use Rattle.trees.proofs.store.Store.copy.Goals as goal

@@ -1,8 +1,5 @@
 use Rattle.std.proofs.Common.{◌≡◌, ◌+◌, ◌-◌, ◌≤◌, ◌∷◌, [], length, reverse}
-use Rattle.definitions.specs.Nodes.{all_branches}
-use Rattle.definitions.specs.TreeEdits.{plain_trees}
-use Rattle.trees.specs.declared.store.Child.TheVariants.{Node}
-use Rattle.trees.specs.Cells.{AreBelow, KeepsTrees, all_trees, tree}
+use Rattle.trees.proofs.Common.{all_branches, plain_trees, Node, AreBelow, KeepsTrees, all_trees, tree}
 use Rattle.trees.proofs.Copies.{Leads, mass}
 use Rattle.trees.proofs.store.Store.copy.Given as goal
 

@@ -1,8 +1,5 @@
 use Rattle.std.proofs.Common.{◌≡◌, ◌<◌, ◌^◌, length, map, ap, subst, arith, sym, ◌∙◌}
-use Rattle.trees.specs.declared.store.Child.{Child}
-use Rattle.trees.specs.Cells.{AreBelow, all_trees, tree}
-use Rattle.trees.specs.Compaction.{nodes}
-use Rattle.trees.specs.Slides.{rank, renamed, AreMarked, AreRanks, IsMarked}
+use Rattle.trees.proofs.Common.{Child, AreBelow, all_trees, tree, nodes, rank, renamed, AreMarked, AreRanks, IsMarked}
 use Rattle.trees.proofs.Slides.{marked_below, rank_le, slid_below, slid_trees}
 use Rattle.trees.proofs.store.Store.keep_in_place.Goals as goal
 

@@ -1,7 +1,5 @@
 use Rattle.std.proofs.Common.{[], ap, sym, ◌∙◌, subst, min}
-use Rattle.definitions.specs.Nodes.{branches}
-use Rattle.definitions.specs.TreeEdits.{plain}
-use Rattle.trees.specs.Cells.{most, trees_from}
+use Rattle.trees.proofs.Common.{branches, plain, most, trees_from}
 use Rattle.trees.proofs.Cells.{store_at, IsAt}
 use Rattle.trees.proofs.store.Store.size.Goals as goal
 

@@ -1,7 +1,5 @@
 use Rattle.std.proofs.Common.{[], ap, sym, ◌∙◌, subst, min, length}
-use Rattle.definitions.specs.Trees.{yield}
-use Rattle.definitions.specs.TreeEdits.{plain}
-use Rattle.trees.specs.Cells.{most, trees_from, forest_of}
+use Rattle.trees.proofs.Common.{yield, plain, most, trees_from, forest_of}
 use Rattle.trees.proofs.Cells.{store_at, IsAt}
 use Rattle.trees.proofs.store.Store.tokens.Goals as goal
 

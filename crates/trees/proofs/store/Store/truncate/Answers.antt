@@ -1,5 +1,5 @@
 use Rattle.std.proofs.Common.{[], ◌≡◌, take, sym, ap, ◌∙◌, subst, rules}
-use Rattle.trees.specs.Cells.{IsStore, tree}
+use Rattle.trees.proofs.Common.{IsStore, tree}
 use Rattle.trees.proofs.Cells.{cells-take, take-tree}
 use Rattle.trees.proofs.store.Store.truncate.Goals as goal
 

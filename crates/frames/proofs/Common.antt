@@ -1,0 +1,33 @@
+-- What the proofs of this crate cite of definitions, of types and of other crates, passed on from one place. Declares nothing.
+pub use Rattle.std.specs.Char.{digit_value, is_ascii_digit, is_ascii_whitespace}
+pub use Rattle.std.specs.Io.KnownBytes.{Appends, Keeps}
+pub use Rattle.std.specs.List.{flat_map, list_all, prefix_len, starts_with, suffix_len}
+pub use Rattle.std.specs.Option.{ok_or, option_map_or, option_or}
+pub use Rattle.std.specs.Str.{bytes_eq}
+pub use Rattle.std.specs.Str.Parse.{AllDigits, digits_value}
+pub use Rattle.std.proofs.Math.Bool.{or-false, or_assoc}
+pub use Rattle.std.proofs.Math.Nat.{pow-le-pow_right}
+pub use Rattle.std.proofs.Math.Seq.{take-add, take-append-add, take-append_seam, take-length}
+pub use Rattle.std.proofs.lemmas.Bool.{cases_lt, le-ltb, leb-true, lt-ltb}
+pub use Rattle.std.proofs.lemmas.Bool.Decides.{Decides-eqb}
+pub use Rattle.std.proofs.lemmas.Fmt.{decimal_digit, decimal_step, length-decimal-le}
+pub use Rattle.std.proofs.lemmas.Grind.{common_steps}
+pub use Rattle.std.proofs.lemmas.Int.Digits.{digits_value-lt, digits_value_more}
+pub use Rattle.std.proofs.lemmas.List.{drop-append-le, drop-drop, drop-take, length-take, map-append, reverse-append, take-append-drop, take-append-le, take-take, take_all, take_more_set}
+pub use Rattle.std.proofs.lemmas.List.Elements.{All-cons, All-head, All-nil, All-tail}
+pub use Rattle.std.proofs.lemmas.List.Folds.{list_all-append}
+pub use Rattle.std.proofs.lemmas.Result.{IfErr-weaker, IfOk-weaker, err_from_is_err_and}
+pub use Rattle.std.proofs.lemmas.Slice.Eq.{starts_is}
+pub use Rattle.std.proofs.lemmas.Str.Ascii.{trim_ascii_is}
+pub use Rattle.std.proofs.lemmas.Str.Parse.{digit_at, digits_value-take-le}
+pub use Rattle.frames.specs.Contents.{contents}
+pub use Rattle.frames.specs.Frames.{BeginsWith, Continues, Faulty, GoesOn, HasSplit, IsBegun, IsCut, IsOpen, IsReached, IsStreamFault, IsTail, Open, Splits, Tail, fault_of, given, start_at, start_of, tail_of, unfinished}
+pub use Rattle.frames.specs.Header.{AreFieldLines, HaveLength, IsHeaderLength, IsHeaderPart, IsWhole, blank_line, field_fault, field_length, field_of, has_length, header_length, header_size, is_blank, is_content_length, is_content_type, is_number, is_utf8_type, is_value_byte, length_fault, length_value, line_end, line_fault, line_length, lines_length, lines_of, onto_first_line, through, trim}
+pub use Rattle.frames.specs.Kept.{Awaits, HoldsNone, IsDecoder}
+pub use Rattle.frames.specs.Write.{Writes}
+pub use Rattle.frames.specs.declared.decoder.Frame.{Frame}
+pub use Rattle.frames.specs.declared.fault.DeviceFault.{DeviceFault}
+pub use Rattle.frames.specs.declared.fault.FrameFault.{FrameFault}
+pub use Rattle.frames.specs.declared.fault.FrameFault.TheVariants.{BadCharset, BadField, LongHeader, Memory, NoLength, SecondLength}
+pub use Rattle.frames.specs.declared.header.Start.{Start}
+pub use Rattle.frames.specs.declared.header.Start.TheVariants.{Announces, Fails, NeedsMore}

@@ -1,0 +1,49 @@
+-- What the proofs of this crate cite of definitions, of types and of other crates, passed on from one place. Declares nothing.
+pub use Rattle.std.specs.Bool.{Decides}
+pub use Rattle.std.specs.Cmp.Lexicographic.{pointwise}
+pub use Rattle.std.specs.List.{list_any, position}
+pub use Rattle.std.specs.Option.{option_eq}
+pub use mathlib.Core.List.{tail-eq_of_cons-eq}
+pub use Rattle.std.proofs.Math.Dec.{eqb}
+pub use Rattle.std.proofs.Math.Seq.{get_or-append_seam}
+pub use Rattle.std.proofs.lemmas.Bool.{cases_eq, cases_lt, eqb-false, eqb-true}
+pub use Rattle.std.proofs.lemmas.Bool.Decides.{Decides-and, Decides-eqb}
+pub use Rattle.std.proofs.lemmas.List.{get_or-map, get_or_append_left, get_or_default, length-map, map-append, reverse-append}
+pub use Rattle.std.proofs.lemmas.List.Elements.{All-cons, All-drop, All-head, All-push, All-tail, Contains-append_left, Contains-get_or, Contains-push, Contains-push_cases}
+pub use Rattle.std.proofs.lemmas.List.Folds.{list_any_at}
+pub use Rattle.std.proofs.lemmas.List.Quantifiers.{all_pairs_push, position-Some}
+pub use Rattle.std.proofs.lemmas.Option.{get_or_from_slice_get}
+pub use Rattle.std.proofs.lemmas.Result.{IfOk-weaker, on_ok_weaker}
+pub use Rattle.std.proofs.lemmas.Slice.Eq.{slice_eq-Decides}
+pub use Rattle.definitions.proofs.Ordered.{Contains-cases}
+pub use Rattle.definitions.specs.Derivations.{first}
+pub use Rattle.definitions.specs.Items.{HasItem, HaveSameItems, IsValid, Item as LrItem}
+pub use Rattle.definitions.specs.Sentences.{AllProductive}
+pub use Rattle.definitions.specs.Trees.{Grammar, HasProduction, left_of, right_of, trees}
+pub use Rattle.definitions.specs.declared.Symbol.{Symbol}
+pub use Rattle.definitions.specs.declared.Symbol.TheVariants.{Nonterminal, Rule, Rule as Terminal}
+pub use Rattle.first_sets.proofs.Columns.{column_there, rank-lookahead_at}
+pub use Rattle.first_sets.proofs.EachMore.{each_more}
+pub use Rattle.first_sets.proofs.Follows.{follows_first, follows_nothing}
+pub use Rattle.first_sets.proofs.FollowsInRange.{may_known}
+pub use Rattle.first_sets.proofs.Numbers.{has_production, production_below, production_is}
+pub use Rattle.first_sets.proofs.SymbolNumbers.{number-symbol_of, symbol_of-number}
+pub use Rattle.first_sets.specs.Lookaheads.{lookahead_at, rank}
+pub use Rattle.first_sets.specs.Productions.{IsKnown, IsSound, Shape}
+pub use Rattle.first_sets.specs.Symbols.{number, symbol_of}
+pub use Rattle.item_sets.specs.Collection.{AreStates, Found, GoesOn, IsAbsent, IsLed, IsReached, IsStep, Placed, kernel_at, origin_at}
+pub use Rattle.item_sets.specs.Order.{Below, IsBefore, IsInside, IsOrdered, IsRising}
+pub use Rattle.item_sets.specs.Sets.{Closed, IsIn, IsItem, Kernel, after_dot, item_of, side}
+pub use Rattle.item_sets.specs.States.{HasKernel, HasSet, IsKernelAfter, IsSetOf, Shifted, ShiftsUpTo, step}
+pub use Rattle.item_sets.specs.Worklist.{AreCalledFor, AreMarked, CallFor, HaveBeginnings, IsCalledFor, IsExpanded, IsGrownBy, beginning_of, marked, unmarked_in}
+pub use Rattle.item_sets.specs.contracts.item.ItemPartialEq.TheImpl.{ghosts}
+pub use Rattle.item_sets.specs.declared.collection.Origin.{Origin}
+pub use Rattle.item_sets.specs.declared.item.Item.{Item}
+pub use Rattle.item_sets.specs.declared.worklist.Entry.{Entry}
+pub use Rattle.theory.proofs.FirstLemmas.{HasTrees, first_by_rules, first_of_rules}
+pub use Rattle.theory.proofs.Rules.{rules_valid, valid_rules}
+pub use Rattle.theory.proofs.Sets.{Back, closed_set, goto_back, kernel_shows, not_empty}
+pub use Rattle.theory.proofs.Simulation.{roots-trees}
+pub use Rattle.theory.proofs.StackIsRead.{right_trees}
+pub use Rattle.theory.specs.Closure.{ByRules, Close, Goto, IsFirst, IsKernel, Start}
+pub use Rattle.theory.specs.First.{MayFollow}

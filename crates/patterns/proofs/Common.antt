@@ -1,0 +1,27 @@
+-- What the proofs of this crate cite of definitions, of types and of other crates, passed on from one place. Declares nothing.
+pub use Rattle.std.specs.List.{AllByRecursion, concat, list_all}
+pub use Rattle.std.specs.Result.{IfErr, IsErr, IsErrAnd}
+pub use Rattle.std.specs.Str.{chars}
+pub use Rattle.std.specs.declared.alloc.Global.{Global}
+pub use Rattle.std.proofs.Math.Nat.{lt_trans, pow-le-pow_right}
+pub use Rattle.std.proofs.lemmas.Bool.Decides.{nat_tests}
+pub use Rattle.std.proofs.lemmas.List.{append-nil}
+pub use Rattle.std.proofs.lemmas.List.Folds.{list_all-append}
+pub use Rattle.std.proofs.lemmas.Str.{chars_from_encodes}
+pub use Rattle.definitions.specs.PatternFaults.{ARepetition, AnAtom, Before, Dash, First, InClass, InLiteral, IsFault, Items, Nothing, Opened, Outside, char_in_class, closed, code_after, fault_from, is_everything, is_nothing, is_something, or_later}
+unfoldable pub use Rattle.definitions.specs.PatternFaults.{first_fault}
+pub use Rattle.definitions.specs.PatternText.{BadEscape, Escaped, Plain, Written, braced, digits, is_scalar, written}
+pub use Rattle.definitions.specs.Patterns.{IsJoin, IsNonemptyJoin, Matches, is_in_class, is_member, is_within}
+pub use Rattle.definitions.specs.Spelling.{Alt, Atom, IsBlank, IsClass, IsClassChar, IsClassRest, IsItem, IsLiteral, IsLiteralChar, IsLiteralRest, IsPattern, IsSign, IsWellMade, Level, Rep, Seq, Spells, SpellsAt, blank_after, blank_before, choice, class, group, literal, one_atom, one_rep, one_seq, optional, plus, sequence, star}
+pub use Rattle.definitions.specs.Text.{IsCharacter}
+pub use Rattle.definitions.specs.declared.expression.Expression.{Expression}
+pub use Rattle.definitions.specs.declared.expression.Expression.TheVariants.{Choice', Class, Literal, Optional', Plus', Sequence', Star'}
+pub use Rattle.definitions.specs.declared.expression.Interval.{Interval}
+pub use Rattle.definitions.specs.declared.expression.PatternCause.TheVariants.{MatchesEmpty, Syntax}
+pub use Rattle.definitions.specs.declared.expression.PatternFault.{PatternFault}
+pub use Rattle.patterns.specs.Empty.{is_empty, matches_empty}
+pub use Rattle.patterns.specs.Reading.{Begins, HasNoBlank, HasNoClassChar, HasNoLiteralChar, IsAtEnd, IsBlankAt, IsBlanks, IsClassBody, IsClassPrefix, IsClosed, IsItemPrefix, IsLiteralPrefix, IsPart, IsRead, IsRepeated, Reports, fault_at, place, place_of, stops, writing, written_as}
+pub use Rattle.patterns.specs.Sound.{is_range, is_sound}
+pub use Rattle.patterns.specs.declared.characters.Character.{Character}
+pub use Rattle.patterns.specs.declared.refusals.Refusal.{Refusal}
+pub use Rattle.patterns.specs.declared.refusals.Refusal.TheVariants.{Fault, Memory}

@@ -1,0 +1,71 @@
+-- What the proofs of this crate cite of definitions, of types and of other crates, passed on from one place. Declares nothing.
+pub use Rattle.std.specs.List.{list_any}
+pub use Rattle.std.specs.List.Sorted.{IsStrictlyIncreasing}
+pub use Rattle.std.proofs.Math.Dec.{eqb}
+pub use Rattle.std.proofs.Math.Seq.{append_snoc, drop-cons}
+pub use Rattle.std.proofs.lemmas.Bool.{cases_eq, cases_lt, eqb-true}
+pub use Rattle.std.proofs.lemmas.Bool.Decides.{Decides-eqb}
+pub use Rattle.std.proofs.lemmas.List.{append-nil, drop_all, get_or-drop, get_or-set_same, get_or_default, get_or_past, length-drop, length-set, length-take-le}
+pub use Rattle.std.proofs.lemmas.List.Elements.{All-head, All-push, All-tail, Contains-append_left, Contains-get_or, Contains-push, Contains-push_cases}
+pub use Rattle.std.proofs.lemmas.List.Folds.{Any-from_list_any}
+pub use Rattle.std.proofs.lemmas.Map.Made.{IsDistinct-from_AllPairs}
+pub use Rattle.std.proofs.lemmas.Map.Steps.{length-le_from_distinct_below}
+pub use Rattle.std.proofs.lemmas.Result.{IfErr-weaker, IfOk-weaker}
+pub use Rattle.definitions.proofs.Ordered.{Contains-cases, Contains-first, Contains-later, Contains-none}
+pub use Rattle.definitions.specs.Derivations.{IsLr1, first}
+pub use Rattle.definitions.specs.Items.{CallsFor, HasItem, HasMoreSetsThan, HasMove, HasNoConflict, HaveSameItems, IsConflict, IsValid, Item as LrItem, Move as LrMove, Shift as LrShift, kind_of}
+pub use Rattle.definitions.specs.Sentences.{AllProductive, FaultAt, FaultAtEnd, HasTree, IsExpected, IsSentence, IsTreeOf, IsVerdict, IsViable, Verdict}
+pub use Rattle.definitions.specs.Trees.{AreTrees, Branch, Cons, Forest, Grammar, HasDistinctProductions, HaveRoots, IsTree, Leaf, Nil, Production, Tree, yield, yields}
+pub use Rattle.definitions.specs.declared.Kind.{Kind}
+pub use Rattle.definitions.specs.declared.Kind.TheVariants.{Invalid, Rule as Token}
+pub use Rattle.definitions.specs.declared.Symbol.{Symbol}
+pub use Rattle.definitions.specs.declared.Symbol.TheVariants.{Nonterminal, Rule as Terminal}
+pub use Rattle.first_sets.proofs.Columns.{column_there, lookahead_at-rule, lookahead_small, rank-lookahead_at}
+pub use Rattle.first_sets.proofs.EachMore.{each_more}
+pub use Rattle.first_sets.proofs.SymbolNumbers.{symbol_of-number}
+pub use Rattle.first_sets.specs.Lookaheads.{lookahead_at, rank}
+pub use Rattle.first_sets.specs.Productions.{IsKnown, IsSound, Shape}
+pub use Rattle.first_sets.specs.Symbols.{number}
+pub use Rattle.item_sets.proofs.AddedKernels.{no_item}
+pub use Rattle.item_sets.proofs.FirstKernel.{same_sets, start_item, start_kernel}
+pub use Rattle.item_sets.proofs.GotosGrow.{step_goes_on}
+pub use Rattle.item_sets.proofs.InRange.{after_first_known, in_known}
+pub use Rattle.item_sets.proofs.Ordered.{rising_same}
+pub use Rattle.item_sets.proofs.Valid.{set_complete}
+pub use Rattle.item_sets.specs.Collection.{AreStates, Found, GoesOn, IsReached, IsRow, IsStep, kernel_at}
+pub use Rattle.item_sets.specs.Order.{IsInside, IsOrdered}
+pub use Rattle.item_sets.specs.Sets.{IsItem, item_of, side}
+pub use Rattle.item_sets.specs.States.{HasKernel, HasSet}
+pub use Rattle.item_sets.specs.declared.item.Item.{Item}
+pub use Rattle.tables.specs.Actions.{AddsMoves, AreAllMoves, AreMade, AreMoves, IsClashAt, IsMoveAt, IsOnlyMove, Made, plain}
+pub use Rattle.tables.specs.Decidable.{AreMovesDecided}
+pub use Rattle.tables.specs.Expected.{AreExpected, in_file_order, rules_with_move}
+pub use Rattle.tables.specs.Faults.{IsConflictOf, IsRight, RefutesLr1}
+pub use Rattle.tables.specs.Gotos.{AreGotos, HasSteps}
+pub use Rattle.tables.specs.Moves.{IsCall, IsDecision, SoFar, move_of}
+pub use Rattle.tables.specs.Rows.{AreChosen, IsChosen, IsClash, IsDecided, chosen}
+pub use Rattle.tables.specs.Tables.{AreTables, IsAccepted, IsAction, IsRightAt, IsStateOf, Sets, follower, goto_at, move_at, next_state, seen, shifted_to, state_from}
+unfoldable pub use Rattle.tables.specs.Tables.{state_after}
+pub use Rattle.tables.specs.declared.decisions.Decided.{Decided}
+pub use Rattle.tables.specs.declared.decisions.Decided.TheVariants.{Clash, Clash as AClash, Moves}
+pub use Rattle.tables.specs.declared.decisions.Move.{Move, Move as TableMove}
+pub use Rattle.tables.specs.declared.decisions.Move.TheVariants.{Accept, Reduce, Shift}
+pub use Rattle.tables.specs.declared.moves.Call.{Call}
+pub use Rattle.tables.specs.declared.moves.Call.TheVariants.{Accept as ToAccept, Reduce as ToReduce, Shift as ToShift}
+pub use Rattle.tables.specs.declared.moves.Decision.{Decision}
+pub use Rattle.tables.specs.declared.moves.Decision.TheVariants.{Agreed, Conflict, Nothing}
+pub use Rattle.tables.specs.declared.progress.ClashAt.{ClashAt}
+pub use Rattle.tables.specs.declared.tables.TableFault.{TableFault}
+pub use Rattle.tables.specs.declared.tables.TableFault.TheVariants.{Memory, TooManySets}
+pub use Rattle.theory.proofs.Knuth.{lr1_no_conflict, no_conflict_lr1}
+pub use Rattle.theory.proofs.LawProofs.{stack_exists}
+pub use Rattle.theory.proofs.OneTree.{one_tree_of_used}
+pub use Rattle.theory.proofs.Rules.{rules_valid, valid_rules}
+pub use Rattle.theory.proofs.Sets.{all_sets, goto_from}
+pub use Rattle.theory.proofs.Simulation.{roots-append}
+pub use Rattle.theory.proofs.Theorems.{move_iff_sentence, move_iff_viable}
+pub use Rattle.theory.proofs.Unique.{roots_unique}
+pub use Rattle.theory.proofs.Verdicts.{verdict_at_end, verdict_at_kind}
+pub use Rattle.theory.specs.Closure.{ByRules, Close, Goto, IsKernel, Start}
+pub use Rattle.theory.specs.Laws.{HasOneTreeEach}
+pub use Rattle.theory.specs.Machine.{IsStackAfter, StackHasMove, Stay}
