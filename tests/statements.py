@@ -18,6 +18,8 @@ WIDTH_OF_DEFINITIONS = 140
 CLAUSE = re.compile(r"^\s*(?:ensures|requires|invariant|ghost view)\b")
 GHOST_USE = re.compile(r"^[ \t]*ghost use [^;]*?\{([^}]*)\};", re.M)
 ANY_USE = re.compile(r"^[ \t]*(?:pub )?(?:ghost )?use [^;]*;|//[^\n]*", re.M)
+PASSED_ON = re.compile(r"^(?:unfoldable )?pub use \S+\.\{([^}]*)\}$", re.M)
+TAKEN = re.compile(r"^use Rattle\.\w+\.proofs\.Common\.\{([^}]*)\}$", re.M)
 
 
 def used_elsewhere(top, definitions):
@@ -75,6 +77,23 @@ def idle_imports(top):
     return idle
 
 
+def names_in(pattern, path):
+    """The names in the braces of what a pattern finds in a file: of a renamed one the new name."""
+    inner = ",".join(pattern.findall("\n".join(lines_of(path))))
+    return {name.split(" as ")[-1].strip() for name in inner.split(",")} - {""}
+
+
+def idle_in_common(top):
+    """The names that the module `Common` of a crate's proofs passes on, and that no other of its proofs takes from there."""
+    passed_on, taken = {}, {}
+    for path in files_of(top, "proofs", ".antt"):
+        crate, _, place = os.path.relpath(path, os.path.join(top, "crates")).partition(os.sep)
+        if place == os.path.join("proofs", "Common.antt"):
+            passed_on[crate] = names_in(PASSED_ON, path)
+        taken[crate] = taken.get(crate, set()) | names_in(TAKEN, path)
+    return sorted(f"{crate}: {name}" for crate, names in passed_on.items() for name in names - taken[crate])
+
+
 def wrong_edits(top):
     """How many edits there are that the check has to refuse."""
     folders = (os.path.join(top, "crates", crate, "must-fail") for crate in os.listdir(os.path.join(top, "crates")))
@@ -116,4 +135,5 @@ def check(cases, top):
     cases.check("no line of a contract is too wide", [], wide_clauses(top))
     cases.check("no line of a definition is too wide", [], wide_definitions(top))
     cases.check("each name that a contract's file brings in is named there", [], idle_imports(top))
+    cases.check("each name that a `proofs/Common` passes on is taken from there", [], idle_in_common(top))
     cases.check("README.md has at most 1,800 words", True, len(page(top, "README.md").split()) <= 1_800)
