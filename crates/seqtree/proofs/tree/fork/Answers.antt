@@ -1,3 +1,4 @@
+use Rattle.std.proofs.lemmas.Grind.{common_steps}
 use Rattle.std.proofs.Common.{arith, rules}
 use Rattle.seqtree.proofs.HeightBound.{IsLow-fork, high-fork}
 use Rattle.seqtree.proofs.Totals.{total-around}
@@ -13,3 +14,6 @@ invariant_of-node g c = record {
   fits = omega arith;
   all_is = cc (total-around g.T.Measured.measure g.met.T.Sum.Monoid.laws _ c.node.inside.item _);
 }
+
+pub returns-clause-items : goal.returns-clause-items
+returns-clause-items g c = grind (arith, common_steps)
