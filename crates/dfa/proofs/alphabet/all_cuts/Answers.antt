@@ -1,4 +1,5 @@
-use Rattle.std.proofs.Common.{◌+◌, drop, ap}
+use Rattle.std.proofs.lemmas.Grind.{common_steps}
+use Rattle.std.proofs.Common.{◌+◌, drop, ap, arith}
 use Rattle.dfa.proofs.Common.{all_cuts, cuts}
 use Rattle.dfa.proofs.JoinedLists.{one_more}
 use Rattle.dfa.proofs.Loops.{at_element}
@@ -14,3 +15,6 @@ loop-pattern-preserved c =
       cuts = one_more c.cuts.new.out.items c.loop-pattern.out.items (cuts e) (all_cuts (drop i rules)) (all_cuts (drop (i + 1) rules)) (all_cuts rules) c.in_ok-cuts.ensures.cuts (ap all_cuts here) c.loop-pattern.invariant.cuts;
       characters = c.in_ok-cuts.ensures.characters c.loop-pattern.invariant.characters;
     }
+
+pub returns-clause-cuts : goal.returns-clause-cuts
+returns-clause-cuts c = grind (arith, common_steps)

@@ -1,4 +1,5 @@
-use Rattle.std.proofs.Common.{◌+◌, ◌++◌, ◌∷◌, drop, sym, ap, ◌∙◌, subst}
+use Rattle.std.proofs.lemmas.Grind.{common_steps}
+use Rattle.std.proofs.Common.{◌+◌, ◌++◌, ◌∷◌, drop, sym, ap, ◌∙◌, subst, arith}
 use Rattle.dfa.proofs.Common.{at_drop_more, IsWellMade, all_positions, unmarked, positions}
 use Rattle.dfa.proofs.JoinedLists.{one_more, unmarked-add, all_made}
 use Rattle.dfa.proofs.build.blank_marks.Goals as goal
@@ -16,3 +17,9 @@ loop-pattern-preserved c =
       blank = one_more c.blank.new.out.items c.loop-pattern.marks.items (unmarked (positions x)) (unmarked (all_positions (drop i xs))) (unmarked later) (unmarked (all_positions xs)) new (ap unmarked at ∙ sym (unmarked-add (positions x) later)) c.loop-pattern.invariant.blank;
       made = λ h. c.loop-pattern.invariant.made (all_made xs i x c.loop-pattern-test.true (sym c.pattern-item.is) made h);
     }
+
+pub returns-clause-blank : goal.returns-clause-blank
+returns-clause-blank c = grind (arith, common_steps)
+
+pub returns-clause-made : goal.returns-clause-made
+returns-clause-made c = grind (arith, common_steps)

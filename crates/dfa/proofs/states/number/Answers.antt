@@ -1,3 +1,4 @@
+use Rattle.std.proofs.lemmas.Grind.{common_steps}
 use Rattle.std.proofs.Common.{arith}
 use Rattle.dfa.proofs.Common.{members}
 use Rattle.dfa.proofs.Numbered.{placed, numbered_key, placed_bound}
@@ -17,3 +18,6 @@ returns-then-number-lt-MOST_STATES-clause-bound c = λ le.
 
 pub returns-else-number-lt-MOST_STATES-clause-placed : goal.returns-else-number-lt-MOST_STATES-clause-placed
 returns-else-number-lt-MOST_STATES-clause-placed c = placed c.args.sets.now.keys c.insert_full.new.self.keys c.args.set c.in-Ok.ensures.keys
+
+pub returns-else-number-lt-MOST_STATES-clause-many : goal.returns-else-number-lt-MOST_STATES-clause-many
+returns-else-number-lt-MOST_STATES-clause-many c = grind (arith, common_steps)

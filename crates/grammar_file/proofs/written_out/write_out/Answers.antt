@@ -1,3 +1,4 @@
+use Rattle.std.proofs.lemmas.Grind.{common_steps}
 use Rattle.std.proofs.Common.{◌≡◌, ◌++◌, ◌∙◌, ap, arith, rules, take_all}
 use Rattle.grammar_file.proofs.Common.{flat_map, added, marked, texts, lines_view}
 use Rattle.grammar_file.proofs.WritingOut.{added_more}
@@ -19,3 +20,6 @@ returns-clause-statements c =
     c.loop-word.invariant.statements
     ∙ ap (λ ws. ss ++ flat_map added (texts ws)) (take_all c.loop-word.word-index c.deref-word-items.result.now (omega (arith, c.loop-word-test.false)))
     ∙ ap (λ ws. ss ++ flat_map added ws) words
+
+pub add_productions-requires-clause-few : goal.add_productions-requires-clause-few
+add_productions-requires-clause-few c = grind (arith, common_steps)

@@ -1,3 +1,4 @@
+use Rattle.std.proofs.lemmas.Grind.{common_steps}
 use Rattle.std.proofs.Common.{ℕ, ◌<◌, ◌≤◌, ◌^◌, arith, lit<}
 use Rattle.patterns.proofs.Common.{pow-le-pow_right}
 use Rattle.patterns.proofs.characters.by_number.Goals as goal
@@ -10,3 +11,21 @@ overflow_mul-value c = let h = below c.loop-count.count c.loop-count.value (omeg
 
 pub overflow_add-value : goal.overflow_add-value
 overflow_add-value c = let h = below c.loop-count.count c.loop-count.value (omega arith) c.loop-count.invariant.1 in omega (arith, c.in_ok-digit.ensures.value)
+
+pub returns-then-branch-ne123 : goal.returns-then-branch-ne123
+returns-then-branch-ne123 c = grind (arith, common_steps)
+
+pub returns-in-loop-count : goal.returns-in-loop-count
+returns-in-loop-count c = grind (arith, common_steps)
+
+pub loop-count-preserved : goal.loop-count-preserved
+loop-count-preserved c = grind (arith, common_steps)
+
+pub returns-in_err-digit : goal.returns-in_err-digit
+returns-in_err-digit c = grind (arith, common_steps)
+
+pub returns-then-count-eq6 : goal.returns-then-count-eq6
+returns-then-count-eq6 c = grind (arith, common_steps)
+
+pub loop-count-init : goal.loop-count-init
+loop-count-init c = grind (arith, common_steps)

@@ -1,4 +1,5 @@
-use Rattle.std.proofs.Common.{ℕ, [], ◌∷◌, refl, sym, ◌∙◌, ap, subst}
+use Rattle.std.proofs.lemmas.Grind.{common_steps}
+use Rattle.std.proofs.Common.{ℕ, [], ◌∷◌, refl, sym, ◌∙◌, ap, subst, arith}
 use Rattle.patterns.proofs.Common.{Plain, InClass, Items, fault_from, IsClassChar, writing, place}
 use Rattle.patterns.proofs.Literals.{no_item, no_last, first_step}
 use Rattle.patterns.proofs.classes.item.Goals as goal
@@ -31,3 +32,6 @@ returns-clause-spelled c =
     let P : ℕ → Type 0 = λ x. IsClassChar x h.0.0 in
     let Q : ℕ → Type 0 = λ x. IsClassChar x k.0.0 in
     (h.0.0 ∷ Plain c.in-Some-strip.field-0-0 45 ∷ k.0.0 ∷ [], h.0.1 ∙ ap (λ x. h.0.0 ∷ x) (g.0 ∙ ap (λ x. Plain c.in-Some-strip.field-0-0 45 ∷ x) k.0.1), (subst P (sym c.range-2.ensures.first) h.0.3, refl, subst Q (sym c.range-2.ensures.last) k.0.3))
+
+pub returns-in_default-strip-clause-goes_on : goal.returns-in_default-strip-clause-goes_on
+returns-in_default-strip-clause-goes_on c = grind (arith, common_steps)

@@ -1,4 +1,5 @@
-use Rattle.std.proofs.Common.{◌∙◌, ap, sym, subst, length}
+use Rattle.std.proofs.lemmas.Grind.{common_steps}
+use Rattle.std.proofs.Common.{◌∙◌, ap, sym, subst, length, arith}
 use Rattle.trees.proofs.Common.{IsBelow, unpack}
 use Rattle.trees.proofs.Slides.{same_next, unpacked_below}
 use Rattle.trees.proofs.node.rename_numbers.Goals as goal
@@ -8,3 +9,6 @@ bounds-names-id c =
     let i = c.loop-number.number-index in
     let same = same_next c.loop-number.numbers c.args.numbers.now i 0 c.loop-number.invariant.rest in
     subst (IsBelow (length c.args.names.now)) (ap unpack (sym same) ∙ sym c.unpack.ensures ∙ c.in-Node.is) (unpacked_below (length c.args.names.now) c.args.numbers.now i 0 c.requires.below c.loop-number-test.true)
+
+pub loop-number-preserved : goal.loop-number-preserved
+loop-number-preserved c = grind (arith, common_steps)

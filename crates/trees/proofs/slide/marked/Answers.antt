@@ -1,3 +1,4 @@
+use Rattle.std.proofs.lemmas.Grind.{common_steps}
 use Rattle.std.proofs.Common.{rules, ◌≡◌, ◌<◌, ◌++◌, drop, length, get_or, take, set, true, sym, ap, ◌∙◌, subst, arith}
 use Rattle.trees.proofs.Common.{append-nil, drop_all, length-set, take_all, take_more, nodes, AreMarked}
 use Rattle.trees.proofs.Copies.{root_below}
@@ -29,3 +30,9 @@ returns-clause-roots c =
     let is : take c.loop-root.marks.len (new ++ drop (length new) marks) ≡ new = ap (λ l. take c.loop-root.marks.len (new ++ l)) (drop_all (length new) marks (omega (arith, same))) ∙ ap (take c.loop-root.marks.len) (append-nil new) ∙ take_all c.loop-root.marks.len new (omega (arith, n, same)) in
     let before : AreMarked c.deref_mut.result.now (nodes roots) = (subst (λ l. AreMarked l (nodes roots)) (sym c.deref_mut.ensures.value) (subst (λ l. AreMarked marks (nodes l)) (take_all c.loop-root.root-index roots c.loop-root-test.false) c.loop-root.invariant.marked)) in
     subst (λ l. AreMarked l (nodes roots)) (sym is) (c.mark_below.ensures.kept (nodes roots) before)
+
+pub returns-clause-closed : goal.returns-clause-closed
+returns-clause-closed c = grind (arith, common_steps)
+
+pub returns-clause-long : goal.returns-clause-long
+returns-clause-long c = grind (arith, common_steps)

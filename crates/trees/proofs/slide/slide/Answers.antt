@@ -31,3 +31,12 @@ returns-clause-count c = grind (arith, common_steps)
 
 pub returns-clause-trees : goal.returns-clause-trees
 returns-clause-trees c = grind (arith, common_steps)
+
+pub swap-requires-clause-i_in_bounds : goal.swap-requires-clause-i_in_bounds
+swap-requires-clause-i_in_bounds c = grind (arith, common_steps)
+
+pub index_mut-requires : goal.index_mut-requires
+index_mut-requires c = grind (arith, common_steps)
+
+pub rename-requires-clause-lower : goal.rename-requires-clause-lower
+rename-requires-clause-lower c = grind (arith, common_steps)

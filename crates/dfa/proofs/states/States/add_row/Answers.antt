@@ -1,3 +1,4 @@
+use Rattle.std.proofs.lemmas.Grind.{common_steps}
 use Rattle.std.proofs.Common.{◌≡◌, ◌∷◌, [], ◌++◌, length, ap, sym, ◌∙◌, subst, arith}
 use Rattle.dfa.proofs.Common.{AreRows, AreStates, members}
 use Rattle.dfa.proofs.AddedRow.{parts_rise, within_parts}
@@ -71,3 +72,6 @@ returns-clause-rows c = λ rules starts a r.
     let states : AreStates rules new = c.in_ok-add_entries.ensures.states rules r.states (row_reached rules starts c.args.trees.now c.args.parts.now a c.args.self.now.sets.keys c.len-at.result c.index-set.result.now c.index-set.ensures c.deref-2.result.now c.in_ok-followers.followers.items c.deref-9.result.now c.deref-2.ensures.value c.in_ok-followers.ensures c.deref-9.ensures.value r.states) in
     let pushed : c.push.new.self.items ≡ accepts ++ c.first_end-rule.result ∷ [] = c.in_ok-push.ensures.items ∙ ap (λ v. v.items ++ c.first_end-rule.result ∷ []) c.in_ok-add_entries.ensures.accepts in
     subst (λ x. AreRows rules starts new c.add_entries.new.self.next.items x) (sym pushed) (row_made rules starts c.args.trees.now c.args.parts.now a c.args.self.now.sets.keys c.len-at.result c.index-set.result.now c.index-set.ensures new c.args.self.now.next.items c.add_entries.new.self.next.items accepts c.first_end-rule.result c.deref-2.result.now c.deref-4.result.now c.in_ok-followers.followers.items c.deref-9.result.now at c.deref-2.ensures.value c.deref-4.ensures.value c.in_ok-followers.ensures c.deref-9.ensures.value c.first_end-rule.ensures r states c.in_ok-add_entries.ensures.grows (c.in_ok-add_entries.ensures.bound r.bound) c.in_ok-add_entries.ensures.entries)
+
+pub index-set-requires : goal.index-set-requires
+index-set-requires c = grind (arith, common_steps)
