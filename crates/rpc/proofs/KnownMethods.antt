@@ -3,7 +3,7 @@ use Rattle.std.proofs.Common.{◌≡◌, ℕ, List, sym, subst, Result}
 use Rattle.serde_json.specs.Data.{Data}
 use Rattle.rpc.specs.declared.message.Message.{Message}
 use Rattle.rpc.specs.declared.message.RpcFault.{RpcFault}
-use Rattle.rpc.specs.Messages.{Ident}
+use Rattle.replies.specs.Ids.{Ident}
 use Rattle.rpc.specs.Reading.{request_of, Gives}
 
 pub gives_at : (r : Result Message RpcFault) (method known : List ℕ) (id : Ident) (d : Data) → method ≡ known → Gives r (request_of known id d) → Gives r (request_of method id d)

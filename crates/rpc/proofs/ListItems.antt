@@ -1,10 +1,8 @@
--- What is read of each item of a list, and what is sent of it, item by item.
-use Rattle.std.proofs.Common.{◌≡◌, ℕ, suc, ◌+◌, ◌<◌, ◌≤◌, List, [], ◌∷◌, ◌++◌, length, drop, get_or, refl, sym, ap, ◌∙◌, subst, Option, Some, None, option_map}
-use Rattle.std.proofs.lemmas.List.{at_drop_more, at_drop_all, drop_more, drop_all, append_assoc, append-nil}
-use Rattle.serde.specs.Event.{Log, Logs, seq_begins, seq_ends}
+-- What is read of each item of a list, item by item.
+use Rattle.std.proofs.Common.{◌≡◌, ℕ, ◌+◌, ◌<◌, ◌≤◌, List, [], ◌∷◌, ◌++◌, length, drop, get_or, refl, sym, ap, ◌∙◌, Option, Some, None, option_map}
+use Rattle.std.proofs.lemmas.List.{at_drop_more, at_drop_all, append_assoc, append-nil}
 use Rattle.serde_json.specs.declared.value.Value.{Value}
-use Rattle.serde_json.specs.Data.{Data, Items, no_items, item, array}
-use Rattle.serde_json.specs.Events.{items_len, SendsValue, SendsItems}
+use Rattle.serde_json.specs.Data.{Data, Items, no_items, item}
 use Rattle.serde_json.specs.View.{view, items_view}
 use Rattle.rpc.specs.Reading.{first_and}
 
@@ -43,23 +41,3 @@ module _ {Y : Type 0} (one : Data → Option Y) (all : Items → Option (List Y)
       sym (so_far
       ∙ ap (option_map (λ rest. ys ++ rest)) (at_drop_all (λ l. all (items_view l)) values k past ∙ none_left)
       ∙ ap (λ l. Some l) (append-nil ys))
-
--- a sending of items, each by what `one` says of it
-module _ {A : Type 0} (one : A → Data) (all : List A → Items) (none_left : all [] ≡ no_items) (one_left : (x : A) (xs : List A) → all (x ∷ xs) ≡ item (one x) (all xs)) where
-  -- where the item at place k was sent, and then those after it, those from k on were sent
-  pub sent_more : (xs : List A) (k : ℕ) (d : A) (before mid end : Log) → k < length xs → SendsValue (one (get_or xs k d)) before mid → SendsItems (all (drop (k + 1) xs)) mid end → SendsItems (all (drop k xs)) before end
-  sent_more xs k d before mid end within first rest =
-      subst (λ ds. SendsItems ds before end) (sym (ap all (drop_more xs k d within) ∙ one_left (get_or xs k d) (drop (k + 1) xs))) (mid, first, rest)
-
-  len_of : (xs : List A) → items_len (all xs) ≡ length xs
-  len_of [] = ap items_len none_left
-  len_of (x ∷ xs) = ap items_len (one_left x xs) ∙ ap suc (len_of xs)
-
-  -- the array of all of them, where whatever sends those from k on sends all, and there are none
-  pub all_sent : (xs : List A) (k : ℕ) (old first before end : Log) → length xs ≤ k → Logs old first (seq_begins (Some (length xs))) → Logs before end seq_ends
-      → ((e : Log) → SendsItems (all (drop k xs)) before e → SendsItems (all xs) first e) → SendsValue (array (all xs)) old end
-  all_sent xs k old first before end past begun ended so_far = (
-    first,
-    subst (λ n. Logs old first (seq_begins (Some n))) (sym (len_of xs)) begun,
-    so_far end (subst (λ ds. SendsItems ds before end) (sym (ap all (drop_all k xs past) ∙ none_left)) ended),
-  )

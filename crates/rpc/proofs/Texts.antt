@@ -12,7 +12,8 @@ use Rattle.serde_json.specs.Read.{read}
 use Rattle.definitions.specs.declared.Position.{Position}
 use Rattle.definitions.specs.declared.Range.{Range}
 use Rattle.rpc.specs.Fields.{integer_of, text_at}
-use Rattle.rpc.specs.Messages.{Ident, numbered, Question, its_text, its_tokens, its_tree, its_folds, initialize, shutdown, initialized, exit, ignored, unknown, TextChange, Notification, Received, refused, invalid, params, accepted, request, notification}
+use Rattle.replies.specs.Ids.{Ident, numbered}
+use Rattle.rpc.specs.Messages.{Question, its_text, its_tokens, its_tree, its_folds, initialize, shutdown, initialized, exit, ignored, unknown, TextChange, Notification, Received, refused, invalid, params, accepted, request, notification}
 use Rattle.rpc.specs.Reading.{ident_of, id_at, uri_at, version_at, document_text, maybe_range, change_with, change_of, first_and, changes_of, changes_at, positions_at, unit_at, document_request, stats_request, selections_request, request_of, open_notification, read_open, change_notification, read_change, close_notification, read_close, notification_of, of_method, is_reply, is_invalid, params_at, message_of, value_of, received_as, Receives}
 use Rattle.rpc.specs.Texts.{IsSpelled, id_texts, notification_texts, texts_of}
 use Rattle.rpc.proofs.Strings.{if_map, if_then}

@@ -1,11 +1,15 @@
 pub mod Fields
 pub mod Messages
 pub mod Reading
-pub mod Replies
-pub mod Sending
 pub mod Texts
 pub use Rattle.definitions.specs.declared.Diagnostic
 pub use Rattle.definitions.specs.declared.Range
 pub use Rattle.definitions.specs.declared.Stats
 pub use Rattle.definitions.specs.declared.Unit
+pub use Rattle.replies.specs.Ids
+pub use Rattle.replies.specs.Replies
+pub use Rattle.replies.specs.declared.reply.Log
+pub use Rattle.replies.specs.declared.reply.Loss
+pub use Rattle.replies.specs.declared.reply.Refusal
+pub use Rattle.replies.specs.declared.reply.Reply
 pub use Rattle.serde_json.specs.Written

@@ -3,8 +3,7 @@ use Rattle.std.specs.Prelude.{ℤ, ℕ, Bool, List, map, Option, Some, None, Res
 use Rattle.definitions.specs.declared.Position.{Position}
 use Rattle.definitions.specs.declared.Range.{Range}
 use Rattle.definitions.specs.declared.Unit.{Unit as Encoding}
-use Rattle.rpc.specs.declared.message.Id.{Id}
-use Rattle.rpc.specs.declared.message.Id.TheVariants.{Text, Number}
+use Rattle.replies.specs.Ids.{Ident, id_view}
 use Rattle.rpc.specs.declared.message.Change.{Change}
 use Rattle.rpc.specs.declared.message.Call.{Call}
 use Rattle.rpc.specs.declared.message.Call.TheVariants as call
@@ -16,11 +15,6 @@ use Rattle.rpc.specs.declared.message.Message.{Message}
 use Rattle.rpc.specs.declared.message.Message.TheVariants as message
 use Rattle.rpc.specs.declared.message.RpcFault.{RpcFault}
 use Rattle.rpc.specs.declared.message.RpcFault.TheVariants as fault
-
--- what a request is named by: a text or a whole number
-pub data Ident : Type 0 where
-  named : List ℕ → Ident
-  numbered : ℤ → Ident
 
 -- what a request asks about a document: its text, its tokens, its tree, its folds, or selections at some positions
 pub data Question : Type 0 where
@@ -76,11 +70,6 @@ pub data Received : Type 0 where
   unread : Received
   refused : Refused → Received
   accepted : ReceivedMessage → Received
-
--- `id_view id`: an id of the code as an `Ident`
-abbrev pub id_view : Id → Ident
-id_view (Text s) = named (string_bytes s)
-id_view (Number z) = numbered z
 
 -- `call_view call`: a call of the code as a `Request`
 abbrev pub call_view : Call → Request

@@ -13,7 +13,8 @@ use Rattle.definitions.specs.declared.Unit.TheVariants.{Utf8, Utf16, Utf32}
 use Rattle.rpc.specs.declared.message.Message.{Message}
 use Rattle.rpc.specs.declared.message.RpcFault.{RpcFault}
 use Rattle.rpc.specs.Fields.{integer_of, text_at, integer_at, natural_at, has_key}
-use Rattle.rpc.specs.Messages.{Ident, named, numbered, Question, its_text, its_tokens, its_tree, its_folds, its_selections, initialize}
+use Rattle.replies.specs.Ids.{Ident, named, numbered}
+use Rattle.rpc.specs.Messages.{Question, its_text, its_tokens, its_tree, its_folds, its_selections, initialize}
 use Rattle.rpc.specs.Messages.{shutdown, about, stats, TextChange, unfit_open, unfit_change, unfit_close, Notification, initialized, exit}
 use Rattle.rpc.specs.Messages.{open_text, change_text, close, malformed, request, notification, ignored, invalid, unknown, params, Received}
 use Rattle.rpc.specs.Messages.{unread, refused, accepted, received_of}

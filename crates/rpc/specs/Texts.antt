@@ -1,7 +1,8 @@
 -- The texts of what is received.
 use Rattle.std.specs.Prelude.{◌≡◌, ℕ, true, List, [], ◌∷◌, ◌++◌, map, Some, None, encode_utf8_all}
 use Rattle.std.specs.Str.{all_scalars, chars}
-use Rattle.rpc.specs.Messages.{Ident, named, numbered, Request, initialize, shutdown, about, stats, Notification, initialized, exit}
+use Rattle.replies.specs.Ids.{Ident, named, numbered}
+use Rattle.rpc.specs.Messages.{Request, initialize, shutdown, about, stats, Notification, initialized, exit}
 use Rattle.rpc.specs.Messages.{open_text}
 use Rattle.rpc.specs.Messages.{change_text, close, malformed, unfit_open, unfit_change, unfit_close, request, notification, ignored}
 use Rattle.rpc.specs.Messages.{invalid}

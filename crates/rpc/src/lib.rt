@@ -1,25 +1,21 @@
-//! Messages, replies and notifications (JSON-RPC 2.0; LSP 3.17): which message a content is, and the JSON of what is
-//! sent.
+//! Messages (JSON-RPC 2.0; LSP 3.17): which message a content is.
 //!
-//! `read` returns the message that a content is, and `to_bytes` writes what is sent, as compact JSON with its keys in
-//! order. An `RpcFault` says that a content is no JSON or no message, that a request has an unknown method or invalid
-//! parameters, or that memory ran out.
+//! `read` returns the message that a content is. An `RpcFault` says that a content is no JSON or no message, that a
+//! request has an unknown method or invalid parameters, or that memory ran out. What is sent is in `replies`: this crate
+//! has its public names too, so a caller needs to know only `rpc`.
 //!
-//! Words: a `Message` is a request (a `Call` with its `Id`), a notification (a `Note`), or one that is ignored; a
-//! `Reply` is a result, an error, published diagnostics or a log message.
+//! Words: a `Message` is a request (a `Call` with its `Id`), a notification (a `Note`), or one that is ignored.
 //!
 //! Limits: numeric ids and versions have 32 bits; a content that is nested deeper than `serde_json` reads counts as no
-//! JSON. Both calls cost the content.
+//! JSON. A call costs the content.
 //!
 //! ```
 //! let content = br#"{"jsonrpc":"2.0","id":7,"method":"shutdown"}"#;
-//! let message = read(alloc, content).ok()?;
-//! let Message::Request(id, _) = message else {
+//! let Message::Request(Id::Number(id), _) = read(alloc, content).ok()? else {
 //!     return None;
 //! };
-//! let bytes = to_bytes(alloc, &Reply::Null { id }).ok()?;
-//! println!(rt; "{}", str::from_utf8(&bytes).unwrap_or("")).ok()
-//! // {"id":7,"jsonrpc":"2.0","result":null}
+//! println!(rt; "request {id}").ok()
+//! // request 7
 //! ```
 #![tactic(auto)]
 
@@ -28,12 +24,9 @@ mod laws;
 mod message;
 mod parts;
 mod reading;
-mod reply;
-mod sending;
 
 pub use definitions::{Diagnostic, Position, Range, Stats, Unit};
 pub use laws::{each_text_is_unicode, received_exists, received_unique};
-pub use message::{Call, Change, Id, Malformed, Message, Note, RpcFault};
+pub use message::{Call, Change, Malformed, Message, Note, RpcFault};
 pub use reading::read;
-pub use reply::{Log, Loss, Refusal, Reply, Row};
-pub use sending::to_bytes;
+pub use replies::{Id, Log, Loss, Refusal, Reply, Row, to_bytes};

@@ -4,15 +4,9 @@ ghost use Rattle.std.specs.Prelude.{◌≡◌};
 ghost use Rattle.rpc.specs.declared.message.RpcFault.TheVariants.{Memory};
 
 use definitions::{Position, Range, Unit};
+use replies::Id;
 use std::alloc::{AllocError, AllocFailed};
 use thiserror::Error;
-
-/// What a request is named by, and its reply with it (JSON-RPC 2.0, "Request object").
-#[derive(Debug, Drop)]
-pub enum Id {
-    Text(String),
-    Number(i32),
-}
 
 /// A text for a range, or for the whole document where there is none
 /// (LSP 3.17, "TextDocumentContentChangeEvent").

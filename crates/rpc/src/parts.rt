@@ -3,12 +3,12 @@
 ghost use Rattle.std.specs.Prelude.{◌≡◌, codes, option_map, IfOk};
 ghost use Rattle.serde_json.specs.View.{view, items_view};
 ghost use Rattle.rpc.specs.Fields.{text_at};
-ghost use Rattle.rpc.specs.Messages.{id_view};
+ghost use Rattle.replies.specs.Ids.{id_view};
 ghost use Rattle.rpc.specs.Reading.{ident_of, id_at, uri_at, version_at, document_text, position_of, position_at, positions_of, positions_at, range_of, unit_named, unit_of, first_unit, encodings_at, unit_at, is_text, is_reply, is_invalid};
 
 use crate::fields::{has_key, integer_at, integer_of, natural_at, text_at};
-use crate::message::Id;
 use definitions::{Position, Range, Unit};
+use replies::Id;
 use serde_json::Value;
 use std::alloc::{AllocError, Global};
 

@@ -4,15 +4,17 @@ ghost use Rattle.std.specs.Prelude.{◌≡◌, Some, codes, map, option_map, IfO
 ghost use Rattle.serde_json.specs.Find.{get};
 ghost use Rattle.serde_json.specs.View.{view, items_view};
 ghost use Rattle.rpc.specs.Fields.{text_at};
-ghost use Rattle.rpc.specs.Messages.{accepted, refused, params, its_text, its_tokens, its_tree, its_folds, id_view, change_view, note_view, message_view, fault_view, received_of};
+ghost use Rattle.replies.specs.Ids.{id_view};
+ghost use Rattle.rpc.specs.Messages.{accepted, refused, params, its_text, its_tokens, its_tree, its_folds, change_view, note_view, message_view, fault_view, received_of};
 ghost use Rattle.rpc.specs.Reading.{maybe_range, change_of, changes_of, changes_at, read_open, read_change, read_close, initialize_request, document_request, stats_request, selections_request, request_of, notification_of, of_method, message_of, uri_at, positions_at, params_at, Gives, Receives};
 
 use crate::fields::text_at;
-use crate::message::{Call, Change, Id, Malformed, Message, Note, RpcFault};
+use crate::message::{Call, Change, Malformed, Message, Note, RpcFault};
 use crate::parts::{
     document_text, id_at, is_invalid, is_reply, positions_at, range_of, unit_at, uri_at, version_at,
 };
 use definitions::Range;
+use replies::Id;
 use serde_json::Value;
 use std::alloc::{AllocError, Global};
 

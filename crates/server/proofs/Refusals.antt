@@ -2,8 +2,8 @@
 use Rattle.std.proofs.Common.{◌≡◌, Result, Err}
 use Rattle.docs.specs.declared.doc.DocFault.{DocFault}
 use Rattle.docs.specs.declared.doc.DocFault.TheVariants as fault
-use Rattle.rpc.specs.declared.reply.Loss.{Loss}
-use Rattle.rpc.specs.declared.reply.Loss.TheVariants.{TooLarge, Memory}
+use Rattle.rpc.specs.Loss.{Loss}
+use Rattle.rpc.specs.Loss.TheVariants.{TooLarge, Memory}
 use Rattle.server.specs.Losses.{loss_of}
 
 -- by how a change is refused

@@ -3,7 +3,7 @@
 ghost use Rattle.std.specs.Prelude.{◌≡◌, map, IfOk};
 ghost use Rattle.docs.specs.Answers.{Reads, rows};
 ghost use Rattle.docs.specs.Docs.{open_document, IsCurrent};
-ghost use Rattle.rpc.specs.Messages.{id_view};
+ghost use Rattle.rpc.specs.Ids.{id_view};
 ghost use Rattle.rpc.specs.Replies.{reply_view, row_view};
 ghost use Rattle.sessions.specs.Answers.{IsAnswerOf, IsPublished};
 ghost use Rattle.steps.specs.Questions.{question_view};

@@ -9,10 +9,11 @@ use Rattle.readings.specs.Answers.{AnswersOnce}
 use Rattle.readings.specs.Edits.{CountsOnce}
 use Rattle.readings.specs.Texts.{LastEdit, OpenDocument}
 use Rattle.readings.specs.Grammars.{FileGrammar}
-use Rattle.rpc.specs.Messages.{Ident, Request, initialize, shutdown, about, stats, Question, Notification, initialized, exit, open_text, change_text, close, malformed, unfit_open, unfit_change, unfit_close, request, notification, ignored, Received, unread, refused, accepted, TextChange}
+use Rattle.rpc.specs.Ids.{Ident}
+use Rattle.rpc.specs.Messages.{Request, initialize, shutdown, about, stats, Question, Notification, initialized, exit, open_text, change_text, close, malformed, unfit_open, unfit_change, unfit_close, request, notification, ignored, Received, unread, refused, accepted, TextChange}
 use Rattle.rpc.specs.Replies.{Answer, published_diagnostics, log_message, stats_reply}
-use Rattle.rpc.specs.declared.reply.Log.TheVariants.{Lost}
-use Rattle.rpc.specs.declared.reply.Loss.TheVariants.{TooLarge, MalformedChange, Memory}
+use Rattle.rpc.specs.Log.TheVariants.{Lost}
+use Rattle.rpc.specs.Loss.TheVariants.{TooLarge, MalformedChange, Memory}
 use Rattle.sessions.specs.Alone.{named, AreAlikeFor, loses, loses_memory, SameFor, EachDocumentIsAlone}
 use Rattle.sessions.specs.Answers.{IsAnswer, IsCount, IsPublished, but_nodes}
 use Rattle.sessions.specs.Documents.{DocumentState, is_open, is_lost, Becomes, IsLastAfter, has_room}

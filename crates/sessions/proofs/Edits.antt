@@ -9,8 +9,8 @@ use Rattle.readings.specs.Texts.{LastEdit, OpenDocument, fits}
 use Rattle.readings.specs.Grammars.{FileGrammar}
 use Rattle.rpc.specs.Messages.{TextChange, change_view}
 use Rattle.rpc.specs.declared.message.Change.{Change}
-use Rattle.rpc.specs.declared.reply.Loss.{Loss}
-use Rattle.rpc.specs.declared.reply.Loss.TheVariants.{TooLarge, Memory}
+use Rattle.rpc.specs.Loss.{Loss}
+use Rattle.rpc.specs.Loss.TheVariants.{TooLarge, Memory}
 use Rattle.sessions.specs.Documents.{DocumentState, is_open, is_lost, edited, Becomes, IsLastAfter}
 
 module _ (encoding : Encoding) where

@@ -6,9 +6,10 @@ use Rattle.std.proofs.lemmas.List.Elements.{All-from_recursion}
 use Rattle.rpc.specs.Unit.{Unit as Encoding}
 use Rattle.readings.specs.Texts.{OpenDocument, fits}
 use Rattle.readings.specs.Grammars.{FileGrammar}
-use Rattle.rpc.specs.Messages.{Ident, Request, initialize, shutdown, about, stats, Question, its_text, its_tokens, its_tree, its_folds, its_selections, Notification, initialized, exit, open_text, change_text, close, malformed, Unfit, unfit_open, unfit_change, unfit_close, request, notification, ignored, invalid, unknown, params, Received, unread, refused, accepted, TextChange}
+use Rattle.rpc.specs.Ids.{Ident}
+use Rattle.rpc.specs.Messages.{Request, initialize, shutdown, about, stats, Question, its_text, its_tokens, its_tree, its_folds, its_selections, Notification, initialized, exit, open_text, change_text, close, malformed, Unfit, unfit_open, unfit_change, unfit_close, request, notification, ignored, invalid, unknown, params, Received, unread, refused, accepted, TextChange}
 use Rattle.rpc.specs.Replies.{Answer}
-use Rattle.rpc.specs.declared.reply.Loss.TheVariants.{TooLarge, MalformedChange}
+use Rattle.rpc.specs.Loss.TheVariants.{TooLarge, MalformedChange}
 use Rattle.sessions.specs.declared.phase.Phase.{Phase}
 use Rattle.sessions.specs.declared.phase.Phase.TheVariants.{New, Ready, Down}
 use Rattle.sessions.specs.Alone.{named}

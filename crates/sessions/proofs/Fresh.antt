@@ -10,11 +10,12 @@ use Rattle.readings.specs.Answers.{Reading, AlwaysAnswers, AnswersOnce, AreSelec
 use Rattle.readings.specs.Texts.{LastEdit, OpenDocument, fits}
 use Rattle.readings.proofs.Texts.{spelled_again}
 use Rattle.readings.specs.Grammars.{FileGrammar}
-use Rattle.rpc.specs.Messages.{Ident, numbered, Question, its_text, its_tokens, its_tree, its_folds, its_selections, about, open_text, change_text, request, notification, Received, accepted, TextChange}
+use Rattle.rpc.specs.Ids.{Ident, numbered}
+use Rattle.rpc.specs.Messages.{Question, its_text, its_tokens, its_tree, its_folds, its_selections, about, open_text, change_text, request, notification, Received, accepted, TextChange}
 use Rattle.rpc.specs.Reading.{received_in}
 use Rattle.rpc.specs.Replies.{Answer, tokens_reply, folds_reply, selections_reply, published_diagnostics, log_message}
-use Rattle.rpc.specs.declared.reply.Log.TheVariants.{Lost}
-use Rattle.rpc.specs.declared.reply.Loss.TheVariants.{TooLarge, MalformedChange, Memory}
+use Rattle.rpc.specs.Log.TheVariants.{Lost}
+use Rattle.rpc.specs.Loss.TheVariants.{TooLarge, MalformedChange, Memory}
 use Rattle.readings.specs.Contents.{AreFoldsOf}
 use Rattle.readings.specs.Diagnostics.{IsDiagnosis}
 use Rattle.sessions.specs.declared.phase.Phase.{Phase}

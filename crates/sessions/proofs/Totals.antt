@@ -8,10 +8,11 @@ use Rattle.readings.specs.Answers.{AlwaysAnswers, Reading, IsReading}
 use Rattle.readings.specs.Edits.{AreStats, ReportsLast}
 use Rattle.readings.specs.Texts.{LastEdit, OpenDocument, fits}
 use Rattle.readings.specs.Grammars.{FileGrammar}
-use Rattle.rpc.specs.Messages.{Ident, Request, Question, its_text, its_tokens, its_tree, its_folds, its_selections, initialize, shutdown, about, stats, Notification, initialized, exit, open_text, change_text, close, malformed, Unfit, unfit_open, unfit_change, unfit_close, request, notification, ignored, invalid, unknown, params, Received, unread, refused, accepted, TextChange}
+use Rattle.rpc.specs.Ids.{Ident}
+use Rattle.rpc.specs.Messages.{Request, Question, its_text, its_tokens, its_tree, its_folds, its_selections, initialize, shutdown, about, stats, Notification, initialized, exit, open_text, change_text, close, malformed, Unfit, unfit_open, unfit_change, unfit_close, request, notification, ignored, invalid, unknown, params, Received, unread, refused, accepted, TextChange}
 use Rattle.rpc.specs.Reading.{received_in}
 use Rattle.rpc.specs.Replies.{Answer, folds_reply, selections_reply, published_diagnostics}
-use Rattle.rpc.specs.declared.reply.Loss.TheVariants.{MalformedChange}
+use Rattle.rpc.specs.Loss.TheVariants.{MalformedChange}
 use Rattle.sessions.specs.Answers.{IsAnswer, IsAnswerOf, IsCount, IsPublished, shown}
 use Rattle.sessions.specs.declared.phase.Phase.{Phase}
 use Rattle.sessions.specs.declared.phase.Phase.TheVariants.{New, Ready, Down}

@@ -11,8 +11,8 @@ use Rattle.readings.specs.Texts.{LastEdit, OpenDocument, fits}
 use Rattle.rpc.specs.Messages.{TextChange, change_view}
 use Rattle.rpc.specs.declared.message.Change.{Change}
 use Rattle.rpc.specs.Unit.{Unit as Encoding}
-use Rattle.rpc.specs.declared.reply.Loss.{Loss}
-use Rattle.rpc.specs.declared.reply.Loss.TheVariants.{TooLarge, MalformedChange, Memory}
+use Rattle.rpc.specs.Loss.{Loss}
+use Rattle.rpc.specs.Loss.TheVariants.{TooLarge, MalformedChange, Memory}
 use Rattle.sessions.specs.Changes.{AreAlikeForNext, IsAfter}
 use Rattle.sessions.specs.Documents.{DocumentState, is_open, is_lost, edited, Becomes, IsLastAfter}
 use Rattle.sessions.proofs.Edits.{after, edited_after, edited_fitting}

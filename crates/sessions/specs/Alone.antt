@@ -2,7 +2,7 @@
 use Rattle.std.specs.Prelude.{◌≡◌, ◌≢◌, ◌⊎◌, ℕ, Bool, true, false, List, [], ◌∷◌, ◌++◌, map, All, Option, Some, None, MatchOption}
 use Rattle.std.specs.FinMap.{get}
 use Rattle.readings.specs.Grammars.{FileGrammar}
-use Rattle.rpc.specs.declared.reply.Loss.TheVariants.{Memory}
+use Rattle.rpc.specs.Loss.TheVariants.{Memory}
 use Rattle.rpc.specs.Messages.{request, about, stats, notification, open_text, change_text, close, malformed, unfit_change, Received}
 use Rattle.rpc.specs.Messages.{accepted}
 use Rattle.rpc.specs.Reading.{received_in}

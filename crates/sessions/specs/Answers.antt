@@ -6,8 +6,9 @@ use Rattle.readings.specs.Answers.{Diagnostic, Reads, rows, written_tree, AreSel
 use Rattle.readings.specs.Edits.{AreStats, without_nodes}
 use Rattle.readings.specs.Texts.{OpenDocument}
 use Rattle.readings.specs.Grammars.{FileGrammar}
-use Rattle.rpc.specs.declared.reply.Refusal.TheVariants.{DocumentNotOpen, DocumentLost}
-use Rattle.rpc.specs.Messages.{Ident, Question, its_text, its_tokens, its_tree, its_folds, its_selections}
+use Rattle.rpc.specs.Refusal.TheVariants.{DocumentNotOpen, DocumentLost}
+use Rattle.rpc.specs.Ids.{Ident}
+use Rattle.rpc.specs.Messages.{Question, its_text, its_tokens, its_tree, its_folds, its_selections}
 use Rattle.rpc.specs.Replies.{Answer, null_reply, text_reply, tokens_reply, tree_reply, stats_reply, folds_reply, selections_reply}
 use Rattle.rpc.specs.Replies.{error_reply}
 use Rattle.rpc.specs.Replies.{published_diagnostics}

@@ -10,8 +10,8 @@ use Rattle.readings.specs.Edits.{IsNext}
 use Rattle.readings.specs.Texts.{LastEdit, OpenDocument, fits}
 use Rattle.readings.specs.Grammars.{FileGrammar}
 use Rattle.rpc.specs.Messages.{TextChange}
-use Rattle.rpc.specs.declared.reply.Loss.{Loss}
-use Rattle.rpc.specs.declared.reply.Loss.TheVariants.{TooLarge, MalformedChange, Memory}
+use Rattle.rpc.specs.Loss.{Loss}
+use Rattle.rpc.specs.Loss.TheVariants.{TooLarge, MalformedChange, Memory}
 
 -- a document is open, with its unit, version, text and last edit, or lost, with the cause
 pub data DocumentState : Type 0 where

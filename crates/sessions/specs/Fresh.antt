@@ -4,11 +4,12 @@ use Rattle.std.specs.Str.{chars}
 use Rattle.std.specs.FinMap.{get}
 use Rattle.rpc.specs.Unit.{Unit as Encoding}
 use Rattle.readings.specs.Grammars.{FileGrammar}
-use Rattle.rpc.specs.Messages.{Ident, initialize, Question, about, open_text, change_text, request, notification, accepted, TextChange}
+use Rattle.rpc.specs.Ids.{Ident}
+use Rattle.rpc.specs.Messages.{initialize, Question, about, open_text, change_text, request, notification, accepted, TextChange}
 use Rattle.rpc.specs.Messages.{Received}
 use Rattle.rpc.specs.Replies.{Answer, capabilities_reply, published_diagnostics}
 use Rattle.readings.specs.Texts.{LastEdit, OpenDocument}
-use Rattle.rpc.specs.declared.reply.Loss.TheVariants.{Memory}
+use Rattle.rpc.specs.Loss.TheVariants.{Memory}
 use Rattle.sessions.specs.Documents.{is_open, is_lost, edited}
 use Rattle.sessions.specs.declared.phase.Phase.TheVariants.{Ready}
 use Rattle.sessions.specs.Steps.{State, first_state, Replies, Step}

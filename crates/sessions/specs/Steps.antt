@@ -5,13 +5,14 @@ use Rattle.std.specs.FinMap.{empty, get, insert, remove}
 use Rattle.rpc.specs.Unit.{Unit as Encoding}
 use Rattle.readings.specs.Texts.{fits}
 use Rattle.readings.specs.Grammars.{FileGrammar}
-use Rattle.rpc.specs.declared.reply.Refusal.{Refusal}
-use Rattle.rpc.specs.declared.reply.Refusal.TheVariants.{ParseError, InvalidRequest, MethodNotFound, InvalidParams, NotInitialized}
-use Rattle.rpc.specs.declared.reply.Log.{Log}
-use Rattle.rpc.specs.declared.reply.Log.TheVariants.{OpenMalformed, ChangeMalformed, CloseMalformed, ChangeNotOpen, CloseNotOpen}
-use Rattle.rpc.specs.declared.reply.Log.TheVariants.{TooManyDocuments, Lost}
-use Rattle.rpc.specs.declared.reply.Loss.TheVariants.{TooLarge, MalformedChange}
-use Rattle.rpc.specs.Messages.{Ident, Request, initialize, shutdown, about, stats, Notification, exit, open_text, change_text, close}
+use Rattle.rpc.specs.Refusal.{Refusal}
+use Rattle.rpc.specs.Refusal.TheVariants.{ParseError, InvalidRequest, MethodNotFound, InvalidParams, NotInitialized}
+use Rattle.rpc.specs.Log.{Log}
+use Rattle.rpc.specs.Log.TheVariants.{OpenMalformed, ChangeMalformed, CloseMalformed, ChangeNotOpen, CloseNotOpen}
+use Rattle.rpc.specs.Log.TheVariants.{TooManyDocuments, Lost}
+use Rattle.rpc.specs.Loss.TheVariants.{TooLarge, MalformedChange}
+use Rattle.rpc.specs.Ids.{Ident}
+use Rattle.rpc.specs.Messages.{Request, initialize, shutdown, about, stats, Notification, exit, open_text, change_text, close}
 use Rattle.rpc.specs.Messages.{malformed}
 use Rattle.rpc.specs.Messages.{Unfit, unfit_open, unfit_change, unfit_close, request, notification, ignored, invalid, unknown, params}
 use Rattle.rpc.specs.Messages.{TextChange, Received, unread, refused, accepted}

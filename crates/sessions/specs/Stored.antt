@@ -5,7 +5,7 @@ use Rattle.std.specs.FinMap.{code}
 use Rattle.rpc.specs.Unit.{Unit as Encoding}
 use Rattle.rpc.specs.Unit.TheVariants.{Utf8, Utf16, Utf32}
 use Rattle.readings.specs.Texts.{LastEdit}
-use Rattle.rpc.specs.declared.reply.Loss.TheVariants.{TooLarge, MalformedChange, Memory}
+use Rattle.rpc.specs.Loss.TheVariants.{TooLarge, MalformedChange, Memory}
 use Rattle.sessions.specs.Documents.{DocumentState, is_open, is_lost, Held}
 
 abbrev pub stored_edit : LastEdit → ℕ × (ℕ × ℕ)

@@ -4,7 +4,7 @@ use Rattle.std.specs.FinMap.{get, insert, remove}
 use Rattle.readings.specs.Grammars.{FileGrammar}
 use Rattle.readings.specs.Texts.{OpenDocument}
 use Rattle.rpc.specs.Replies.{Answer, log_message}
-use Rattle.rpc.specs.declared.reply.Log.TheVariants.{CloseNotOpen}
+use Rattle.rpc.specs.Log.TheVariants.{CloseNotOpen}
 use Rattle.steps.specs.declared.entry.Entry.{Entry}
 use Rattle.steps.specs.declared.entry.Entry.TheVariants as entry
 use Rattle.sessions.specs.declared.phase.Phase.{Phase}

@@ -14,7 +14,8 @@ pub trait Document<L>: Sized {
     ghost use Rattle.readings.specs.Edits.{AreStats};
     ghost use Rattle.readings.specs.Grammars.{FileGrammar};
     ghost use Rattle.readings.specs.Texts.{OpenDocument};
-    ghost use Rattle.rpc.specs.Messages.{change_view, id_view};
+    ghost use Rattle.rpc.specs.Ids.{id_view};
+    ghost use Rattle.rpc.specs.Messages.{change_view};
     ghost use Rattle.rpc.specs.Replies.{reply_view};
     ghost use Rattle.sessions.specs.Answers.{IsAnswerOf, IsPublished};
     ghost use Rattle.sessions.specs.Documents.{Becomes};

@@ -2,7 +2,7 @@
 
 ghost use Rattle.std.specs.Prelude.{◌≡◌, ◌||◌, None, option_map, IfSome, OnOk, OnErr, string_bytes};
 ghost use Rattle.std.specs.FinMap as map;
-ghost use Rattle.rpc.specs.declared.reply.Loss.TheVariants.{Memory};
+ghost use Rattle.rpc.specs.Loss.TheVariants.{Memory};
 ghost use Rattle.sessions.specs.Documents.{has_room, is_lost};
 ghost use Rattle.steps.specs.Holding.{entry_view, IsEntryOf};
 

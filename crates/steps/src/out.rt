@@ -1,7 +1,7 @@
 //! The answers to a message, as they are made.
 
 ghost use Rattle.std.specs.Prelude.{◌≡◌, [], ◌∷◌, None, option_map, IfOk};
-ghost use Rattle.rpc.specs.Messages.{id_view};
+ghost use Rattle.rpc.specs.Ids.{id_view};
 ghost use Rattle.rpc.specs.Replies.{reply_view, error_reply, log_message, published_diagnostics};
 ghost use Rattle.sessions.specs.Sent.{sent};
 

@@ -2,7 +2,8 @@
 
 ghost use Rattle.std.specs.Prelude.{◌≡◌, Some, IfOk, IfErr};
 ghost use Rattle.std.specs.FinMap.{get};
-ghost use Rattle.rpc.specs.Messages.{Ident, Question as Asking, id_view, call_view};
+ghost use Rattle.rpc.specs.Ids.{Ident, id_view};
+ghost use Rattle.rpc.specs.Messages.{Question as Asking, call_view};
 ghost use Rattle.rpc.specs.Replies.{reply_view, error_reply};
 ghost use Rattle.sessions.specs.Answers.{IsAnswer, IsCount};
 ghost use Rattle.sessions.specs.Documents.{is_open};

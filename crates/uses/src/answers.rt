@@ -5,8 +5,9 @@ use docs::Doc;
 use grammar::Grammar;
 use languages::Language;
 use lexer::Tokens;
+use replies::{Id, Reply, to_bytes};
 use reports::tree_text;
-use rpc::{Message, Reply, read, to_bytes};
+use rpc::{Message, read};
 use std::alloc::Global;
 use text::Text;
 use trees::{Child, Store};
@@ -38,16 +39,22 @@ pub fn use_views(
     // NUM up to 2
 }
 
+/// The example of `replies`.
+pub fn use_replies(rt: &HostRuntime, alloc: Global) -> Option<()> {
+    let reply = Reply::Null { id: Id::Number(7) };
+    let bytes = to_bytes(alloc, &reply).ok()?;
+    println!(rt; "{}", str::from_utf8(&bytes).unwrap_or("")).ok()
+    // {"id":7,"jsonrpc":"2.0","result":null}
+}
+
 /// The example of `rpc`.
 pub fn use_rpc(rt: &HostRuntime, alloc: Global) -> Option<()> {
     let content = br#"{"jsonrpc":"2.0","id":7,"method":"shutdown"}"#;
-    let message = read(alloc, content).ok()?;
-    let Message::Request(id, _) = message else {
+    let Message::Request(Id::Number(id), _) = read(alloc, content).ok()? else {
         return None;
     };
-    let bytes = to_bytes(alloc, &Reply::Null { id }).ok()?;
-    println!(rt; "{}", str::from_utf8(&bytes).unwrap_or("")).ok()
-    // {"id":7,"jsonrpc":"2.0","result":null}
+    println!(rt; "request {id}").ok()
+    // request 7
 }
 
 /// The example of `languages`.

@@ -32,6 +32,7 @@ fn of_values(rt: &HostRuntime, alloc: Global) -> Option<()> {
     lists::use_pieces(rt, alloc)?;
     lists::use_trees(rt, alloc)?;
     texts::use_text(rt, alloc)?;
+    answers::use_replies(rt, alloc)?;
     answers::use_rpc(rt, alloc)?;
     programs::use_command_line(rt, alloc)?;
     programs::use_faults(rt)?;

@@ -8,7 +8,7 @@ use Rattle.docs.specs.Texts.{LastEdit, OpenDocument, fits}
 use Rattle.docs.specs.declared.doc.DocFault.{DocFault}
 use Rattle.docs.specs.declared.doc.DocFault.TheVariants.{TooLarge, Memory}
 use Rattle.rpc.specs.Messages.{change_view}
-use Rattle.rpc.specs.declared.reply.Loss.TheVariants as loss
+use Rattle.rpc.specs.Loss.TheVariants as loss
 use Rattle.sessions.specs.Documents.{is_lost, Becomes, IsLastAfter}
 use Rattle.sessions.proofs.Edits.{after, ends_there, goes_on, last_goes_on, may_lose}
 use Rattle.server.proofs.Refusals.{either_fault}

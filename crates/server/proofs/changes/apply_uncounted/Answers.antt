@@ -9,7 +9,7 @@ use Rattle.docs.specs.Texts.{fits}
 use Rattle.docs.specs.declared.doc.DocFault.TheVariants.{TooLarge, Memory}
 use Rattle.rpc.specs.Messages.{TextChange, change_view}
 use Rattle.rpc.specs.Unit.{Unit as Encoding}
-use Rattle.rpc.specs.declared.reply.Loss.TheVariants as loss
+use Rattle.rpc.specs.Loss.TheVariants as loss
 use Rattle.sessions.specs.Documents.{is_lost, Becomes}
 use Rattle.sessions.proofs.Edits.{after, all_changes, ends_there, goes_on, last_goes_on, may_lose}
 use Rattle.server.proofs.Refusals.{either_fault}

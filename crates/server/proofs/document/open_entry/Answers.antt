@@ -5,7 +5,7 @@ use Rattle.docs.specs.Docs.{open_document}
 use Rattle.docs.specs.Texts.{OpenDocument, fits}
 use Rattle.docs.specs.declared.doc.DocFault.{DocFault}
 use Rattle.rpc.specs.Unit.{Unit as Encoding}
-use Rattle.rpc.specs.declared.reply.Loss.TheVariants.{TooLarge}
+use Rattle.rpc.specs.Loss.TheVariants.{TooLarge}
 use Rattle.sessions.specs.Documents.{is_open, is_lost}
 use Rattle.sessions.specs.Steps.{new_document}
 use Rattle.server.proofs.document.open_entry.Goals as goal

@@ -1,5 +1,5 @@
 use Rattle.std.proofs.Common.{◌≡◌, ◌+◌, ◌<◌, ℕ, ◌++◌, List, [], ◌∷◌, map, length, get_or, take, drop, subst, sym, ap, ◌∙◌, append-nil}
-use Rattle.rpc.specs.declared.reply.Reply.{Reply}
+use Rattle.rpc.specs.Reply.{Reply}
 use Rattle.std.specs.Io.KnownBytes.{Appends}
 use Rattle.std.proofs.lemmas.List.{take_more, map-append, take-append-drop}
 use Rattle.frames.specs.Write.{frame}

@@ -2,7 +2,7 @@ use Rattle.std.proofs.Common.{◌≡◌, refl, sym, ap, subst, ◌∙◌, Option
 use Rattle.std.specs.Option.{option_copied_mut}
 use Rattle.std.specs.FinMap as map
 use Rattle.std.proofs.lemmas.Map.Text.{btree_map_updates_text}
-use Rattle.rpc.specs.declared.reply.Loss.TheVariants.{Memory}
+use Rattle.rpc.specs.Loss.TheVariants.{Memory}
 use Rattle.steps.specs.declared.entry.Entry.{Entry}
 use Rattle.sessions.specs.Documents.{is_lost}
 use Rattle.steps.specs.Holding.{documents_of, entry_view, AreCurrent, IsEntryOf}

@@ -1,4 +1,4 @@
-use Rattle.rpc.specs.Messages.{id_view}
+use Rattle.rpc.specs.Ids.{id_view}
 use Rattle.steps.specs.Questions.{question_view}
 use Rattle.steps.proofs.state.ServerOf.answer.Goals as goal
 

@@ -2,7 +2,7 @@ use Rattle.std.proofs.Common.{◌≡◌, ℤ, w32, map, ap, sym, subst, ◌∙�
 use Rattle.std.proofs.lemmas.Int.{to_z-of_z}
 use Rattle.std.specs.FinMap.{get, insert}
 use Rattle.rpc.specs.Messages.{change_view}
-use Rattle.rpc.specs.declared.reply.Loss.TheVariants.{Memory}
+use Rattle.rpc.specs.Loss.TheVariants.{Memory}
 use Rattle.sessions.specs.Documents.{is_open, is_lost, Becomes}
 use Rattle.steps.specs.Holding.{entry_view}
 use Rattle.steps.specs.States.{state_view}

@@ -1,0 +1,3 @@
+mod Replies
+mod SentItems
+mod Objects

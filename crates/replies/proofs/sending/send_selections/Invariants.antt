@@ -1,0 +1,12 @@
+use Rattle.std.proofs.Common.{map, drop}
+use Rattle.serde.specs.Event.{Log}
+use Rattle.serde_json.specs.Events.{SendsItems}
+use Rattle.serde_json.specs.View.{items_of}
+use Rattle.replies.specs.Replies.{selection_data}
+use Rattle.replies.proofs.sending.send_selections.Given as goal
+
+-- whatever sends what is left sends all
+abbrev pub invariant-loop-ranges : goal.invariant-loop-ranges
+invariant-loop-ranges g l =
+    (end : Log) → SendsItems (items_of (map selection_data (map (λ s. s.items) (drop l.ranges-index l.selections)))) (g.S.Serializer.written l.out) end
+    → SendsItems (items_of (map selection_data (map (λ s. s.items) (l.selections)))) (g.S.Serializer.written l.initial.out) end
