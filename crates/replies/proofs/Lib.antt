@@ -1,3 +1,4 @@
+pub mod Common
 mod Replies
 mod SentItems
 mod Objects

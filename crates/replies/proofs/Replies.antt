@@ -1,14 +1,6 @@
 -- No reply has a number with a fraction.
 use Rattle.std.proofs.Common.{◌≡◌, ℕ, ℤ, pos, negsuc, false, List, [], ◌∷◌, map, refl, ap, ◌∙◌, ◌||◌, Option, Some, None, Result, Ok, Err, IfOk}
-use Rattle.definitions.specs.declared.Range.{Range}
-use Rattle.serde_json.specs.Data.{Data, null, number, string}
-use Rattle.serde_json.specs.Find.{of_integer}
-use Rattle.serde_json.specs.View.{items_of}
-use Rattle.serde_json.specs.Written.{has_float, items_have_float}
-use Rattle.replies.specs.declared.reply.Refusal.{Refusal}
-use Rattle.replies.specs.declared.reply.Refusal.TheVariants.{ParseError, InvalidRequest, MethodNotFound, InvalidParams, DocumentNotOpen, DocumentLost, NotInitialized}
-use Rattle.replies.specs.Ids.{Ident, named, numbered}
-use Rattle.replies.specs.Replies.{Answer, capabilities_reply, null_reply, text_reply, tokens_reply, tree_reply, stats_reply, folds_reply, selections_reply, published_diagnostics, log_message, error_reply, capabilities, id_data, maybe_id_data, row_data, result_data, reply_data, document_data, rows_data, stats_data, fold_data, folds_data, selection_data, selections_data, diagnostic_list, published, code_of}
+use Rattle.replies.proofs.Common.{Range, Data, null, number, string, of_integer, items_of, has_float, items_have_float, Refusal, ParseError, InvalidRequest, MethodNotFound, InvalidParams, DocumentNotOpen, DocumentLost, NotInitialized, Ident, named, numbered, Answer, capabilities_reply, null_reply, text_reply, tokens_reply, tree_reply, stats_reply, folds_reply, selections_reply, published_diagnostics, log_message, error_reply, capabilities, id_data, maybe_id_data, row_data, result_data, reply_data, document_data, rows_data, stats_data, fold_data, folds_data, selection_data, selections_data, diagnostic_list, published, code_of}
 
 integer_is_whole : (z : ℤ) → has_float (number (of_integer z)) ≡ false
 integer_is_whole (pos n) = refl

@@ -1,3 +1,4 @@
+pub mod Common
 mod Receiving
 mod ListItems
 mod KnownMethods

@@ -1,10 +1,6 @@
 -- What is read of each item of a list, item by item.
 use Rattle.std.proofs.Common.{◌≡◌, ℕ, ◌+◌, ◌<◌, ◌≤◌, List, [], ◌∷◌, ◌++◌, length, drop, get_or, refl, sym, ap, ◌∙◌, Option, Some, None, option_map}
-use Rattle.std.proofs.lemmas.List.{at_drop_more, at_drop_all, append_assoc, append-nil}
-use Rattle.serde_json.specs.declared.value.Value.{Value}
-use Rattle.serde_json.specs.Data.{Data, Items, no_items, item}
-use Rattle.serde_json.specs.View.{view, items_view}
-use Rattle.rpc.specs.Reading.{first_and}
+use Rattle.rpc.proofs.Common.{at_drop_more, at_drop_all, append_assoc, append-nil, Value, Data, Items, no_items, item, view, items_view, first_and}
 
 -- a reading of items, where each item is read as `one` does
 module _ {Y : Type 0} (one : Data → Option Y) (all : Items → Option (List Y)) (none_left : all no_items ≡ Some []) (one_left : (d : Data) (ds : Items) → all (item d ds) ≡ first_and (one d) (all ds)) where

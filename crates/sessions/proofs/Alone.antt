@@ -1,26 +1,6 @@
 -- What is sent about a document depends on that document alone.
 use Rattle.std.proofs.Common.{◌≡◌, ◌≢◌, ℕ, ℤ, Bool, true, false, List, [], ◌∷◌, map, refl, sym, ap, subst, ◌∙◌, Option, Some, None, All}
-use Rattle.std.specs.Str.{chars}
-use Rattle.std.specs.FinMap.{get}
-use Rattle.std.proofs.lemmas.List.Elements.{All-from_recursion}
-use Rattle.rpc.specs.Unit.{Unit as Encoding}
-use Rattle.readings.specs.Text.{changed}
-use Rattle.readings.specs.Answers.{AnswersOnce}
-use Rattle.readings.specs.Edits.{CountsOnce}
-use Rattle.readings.specs.Texts.{LastEdit, OpenDocument}
-use Rattle.readings.specs.Grammars.{FileGrammar}
-use Rattle.rpc.specs.Ids.{Ident}
-use Rattle.rpc.specs.Messages.{Request, initialize, shutdown, about, stats, Question, Notification, initialized, exit, open_text, change_text, close, malformed, unfit_open, unfit_change, unfit_close, request, notification, ignored, Received, unread, refused, accepted, TextChange}
-use Rattle.rpc.specs.Replies.{Answer, published_diagnostics, log_message, stats_reply}
-use Rattle.rpc.specs.Log.TheVariants.{Lost}
-use Rattle.rpc.specs.Loss.TheVariants.{TooLarge, MalformedChange, Memory}
-use Rattle.sessions.specs.Alone.{named, AreAlikeFor, loses, loses_memory, SameFor, EachDocumentIsAlone}
-use Rattle.sessions.specs.Answers.{IsAnswer, IsCount, IsPublished, but_nodes}
-use Rattle.sessions.specs.Documents.{DocumentState, is_open, is_lost, Becomes, IsLastAfter, has_room}
-use Rattle.sessions.specs.Fresh.{Publishes}
-use Rattle.sessions.specs.Steps.{State, OnRequest, Changes, Closes, Forgets, Holds, Ignores, Opens, Replies, Spoils, Step, OnNotification, new_document}
-use Rattle.sessions.specs.declared.phase.Phase.{Phase}
-use Rattle.sessions.specs.declared.phase.Phase.TheVariants.{New, Ready, Down}
+use Rattle.sessions.proofs.Common.{chars, get, All-from_recursion, Encoding, changed, AnswersOnce, CountsOnce, LastEdit, OpenDocument, FileGrammar, Ident, Request, initialize, shutdown, about, stats, Question, Notification, initialized, exit, open_text, change_text, close, malformed, unfit_open, unfit_change, unfit_close, request, notification, ignored, Received, unread, refused, accepted, TextChange, Answer, published_diagnostics, log_message, stats_reply, Lost, TooLarge, MalformedChange, Memory, named, AreAlikeFor, loses, loses_memory, SameFor, EachDocumentIsAlone, IsAnswer, IsCount, IsPublished, but_nodes, DocumentState, is_open, is_lost, Becomes, IsLastAfter, has_room, Publishes, State, OnRequest, Changes, Closes, Forgets, Holds, Ignores, Opens, Replies, Spoils, Step, OnNotification, new_document, Phase, New, Ready, Down}
 use Rattle.sessions.proofs.Effects.{Effect, stays, stands, goes, step_effect}
 use Rattle.sessions.proofs.Fresh.{one_answer, one_published}
 use Rattle.sessions.proofs.LookUps.{get_inserted, get_other, get_removed, get_other_removed}

@@ -1,11 +1,6 @@
 -- Sessions that are cut short: a prefix of the answers of a run is written.
 use Rattle.std.proofs.Common.{ℕ, List, [], ◌++◌, refl, ap, sym, subst, ◌∙◌, append_assoc, append-nil, ◌≡◌, Option, Some, None, Result, Ok, Err, OnErr}
-use Rattle.std.specs.Io.KnownBytes.{Appends, Keeps}
-use Rattle.sessions.specs.Steps.{State}
-use Rattle.sessions.specs.Runs.{bytes_of}
-use Rattle.sessions.specs.Sessions.{AppendsPrefix}
-use Rattle.sessions.specs.Loop.{Served, ServedInPart, HasServed, CanServe, IsCutShort}
-use Rattle.frames.specs.declared.fault.RunFault.{RunFault}
+use Rattle.sessions.proofs.Common.{Appends, Keeps, State, bytes_of, AppendsPrefix, Served, ServedInPart, HasServed, CanServe, IsCutShort, RunFault}
 use Rattle.sessions.proofs.Totals.{some_run}
 use Rattle.sessions.proofs.Runs.{run_then, run_on, appends_then, appends_nothing, bytes_then}
 

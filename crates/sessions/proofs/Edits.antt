@@ -1,17 +1,6 @@
 -- A text that is edited by changes in turn.
 use Rattle.std.proofs.Common.{◌≡◌, ◌<◌, ◌+◌, ℕ, ℤ, Bool, true, false, cond, List, [], ◌∷◌, ◌++◌, length, map, take, drop, get_or, refl, sym, ap, subst, ◌∙◌, Option, Some, None, Result, Err}
-use Rattle.std.proofs.lemmas.List.{drop_more, take_more, map-append, take-append-drop}
-use Rattle.std.specs.Str.{chars}
-use Rattle.readings.specs.Text.{changed}
-use Rattle.rpc.specs.Unit.{Unit as Encoding}
-use Rattle.readings.specs.Edits.{IsNext}
-use Rattle.readings.specs.Texts.{LastEdit, OpenDocument, fits}
-use Rattle.readings.specs.Grammars.{FileGrammar}
-use Rattle.rpc.specs.Messages.{TextChange, change_view}
-use Rattle.rpc.specs.declared.message.Change.{Change}
-use Rattle.rpc.specs.Loss.{Loss}
-use Rattle.rpc.specs.Loss.TheVariants.{TooLarge, Memory}
-use Rattle.sessions.specs.Documents.{DocumentState, is_open, is_lost, edited, Becomes, IsLastAfter}
+use Rattle.sessions.proofs.Common.{drop_more, take_more, map-append, take-append-drop, chars, changed, Encoding, IsNext, LastEdit, OpenDocument, fits, FileGrammar, TextChange, change_view, Change, Loss, TooLarge, Memory, DocumentState, is_open, is_lost, edited, Becomes, IsLastAfter}
 
 module _ (encoding : Encoding) where
   -- the text after one change

@@ -1,23 +1,6 @@
 -- What a step does to the documents: nothing, or one of them stands otherwise, or is forgotten.
 use Rattle.std.proofs.Common.{◌≡◌, ℕ, ℤ, Bool, true, false, cond, List, [], ◌∷◌, refl, sym, ap, subst, ◌∙◌, Option, Some, None, All}
-use Rattle.std.specs.Str.{chars}
-use Rattle.std.specs.FinMap.{get}
-use Rattle.std.proofs.lemmas.List.Elements.{All-from_recursion}
-use Rattle.rpc.specs.Unit.{Unit as Encoding}
-use Rattle.readings.specs.Texts.{OpenDocument, fits}
-use Rattle.readings.specs.Grammars.{FileGrammar}
-use Rattle.rpc.specs.Ids.{Ident}
-use Rattle.rpc.specs.Messages.{Request, initialize, shutdown, about, stats, Question, its_text, its_tokens, its_tree, its_folds, its_selections, Notification, initialized, exit, open_text, change_text, close, malformed, Unfit, unfit_open, unfit_change, unfit_close, request, notification, ignored, invalid, unknown, params, Received, unread, refused, accepted, TextChange}
-use Rattle.rpc.specs.Replies.{Answer}
-use Rattle.rpc.specs.Loss.TheVariants.{TooLarge, MalformedChange}
-use Rattle.sessions.specs.declared.phase.Phase.{Phase}
-use Rattle.sessions.specs.declared.phase.Phase.TheVariants.{New, Ready, Down}
-use Rattle.sessions.specs.Alone.{named}
-use Rattle.sessions.specs.Answers.{IsAnswer, IsCount, tree_answer}
-use Rattle.sessions.specs.Documents.{DocumentState, is_open, is_lost, Becomes, Held, has_room}
-use Rattle.sessions.specs.Fresh.{Publishes}
-use Rattle.sessions.specs.Loop.{AllFit}
-use Rattle.sessions.specs.Steps.{State, OnRequest, Changes, Closes, Forgets, Holds, OnMalformed, Opens, Replies, Spoils, Step, OnNotification, new_document}
+use Rattle.sessions.proofs.Common.{chars, get, All-from_recursion, Encoding, OpenDocument, fits, FileGrammar, Ident, Request, initialize, shutdown, about, stats, Question, its_text, its_tokens, its_tree, its_folds, its_selections, Notification, initialized, exit, open_text, change_text, close, malformed, Unfit, unfit_open, unfit_change, unfit_close, request, notification, ignored, invalid, unknown, params, Received, unread, refused, accepted, TextChange, Answer, TooLarge, MalformedChange, Phase, New, Ready, Down, named, IsAnswer, IsCount, tree_answer, DocumentState, is_open, is_lost, Becomes, Held, has_room, Publishes, AllFit, State, OnRequest, Changes, Closes, Forgets, Holds, OnMalformed, Opens, Replies, Spoils, Step, OnNotification, new_document}
 use Rattle.sessions.proofs.Edits.{IsFit, becomes_fit}
 
 -- no answer publishes anything of any document

@@ -1,20 +1,6 @@
 -- A session keeps its file, the texts of its open documents fit, and their unit is that of its phase.
 use Rattle.std.proofs.Common.{◌≡◌, ℕ, Bool, true, false, cond, List, [], ◌∷◌, ◌++◌, sym, ap, subst, ◌∙◌, Option, Some, None, MatchOption}
-use Rattle.std.specs.Ordering.{nat_cmp, eq_by_cmp}
-use Rattle.std.specs.Cmp.Lexicographic.{slice_cmp}
-use Rattle.std.specs.FinMap.{empty, get, insert, remove, get-empty, get-insert, get-remove}
-use Rattle.std.proofs.lemmas.Cmp.{nat_list_cmp_total}
-use Rattle.readings.specs.Answers.{AlwaysAnswers}
-use Rattle.readings.specs.Texts.{OpenDocument, fits}
-use Rattle.readings.specs.Grammars.{FileGrammar}
-use Rattle.rpc.specs.Messages.{Received}
-use Rattle.rpc.specs.Reading.{received_in}
-use Rattle.rpc.specs.Replies.{Answer}
-use Rattle.sessions.specs.Documents.{DocumentState, is_open, is_lost, Held}
-use Rattle.sessions.specs.Runs.{Run}
-use Rattle.sessions.specs.Loop.{AllFit, CanServe}
-use Rattle.sessions.specs.Steps.{State, first_state, Step}
-use Rattle.sessions.specs.declared.phase.Phase.TheVariants.{New}
+use Rattle.sessions.proofs.Common.{nat_cmp, eq_by_cmp, slice_cmp, empty, get, insert, remove, get-empty, get-insert, get-remove, nat_list_cmp_total, AlwaysAnswers, OpenDocument, fits, FileGrammar, Received, received_in, Answer, DocumentState, is_open, is_lost, Held, Run, AllFit, CanServe, State, first_state, Step, New}
 use Rattle.sessions.proofs.Effects.{AreOfPhase, IsOfPhase, Effect, stays, stands, goes, step_effect}
 
 none_fits : AllFit empty

@@ -1,16 +1,6 @@
 -- Each run has a history of each document, and two sessions that receive the same about a document send the same of it.
 use Rattle.std.proofs.Common.{◌≡◌, ◌≢◌, ◌⊎◌, inl, inr, ⊎_elim, ℕ, List, [], ◌∷◌, ◌++◌, map, refl, sym, ap, subst, ◌∙◌, Option, Some, None, MatchOption}
-use Rattle.std.proofs.lemmas.Bool.{cases_eq}
-use Rattle.std.proofs.lemmas.List.{map-append}
-use Rattle.std.specs.FinMap.{get}
-use Rattle.readings.specs.Grammars.{FileGrammar}
-use Rattle.rpc.specs.Messages.{Received}
-use Rattle.rpc.specs.Reading.{received_in}
-use Rattle.rpc.specs.Replies.{Answer}
-use Rattle.sessions.specs.Answers.{but_nodes}
-use Rattle.sessions.specs.Alone.{named, AreAlikeFor, SameFor, SendTheSame, EachDocumentIsAlone, EachRunHasAHistory, Event, event_in, Notes, History, HistoriesDecide}
-use Rattle.sessions.specs.Runs.{Run}
-use Rattle.sessions.specs.Steps.{State, first_state, Step}
+use Rattle.sessions.proofs.Common.{cases_eq, map-append, get, FileGrammar, Received, received_in, Answer, but_nodes, named, AreAlikeFor, SameFor, SendTheSame, EachDocumentIsAlone, EachRunHasAHistory, Event, event_in, Notes, History, HistoriesDecide, Run, State, first_state, Step}
 use Rattle.sessions.proofs.Fits.{step_keeps}
 
 -- ---- each run has a history

@@ -1,3 +1,4 @@
+pub mod Common
 pub mod LookUps
 pub mod Edits
 pub mod UncountedChanges

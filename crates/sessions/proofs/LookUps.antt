@@ -1,13 +1,6 @@
 -- What a look-up finds after a document was inserted or removed.
 use Rattle.std.proofs.Common.{◌≡◌, ◌≢◌, ◌⊎◌, inl, inr, ℕ, true, false, cond, List, sym, ap, ◌∙◌, refl, Bool, Option, Some, None, is_some}
-use Rattle.std.specs.Ordering.{nat_cmp, is_eq, eq_by_cmp}
-use Rattle.std.specs.declared.cmp.Ordering.{Ordering}
-use Rattle.std.specs.declared.cmp.Ordering.TheVariants.{Less, Equal, Greater}
-use Rattle.std.specs.Cmp.{eq_by_cmp_equiv}
-use Rattle.std.specs.Cmp.Lexicographic.{slice_cmp}
-use Rattle.std.specs.FinMap.{get, insert, remove, get-insert, get-remove, same_map, slice_cmp-IsAntisymmetric, nat_cmp-IsAntisymmetric}
-use Rattle.std.proofs.lemmas.Cmp.{nat_list_cmp_total}
-use Rattle.sessions.specs.Documents.{DocumentState, Held}
+use Rattle.sessions.proofs.Common.{nat_cmp, is_eq, eq_by_cmp, Ordering, Less, Equal, Greater, eq_by_cmp_equiv, slice_cmp, get, insert, remove, get-insert, get-remove, same_map, slice_cmp-IsAntisymmetric, nat_cmp-IsAntisymmetric, nat_list_cmp_total, DocumentState, Held}
 
 same_uri : (uri : List ℕ) → eq_by_cmp (slice_cmp nat_cmp) uri uri ≡ true
 same_uri uri = (eq_by_cmp_equiv nat_list_cmp_total).refl uri

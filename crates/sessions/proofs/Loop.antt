@@ -1,16 +1,8 @@
 -- What the loop of a session keeps, and what it leaves.
 use Rattle.std.proofs.Common.{◌≡◌, ◌≢◌, ℕ, List, [], ◌++◌, refl, ap, sym, subst, inl, inr, ◌∙◌, append_assoc, Option, Some, None, Result, Ok, Err}
-use Rattle.std.specs.Io.KnownBytes.{Consumes, Keeps, IsAtEnd}
-use Rattle.frames.specs.declared.fault.FrameFault.{FrameFault}
+use Rattle.sessions.proofs.Common.{Consumes, Keeps, IsAtEnd, FrameFault, Tail, Open, Faulty, Splits, IsOpen, GoesOn, fault_of, finish_of, FileGrammar, AlwaysAnswers, RunFault, Frame, Read, Write, State, first_state, Session, Ends, Served, ServedInPart, CanServe, IsCutShort, EndsAt, run_fault}
 use Rattle.frames.specs.declared.fault.FrameFault.TheVariants as frame
-use Rattle.frames.specs.Frames.{Tail, Open, Faulty, Splits, IsOpen, GoesOn, fault_of, finish_of}
-use Rattle.readings.specs.Grammars.{FileGrammar}
-use Rattle.readings.specs.Answers.{AlwaysAnswers}
-use Rattle.frames.specs.declared.fault.RunFault.{RunFault}
-use Rattle.frames.specs.declared.fault.RunFault.TheVariants.{Frame, Read, Write, Memory}
-use Rattle.sessions.specs.Steps.{State, first_state}
-use Rattle.sessions.specs.Sessions.{Session, Ends}
-use Rattle.sessions.specs.Loop.{Served, ServedInPart, CanServe, IsCutShort, EndsAt, run_fault}
+use Rattle.frames.specs.declared.fault.RunFault.TheVariants.{Memory}
 use Rattle.sessions.proofs.Runs.{served_then, served_nothing}
 use Rattle.sessions.proofs.Fits.{run_serves, first_serves}
 use Rattle.sessions.proofs.CutSessions.{part_nothing, part_then}

@@ -1,18 +1,7 @@
 -- Runs one after another.
 use Rattle.std.proofs.Common.{◌≡◌, ℕ, List, [], ◌∷◌, ◌++◌, refl, ap, sym, subst, ◌∙◌, append_assoc, append-nil, Option, Some, None, MatchOption, IfSome}
-use Rattle.std.specs.Io.KnownBytes.{Appends}
-use Rattle.std.proofs.lemmas.Grind.{flat_map-append}
-use Rattle.std.proofs.lemmas.List.{map-append}
-use Rattle.rpc.specs.Written.{compact_text}
-use Rattle.frames.specs.Write.{frame}
-use Rattle.frames.specs.Contents.{contents}
+use Rattle.sessions.proofs.Common.{Appends, flat_map-append, map-append, compact_text, frame, contents, Received, received_in, Answer, reply_data, State, Step, StepOn, Run, bytes_of, Served, CanServe}
 use Rattle.frames.specs.declared.decoder.Frame.{Frame}
-use Rattle.rpc.specs.Messages.{Received}
-use Rattle.rpc.specs.Reading.{received_in}
-use Rattle.rpc.specs.Replies.{Answer, reply_data}
-use Rattle.sessions.specs.Steps.{State, Step, StepOn}
-use Rattle.sessions.specs.Runs.{Run, bytes_of}
-use Rattle.sessions.specs.Loop.{Served, CanServe}
 use Rattle.sessions.proofs.Fits.{run_serves}
 use Rattle.sessions.proofs.Totals.{some_run}
 

@@ -1,25 +1,6 @@
 -- Each message makes some step, and each list of contents some run.
 use Rattle.std.proofs.Common.{◌≡◌, ℕ, ℤ, true, false, Bool, List, [], ◌∷◌, ◌++◌, length, refl, sym, subst, arith, Option, Some, None, option_map}
-use Rattle.std.specs.Str.{chars}
-use Rattle.std.specs.FinMap.{get}
-use Rattle.rpc.specs.Stats.{Stats}
-use Rattle.readings.specs.Nodes.{all_branches}
-use Rattle.readings.specs.Answers.{AlwaysAnswers, Reading, IsReading}
-use Rattle.readings.specs.Edits.{AreStats, ReportsLast}
-use Rattle.readings.specs.Texts.{LastEdit, OpenDocument, fits}
-use Rattle.readings.specs.Grammars.{FileGrammar}
-use Rattle.rpc.specs.Ids.{Ident}
-use Rattle.rpc.specs.Messages.{Request, Question, its_text, its_tokens, its_tree, its_folds, its_selections, initialize, shutdown, about, stats, Notification, initialized, exit, open_text, change_text, close, malformed, Unfit, unfit_open, unfit_change, unfit_close, request, notification, ignored, invalid, unknown, params, Received, unread, refused, accepted, TextChange}
-use Rattle.rpc.specs.Reading.{received_in}
-use Rattle.rpc.specs.Replies.{Answer, folds_reply, selections_reply, published_diagnostics}
-use Rattle.rpc.specs.Loss.TheVariants.{MalformedChange}
-use Rattle.sessions.specs.Answers.{IsAnswer, IsAnswerOf, IsCount, IsPublished, shown}
-use Rattle.sessions.specs.declared.phase.Phase.{Phase}
-use Rattle.sessions.specs.declared.phase.Phase.TheVariants.{New, Ready, Down}
-use Rattle.sessions.specs.Documents.{DocumentState, is_open, is_lost, has_room}
-use Rattle.sessions.specs.Steps.{State, OnRequest, Changes, Closes, Holds, OnMalformed, Opens, Spoils, OnNotification, Step, new_document}
-use Rattle.sessions.specs.Runs.{Run}
-use Rattle.sessions.specs.Loop.{CanServe}
+use Rattle.sessions.proofs.Common.{chars, get, Stats, all_branches, AlwaysAnswers, Reading, IsReading, AreStats, ReportsLast, LastEdit, OpenDocument, fits, FileGrammar, Ident, Request, Question, its_text, its_tokens, its_tree, its_folds, its_selections, initialize, shutdown, about, stats, Notification, initialized, exit, open_text, change_text, close, malformed, Unfit, unfit_open, unfit_change, unfit_close, request, notification, ignored, invalid, unknown, params, Received, unread, refused, accepted, TextChange, received_in, Answer, folds_reply, selections_reply, published_diagnostics, MalformedChange, IsAnswer, IsAnswerOf, IsCount, IsPublished, shown, Phase, New, Ready, Down, DocumentState, is_open, is_lost, has_room, State, OnRequest, Changes, Closes, Holds, OnMalformed, Opens, Spoils, OnNotification, Step, new_document, Run, CanServe}
 use Rattle.sessions.proofs.Edits.{IsFit, becomes_fit, some_becomes}
 use Rattle.sessions.proofs.Effects.{opened_fit}
 use Rattle.sessions.proofs.Fits.{step_serves}

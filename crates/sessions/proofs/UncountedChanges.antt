@@ -1,20 +1,7 @@
 -- What a document is after changes of whose counts none are reported, and what it becomes by those after them.
 use Rattle.std.proofs.Common.{◌≡◌, ◌<◌, ◌+◌, ℕ, ℤ, Bool, true, false, cond, List, [], ◌∷◌, ◌++◌, length, map, take, drop, min, refl, sym, ap, subst, ◌∙◌, inl, inr, arith, Option, Some, None}
-use Rattle.std.proofs.Math.Nat.{min-eq_left}
-use Rattle.std.proofs.lemmas.List.{append_assoc, length-drop, map-append, take-append-drop}
-use Rattle.std.specs.Str.{chars}
-use Rattle.rpc.specs.Range.{Range}
-use Rattle.rpc.specs.Stats.{Stats}
-use Rattle.readings.specs.Edits.{IsAbove, IsNext, Makes, ReportsLast, edit_of, number_after, number_of}
-use Rattle.readings.specs.Grammars.{FileGrammar}
-use Rattle.readings.specs.Texts.{LastEdit, OpenDocument, fits}
-use Rattle.rpc.specs.Messages.{TextChange, change_view}
-use Rattle.rpc.specs.declared.message.Change.{Change}
-use Rattle.rpc.specs.Unit.{Unit as Encoding}
-use Rattle.rpc.specs.Loss.{Loss}
-use Rattle.rpc.specs.Loss.TheVariants.{TooLarge, MalformedChange, Memory}
-use Rattle.sessions.specs.Changes.{AreAlikeForNext, IsAfter}
-use Rattle.sessions.specs.Documents.{DocumentState, is_open, is_lost, edited, Becomes, IsLastAfter}
+use Rattle.sessions.proofs.Common.{min-eq_left, length-drop, map-append, take-append-drop, chars, Range, Stats, IsAbove, IsNext, Makes, ReportsLast, edit_of, number_after, number_of, FileGrammar, LastEdit, OpenDocument, fits, TextChange, change_view, Change, Encoding, Loss, TooLarge, MalformedChange, Memory, AreAlikeForNext, IsAfter, DocumentState, is_open, is_lost, edited, Becomes, IsLastAfter}
+use Rattle.std.proofs.lemmas.List.{append_assoc}
 use Rattle.sessions.proofs.Edits.{after, edited_after, edited_fitting}
 
 -- while numbers are left, the next one is above every stamp

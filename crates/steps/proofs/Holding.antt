@@ -1,19 +1,7 @@
 -- A document that came to stand otherwise.
 use Rattle.std.proofs.Common.{◌≡◌, ℕ, ℤ, Bool, true, List, [], ◌∷◌, ap, ◌∙◌, sym, subst, Option, Some, None}
-use Rattle.std.specs.FinMap.{get, insert, remove}
-use Rattle.readings.specs.Grammars.{FileGrammar}
-use Rattle.readings.specs.Texts.{OpenDocument}
-use Rattle.rpc.specs.Replies.{Answer, log_message}
-use Rattle.rpc.specs.Log.TheVariants.{CloseNotOpen}
-use Rattle.steps.specs.declared.entry.Entry.{Entry}
+use Rattle.steps.proofs.Common.{get, insert, remove, FileGrammar, OpenDocument, Answer, log_message, CloseNotOpen, Entry, Phase, IsPublished, TextChange, DocumentState, Held, is_open, is_lost, Becomes, entry_view, State, Changes, Closes, Holds, Opens, inserted_again, inserted_removed}
 use Rattle.steps.specs.declared.entry.Entry.TheVariants as entry
-use Rattle.sessions.specs.declared.phase.Phase.{Phase}
-use Rattle.sessions.specs.Answers.{IsPublished}
-use Rattle.rpc.specs.Messages.{TextChange}
-use Rattle.sessions.specs.Documents.{DocumentState, Held, is_open, is_lost, Becomes}
-use Rattle.steps.specs.Holding.{entry_view}
-use Rattle.sessions.specs.Steps.{State, Changes, Closes, Holds, Opens}
-use Rattle.sessions.proofs.LookUps.{inserted_again, inserted_removed}
 
 abbrev pub state_of : FileGrammar → Phase → Held → State
 state_of file phase documents = record { file = file; phase = phase; documents = documents }

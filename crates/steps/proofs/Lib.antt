@@ -1,3 +1,4 @@
+pub mod Common
 mod MapEntries
 mod Holding
 mod Refusals

@@ -1,21 +1,8 @@
 -- What the entries of a map of documents say of the documents that are held.
 use Rattle.std.proofs.Common.{◌≡◌, ℕ, ◌+◌, Bool, true, false, cond, List, [], ◌∷◌, map, length, refl, sym, ap, subst, ◌∙◌, arith}
-use Rattle.std.specs.Prelude.{String, Option, Some, None, is_some, option_map, IfSome, string_bytes, string_cmp}
-use Rattle.std.specs.List.{AllByRecursion}
-use Rattle.std.specs.Str.{bytes_eq}
-use Rattle.std.specs.Ordering.{nat_cmp, is_eq, eq_by_cmp}
-use Rattle.std.specs.Cmp.{eq_by_cmp_equiv}
-use Rattle.std.specs.Cmp.Lexicographic.{slice_cmp}
+use Rattle.steps.proofs.Common.{String, string_cmp, AllByRecursion, bytes_eq, nat_cmp, is_eq, eq_by_cmp, eq_by_cmp_equiv, slice_cmp, Ordering, Less, get, insert, remove, len, contains_key, find, get-from_entries, get-insert, get-remove, len-empty, len-insert, same_map, slice_cmp-IsAntisymmetric, nat_cmp-IsAntisymmetric, nat_list_cmp_total, is_eq-slice_cmp, OpenDocument, DocumentState, Entry, entry_view, documents_of, entry_at, IsEntryOf, AreCurrent}
+use Rattle.std.specs.Prelude.{Option, Some, None, is_some, option_map, IfSome, string_bytes}
 use Rattle.std.specs.List.Sorted.{IsStrictlySortedBy}
-use Rattle.std.specs.declared.cmp.Ordering.{Ordering}
-use Rattle.std.specs.declared.cmp.Ordering.TheVariants.{Less}
-use Rattle.std.specs.FinMap.{get, insert, remove, len, contains_key, find, get-from_entries, get-insert, get-remove, len-empty, len-insert, same_map, slice_cmp-IsAntisymmetric, nat_cmp-IsAntisymmetric}
-use Rattle.std.proofs.lemmas.Cmp.{nat_list_cmp_total}
-use Rattle.std.proofs.lemmas.Map.Text.{is_eq-slice_cmp}
-use Rattle.readings.specs.Texts.{OpenDocument}
-use Rattle.sessions.specs.Documents.{DocumentState}
-use Rattle.steps.specs.declared.entry.Entry.{Entry}
-use Rattle.steps.specs.Holding.{entry_view, documents_of, entry_at, IsEntryOf, AreCurrent}
 
 map_cond : {A B : Type 0} (f : A → B) (b : Bool) (x : A) (o : Option A) → option_map f (cond b (Some x) o) ≡ cond b (Some (f x)) (option_map f o)
 map_cond f true x o = refl

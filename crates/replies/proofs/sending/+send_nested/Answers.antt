@@ -1,7 +1,5 @@
 use Rattle.std.proofs.Common.{◌≡◌, suc, ◌-◌, ◌≤◌, List, [], ◌∷◌, length, take, drop, take_all, get_or, Some, sym, ap, subst, arith, OnOk}
-use Rattle.definitions.specs.declared.Range.{Range}
-use Rattle.serde_json.specs.Events.{SendsValue}
-use Rattle.replies.specs.Replies.{range_data, with_parent, nested}
+use Rattle.replies.proofs.Common.{Range, SendsValue, range_data, with_parent, nested}
 use Rattle.replies.proofs.Objects.{sends_object, sends_member}
 use Rattle.replies.proofs.sending.+send_nested.Goals as goal
 

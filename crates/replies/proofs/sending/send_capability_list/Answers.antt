@@ -1,5 +1,5 @@
 use Rattle.std.proofs.Common.{subst}
-use Rattle.serde.specs.Event.{Logs, text}
+use Rattle.replies.proofs.Common.{Logs, text}
 use Rattle.replies.proofs.Objects.{sends_object, sends_member}
 use Rattle.replies.proofs.sending.send_capability_list.Goals as goal
 

@@ -1,7 +1,5 @@
 use Rattle.std.proofs.Common.{map, refl, arith}
-use Rattle.std.proofs.lemmas.Result.{on_ok_weaker}
-use Rattle.serde_json.specs.View.{items_of}
-use Rattle.replies.specs.Replies.{fold_data}
+use Rattle.replies.proofs.Common.{on_ok_weaker, items_of, fold_data}
 use Rattle.replies.proofs.SentItems.{sent_more, all_sent}
 use Rattle.replies.proofs.sending.send_folds.Goals as goal
 

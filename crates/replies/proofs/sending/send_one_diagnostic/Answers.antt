@@ -1,4 +1,4 @@
-use Rattle.std.proofs.lemmas.Result.{on_ok_weaker}
+use Rattle.replies.proofs.Common.{on_ok_weaker}
 use Rattle.replies.proofs.sending.send_one_diagnostic.Goals as goal
 
 pub returns : goal.returns

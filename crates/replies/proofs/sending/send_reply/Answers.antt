@@ -1,10 +1,5 @@
 use Rattle.std.proofs.Common.{◌≡◌, Result, rules, map, sym, subst, to_z, of_z, to_z-of_z, w32}
-use Rattle.std.specs.Prelude.{OnOk, ⊤}
-use Rattle.serde.specs.Event.{Log}
-use Rattle.serde_json.specs.Events.{SendsValue}
-use Rattle.replies.specs.declared.reply.Reply.{Reply}
-use Rattle.replies.specs.Ids.{id_view}
-use Rattle.replies.specs.Replies.{text_reply, selections_reply, reply_data, reply_view}
+use Rattle.replies.proofs.Common.{OnOk, ⊤, Log, SendsValue, Reply, id_view, text_reply, selections_reply, reply_data, reply_view}
 use Rattle.replies.proofs.sending.send_reply.Goals as goal
 
 -- what was sent of the reply that it is

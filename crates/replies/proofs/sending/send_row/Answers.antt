@@ -1,6 +1,5 @@
 use Rattle.std.proofs.Common.{subst}
-use Rattle.std.proofs.lemmas.Result.{on_ok_weaker}
-use Rattle.serde.specs.Event.{Logs, text}
+use Rattle.replies.proofs.Common.{on_ok_weaker, Logs, text}
 use Rattle.replies.proofs.sending.send_row.Goals as goal
 
 pub returns : goal.returns

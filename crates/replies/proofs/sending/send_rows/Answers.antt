@@ -1,8 +1,5 @@
 use Rattle.std.proofs.Common.{map, refl, subst, arith}
-use Rattle.std.proofs.lemmas.Result.{on_ok_weaker}
-use Rattle.serde_json.specs.Events.{SendsValue}
-use Rattle.serde_json.specs.View.{items_of}
-use Rattle.replies.specs.Replies.{row_data, row_view}
+use Rattle.replies.proofs.Common.{on_ok_weaker, SendsValue, items_of, row_data, row_view}
 use Rattle.replies.proofs.SentItems.{sent_more, all_sent}
 use Rattle.replies.proofs.sending.send_rows.Goals as goal
 

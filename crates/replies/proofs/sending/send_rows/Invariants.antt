@@ -1,8 +1,5 @@
 use Rattle.std.proofs.Common.{map, drop}
-use Rattle.serde.specs.Event.{Log}
-use Rattle.serde_json.specs.Events.{SendsItems}
-use Rattle.serde_json.specs.View.{items_of}
-use Rattle.replies.specs.Replies.{row_data, row_view}
+use Rattle.replies.proofs.Common.{Log, SendsItems, items_of, row_data, row_view}
 use Rattle.replies.proofs.sending.send_rows.Given as goal
 
 -- whatever sends what is left sends all

@@ -1,8 +1,5 @@
 use Rattle.std.proofs.Common.{map, drop}
-use Rattle.serde.specs.Event.{Log}
-use Rattle.serde_json.specs.Events.{SendsItems}
-use Rattle.serde_json.specs.View.{items_of}
-use Rattle.replies.specs.Replies.{selection_data}
+use Rattle.replies.proofs.Common.{Log, SendsItems, items_of, selection_data}
 use Rattle.replies.proofs.sending.send_selections.Given as goal
 
 -- whatever sends what is left sends all

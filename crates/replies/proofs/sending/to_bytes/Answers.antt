@@ -1,5 +1,4 @@
-use Rattle.serde_json.proofs.FreeTexts.{text_of_value}
-use Rattle.replies.specs.Replies.{reply_data, reply_view}
+use Rattle.replies.proofs.Common.{text_of_value, reply_data, reply_view}
 use Rattle.replies.proofs.Replies.{reply_is_whole}
 use Rattle.replies.proofs.sending.to_bytes.Goals as goal
 

@@ -1,6 +1,5 @@
 use Rattle.std.proofs.Common.{◌≡◌, drop}
-use Rattle.serde_json.specs.View.{items_view}
-use Rattle.rpc.specs.Reading.{first_unit}
+use Rattle.rpc.proofs.Common.{items_view, first_unit}
 use Rattle.rpc.proofs.parts.first_unit.Given as goal
 
 -- none of the items so far names a unit

@@ -1,7 +1,5 @@
 use Rattle.std.proofs.Common.{◌≡◌, ◌++◌, List, drop, option_map}
-use Rattle.serde_json.specs.View.{items_view}
-use Rattle.definitions.specs.declared.Position.{Position}
-use Rattle.rpc.specs.Reading.{positions_of}
+use Rattle.rpc.proofs.Common.{items_view, Position, positions_of}
 use Rattle.rpc.proofs.parts.positions_of.Given as goal
 
 -- the positions so far, and those of what is left

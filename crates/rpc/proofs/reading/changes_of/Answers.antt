@@ -1,7 +1,5 @@
 use Rattle.std.proofs.Common.{refl, sym, ap, ◌∙◌, map, arith, option_map}
-use Rattle.std.proofs.lemmas.List.{map-append}
-use Rattle.rpc.specs.Messages.{change_view}
-use Rattle.rpc.specs.Reading.{change_of, changes_of}
+use Rattle.rpc.proofs.Common.{map-append, change_view, change_of, changes_of}
 use Rattle.rpc.proofs.ListItems.{read_more, unread, all_read}
 use Rattle.rpc.proofs.reading.changes_of.Goals as goal
 

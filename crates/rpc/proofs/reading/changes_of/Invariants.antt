@@ -1,7 +1,5 @@
 use Rattle.std.proofs.Common.{◌≡◌, ◌++◌, List, map, drop, option_map}
-use Rattle.serde_json.specs.View.{items_view}
-use Rattle.rpc.specs.Messages.{TextChange, change_view}
-use Rattle.rpc.specs.Reading.{changes_of}
+use Rattle.rpc.proofs.Common.{items_view, TextChange, change_view, changes_of}
 use Rattle.rpc.proofs.reading.changes_of.Given as goal
 
 -- the changes so far, and those of what is left

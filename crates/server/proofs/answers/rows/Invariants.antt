@@ -1,6 +1,5 @@
 use Rattle.std.proofs.Common.{◌≡◌, map, take}
-use Rattle.rpc.specs.Replies.{row_view}
-use Rattle.docs.specs.Views.{row_bytes}
+use Rattle.server.proofs.Common.{row_view, row_bytes}
 use Rattle.server.proofs.answers.rows.Given as goal
 
 abbrev pub invariant-loop-row : goal.invariant-loop-row

@@ -1,11 +1,5 @@
 use Rattle.std.proofs.Common.{◌-◌, ℤ, w32, map, length, subst, arith}
-use Rattle.std.proofs.lemmas.Int.{to_z-of_z}
-use Rattle.docs.specs.Docs.{open_document}
-use Rattle.rpc.specs.Messages.{change_view}
-use Rattle.sessions.specs.Changes.{IsAfter}
-use Rattle.sessions.specs.Documents.{is_lost, Becomes}
-use Rattle.steps.specs.Holding.{entry_view}
-use Rattle.sessions.proofs.UncountedChanges.{becomes_by_parts, lost_by_parts}
+use Rattle.server.proofs.Common.{to_z-of_z, open_document, change_view, IsAfter, is_lost, Becomes, entry_view, becomes_by_parts, lost_by_parts}
 use Rattle.server.proofs.changes.apply_changes.Goals as goal
 
 pub returns-in-Ok-clause-becomes : goal.returns-in-Ok-clause-becomes

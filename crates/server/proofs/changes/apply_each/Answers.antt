@@ -1,16 +1,7 @@
 use Rattle.std.proofs.Common.{◌≡◌, ◌↔◌, ◌∙◌, ◌+◌, ap, sym, subst, List, map, take, ℕ, Bool, true, false, refl, Option, Some, Err, Ok, Result}
-use Rattle.std.specs.Str.{chars}
-use Rattle.docs.specs.Text.{changed}
-use Rattle.rpc.specs.Unit.{Unit as Encoding}
-use Rattle.docs.specs.Docs.{last_edit, open_document}
-use Rattle.docs.specs.Edits.{IsNext}
-use Rattle.docs.specs.Texts.{LastEdit, OpenDocument, fits}
-use Rattle.docs.specs.declared.doc.DocFault.{DocFault}
-use Rattle.docs.specs.declared.doc.DocFault.TheVariants.{TooLarge, Memory}
-use Rattle.rpc.specs.Messages.{change_view}
+use Rattle.server.proofs.Common.{chars, changed, Encoding, last_edit, open_document, IsNext, LastEdit, OpenDocument, fits, DocFault, Memory, change_view, is_lost, Becomes, IsLastAfter, after, ends_there, goes_on, last_goes_on, may_lose}
+use Rattle.docs.specs.declared.doc.DocFault.TheVariants.{TooLarge}
 use Rattle.rpc.specs.Loss.TheVariants as loss
-use Rattle.sessions.specs.Documents.{is_lost, Becomes, IsLastAfter}
-use Rattle.sessions.proofs.Edits.{after, ends_there, goes_on, last_goes_on, may_lose}
 use Rattle.server.proofs.Refusals.{either_fault}
 use Rattle.server.proofs.changes.apply_each.Goals as goal
 

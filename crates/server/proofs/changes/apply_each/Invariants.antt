@@ -1,7 +1,5 @@
 use Rattle.std.proofs.Common.{◌≡◌, map, take, Some}
-use Rattle.docs.specs.Docs.{last_edit, IsCurrent}
-use Rattle.rpc.specs.Messages.{change_view}
-use Rattle.sessions.specs.Documents.{edited, IsLastAfter}
+use Rattle.server.proofs.Common.{last_edit, IsCurrent, change_view, edited, IsLastAfter}
 use Rattle.server.proofs.changes.apply_each.Given as goal
 
 abbrev pub invariant-loop-change : goal.invariant-loop-change

@@ -1,19 +1,8 @@
 use Rattle.std.proofs.Common.{◌≡◌, ◌∙◌, ◌+◌, ap, sym, subst, List, [], map, take, length, min, true, false, arith, Some, Err}
-use Rattle.std.proofs.Math.Nat.{min-eq_left}
-use Rattle.std.proofs.lemmas.List.{append-nil, length-map, length-take, take_all}
-use Rattle.std.specs.Str.{chars}
-use Rattle.docs.specs.Docs.{open_document}
-use Rattle.docs.specs.Pending.{pending_text}
-use Rattle.docs.specs.Text.{changed}
-use Rattle.docs.specs.Texts.{fits}
-use Rattle.docs.specs.declared.doc.DocFault.TheVariants.{TooLarge, Memory}
-use Rattle.rpc.specs.Messages.{TextChange, change_view}
-use Rattle.rpc.specs.Unit.{Unit as Encoding}
+use Rattle.server.proofs.Common.{min-eq_left, append-nil, length-map, length-take, take_all, chars, open_document, pending_text, changed, fits, Memory, TextChange, change_view, Encoding, is_lost, Becomes, after, all_changes, ends_there, goes_on, last_goes_on, may_lose, lost_on_the_way}
+use Rattle.docs.specs.declared.doc.DocFault.TheVariants.{TooLarge}
 use Rattle.rpc.specs.Loss.TheVariants as loss
-use Rattle.sessions.specs.Documents.{is_lost, Becomes}
-use Rattle.sessions.proofs.Edits.{after, all_changes, ends_there, goes_on, last_goes_on, may_lose}
 use Rattle.server.proofs.Refusals.{either_fault}
-use Rattle.sessions.proofs.UncountedChanges.{lost_on_the_way}
 use Rattle.server.proofs.changes.apply_uncounted.Goals as goal
 
 pub returns-in-Err-clause-lost : goal.returns-in-Err-clause-lost

@@ -1,10 +1,5 @@
 use Rattle.std.proofs.Common.{◌≡◌, ◌+◌, map, take, true, Option, Some}
-use Rattle.docs.specs.Docs.{last_edit}
-use Rattle.docs.specs.Edits.{number_of}
-use Rattle.docs.specs.Pending.{HasNone, IsPending, pending_number, pending_text, pending_unit}
-use Rattle.docs.specs.Texts.{LastEdit, fits}
-use Rattle.rpc.specs.Messages.{change_view}
-use Rattle.sessions.specs.Documents.{edited, IsLastAfter}
+use Rattle.server.proofs.Common.{last_edit, number_of, HasNone, IsPending, pending_number, pending_text, pending_unit, LastEdit, fits, change_view, edited, IsLastAfter}
 use Rattle.server.proofs.changes.apply_uncounted.Given as goal
 
 abbrev pub invariant-loop-change : goal.invariant-loop-change

@@ -1,13 +1,5 @@
 use Rattle.std.proofs.Common.{◌≡◌, ℕ, ℤ, w32, List, true, false, ap, sym, subst, ◌∙◌, None, Err, if◌then◌else◌}
-use Rattle.std.specs.Str.{chars}
-use Rattle.std.proofs.lemmas.Int.{to_z-of_z}
-use Rattle.docs.specs.Docs.{open_document}
-use Rattle.docs.specs.Texts.{OpenDocument, fits}
-use Rattle.docs.specs.declared.doc.DocFault.{DocFault}
-use Rattle.rpc.specs.Unit.{Unit as Encoding}
-use Rattle.rpc.specs.Loss.TheVariants.{TooLarge}
-use Rattle.sessions.specs.Documents.{is_open, is_lost}
-use Rattle.sessions.specs.Steps.{new_document}
+use Rattle.server.proofs.Common.{chars, to_z-of_z, open_document, OpenDocument, fits, DocFault, Encoding, TooLarge, is_open, is_lost, new_document}
 use Rattle.server.proofs.document.open_entry.Goals as goal
 
 abbrev first : Encoding → ℤ → List ℕ → OpenDocument

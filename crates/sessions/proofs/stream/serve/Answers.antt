@@ -1,12 +1,5 @@
 use Rattle.std.proofs.Common.{◌≡◌, arith, ℕ, List, [], take, subst, sym, Option, Err, Result}
-use Rattle.std.specs.Io.KnownBytes.{Consumes, Keeps}
-use Rattle.std.proofs.lemmas.Result.{err_from_is_err_and}
-use Rattle.frames.specs.Frames.{Tail, GoesOn}
-use Rattle.frames.specs.declared.fault.RunFault.{RunFault}
-use Rattle.readings.specs.Grammars.{FileGrammar}
-use Rattle.sessions.specs.Steps.{State}
-use Rattle.sessions.specs.Sessions.{Session}
-use Rattle.sessions.specs.Loop.{Served, ServedInPart, IsCutShort}
+use Rattle.sessions.proofs.Common.{Consumes, Keeps, err_from_is_err_and, Tail, GoesOn, RunFault, FileGrammar, State, Session, Served, ServedInPart, IsCutShort}
 use Rattle.sessions.proofs.Loop.{IsReady, Fed, at_start, can_serve, fed, read_fails, input_ends, exits, stream_fails, answering_fails, feeding_fails, is_open}
 use Rattle.sessions.proofs.CutSessions.{part_kept, served_kept}
 use Rattle.sessions.proofs.stream.serve.Goals as goal

@@ -1,9 +1,5 @@
 use Rattle.std.proofs.Common.{◌++◌, ℕ, List, [], ◌∷◌, subst, sym, ap, ◌∙◌, append_assoc, Option, Some, None}
-use Rattle.std.proofs.lemmas.Result.{err_from_is_err_and}
-use Rattle.std.specs.Vec.Iter.{into_iter_items}
-use Rattle.frames.specs.Contents.{contents}
-use Rattle.frames.specs.declared.fault.RunFault.{RunFault}
-use Rattle.sessions.specs.Loop.{Served, ServedInPart, IsCutShort}
+use Rattle.sessions.proofs.Common.{err_from_is_err_and, into_iter_items, contents, RunFault, Served, ServedInPart, IsCutShort}
 use Rattle.sessions.proofs.Fits.{run_serves}
 use Rattle.sessions.proofs.CutSessions.{cut_off, part_on, part_then}
 use Rattle.sessions.proofs.Runs.{served_stops, served_then, contents_more, contents_all}

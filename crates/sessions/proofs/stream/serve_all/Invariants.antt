@@ -1,7 +1,5 @@
 use Rattle.std.proofs.Common.{◌≡◌, ◌++◌, None}
-use Rattle.std.specs.Vec.Iter.{into_iter_items}
-use Rattle.frames.specs.Contents.{contents}
-use Rattle.sessions.specs.Loop.{Served}
+use Rattle.sessions.proofs.Common.{into_iter_items, contents, Served}
 use Rattle.sessions.proofs.stream.serve_all.Given as goal
 
 abbrev pub invariant-loop-frame : goal.invariant-loop-frame

@@ -1,10 +1,5 @@
 use Rattle.std.proofs.Common.{[], ◌∷◌, map, subst, sym}
-use Rattle.std.proofs.lemmas.Result.{err_from_is_err_and}
-use Rattle.rpc.specs.Messages.{received_of}
-use Rattle.rpc.specs.Reading.{received_in}
-use Rattle.rpc.specs.Replies.{reply_view}
-use Rattle.frames.specs.declared.fault.RunFault.{RunFault}
-use Rattle.sessions.specs.Loop.{ServedInPart, IsCutShort}
+use Rattle.sessions.proofs.Common.{err_from_is_err_and, received_of, received_in, reply_view, RunFault, ServedInPart, IsCutShort}
 use Rattle.sessions.proofs.Runs.{step_of_received, one_run}
 use Rattle.sessions.proofs.CutSessions.{cut_off, part_nothing}
 use Rattle.sessions.proofs.stream.serve_content.Goals as goal

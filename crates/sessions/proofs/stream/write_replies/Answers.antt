@@ -1,13 +1,6 @@
 use Rattle.std.proofs.Common.{◌≡◌, ◌+◌, ◌<◌, ℕ, ◌++◌, List, [], ◌∷◌, map, length, get_or, take, drop, subst, sym, ap, ◌∙◌, append-nil}
-use Rattle.rpc.specs.Reply.{Reply}
-use Rattle.std.specs.Io.KnownBytes.{Appends}
-use Rattle.std.proofs.lemmas.List.{take_more, map-append, take-append-drop}
-use Rattle.frames.specs.Write.{frame}
-use Rattle.rpc.specs.Written.{compact_text}
-use Rattle.rpc.specs.Replies.{reply_view, reply_data}
-use Rattle.sessions.specs.Runs.{bytes_of}
+use Rattle.sessions.proofs.Common.{Reply, Appends, take_more, map-append, take-append-drop, frame, compact_text, reply_view, reply_data, bytes_of, AppendsPrefix}
 use Rattle.sessions.proofs.Runs.{appends_then, bytes_then}
-use Rattle.sessions.specs.Sessions.{AppendsPrefix}
 use Rattle.sessions.proofs.CutSessions.{on_err, prefix_all, prefix_of_more, prefix_after}
 use Rattle.sessions.proofs.stream.write_replies.Goals as goal
 

@@ -1,7 +1,5 @@
 use Rattle.std.proofs.Common.{◌≡◌, take, map}
-use Rattle.std.specs.Io.KnownBytes.{Appends}
-use Rattle.rpc.specs.Replies.{reply_view}
-use Rattle.sessions.specs.Runs.{bytes_of}
+use Rattle.sessions.proofs.Common.{Appends, reply_view, bytes_of}
 use Rattle.sessions.proofs.stream.write_replies.Given as goal
 
 abbrev pub invariant-loop-reply : goal.invariant-loop-reply

@@ -1,6 +1,5 @@
 use Rattle.std.proofs.Common.{sym, ap, subst, ◌∙◌, option_map}
-use Rattle.std.specs.FinMap.{get}
-use Rattle.steps.specs.Holding.{entry_view, IsEntryOf}
+use Rattle.steps.proofs.Common.{get, entry_view, IsEntryOf}
 use Rattle.steps.proofs.MapEntries.{get_held, map_twice, found_current}
 use Rattle.steps.proofs.documents.Documents.get.Goals as goal
 

@@ -1,5 +1,5 @@
 use Rattle.std.proofs.Common.{◌≡◌, sym, ap, ◌∙◌, ◌||◌, nat_lt, false}
-use Rattle.std.specs.FinMap.{contains_key, len}
+use Rattle.steps.proofs.Common.{contains_key, len}
 use Rattle.steps.proofs.MapEntries.{len_held}
 use Rattle.steps.proofs.documents.Documents.has_room.Goals as goal
 

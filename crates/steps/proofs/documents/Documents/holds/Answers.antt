@@ -1,7 +1,6 @@
 use Rattle.std.proofs.Common.{sym, ap, ◌∙◌, is_some}
-use Rattle.std.specs.FinMap.{get}
+use Rattle.steps.proofs.Common.{get, entry_view, entry_at}
 use Rattle.steps.proofs.MapEntries.{get_held, is_some_map}
-use Rattle.steps.specs.Holding.{entry_view, entry_at}
 use Rattle.steps.proofs.documents.Documents.holds.Goals as goal
 
 pub returns : goal.returns

@@ -1,7 +1,5 @@
 use Rattle.std.proofs.Common.{ap, refl, sym, subst, ◌∙◌, string_bytes, Some, Result, Ok, Err, OnErr, option_map}
-use Rattle.std.specs.FinMap.{get, insert}
-use Rattle.std.proofs.lemmas.Map.Text.{btree_map_text_same, btree_map_updates_text}
-use Rattle.steps.specs.Holding.{entry_view, IsEntryOf, AreCurrent}
+use Rattle.steps.proofs.Common.{get, insert, btree_map_text_same, btree_map_updates_text, entry_view, IsEntryOf, AreCurrent}
 use Rattle.steps.proofs.MapEntries.{get_held, insert_held, insert_current}
 use Rattle.steps.proofs.documents.Documents.insert.Goals as goal
 

@@ -1,7 +1,5 @@
 use Rattle.std.proofs.Common.{ap, sym, ◌∙◌, None, is_some}
-use Rattle.std.specs.FinMap.{get, remove}
-use Rattle.std.proofs.lemmas.Map.Text.{btree_map_updates_text}
-use Rattle.steps.specs.Holding.{entry_view, entry_at}
+use Rattle.steps.proofs.Common.{get, remove, btree_map_updates_text, entry_view, entry_at}
 use Rattle.steps.proofs.MapEntries.{get_held, is_some_map, remove_held, remove_current}
 use Rattle.steps.proofs.documents.Documents.remove.Goals as goal
 

@@ -1,11 +1,6 @@
 use Rattle.std.proofs.Common.{◌≡◌, refl, sym, ap, subst, ◌∙◌, Option, Some, IsSome, IfSome, option_map}
-use Rattle.std.specs.Option.{option_copied_mut}
+use Rattle.steps.proofs.Common.{option_copied_mut, btree_map_updates_text, Memory, Entry, is_lost, documents_of, entry_view, AreCurrent, IsEntryOf}
 use Rattle.std.specs.FinMap as map
-use Rattle.std.proofs.lemmas.Map.Text.{btree_map_updates_text}
-use Rattle.rpc.specs.Loss.TheVariants.{Memory}
-use Rattle.steps.specs.declared.entry.Entry.{Entry}
-use Rattle.sessions.specs.Documents.{is_lost}
-use Rattle.steps.specs.Holding.{documents_of, entry_view, AreCurrent, IsEntryOf}
 use Rattle.steps.proofs.MapEntries.{get_held, insert_held, insert_current}
 use Rattle.steps.proofs.documents.Documents.take.Goals.{in-Some, in-None}
 use Rattle.steps.proofs.documents.Documents.take.Goals as goal

@@ -1,9 +1,6 @@
 use Rattle.std.proofs.Common.{subst, refl}
-use Rattle.rpc.specs.Replies.{reply_view}
-use Rattle.sessions.specs.Answers.{IsPublished}
-use Rattle.steps.specs.States.{state_view}
+use Rattle.steps.proofs.Common.{reply_view, IsPublished, state_view, if_ok_both}
 use Rattle.steps.proofs.Holding.{holds_open}
-use Rattle.readings.proofs.Results.{if_ok_both}
 use Rattle.steps.proofs.state.ServerOf.announce.Goals as goal
 
 pub returns-in_ok-publish-in-Open : goal.returns-in_ok-publish-in-Open

@@ -1,5 +1,4 @@
-use Rattle.rpc.specs.Ids.{id_view}
-use Rattle.steps.specs.Questions.{question_view}
+use Rattle.steps.proofs.Common.{id_view, question_view}
 use Rattle.steps.proofs.state.ServerOf.answer.Goals as goal
 
 pub returns-in-Err : goal.returns-in-Err

@@ -1,13 +1,6 @@
 use Rattle.std.proofs.Common.{◌≡◌, ℤ, w32, map, ap, sym, subst, ◌∙◌, string_bytes, Some, IfSome, option_map}
-use Rattle.std.proofs.lemmas.Int.{to_z-of_z}
-use Rattle.std.specs.FinMap.{get, insert}
-use Rattle.rpc.specs.Messages.{change_view}
-use Rattle.rpc.specs.Loss.TheVariants.{Memory}
-use Rattle.sessions.specs.Documents.{is_open, is_lost, Becomes}
-use Rattle.steps.specs.Holding.{entry_view}
-use Rattle.steps.specs.States.{state_view}
+use Rattle.steps.proofs.Common.{to_z-of_z, get, insert, change_view, Memory, is_open, is_lost, Becomes, entry_view, state_view, IfOk-weaker}
 use Rattle.steps.proofs.Holding.{changes_open, state_same}
-use Rattle.std.proofs.lemmas.Result.{IfOk-weaker}
 use Rattle.steps.proofs.state.ServerOf.change.Goals as goal
 
 pub returns : goal.returns

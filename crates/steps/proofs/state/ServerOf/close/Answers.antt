@@ -1,9 +1,6 @@
 use Rattle.std.proofs.Common.{◌≡◌, ap, sym, ◌∙◌, string_bytes, None}
-use Rattle.std.specs.FinMap.{get}
-use Rattle.steps.specs.States.{state_view}
+use Rattle.steps.proofs.Common.{get, state_view, none_is, removed_none, if_ok_both}
 use Rattle.steps.proofs.Holding.{closes_none, state_same}
-use Rattle.sessions.proofs.LookUps.{none_is, removed_none}
-use Rattle.readings.proofs.Results.{if_ok_both}
 use Rattle.steps.proofs.state.ServerOf.close.Goals as goal
 
 pub returns-then-not-remove : goal.returns-then-not-remove

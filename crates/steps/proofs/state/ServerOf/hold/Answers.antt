@@ -1,11 +1,6 @@
 use Rattle.std.proofs.Common.{List, ℕ, string_bytes, ap, sym, subst}
-use Rattle.std.specs.FinMap.{insert}
-use Rattle.steps.specs.Holding.{entry_view}
-use Rattle.sessions.specs.Sent.{sent}
-use Rattle.sessions.specs.Steps.{State, Holds}
-use Rattle.steps.specs.States.{state_view}
+use Rattle.steps.proofs.Common.{insert, entry_view, sent, State, Holds, state_view, IfOk-weaker}
 use Rattle.steps.proofs.Holding.{state_of, state_same}
-use Rattle.std.proofs.lemmas.Result.{IfOk-weaker}
 use Rattle.steps.proofs.state.ServerOf.hold.Goals as goal
 
 pub returns : goal.returns

@@ -1,13 +1,6 @@
 use Rattle.std.proofs.Common.{◌≡◌, List, ℕ, ℤ, w32, ap, sym, ◌∙◌, string_bytes}
-use Rattle.std.proofs.lemmas.Int.{to_z-of_z}
-use Rattle.std.specs.FinMap.{remove}
-use Rattle.std.specs.Str.{chars}
-use Rattle.sessions.specs.Documents.{has_room}
-use Rattle.steps.specs.Holding.{entry_view}
-use Rattle.sessions.specs.Steps.{new_document}
-use Rattle.steps.specs.States.{state_view}
+use Rattle.steps.proofs.Common.{to_z-of_z, remove, chars, has_room, entry_view, new_document, state_view, IfOk-weaker}
 use Rattle.steps.proofs.Holding.{holds_removed, opens_room, state_same}
-use Rattle.std.proofs.lemmas.Result.{IfOk-weaker}
 use Rattle.steps.proofs.state.ServerOf.open.Goals as goal
 
 pub returns : goal.returns
