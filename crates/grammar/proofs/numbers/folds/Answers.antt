@@ -1,3 +1,4 @@
+use Rattle.std.proofs.lemmas.Grind.{common_steps}
 use Rattle.std.proofs.Common.{◌∙◌, ap, arith, take_all, map}
 use Rattle.grammar.proofs.Common.{is_fold, texts, lines_view}
 use Rattle.grammar.proofs.numbers.folds.Goals as goal
@@ -7,3 +8,6 @@ returns c =
     c.loop-name.invariant
     ∙ ap (λ ws. map (λ w. is_fold w (lines_view c.args.statements.now)) (texts ws)) (take_all c.loop-name.name-index c.as_slice-all.result.now (omega (arith, c.loop-name-test.false)))
     ∙ ap (map (λ w. is_fold w (lines_view c.args.statements.now))) c.as_slice-all.ensures
+
+pub loop-name-preserved : goal.loop-name-preserved
+loop-name-preserved c = grind (arith, common_steps)

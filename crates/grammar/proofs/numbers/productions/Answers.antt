@@ -1,4 +1,5 @@
-use Rattle.std.proofs.Common.{◌∙◌, ◌++◌, [], ap, sym, take, map}
+use Rattle.std.proofs.lemmas.Grind.{common_steps}
+use Rattle.std.proofs.Common.{◌∙◌, ◌++◌, [], ap, sym, take, map, arith}
 use Rattle.grammar.proofs.Common.{cons_option, productions, production_of, lines_view, productions_more}
 use Rattle.grammar.proofs.numbers.productions.Goals as goal
 
@@ -8,3 +9,6 @@ loop-statement-preserved c =
     ∙ ap (λ xs. xs ++ cons_option c.in_ok-production.production []) c.loop-statement.invariant
     ∙ ap (λ o. map (production_of c.args.names.now.nonterminals (map (λ r. r.name) c.args.names.now.rules)) (productions (lines_view (take c.loop-statement.statement-index c.args.statements.now))) ++ cons_option o []) c.in_ok-production.ensures
     ∙ sym (productions_more (production_of c.args.names.now.nonterminals (map (λ r. r.name) c.args.names.now.rules)) c.args.statements.now c.loop-statement.statement-index c.statement-item.result c.loop-statement-test.true c.statement-item.is)
+
+pub returns : goal.returns
+returns c = grind (arith, common_steps)

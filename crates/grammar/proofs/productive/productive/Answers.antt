@@ -1,3 +1,4 @@
+use Rattle.std.proofs.lemmas.Grind.{common_steps}
 use Rattle.std.proofs.Common.{◌<◌, ◌∙◌, Bool, true, List, length, subst, arith}
 use Rattle.grammar.proofs.Common.{length-set, IsClosed, IsNext}
 use Rattle.grammar.proofs.NonterminalMarks.{complete, sound_more, next_within}
@@ -15,3 +16,9 @@ loop-nonterminal-preserved c =
     let below = next_within c.args.productions.now marks c.in-Some.nonterminal c.args.nonterminals c.requires next in
     let within : c.in-Some.nonterminal < length marks = omega arith in
     (length-set marks c.in-Some.nonterminal true ∙ c.loop-nonterminal.invariant.0, sound_more c.args.productions.now marks c.in-Some.nonterminal within c.loop-nonterminal.invariant.1 next)
+
+pub loop-nonterminal-smaller : goal.loop-nonterminal-smaller
+loop-nonterminal-smaller c = grind (arith, common_steps)
+
+pub loop-nonterminal-init : goal.loop-nonterminal-init
+loop-nonterminal-init c = grind (arith, common_steps)

@@ -1,4 +1,5 @@
-use Rattle.std.proofs.Common.{refl, sym, take, drop, ◌+◌}
+use Rattle.std.proofs.lemmas.Grind.{common_steps}
+use Rattle.std.proofs.Common.{refl, sym, take, drop, ◌+◌, arith}
 use Rattle.grammar.proofs.Common.{lines_view, statement_of, said_split}
 use Rattle.grammar.proofs.unproductive.first_line_of.Goals as goal
 
@@ -16,3 +17,6 @@ returns-then-is_production_of c =
         sym c.if-is_production_of.ensures,
       ),
     )
+
+pub loop-statement-preserved : goal.loop-statement-preserved
+loop-statement-preserved c = grind (arith, common_steps)

@@ -1,3 +1,4 @@
+use Rattle.std.proofs.lemmas.Grind.{common_steps}
 use Rattle.std.proofs.Common.{◌≡◌, length, sym, ◌∙◌, subst, arith, rules}
 use Rattle.grammar.proofs.Common.{IsSound}
 use Rattle.grammar.proofs.ProductionsOfFile.{all_of_them, shape_sound}
@@ -12,3 +13,6 @@ returns-clause-sound c =
 
 pub loop-p-init : goal.loop-p-init
 loop-p-init c = search rules
+
+pub loop-p-preserved : goal.loop-p-preserved
+loop-p-preserved c = grind (arith, common_steps)

@@ -1,0 +1,9 @@
+use Rattle.std.proofs.Common.{arith}
+use Rattle.std.proofs.lemmas.Grind.{common_steps}
+use Rattle.grammar.proofs.read.rule_names.Goals as goal
+
+pub returns : goal.returns
+returns c = grind (arith, common_steps)
+
+pub loop-rule-preserved : goal.loop-rule-preserved
+loop-rule-preserved c = grind (arith, common_steps)
