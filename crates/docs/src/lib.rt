@@ -9,14 +9,13 @@
 //! one.
 //!
 //! Limits: a text is refused as `TooLarge` above 1,048,576 bytes of UTF-8. A change costs what it changes of text,
-//! tokens and tree. In the example `SUMS` is the grammar file in README.md.
+//! tokens and tree. In the example `language` is loaded from the grammar file in README.md.
 //!
 //! ```
-//! let language = Language::load(alloc, SUMS).ok()?;
-//! if let Ok(doc) = Doc::open(alloc, &language, Unit::Utf16, 1, "1+(2")
-//!     && let Ok(Some(fault)) = doc.diagnostic(alloc, &language)
-//!     && let Ok(doc) = doc.change(alloc, &language, None, "1+2")
-//!     && let Ok(Some(tree)) = doc.tree(alloc, &language)
+//! if let Ok(doc) = Doc::open(alloc, language, Unit::Utf16, 1, "1+(2")
+//!     && let Ok(Some(fault)) = doc.diagnostic(alloc, language)
+//!     && let Ok(doc) = doc.change(alloc, language, None, "1+2")
+//!     && let Ok(Some(tree)) = doc.tree(alloc, language)
 //! {
 //!     println!(rt; "{}; then {tree}", fault.message).ok()?;
 //!     // unexpected end; expected PLUS, RP; then (Sum (Sum (Atom NUM)) PLUS (Atom NUM))

@@ -65,12 +65,11 @@ pub fn use_languages(rt: &HostRuntime, alloc: Global) -> Option<()> {
 }
 
 /// The example of `docs`.
-pub fn use_docs(rt: &HostRuntime, alloc: Global) -> Option<()> {
-    let language = Language::load(alloc, SUMS).ok()?;
-    if let Ok(doc) = Doc::open(alloc, &language, Unit::Utf16, 1, "1+(2")
-        && let Ok(Some(fault)) = doc.diagnostic(alloc, &language)
-        && let Ok(doc) = doc.change(alloc, &language, None, "1+2")
-        && let Ok(Some(tree)) = doc.tree(alloc, &language)
+pub fn use_docs(rt: &HostRuntime, alloc: Global, language: &Language) -> Option<()> {
+    if let Ok(doc) = Doc::open(alloc, language, Unit::Utf16, 1, "1+(2")
+        && let Ok(Some(fault)) = doc.diagnostic(alloc, language)
+        && let Ok(doc) = doc.change(alloc, language, None, "1+2")
+        && let Ok(Some(tree)) = doc.tree(alloc, language)
     {
         println!(rt; "{}; then {tree}", fault.message).ok()?;
         // unexpected end; expected PLUS, RP; then (Sum (Sum (Atom NUM)) PLUS (Atom NUM))

@@ -12,6 +12,7 @@ mod sets;
 mod texts;
 
 use grammar::{Grammar, Scanner};
+use languages::Language;
 use lexer::{Tokens, Whole};
 use std::alloc::Global;
 use std::process::ExitCode;
@@ -86,10 +87,16 @@ fn with_tokens(rt: &HostRuntime, alloc: Global, scanner: &Scanner) -> Option<()>
     answers::use_views(rt, alloc, scanner.grammar(), &text, &tokens)
 }
 
+/// The examples of a language, and of a document of it.
+fn of_document(rt: &HostRuntime, alloc: Global) -> Option<()> {
+    answers::use_languages(rt, alloc)?;
+    let language = Language::load(alloc, SUMS).ok()?;
+    answers::use_docs(rt, alloc, &language)
+}
+
 /// The examples that load a language.
 fn of_language(rt: &HostRuntime, alloc: Global) -> Option<()> {
-    answers::use_languages(rt, alloc)?;
-    answers::use_docs(rt, alloc)?;
+    of_document(rt, alloc)?;
     programs::use_sessions(rt, alloc)?;
     programs::use_steps(rt, alloc)?;
     programs::use_server(rt, alloc)?;
