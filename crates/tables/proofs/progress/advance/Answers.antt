@@ -1,4 +1,5 @@
-use Rattle.std.proofs.Common.{◌≡◌, List, length, sym, ap, subst, ◌∙◌}
+use Rattle.std.proofs.lemmas.Grind.{common_steps}
+use Rattle.std.proofs.Common.{◌≡◌, List, length, sym, ap, subst, ◌∙◌, arith}
 use Rattle.tables.proofs.Common.{Symbol, kernel_at, IsRow, HasKernel, HasSet, IsDecided}
 use Rattle.tables.proofs.MovesOfState.{made_more}
 use Rattle.tables.proofs.progress.advance.Goals as goal
@@ -21,3 +22,6 @@ returns-clause-made c =
     let row : IsRow g new s c.new-row.result = subst (IsRow g new s) (sym c.new-row.ensures) (subst (λ n. IsRow g new n c.in_ok-to.to.items) state c.in_ok-to.ensures.row) in
     let decided : IsDecided g.grammar items c.new-row.result c.in_ok-decided.decided = subst (λ y. IsDecided g.grammar y c.new-row.result c.in_ok-decided.decided) c.deref-2.ensures.value c.in_ok-decided.ensures in
     made_more g old new goes t c.add.new.self c.requires.made c.requires.more c.new-row.result row c.in_ok-gotos.gotos (rw (← c.rules.ensures.rules) c.in_ok-gotos.ensures) c.in_ok-add.ensures.gotos items c.in_ok-items.ensures.known set c.in_ok-decided.decided decided c.in_ok-add.ensures.moves
+
+pub returns-clause-longer : goal.returns-clause-longer
+returns-clause-longer c = grind (arith, common_steps)

@@ -1,3 +1,4 @@
+use Rattle.std.proofs.lemmas.Grind.{common_steps}
 use Rattle.std.proofs.Common.{arith, inr, ap, subst, ◌∙◌, ◌∷◌, length}
 use Rattle.lexer.proofs.Common.{IsWalk}
 use Rattle.lexer.proofs.Totals.{few}
@@ -26,3 +27,6 @@ loop-self-preserved c =
       items = old.items;
       passed = λ h. passed_on w.items.now c.next.new.self x w.place w.start walk c.args.offset c.loop-self-test.true (old.passed h);
     })
+
+pub overflow_add-self : goal.overflow_add-self
+overflow_add-self c = grind (arith, common_steps)
