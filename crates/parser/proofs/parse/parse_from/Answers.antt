@@ -1,3 +1,4 @@
+use Rattle.std.proofs.lemmas.Grind.{common_steps}
 use Rattle.std.proofs.Common.{sym, subst, ap, arith, min, ◌∙◌, ◌<◌, ◌≤◌, ◌^◌, [], ◌∷◌, length}
 use Rattle.parser.proofs.Common.{input_of, all_trees, most, all_branches, plain_of, IsStop, verdict_of, CameFrom, SoFar}
 use Rattle.parser.proofs.Cuts.{counted}
@@ -56,3 +57,6 @@ returns-clause-parse g c =
       fits = fits;
       countable = omega (arith, c.in_ok-halt.ensures.countable, ap length c.new-reader.ensures);
     }
+
+pub returns-in_err-machine-clause-grown : goal.returns-in_err-machine-clause-grown
+returns-in_err-machine-clause-grown g c = grind (arith, common_steps)

@@ -1,3 +1,4 @@
+use Rattle.std.proofs.lemmas.Grind.{common_steps}
 use Rattle.std.proofs.Common.{◌≡◌, ◌≢◌, ℕ, ◌+◌, ◌-◌, ◌<◌, zero, suc, ◌≤◌, ◌∷◌, length-append, List, [], ◌++◌, length, take, drop, map, sym, ap, ◌∙◌, subst, arith, rules, length-drop}
 use Rattle.parser.proofs.Common.{append-nil, take_all, all_kinds, yield, plain, IsPrepared, all_branches, place_of, AreBelow, Cell, all_trees, tree, MoveFrom, plain_of, input_of, plain_splice, Child, Token}
 use Rattle.parser.proofs.Reductions.{below-drop}
@@ -101,3 +102,6 @@ returns c =
       fits = replaced_fits cells s c.requires.ordered r;
       moved = replaced_moved cells s c.requires.ordered r;
     }
+
+pub returns-then-is_empty-clause-input : goal.returns-then-is_empty-clause-input
+returns-then-is_empty-clause-input c = grind (arith, common_steps)

@@ -101,3 +101,6 @@ passes-requires-clause-not_empty g c = search rules
 
 pub passes-requires-clause-fits : goal.passes-requires-clause-fits
 passes-requires-clause-fits g c = grind (arith, common_steps)
+
+pub edge-smaller : goal.edge-smaller
+edge-smaller g c = grind (arith, common_steps)

@@ -1,3 +1,4 @@
+use Rattle.std.proofs.lemmas.Grind.{common_steps}
 use Rattle.std.proofs.Common.{◌≡◌, ◌+◌, ℕ, List, length, slice_get, Some, refl, sym, ap, ◌∙◌, subst, arith}
 use Rattle.parser.proofs.Common.{slice_get_within, HasMove, Shift, Reduce, Accept, Kind, Tree, yield, plain_tree, Stamped, Cell, all_trees, tree, Child, Node, Reduces, Sets, IsStateOf, Offers, IsOffer, FirstInput, OffersTree, OffersNext, input_of, IsInput, plain_of, HasStates, IsStoppedAt, verdict_of, CameFrom, ComeFrom, IsEdge, SoFar, AreOlder}
 use Rattle.definitions.specs.declared.Kind.TheVariants.{Rule as Token}
@@ -171,3 +172,21 @@ returns-in-None-clause-stops g c =
       | then-self-count w ↦ subst (λ halt. IsStoppedAt t kinds cells (verdict_of halt m.stack.items) m.stack.items m.states.items) (sym w.result-is) (at_fault t c.requires.accepted kinds cells m.stack.items m.states.items m.read here stuck (omega (arith, w.if-self-count.true, c.len-count.ensures)))
       | else-self-count w ↦ subst (λ halt. IsStoppedAt t kinds cells (verdict_of halt m.stack.items) m.stack.items m.states.items) (sym w.result-is) (at_end t c.requires.accepted kinds cells m.stack.items m.states.items m.read here stuck (omega (arith, w.if-self-count.false, c.len-count.ensures)))
     ]
+
+pub returns-in_err-reduce-in-Some-Reduce-clause-grown : goal.returns-in_err-reduce-in-Some-Reduce-clause-grown
+returns-in_err-reduce-in-Some-Reduce-clause-grown g c = grind (arith, common_steps)
+
+pub moves-init : goal.moves-init
+moves-init g c = grind (arith, common_steps)
+
+pub moves-smaller-in-Tree : goal.moves-smaller-in-Tree
+moves-smaller-in-Tree g c = grind (arith, common_steps)
+
+pub reduce-requires-clause-called : goal.reduce-requires-clause-called
+reduce-requires-clause-called g c = grind (arith, common_steps)
+
+pub overflow_add-self : goal.overflow_add-self
+overflow_add-self g c = grind (arith, common_steps)
+
+pub moves-smaller : goal.moves-smaller
+moves-smaller g c = grind (arith, common_steps)

@@ -1,3 +1,4 @@
+use Rattle.std.proofs.lemmas.Grind.{common_steps}
 use Rattle.std.proofs.Common.{[], ◌+◌, ap, arith, drop, length, subst, sym, rules}
 use Rattle.parser.proofs.Common.{all_branches, plain_of, all_trees, input_of, IsInput, IsMadeByRun, AreOlder}
 use Rattle.parser.proofs.WholeRun.{plain_count, plain_stamps}
@@ -47,3 +48,6 @@ returns-in-Ok-clause-added g c = c.in-Ok.ensures.came.2.added
 
 pub returns-in-Ok-clause-number : goal.returns-in-Ok-clause-number
 returns-in-Ok-clause-number g c = search rules
+
+pub returns-in-Err-clause-grown : goal.returns-in-Err-clause-grown
+returns-in-Err-clause-grown g c = grind (arith, common_steps)

@@ -1,0 +1,9 @@
+use Rattle.std.proofs.Common.{arith}
+use Rattle.std.proofs.lemmas.Grind.{common_steps}
+use Rattle.parser.proofs.compact.nodes_of.Goals as goal
+
+pub returns : goal.returns
+returns c = grind (arith, common_steps)
+
+pub loop-child-preserved : goal.loop-child-preserved
+loop-child-preserved c = grind (arith, common_steps)
