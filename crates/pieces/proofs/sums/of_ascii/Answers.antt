@@ -1,3 +1,4 @@
+use Rattle.std.proofs.lemmas.Grind.{common_steps}
 use Rattle.std.proofs.Common.{arith, sym, ap, ◌∙◌, ◌≡◌, ◌+◌, ◌≤◌, ℕ, List, [], ◌∷◌, ◌++◌, take, slice_index}
 use Rattle.pieces.proofs.Common.{take_more, units, Utf8, sums_of, most, joined, line_sums, ascii_units, sums_laws}
 use Rattle.pieces.proofs.Joins.{sums_of-more}
@@ -35,3 +36,6 @@ loop-byte-preserved c =
                 ∙ ap sums_of (sym next);
           }
     ]
+
+pub returns : goal.returns
+returns c = grind (arith, common_steps)
