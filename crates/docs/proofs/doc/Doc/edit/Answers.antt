@@ -1,3 +1,4 @@
+use Rattle.std.proofs.lemmas.Grind.{common_steps}
 use Rattle.std.proofs.Common.{◌≡◌, ◌≤◌, ◌+◌, ◌-◌, ℕ, List, length, min, refl, ap, sym, subst, ◌∙◌, arith, All}
 use Rattle.docs.proofs.Common.{chars, edit, length-edit, AreMadeBy, AreOlder, all_trees, forest_in, last_edit, IsCurrent, OpenDocument, Doc, edit_of}
 use Rattle.docs.proofs.Edits.{next_is, next_later, next_positive, number_after_edit, same_edit}
@@ -72,3 +73,6 @@ pub returns-clause-too_large : goal.returns-clause-too_large
 returns-clause-too_large c =
     let by = large_edit c.replace.result (IsText-changed c.args.self.now.unit c.args.self.now.text c.args.range c.args.new.now c.len-before.ensures.characters c.utf8.new) (c.span-from.ensures.edits (chars c.args.new.now)) c.replace.ensures.too_large in
     all_made c.replace.result _ by _ c.in_ok-replace.field-0 _ c.in_ok-replace.was refl
+
+pub overflow_sub-edit-4 : goal.overflow_sub-edit-4
+overflow_sub-edit-4 c = grind (arith, common_steps)

@@ -1,3 +1,4 @@
+use Rattle.std.proofs.lemmas.Grind.{common_steps}
 use Rattle.std.proofs.Common.{◌≡◌, ◌≤◌, ◌-◌, ◌∙◌, ℕ, length, sym, ap, subst, arith, Option, Some, None, Err, MatchOption}
 use Rattle.docs.proofs.Common.{chars, Edit, IsText, edit, length-edit, TooLarge, Memory, LeadsTo, number_or}
 use Rattle.docs.proofs.JoinedEdits.{small_edit}
@@ -56,3 +57,6 @@ returns-clause-pending c =
       current = p.current;
       leads = (subst (LeadsTo p.was c.edit_with.result) (sym c.in_ok-replace.ensures.edited) leads, omega (arith, later, c.next_number-number.ensures.later, c.edit_with.ensures.number), omega (arith, c.next_number-number.ensures.positive, c.edit_with.ensures.number));
     }
+
+pub overflow_sub-inserted-3 : goal.overflow_sub-inserted-3
+overflow_sub-inserted-3 c = grind (arith, common_steps)
