@@ -1,4 +1,5 @@
-use Rattle.std.proofs.Common.{◌≡◌, ◌∙◌, [], ◌∷◌, ap, List, map, codes, string_bytes, String}
+use Rattle.std.proofs.lemmas.Grind.{common_steps}
+use Rattle.std.proofs.Common.{◌≡◌, ◌∙◌, [], ◌∷◌, ap, List, map, codes, string_bytes, String, arith}
 use Rattle.command_line.proofs.Common.{All, IsUtf8, take_all, All-cons, All-nil, IfOk-weaker, IsUtf8-string_bytes}
 use Rattle.command_line.proofs.tasks.words.Goals as goal
 
@@ -12,3 +13,6 @@ returns c =
     let line : map (λ s. s.now) c.deref.result.now ≡ codes "lrls" ∷ map string_bytes c.args.given.now =
     ap (map (λ s. s.now)) c.deref.ensures.value ∙ (c.loop-word.invariant ∙ ap (λ l. codes "lrls" ∷ map string_bytes l) all) in
     IfOk-weaker c.task_of.result _ _ (λ task read. read (map string_bytes c.args.given.now) line (texts c.args.given.now)) c.task_of.ensures
+
+pub loop-word-preserved : goal.loop-word-preserved
+loop-word-preserved c = grind (arith, common_steps)
