@@ -1,4 +1,5 @@
-use Rattle.std.proofs.Common.{◌≡◌, ◌↔◌, ◌∙◌, ◌+◌, ap, sym, subst, List, map, take, ℕ, Bool, true, false, refl, Option, Some, Err, Ok, Result}
+use Rattle.std.proofs.lemmas.Grind.{common_steps}
+use Rattle.std.proofs.Common.{◌≡◌, ◌↔◌, ◌∙◌, ◌+◌, ap, sym, subst, List, map, take, ℕ, Bool, true, false, refl, Option, Some, Err, Ok, Result, arith}
 use Rattle.server.proofs.Common.{chars, changed, Encoding, last_edit, open_document, IsNext, LastEdit, OpenDocument, fits, DocFault, Memory, change_view, is_lost, Becomes, IsLastAfter, after, ends_there, goes_on, last_goes_on, may_lose}
 use Rattle.docs.specs.declared.doc.DocFault.TheVariants.{TooLarge}
 use Rattle.rpc.specs.Loss.TheVariants as loss
@@ -47,3 +48,6 @@ loop-change-preserved c =
       last = subst (λ (l : Option LastEdit). IsLastAfter c.args.doc.unit c.args.language.now.file c.args.doc.text (map change_view (take (c.loop-change.change-index + 1) c.args.changes.now)) (last_edit c.args.doc) l) (sym next.1) (last_goes_on c.args.changes.now c.loop-change.change-index change c.loop-change-test.true c.change-item.is c.args.language.now.file (open_document c.args.doc) doc.text c.loop-change.invariant.edits (last_edit doc) next.0 c.loop-change.invariant.last one);
       edits = goes_on c.args.changes.now c.loop-change.change-index change c.loop-change-test.true c.change-item.is c.args.language.now.file (open_document c.args.doc) doc.text c.loop-change.invariant.edits fit ∙ ap (λ t. Some t) (sym text);
     }
+
+pub returns-clause-becomes : goal.returns-clause-becomes
+returns-clause-becomes c = grind (arith, common_steps)
