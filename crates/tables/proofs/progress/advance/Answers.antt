@@ -25,3 +25,6 @@ returns-clause-made c =
 
 pub returns-clause-longer : goal.returns-clause-longer
 returns-clause-longer c = grind (arith, common_steps)
+
+pub returns-clause-states : goal.returns-clause-states
+returns-clause-states c = grind (arith, common_steps)

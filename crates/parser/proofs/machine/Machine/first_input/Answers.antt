@@ -104,3 +104,6 @@ passes-requires-clause-fits g c = grind (arith, common_steps)
 
 pub edge-smaller : goal.edge-smaller
 edge-smaller g c = grind (arith, common_steps)
+
+pub returns-in-Some-passes-clause-offer : goal.returns-in-Some-passes-clause-offer
+returns-in-Some-passes-clause-offer g c = grind (arith, common_steps)

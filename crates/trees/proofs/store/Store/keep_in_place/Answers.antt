@@ -1,3 +1,4 @@
+use Rattle.std.proofs.lemmas.Grind.{common_steps}
 use Rattle.std.proofs.Common.{◌≡◌, ◌<◌, ◌^◌, length, map, ap, subst, arith, sym, ◌∙◌}
 use Rattle.trees.proofs.Common.{Child, AreBelow, all_trees, tree, nodes, rank, renamed, AreMarked, AreRanks, IsMarked}
 use Rattle.trees.proofs.Slides.{marked_below, rank_le, slid_below, slid_trees}
@@ -24,3 +25,6 @@ returns-clause-done c = λ e.
           let few : length marks < 2 ^ 32 = omega (arith, c.len.ensures.is, c.if-len-gt-GREATEST_LEN.false, c.in_ok-marks.ensures.long, ap length c.deref.ensures.value, ap length c.self.view_is) in
           omega (arith, count, counted, few, rank_le marks (length marks), c.if-count-branches.false, c.branches.ensures);
     }
+
+pub returns-then-count-branches-clause-done : goal.returns-then-count-branches-clause-done
+returns-then-count-branches-clause-done c = grind (arith, common_steps)
