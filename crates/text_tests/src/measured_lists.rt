@@ -3,6 +3,7 @@
 ghost use Rattle.std.specs.Prelude.{max, nat_le};
 ghost use Rattle.text_tests.specs.Maxima.{max_left_unit, max_right_unit, max_assoc, max_stays};
 
+use crate::checks::{expect, expect_at};
 use seqtree::{Goal, Measured, Monoid, Seq, Slots};
 use std::alloc::Global;
 use std::process::Abort;
@@ -79,26 +80,26 @@ fn put(
 ) -> usize {
     let len = seq.len();
     let more = items.len();
-    assert!(rt; from <= to);
-    assert!(rt; to <= len);
-    assert!(rt; len < 1_000_000);
-    assert!(rt; more < 1_000_000);
+    assert!(rt; from <= to && to <= len && len < 1_000_000 && more < 1_000_000);
     seq.replace(from, to, items).len()
 }
 
 /// The list of 3, 1, 4, 1, 5, 9, 2 and 6.
 fn digits(rt: &impl Abort, alloc: Global) -> Seq<Number> {
     let mut seq = Seq::new();
-    assert!(rt; (seq.len(), seq.height()) == (0, 0));
+    expect(rt, seq.len() == 0, "no numbers");
+    expect(rt, seq.height() == 0, "no height");
     let items = slots_of(rt, alloc, &[3, 1, 4, 1, 5, 9, 2, 6]);
-    assert!(rt; put(rt, &mut seq, 0, 0, items) == 0);
+    let removed = put(rt, &mut seq, 0, 0, items);
+    expect(rt, removed == 0, "none is removed");
     seq
 }
 
 /// The first number that is at least this one is here, and this is the greatest of those before it.
 fn check_located(rt: &impl Abort, seq: &Seq<Number>, value: u32, at: usize, before: u32) {
     let found = seq.locate(&AtLeast { value });
-    assert!(rt; found == (at, Greatest { value: before }), "at {value}");
+    let wanted = (at, Greatest { value: before });
+    expect_at(rt, found == wanted, value as usize);
 }
 
 /// The number at a place.
@@ -106,27 +107,36 @@ fn number_at(seq: &Seq<Number>, at: usize) -> Option<u32> {
     Some(seq.get(at)?.value)
 }
 
+fn check_digits(rt: &impl Abort, seq: &Seq<Number>) {
+    expect(rt, seq.len() == 8, "eight numbers");
+    expect(rt, seq.height() == 4, "the height");
+    expect(rt, seq.total().value == 9, "the greatest");
+    expect(rt, number_at(seq, 4) == Some(5), "the fifth number");
+    expect(rt, number_at(seq, 8) == None, "no ninth number");
+    check_located(rt, seq, 5, 4, 4);
+    check_located(rt, seq, 10, 8, 9);
+}
+
 #[test]
 fn each_call_answers(rt: HostRuntime) {
     let seq = digits(&rt, rt.alloc());
-    assert!(rt; (seq.len(), seq.height(), seq.total().value) == (8, 4, 9));
-    assert!(rt; (number_at(&seq, 4), number_at(&seq, 8)) == (Some(5), None));
-    check_located(&rt, &seq, 5, 4, 4);
-    check_located(&rt, &seq, 10, 8, 9);
+    check_digits(&rt, &seq);
 }
 
 /// These two numbers stand side by side from a place on.
 fn check_pair(rt: &impl Abort, seq: &Seq<Number>, from: usize, first: u32, second: u32) {
     let mut rest = seq.iter_from(from);
-    assert!(rt; rest.next() == Some(&Number { value: first }));
-    assert!(rt; rest.next() == Some(&Number { value: second }));
+    let (first, second) = (Number { value: first }, Number { value: second });
+    expect(rt, rest.next() == Some(&first), "the first number");
+    expect(rt, rest.next() == Some(&second), "the second number");
 }
 
 #[test]
 fn a_part_is_replaced(rt: HostRuntime) {
     let mut seq = digits(&rt, rt.alloc());
     let items = slots_of(&rt, rt.alloc(), &[7]);
-    assert!(rt; put(&rt, &mut seq, 4, 6, items) == 2);
+    let removed = put(&rt, &mut seq, 4, 6, items);
+    expect(&rt, removed == 2, "two are removed");
     check_pair(&rt, &seq, 3, 1, 7);
 }
 
@@ -153,7 +163,7 @@ fn put_in_turn(rt: &impl Abort, alloc: Global, count: u32) -> Seq<Number> {
 fn end_of_walk(rt: &impl Abort, seq: &Seq<Number>, from: usize) -> usize {
     let mut at = from;
     for number in seq.iter_from(from) {
-        assert!(rt; Some(number) == seq.get(at));
+        expect_at(rt, Some(number) == seq.get(at), at);
         at = at.saturating_add(1);
     }
     at
@@ -163,14 +173,15 @@ fn end_of_walk(rt: &impl Abort, seq: &Seq<Number>, from: usize) -> usize {
 fn a_walk_from_each_place_meets_each_item(rt: HostRuntime) {
     let seq = put_in_turn(&rt, rt.alloc(), 100);
     for from in 0..102 {
-        assert!(rt; end_of_walk(&rt, &seq, from) == from.max(100));
+        let end = end_of_walk(&rt, &seq, from);
+        expect_at(&rt, end == from.max(100), from);
     }
 }
 
 #[test]
 fn a_list_of_ten_thousand_stays_low(rt: HostRuntime) {
     let seq = put_in_turn(&rt, rt.alloc(), 10_000);
-    assert!(rt; seq.len() == 10_000);
-    assert!(rt; seq.height() <= 20);
-    assert!(rt; seq.total() == Greatest { value: 9_999 });
+    expect(&rt, seq.len() == 10_000, "numbers");
+    expect(&rt, seq.height() <= 20, "the height");
+    expect(&rt, seq.total().value == 9_999, "the greatest");
 }

@@ -2,47 +2,30 @@
 
 ghost use Rattle.std.specs.Prelude.{◌<◌};
 
+use crate::checks::{Step, at, check, expect, expect_at, has_characters, open};
 use crate::documents::text_of;
 use std::alloc::Global;
 use std::process::Abort;
-use text::{Position, Text, Unit};
-
-fn at(line: u32, character: u32) -> Position {
-    Position { line, character }
-}
-
-/// Where the characters of a line of three end, in each unit.
-const ENDS: &[(Unit, [u32; 4])] = &[
-    (Unit::Utf8, [0, 2, 6, 7]),
-    (Unit::Utf16, [0, 1, 3, 4]),
-    (Unit::Utf32, [0, 1, 2, 3]),
-];
-
-/// The offsets from 0 on are those of these characters of line 0.
-fn check_offsets(rt: &impl Abort, text: &Text, unit: Unit, ends: &[u32]) {
-    for (offset, character) in ends.iter().enumerate() {
-        let position = at(0, *character);
-        assert!(rt; text.position(unit, offset) == position, "at {offset}");
-        assert!(rt; text.offset(unit, position) == offset);
-    }
-}
-
-/// A walk comes to these characters of line 0.
-fn check_walk(rt: &impl Abort, text: &Text, unit: Unit, ends: &[u32]) {
-    let mut places = text.places(unit);
-    for character in ends {
-        assert!(rt; places.position() == at(0, *character));
-        places.advance(1);
-    }
-}
+use text::{Text, Unit};
 
 #[test]
 fn positions_count_the_unit_that_is_asked_for(rt: HostRuntime) {
-    let text = Text::open(rt.alloc(), "\u{e9}\u{1f600}z").expect(&rt, "a text");
-    for (unit, ends) in ENDS {
-        check_offsets(&rt, &text, *unit, ends);
-        check_walk(&rt, &text, *unit, ends);
-    }
+    const ENDS: &[(usize, u32, u32, u32, u32)] = &[
+        (0, 0, 0, 0, 0),
+        (1, 0, 2, 1, 1),
+        (2, 0, 6, 3, 2),
+        (3, 0, 7, 4, 3),
+    ];
+    const STEPS: &[Step<'static>] = &[
+        Step::InEachUnit(ENDS),
+        Step::Offsets(Unit::Utf8, &[(0, 0, 0), (0, 2, 1), (0, 6, 2), (0, 7, 3)]),
+        Step::Offsets(Unit::Utf16, &[(0, 0, 0), (0, 1, 1), (0, 3, 2), (0, 4, 3)]),
+        Step::Offsets(Unit::Utf32, &[(0, 0, 0), (0, 1, 1), (0, 2, 2), (0, 3, 3)]),
+        Step::Walk(Unit::Utf8, 1, &[(0, 0), (0, 2), (0, 6), (0, 7)]),
+        Step::Walk(Unit::Utf16, 1, &[(0, 0), (0, 1), (0, 3), (0, 4)]),
+        Step::Walk(Unit::Utf32, 1, &[(0, 0), (0, 1), (0, 2), (0, 3)]),
+    ];
+    check(&rt, rt.alloc(), "\u{e9}\u{1f600}z", STEPS);
 }
 
 /// Whether the break after the first `n` characters is one, and ends line 0.
@@ -56,26 +39,25 @@ fn breaks_after(text: &Text, n: u32) -> bool {
 /// The text of a line and what stands after it.
 fn text_after(rt: &impl Abort, alloc: Global, line: &str, following: &str) -> Text {
     let text = format!(in alloc; "{line}{following}").expect(rt, "memory");
-    Text::open(alloc, text.as_str()).expect(rt, "a text")
+    open(rt, alloc, text.as_str())
 }
 
-fn check_whole_break(rt: &impl Abort, alloc: Global, line: &str, n: u32) {
-    let whole = text_after(rt, alloc, line, "\r\ny");
-    assert!(rt; breaks_after(&whole, n), "a line of {n}");
+/// Puts a line feed before the last character of a text, which is the second one after `n`.
+fn join_break(rt: &impl Abort, alloc: Global, text: &mut Text, n: u32) {
+    let last = n as usize + 1;
+    assert!(rt; text.len() == last + 1);
+    text.replace(alloc, last, last, "\n").expect(rt, "an edit");
 }
 
-/// Puts a line feed before the last character of a text.
-fn join_break(rt: &impl Abort, alloc: Global, text: &mut Text, following: usize) {
-    assert!(rt; following < text.len());
-    assert!(rt; text.len() - following == 1);
-    text.replace(alloc, following, following, "\n")
-        .expect(rt, "an edit");
+/// A line of `n` characters, and a break that an edit makes of two.
+fn joined(rt: &impl Abort, alloc: Global, line: &str, n: u32) -> Text {
+    let mut text = text_after(rt, alloc, line, "\ry");
+    join_break(rt, alloc, &mut text, n);
+    text
 }
 
-fn check_joined_break(rt: &impl Abort, alloc: Global, line: &str, n: u32) {
-    let mut joined = text_after(rt, alloc, line, "\ry");
-    join_break(rt, alloc, &mut joined, n as usize + 1);
-    assert!(rt; breaks_after(&joined, n), "joined after a line of {n}");
+fn expect_break(rt: &impl Abort, text: Text, n: u32) {
+    expect_at(rt, breaks_after(&text, n), n as usize);
 }
 
 #[test]
@@ -83,8 +65,8 @@ fn a_break_over_the_border_of_pieces(rt: HostRuntime) {
     let alloc = rt.alloc();
     let mut line = String::new(alloc);
     for n in 0u32..2_101 {
-        check_whole_break(&rt, alloc, &line, n);
-        check_joined_break(&rt, alloc, &line, n);
+        expect_break(&rt, text_after(&rt, alloc, &line, "\r\ny"), n);
+        expect_break(&rt, joined(&rt, alloc, &line, n), n);
         line.push('x').expect(&rt, "memory");
     }
 }
@@ -143,17 +125,6 @@ fn edited(
     characters
 }
 
-/// Whether a text has these characters.
-fn has_characters(text: &Text, wanted: &Vec<char>) -> bool {
-    let mut characters = text.chars_from(0);
-    for c in wanted {
-        if characters.next() != Some(*c) {
-            return false;
-        }
-    }
-    characters.next() == None
-}
-
 /// 600 times two characters.
 fn long_line(rt: &impl Abort, alloc: Global) -> String {
     let mut line = String::new(alloc);
@@ -178,7 +149,7 @@ fn edit_both(
     let new = texts[numbers.below(6)];
     text.replace(alloc, a, b, new).expect(rt, "an edit");
     *wanted = edited(rt, alloc, wanted, a, b, new);
-    assert!(rt; text.len() == wanted.len());
+    expect(rt, text.len() == wanted.len(), "as many characters");
 }
 
 /// Makes ten thousand edits of a text and of its characters, and sees now and then that they are the same.
@@ -193,41 +164,48 @@ fn edit_in_turn(
     for step in 0..10_000 {
         edit_both(rt, alloc, &mut numbers, texts, text, wanted);
         if step % 64 == 0 {
-            assert!(rt; has_characters(text, wanted), "after step {step}");
+            expect_at(rt, has_characters(text, 0, wanted), step);
         }
     }
 }
 
-#[test]
-fn random_edits_are_those_of_a_list(rt: HostRuntime) {
-    let alloc = rt.alloc();
-    let mut text = Text::open(alloc, "").expect(&rt, "a text");
+fn check_random_edits(rt: &impl Abort, alloc: Global, texts: &[&str; 6]) {
+    let mut text = open(rt, alloc, "");
     let mut wanted = Vec::new(alloc);
-    let line = long_line(&rt, alloc);
-    let texts = ["", "x", "\r", "\n", "\u{1f600}", line.as_str()];
-    edit_in_turn(&rt, alloc, &texts, &mut text, &mut wanted);
-    assert!(rt; has_characters(&text, &wanted));
+    edit_in_turn(rt, alloc, texts, &mut text, &mut wanted);
+    expect(rt, has_characters(&text, 0, &wanted), "the same at the end");
 }
 
-/// Makes edits of one character all over a text, and keeps its length.
+#[test]
+fn random_edits_are_those_of_a_list(rt: HostRuntime) {
+    let line = long_line(&rt, rt.alloc());
+    let texts = ["", "x", "\r", "\n", "\u{1f600}", line.as_str()];
+    check_random_edits(&rt, rt.alloc(), &texts);
+}
+
+/// Makes an edit of one character, after which the text has about as many as may be.
+fn edit_anywhere(rt: &impl Abort, alloc: Global, numbers: &mut Numbers, text: &mut Text) {
+    let len = text.len();
+    let (a, removed, new) = if len > 1_048_000 {
+        (numbers.below(len), 1, "")
+    } else {
+        (numbers.below(len + 1), 0, "y")
+    };
+    text.replace(alloc, a, a + removed, new)
+        .expect(rt, "an edit");
+}
+
 fn edit_all_over(rt: &impl Abort, alloc: Global, text: &mut Text) {
     let mut numbers = Numbers::new();
     for _ in 0..100_000 {
-        let len = text.len();
-        if len > 1_048_000 {
-            let a = numbers.below(len);
-            text.replace(alloc, a, a + 1, "").expect(rt, "an edit");
-        } else {
-            let a = numbers.below(len + 1);
-            text.replace(alloc, a, a, "y").expect(rt, "an edit");
-        }
+        edit_anywhere(rt, alloc, &mut numbers, text);
     }
 }
 
 #[test]
 fn pieces_stay_few(rt: HostRuntime) {
     let mut text = text_of(&rt, rt.alloc(), 'x', 1_048_576);
-    assert!(rt; text.pieces().len() == 1_024);
+    expect(&rt, text.pieces().len() == 1_024, "pieces");
     edit_all_over(&rt, rt.alloc(), &mut text);
-    assert!(rt; text.pieces().len() / 4 <= 1_024);
+    expect(&rt, text.pieces().len() / 4 <= 1_024, "few pieces");
 }

@@ -27,6 +27,7 @@
 
 ghost use Rattle.std.specs.Prelude.{◌<◌, ◌≤◌};
 
+use crate::checks::{expect_at, open};
 use crate::documents::filled;
 use std::alloc::Global;
 use std::process::Abort;
@@ -143,7 +144,7 @@ fn text_around(rt: &impl Abort, alloc: Global, count: usize, between: &str) -> T
     let before = filled(rt, alloc, 'x', count);
     let after = filled(rt, alloc, 'z', 1_100);
     let text = format!(in alloc; "{before}{between}{after}").expect(rt, "memory");
-    Text::open(alloc, text.as_str()).expect(rt, "a text")
+    open(rt, alloc, text.as_str())
 }
 
 /// The number that stands for a position in the sums.
@@ -200,27 +201,32 @@ fn has_row(text: &Text, row: usize) -> bool
         && has_sums(text, Unit::Utf32, UTF32[row])
 }
 
+fn expect_row(rt: &impl Abort, text: Text, row: usize)
+    requires { row < 25 }
+{
+    expect_at(rt, has_row(&text, row), row);
+}
+
 #[test]
 fn opened_texts_have_the_sums_of_another_program(rt: HostRuntime) {
     for row in 0usize..25 {
         let text = text_around(&rt, rt.alloc(), 1_000 + row, BREAKS);
-        assert!(rt; has_row(&text, row), "in row {row}");
+        expect_row(&rt, text, row);
     }
 }
 
-/// Puts the breaks at a place of a text.
-fn put_breaks(rt: &impl Abort, alloc: Global, text: &mut Text, place: usize) {
-    assert!(rt; place <= text.len());
-    text.replace(alloc, place, place, BREAKS)
+/// A text in which an edit puts the breaks after so many letters.
+fn edited(rt: &impl Abort, alloc: Global, count: usize) -> Text {
+    let mut text = text_around(rt, alloc, count, "");
+    assert!(rt; count <= text.len());
+    text.replace(alloc, count, count, BREAKS)
         .expect(rt, "an edit");
+    text
 }
 
 #[test]
 fn edited_texts_have_the_sums_of_another_program(rt: HostRuntime) {
     for row in 0usize..25 {
-        let place = 1_000 + row;
-        let mut text = text_around(&rt, rt.alloc(), place, "");
-        put_breaks(&rt, rt.alloc(), &mut text, place);
-        assert!(rt; has_row(&text, row), "in row {row}");
+        expect_row(&rt, edited(&rt, rt.alloc(), 1_000 + row), row);
     }
 }
