@@ -1,6 +1,7 @@
 //! A document that keeps its tokens and its parse through edits.
 
-ghost use Rattle.std.specs.Prelude.{◌+◌, ◌≤◌, length};
+ghost use Rattle.std.specs.Prelude.{◌≡◌, length};
+ghost use Rattle.std.specs.Str.{chars};
 ghost use Rattle.definitions.specs.TokenEdits.{IsSpliced, plain_splice};
 ghost use Rattle.grammar.specs.Grammars.{lexicon_of};
 ghost use Rattle.lexer.specs.Tokens.{AreTokensOf};
@@ -74,6 +75,13 @@ pub struct Change<'a> {
     pub number: u64,
 }
 
+/// How many characters a piece has.
+fn count(rt: &impl Abort, alloc: Global, piece: &str) -> usize
+    ensures { result ≡ length (chars piece.now) }
+{
+    Text::open(alloc, piece).expect(rt, "a piece").len()
+}
+
 /// Puts the piece of a change into a text, brings the tokens to it, and returns how the kinds change.
 pub fn rescan(
     rt: &impl Abort,
@@ -84,19 +92,18 @@ pub fn rescan(
     change: &Change<'_>,
 ) -> KindSplice
     requires tokens { AreTokensOf (lexicon_of language.now.file) text.old tokens.old.items }
-    requires inside { change.now.at + change.now.removed ≤ length text.old }
     ensures tokens { AreTokensOf (lexicon_of language.now.file) text.new tokens.new.items }
     ensures kinds { IsSpliced (plain_splice result) (significant_kinds tokens.old.items)
         (significant_kinds tokens.new.items) }
 {
-    let piece = Text::open(alloc, change.piece).expect(rt, "a piece");
+    let length = text.len();
+    assert!(rt; change.at <= length && change.removed <= length - change.at);
     let edit = Edit {
         at: change.at,
         removed: change.removed,
-        inserted: piece.len(),
+        inserted: count(rt, alloc, change.piece),
         number: change.number,
     };
-    let _before = text.len();
     text.replace(alloc, change.at, change.at + change.removed, change.piece)
         .expect(rt, "an edit");
     language
@@ -121,9 +128,6 @@ pub fn apply(
     ensures parse { IsParseOf language.now.tables (significant_kinds document.new.tokens.items)
         document.new.store document.new.parse }
 {
-    let length = document.text.len();
-    assert!(rt; change.at <= length);
-    assert!(rt; change.removed <= length - change.at);
     let (text, tokens) = (&mut document.text, &mut document.tokens);
     let splice = rescan(rt, alloc, language, text, tokens, change);
     let (tables, store) = (language.tables(), &mut document.store);

@@ -6,8 +6,10 @@ ghost use Rattle.parser.specs.Parses.{IsParseOf};
 use crate::document::{Change, Document, apply, load, open};
 use crate::facts::{Branch, Facts, Placed, facts_of, kinds_in};
 use languages::Language;
+use lexer::Token;
 use std::alloc::Global;
 use std::process::Abort;
+use text::Text;
 use worked::{LISTS, SUMS};
 
 /// An edit of a text: how many characters give way to how many, and from which one on.
@@ -165,41 +167,42 @@ fn built_by(
     built
 }
 
+/// Whether a token is like another one, and edit 1 has made it or not.
+fn is_token(token: &Token, other: &Token, is_made: bool) -> bool {
+    token.kind() == other.kind()
+        && token.length == other.length
+        && token.reach == other.reach
+        && token.skipped == other.skipped
+        && (token.born == 1) == is_made
+}
+
 /// Whether the tokens are these, and edit 1 has made exactly those that it is to make.
 fn are_tokens(tokens: &[Placed], awaited: &[Placed], made: Made) -> bool {
-    if tokens.len() != awaited.len() {
-        return false;
-    }
     for (k, (placed, other)) in tokens.iter().zip(awaited.iter()).enumerate() {
-        let (token, other_token) = (placed.token, other.token);
         let is_made = made.from <= k && k < made.to;
-        if token.kind() != other_token.kind()
-            || token.length != other_token.length
-            || token.reach != other_token.reach
-            || token.skipped != other_token.skipped
-            || (token.born == 1) != is_made
-        {
+        if !is_token(&placed.token, &other.token, is_made) {
             return false;
         }
     }
-    true
+    tokens.len() == awaited.len()
+}
+
+/// Whether a branch is like another one, and edit 1 has made it or not.
+fn is_branch(branch: &Branch, other: &Branch, is_built: bool) -> bool {
+    branch.production == other.production
+        && branch.from == other.from
+        && branch.to == other.to
+        && (branch.born == 1) == is_built
 }
 
 /// Whether the branches are these, and edit 1 has made exactly those that are built.
 fn are_branches(branches: &[Branch], awaited: &[Branch], built: &[bool]) -> bool {
-    if branches.len() != awaited.len() {
-        return false;
-    }
-    for (k, (branch, other)) in branches.iter().zip(awaited.iter()).enumerate() {
-        if branch.production != other.production
-            || branch.from != other.from
-            || branch.to != other.to
-            || built.get(k) != Some(&(branch.born == 1))
-        {
+    for ((branch, other), is_built) in branches.iter().zip(awaited.iter()).zip(built.iter()) {
+        if !is_branch(branch, other, *is_built) {
             return false;
         }
     }
-    true
+    branches.len() == awaited.len() && branches.len() == built.len()
 }
 
 fn count_of_true(all: &[bool]) -> usize {
@@ -219,28 +222,12 @@ fn are_counts(document: &Document, facts: &Facts, made: Made, built: &[bool]) ->
         && document.parse.counts() == (facts.branches.len(), count_of_true(built))
 }
 
-/// Whether edit 1 has brought the document to the new facts, and has made no more than it had to.
-fn is_brought(
-    rt: &impl Abort,
-    alloc: Global,
-    language: &Language,
-    document: &Document,
-    old: &Facts,
-    new: &Facts,
-    cut: Cut,
-) -> bool
-    requires { IsParseOf language.now.tables (significant_kinds document.now.tokens.items)
-        document.now.store document.now.parse }
-{
-    let facts = facts_of(rt, alloc, language, document);
-    let made = made_by(&old.tokens, &new.tokens, cut);
-    let splice = splice_of(rt, alloc, &old.tokens, &new.tokens, made);
-    let built = built_by(rt, alloc, &old.branches, &new.branches, splice);
-    are_tokens(&facts.tokens, &new.tokens, made)
-        && are_branches(&facts.branches, &new.branches, &built)
-        && are_counts(document, &facts, made, &built)
-        && facts.ending == new.ending
-        && facts.expected.as_slice() == new.expected.as_slice()
+/// Whether these facts are the awaited ones, and edit 1 has made no more than it had to.
+fn are_facts(facts: &Facts, awaited: &Facts, made: Made, built: &[bool]) -> bool {
+    are_tokens(&facts.tokens, &awaited.tokens, made)
+        && are_branches(&facts.branches, &awaited.branches, built)
+        && facts.ending == awaited.ending
+        && facts.expected.as_slice() == awaited.expected.as_slice()
 }
 
 /// The place of a letter, counted from 1.
@@ -299,7 +286,13 @@ fn texts_up_to(rt: &impl Abort, alloc: Global, letters: &[char], longest: usize)
     texts
 }
 
-/// What is so of each of the texts, scanned and parsed whole.
+/// What is so of a text, scanned and parsed whole.
+fn facts_of_text(rt: &impl Abort, alloc: Global, language: &Language, text: &str) -> Facts {
+    let document = open(rt, alloc, language, text);
+    facts_of(rt, alloc, language, &document)
+}
+
+/// What is so of each of the texts.
 fn facts_of_texts(
     rt: &impl Abort,
     alloc: Global,
@@ -308,165 +301,160 @@ fn facts_of_texts(
 ) -> Vec<Facts> {
     let mut all = Vec::new(alloc);
     for text in texts {
-        let document = open(rt, alloc, language, text.as_str());
-        let facts = facts_of(rt, alloc, language, &document);
+        let facts = facts_of_text(rt, alloc, language, text.as_str());
         all.push(facts).expect(rt, "memory");
     }
     all
 }
 
-/// All texts up to a length, and what is so of each.
+/// All texts up to a length, and what is so of each. The first of them are the pieces that edits put in.
 #[derive(Clone, Copy)]
 struct Texts<'a> {
+    language: &'a Language,
     letters: &'a [char],
     texts: &'a [String],
     facts: &'a [Facts],
+    pieces: usize,
 }
 
-/// Sees that edit 1 of an old text has come to what a whole scan and parse come to.
-fn check_edited(
+/// A text before an edit.
+#[derive(Clone, Copy)]
+struct Old<'a> {
+    text: &'a str,
+    length: usize,
+    facts: &'a Facts,
+}
+
+/// What is so of a text, which is one of all.
+fn facts_among<'a>(rt: &impl Abort, alloc: Global, all: &Texts<'a>, text: &Text) -> &'a Facts {
+    let characters = text.characters(alloc).expect(rt, "memory");
+    let number = number_of(all.letters, &characters);
+    all.facts.get(number).expect(rt, "such a text")
+}
+
+/// Whether edit 1 of an old text has brought the document to what a whole scan and parse come to, and has made no more than it
+/// had to.
+fn is_brought(
     rt: &impl Abort,
     alloc: Global,
-    language: &Language,
     all: &Texts<'_>,
     document: &Document,
-    old: (&str, &Facts),
+    old: &Old<'_>,
     change: &Change<'_>,
-)
-    requires { IsParseOf language.now.tables (significant_kinds document.now.tokens.items)
+) -> bool
+    requires { IsParseOf all.now.language.now.tables (significant_kinds document.now.tokens.items)
         document.now.store document.now.parse }
 {
-    let (text, old) = old;
-    let after = document.text.characters(alloc).expect(rt, "memory");
-    let Some(new) = all.facts.get(number_of(all.letters, &after)) else {
-        panic!(rt; "no such text");
-    };
-    let (at, removed, piece) = (change.at, change.removed, change.piece);
-    let length = text.chars().count();
-    let inserted = after.len().saturating_add(removed).saturating_sub(length);
+    let new = facts_among(rt, alloc, all, &document.text);
+    let (at, removed) = (change.at, change.removed);
+    let length = document.text.len();
     let cut = Cut {
         at,
         removed,
-        inserted,
+        inserted: length.saturating_add(removed).saturating_sub(old.length),
     };
-    let is_brought = is_brought(rt, alloc, language, document, old, new, cut);
+    let made = made_by(&old.facts.tokens, &new.tokens, cut);
+    let splice = splice_of(rt, alloc, &old.facts.tokens, &new.tokens, made);
+    let built = built_by(rt, alloc, &old.facts.branches, &new.branches, splice);
+    let facts = facts_of(rt, alloc, all.language, document);
+    are_facts(&facts, new, made, &built) && are_counts(document, &facts, made, &built)
+}
+
+fn expect_brought(rt: &impl Abort, is_brought: bool, text: &str, change: &Change<'_>) {
+    let (at, removed, piece) = (change.at, change.removed, change.piece);
     assert!(rt; is_brought, "'{piece}' for {removed} at {at} of '{text}'");
 }
 
-/// Makes an edit as edit 1 of a text, and sees that it comes to what a whole scan and parse come to.
-fn check_edit(
-    rt: &impl Abort,
-    alloc: Global,
-    language: &Language,
-    all: &Texts<'_>,
-    text: &str,
-    old: &Facts,
-    change: &Change<'_>,
-) {
-    let mut document = open(rt, alloc, language, text);
-    apply(rt, alloc, language, &mut document, change);
-    check_edited(rt, alloc, language, all, &document, (text, old), change);
+/// Makes an edit as edit 1 of a text, and sees what it comes to.
+fn check_edit(rt: &impl Abort, alloc: Global, all: &Texts<'_>, old: &Old<'_>, change: &Change<'_>) {
+    let mut document = open(rt, alloc, all.language, old.text);
+    apply(rt, alloc, all.language, &mut document, change);
+    let is_brought = is_brought(rt, alloc, all, &document, old, change);
+    expect_brought(rt, is_brought, old.text, change);
 }
 
-/// Puts each of the first pieces in the place of some characters of a text.
+/// Puts each piece in the place of some characters of a text.
 fn check_cut(
     rt: &impl Abort,
     alloc: Global,
-    language: &Language,
     all: &Texts<'_>,
-    number: usize,
-    cut: (usize, usize),
-    pieces: usize,
+    old: &Old<'_>,
+    (at, removed): (usize, usize),
 ) {
-    let (Some(text), Some(old)) = (all.texts.get(number), all.facts.get(number)) else {
-        panic!(rt; "no text {number}");
-    };
-    for piece in all.texts.iter().take(pieces) {
+    for piece in all.texts.iter().take(all.pieces) {
         let change = Change {
-            at: cut.0,
-            removed: cut.1,
+            at,
+            removed,
             piece: piece.as_str(),
             number: 1,
         };
-        check_edit(rt, alloc, language, all, text.as_str(), old, &change);
+        check_edit(rt, alloc, all, old, &change);
     }
 }
 
-/// The edits of a text of this length at one place.
-fn check_place(
-    rt: &impl Abort,
-    alloc: Global,
-    language: &Language,
-    all: &Texts<'_>,
-    text: (usize, usize),
-    at: usize,
-    pieces: usize,
-) {
-    let (number, length) = text;
+/// The edits of a text at one place.
+fn check_place(rt: &impl Abort, alloc: Global, all: &Texts<'_>, old: &Old<'_>, at: usize) {
     for removed in 0..3 {
-        if removed <= length.saturating_sub(at) {
-            check_cut(rt, alloc, language, all, number, (at, removed), pieces);
+        if removed <= old.length.saturating_sub(at) {
+            check_cut(rt, alloc, all, old, (at, removed));
         }
     }
 }
 
-/// The edits of a text of this length at all its places.
-fn check_text(
-    rt: &impl Abort,
-    alloc: Global,
-    language: &Language,
-    all: &Texts<'_>,
-    text: (usize, usize),
-    pieces: usize,
-) {
-    let (_, length) = text;
-    for at in 0..length.saturating_add(1) {
-        check_place(rt, alloc, language, all, text, at, pieces);
+/// The edits of a text at all its places.
+fn check_text(rt: &impl Abort, alloc: Global, all: &Texts<'_>, number: usize) {
+    let text = all.texts.get(number).expect(rt, "a text").as_str();
+    let old = Old {
+        text,
+        length: text.chars().count(),
+        facts: all.facts.get(number).expect(rt, "its facts"),
+    };
+    for at in 0..old.length.saturating_add(1) {
+        check_place(rt, alloc, all, &old, at);
     }
 }
 
-/// Each text of a length, with each edit that puts at most so many characters in the place of two or fewer.
-fn check_texts(
-    rt: &impl Abort,
-    alloc: Global,
-    file: &str,
-    letters: &[char],
-    length: usize,
-    inserted: usize,
-) {
-    let texts = texts_up_to(rt, alloc, letters, length.saturating_add(inserted));
+/// Each text of a length, with each edit that puts a piece in the place of two or fewer characters.
+fn check_length(rt: &impl Abort, alloc: Global, all: &Texts<'_>, length: usize) {
+    let first = count_below(all.letters, length);
+    for number in first..count_below(all.letters, length.saturating_add(1)) {
+        check_text(rt, alloc, all, number);
+    }
+}
+
+/// The edits that put two characters or fewer into the texts of a length.
+fn check_texts(rt: &impl Abort, alloc: Global, file: &str, letters: &[char], length: usize) {
+    let texts = texts_up_to(rt, alloc, letters, length.saturating_add(2));
     let language = load(rt, alloc, file);
     let facts = facts_of_texts(rt, alloc, &language, &texts);
     let all = Texts {
+        language: &language,
         letters,
         texts: &texts,
         facts: &facts,
+        pieces: count_below(letters, 3),
     };
-    let pieces = count_below(letters, inserted.saturating_add(1));
-    let first = count_below(letters, length);
-    for number in first..count_below(letters, length.saturating_add(1)) {
-        check_text(rt, alloc, &language, &all, (number, length), pieces);
-    }
+    check_length(rt, alloc, &all, length);
 }
 
 #[test]
 fn sums_of_up_to_three(rt: HostRuntime) {
     let letters = ['1', '+', '(', ')', ' '];
     for length in 0..4 {
-        check_texts(&rt, rt.alloc(), SUMS, &letters, length, 2);
+        check_texts(&rt, rt.alloc(), SUMS, &letters, length);
     }
 }
 
 #[test]
 fn sums_of_four(rt: HostRuntime) {
     let letters = ['1', '+', '(', ')', ' '];
-    check_texts(&rt, rt.alloc(), SUMS, &letters, 4, 2);
+    check_texts(&rt, rt.alloc(), SUMS, &letters, 4);
 }
 
 #[test]
 fn lists_of_up_to_four(rt: HostRuntime) {
     let letters = ['a', '"', ' '];
     for length in 0..5 {
-        check_texts(&rt, rt.alloc(), LISTS, &letters, length, 2);
+        check_texts(&rt, rt.alloc(), LISTS, &letters, length);
     }
 }

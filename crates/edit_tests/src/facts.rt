@@ -109,11 +109,7 @@ fn expected_of(rt: &impl Abort, alloc: Global, tables: &Tables, parse: &Parse) -
     requires { (kinds : List TokenKind) × (cells : List Cell)
         × IsParseOf tables.now kinds cells parse.now }
 {
-    let mut looks = Vec::new(alloc);
-    for look in parse.expected(tables) {
-        looks.push(look).expect(rt, "memory");
-    }
-    looks
+    parse.expected(tables).collect(alloc).expect(rt, "memory")
 }
 
 /// What is so of a document.

@@ -1,12 +1,12 @@
 //! How many kinds a change of a parse reads, and how often it looks for one among all.
 
-ghost use Rattle.std.specs.Prelude.{◌≡◌, ◌+◌, ◌≤◌, drop, length};
+ghost use Rattle.std.specs.Prelude.{◌≡◌, drop};
 ghost use Rattle.grammar.specs.Grammars.{lexicon_of};
 ghost use Rattle.lexer.specs.Tokens.{AreTokensOf};
 ghost use Rattle.lexer.specs.Rescans.{significant_kinds};
 ghost use Rattle.parser.specs.Parses.{IsParseOf};
 
-use crate::document::{Change, Document, apply, load, open, rescan};
+use crate::document::{Change, Document, load, open, rescan};
 use definitions::Kind;
 use languages::{Language, Significant};
 use lexer::KindsAhead;
@@ -68,7 +68,10 @@ fn reads_for(
         AreTokensOf (lexicon_of language.now.file) d.text d.tokens.items }
     requires parse { IsParseOf language.now.tables (significant_kinds document.old.tokens.items)
         document.old.store document.old.parse }
-    requires inside { change.now.at + change.now.removed ≤ length document.old.text }
+    ensures tokens { let d = document.new in
+        AreTokensOf (lexicon_of language.now.file) d.text d.tokens.items }
+    ensures parse { IsParseOf language.now.tables (significant_kinds document.new.tokens.items)
+        document.new.store document.new.parse }
 {
     let (text, tokens) = (&mut document.text, &mut document.tokens);
     let splice = rescan(rt, alloc, language, text, tokens, change);
@@ -85,39 +88,20 @@ fn reads_for(
     (kinds.reads.get(), kinds.places.get())
 }
 
-/// Opens a sum, and returns what `+1` at this offset reads.
-fn reads_of_insert(rt: &impl Abort, alloc: Global, text: &str, at: usize) -> (usize, usize) {
-    let sums = load(rt, alloc, SUMS);
-    let mut document = open(rt, alloc, &sums, text);
-    assert!(rt; at <= document.text.len());
-    let insert = Change {
-        at,
-        removed: 0,
-        piece: "+1",
-        number: 1,
-    };
-    reads_for(rt, alloc, &sums, &mut document, &insert)
-}
-
-/// Opens a sum, puts a second plus after the first, and returns what reading the text anew without it reads.
-fn reads_of_mend(rt: &impl Abort, alloc: Global, text: &str) -> (usize, usize) {
-    let sums = load(rt, alloc, SUMS);
-    let mut document = open(rt, alloc, &sums, text);
-    let fault = Change {
-        at: 2,
-        removed: 0,
-        piece: "+",
-        number: 1,
-    };
-    apply(rt, alloc, &sums, &mut document, &fault);
-    assert!(rt; document.text.len() > 2);
-    let mend = Change {
-        at: 2,
-        removed: 1,
-        piece: "",
-        number: 2,
-    };
-    reads_for(rt, alloc, &sums, &mut document, &mend)
+/// Opens a text, makes the changes in turn, and returns what the last one reads.
+fn reads_of(
+    rt: &impl Abort,
+    alloc: Global,
+    language: &Language,
+    text: &str,
+    changes: &[Change<'_>],
+) -> (usize, usize) {
+    let mut document = open(rt, alloc, language, text);
+    let mut reads = (0, 0);
+    'changes: for change in changes {
+        reads = reads_for(rt, alloc, language, &mut document, change);
+    }
+    reads
 }
 
 /// `1` and so many times `+1`.
@@ -129,33 +113,55 @@ fn sum_of(rt: &impl Abort, alloc: Global, count: usize) -> String {
     text
 }
 
+fn expect_fewer(rt: &impl Abort, count: usize, bound: usize) {
+    assert!(rt; count < bound, "{count}");
+}
+
+/// The last change of a sum with so many pluses reads fewer kinds than this, and looks up few places.
+fn check_reads(
+    rt: &impl Abort,
+    alloc: Global,
+    pluses: usize,
+    changes: &[Change<'_>],
+    bound: usize,
+) {
+    let sums = load(rt, alloc, SUMS);
+    let text = sum_of(rt, alloc, pluses);
+    let (reads, places) = reads_of(rt, alloc, &sums, text.as_str(), changes);
+    expect_fewer(rt, reads, bound);
+    expect_fewer(rt, places, 10);
+}
+
+fn insertion(at: usize, piece: &str) -> Change<'_> {
+    Change {
+        at,
+        removed: 0,
+        piece,
+        number: 1,
+    }
+}
+
 /// What stands before a sum's end is taken over as one tree, and isn't read again.
 #[test]
 fn few_kinds_are_read(rt: HostRuntime) {
-    let alloc = rt.alloc();
-    let text = sum_of(&rt, alloc, 9_999);
-    let (reads, places) = reads_of_insert(&rt, alloc, text.as_str(), text.len());
-    assert!(rt; reads < 10, "{reads}");
-    assert!(rt; places < 10, "{places}");
+    check_reads(&rt, rt.alloc(), 9_999, &[insertion(19_999, "+1")], 10);
 }
 
 /// After an edit at the start all sums are made anew, over numbers that stand as they were: the kind after each of these is
 /// that of the next tree, and isn't looked up.
 #[test]
 fn no_kind_is_looked_up_before_old_trees(rt: HostRuntime) {
-    let alloc = rt.alloc();
-    let text = sum_of(&rt, alloc, 2_000);
-    let (reads, places) = reads_of_insert(&rt, alloc, text.as_str(), 1);
-    assert!(rt; reads < 10, "{reads}");
-    assert!(rt; places < 10, "{places}");
+    check_reads(&rt, rt.alloc(), 2_000, &[insertion(1, "+1")], 10);
 }
 
-/// After a fault there are no old trees. Its mending reads each kind once, one after another.
+/// After a fault there are no old trees. Its mending, which takes a second plus away, reads each kind once, one after another.
 #[test]
 fn kinds_are_read_in_order(rt: HostRuntime) {
-    let alloc = rt.alloc();
-    let text = sum_of(&rt, alloc, 2_000);
-    let (reads, places) = reads_of_mend(&rt, alloc, text.as_str());
-    assert!(rt; reads < 4_010, "{reads}");
-    assert!(rt; places < 10, "{places}");
+    let mend = Change {
+        at: 2,
+        removed: 1,
+        piece: "",
+        number: 2,
+    };
+    check_reads(&rt, rt.alloc(), 2_000, &[insertion(2, "+"), mend], 4_010);
 }

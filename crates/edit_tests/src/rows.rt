@@ -115,19 +115,19 @@ fn edits_of_sums(rt: HostRuntime) {
 
 #[test]
 fn edits_of_lists(rt: HostRuntime) {
-    let rows = [
+    const ROWS: &[Row<'static>] = &[
         (1, (0, 0, "\""), (4, 1, 0, 0), Ending::FaultAt(0)),
         (2, (6, 0, "\""), (1, 1, 3, 3), Ending::Tree),
         (3, (6, 1, ""), (4, 4, 0, 0), Ending::FaultAt(0)),
     ];
-    check_by(&rt, rt.alloc(), LISTS, "ab cd", &rows);
+    check_by(&rt, rt.alloc(), LISTS, "ab cd", ROWS);
 }
 
 /// A fault, edits after and before it, and the fault mended: what stands before the fault is kept, and what stands after it
 /// is built once it is mended.
 #[test]
 fn faulty_and_back(rt: HostRuntime) {
-    let rows = [
+    const ROWS: &[Row<'static>] = &[
         (1, (0, 0, ")"), (6, 1, 0, 0), Ending::FaultAt(0)),
         (2, (0, 1, ""), (5, 0, 6, 6), Ending::Tree),
         (3, (4, 0, "+"), (6, 2, 4, 0), Ending::FaultAt(4)),
@@ -135,23 +135,23 @@ fn faulty_and_back(rt: HostRuntime) {
         (5, (0, 0, "5+"), (10, 2, 6, 4), Ending::FaultAt(6)),
         (6, (6, 1, ""), (9, 1, 10, 4), Ending::Tree),
     ];
-    check_by(&rt, rt.alloc(), SUMS, "1+2+3", &rows);
+    check_by(&rt, rt.alloc(), SUMS, "1+2+3", ROWS);
 }
 
 /// Only a number above every stamp of the nodes keeps what stands, whatever the last edit's number was.
 #[test]
 fn numbers_that_are_no_new_ones(rt: HostRuntime) {
-    let space = (1, 0, " ");
-    let rows = [
-        (7, space, (4, 2, 4, 0), Ending::Tree),
-        (7, space, (4, 2, 4, 0), Ending::Tree),
-        (3, space, (4, 2, 4, 0), Ending::Tree),
+    const SPACE: (usize, usize, &str) = (1, 0, " ");
+    const ROWS: &[Row<'static>] = &[
+        (7, SPACE, (4, 2, 4, 0), Ending::Tree),
+        (7, SPACE, (4, 2, 4, 0), Ending::Tree),
+        (3, SPACE, (4, 2, 4, 0), Ending::Tree),
         (3, (6, 0, "+3"), (6, 3, 6, 4), Ending::Tree),
-        (3, space, (6, 2, 6, 6), Ending::Tree),
-        (2, space, (6, 2, 6, 6), Ending::Tree),
-        (4, space, (6, 2, 6, 0), Ending::Tree),
+        (3, SPACE, (6, 2, 6, 6), Ending::Tree),
+        (2, SPACE, (6, 2, 6, 6), Ending::Tree),
+        (4, SPACE, (6, 2, 6, 0), Ending::Tree),
     ];
-    check_by(&rt, rt.alloc(), SUMS, "1+2", &rows);
+    check_by(&rt, rt.alloc(), SUMS, "1+2", ROWS);
 }
 
 /// A hundred thousand times the same character, after others.
