@@ -1,6 +1,7 @@
 //! The tokens of worked texts, and what edits change of them.
 
-ghost use Rattle.std.specs.Prelude.{◌≡◌, ◌+◌, ◌<◌, ◌≤◌, drop, length};
+ghost use Rattle.std.specs.Prelude.{◌≡◌, ◌<◌, drop, length};
+ghost use Rattle.std.specs.Str.{chars};
 ghost use Rattle.grammar.specs.Grammars.{lexicon_of};
 ghost use Rattle.lexer.specs.Tokens.{AreTokensOf};
 
@@ -70,25 +71,27 @@ impl<'a> Source for Counted<'a> {
     ghost inside = { λ s i h. h };
 }
 
-/// An edit of a text, and what is to come of it.
-#[derive(Clone, Copy)]
-struct Step<'a> {
-    at: usize,
-    removed: usize,
-    piece: &'a str,
-    number: u64,
-    scanned: usize,
-    count: usize,
-    from: usize,
-    to: usize,
-    kinds: &'a [Kind],
-}
+/// An edit of a text, and what is to come of it: its number, the characters that give way to a piece, how many tokens are scanned
+/// for it and how many there are after it, and the splice of kinds.
+type Step<'a> = (
+    u64,
+    (usize, usize, &'a str),
+    (usize, usize),
+    (usize, usize, &'a [Kind]),
+);
 
 /// What a rescan answers, and how many characters it read.
 #[derive(Drop)]
 struct Rescan {
     splice: KindSplice,
     reads: usize,
+}
+
+/// How many characters a piece has.
+fn count(rt: &impl Abort, alloc: Global, piece: &str) -> usize
+    ensures { result ≡ length (chars piece.now) }
+{
+    Text::open(alloc, piece).expect(rt, "a piece").len()
 }
 
 /// Makes the edit of a step, and brings the tokens to the text.
@@ -101,20 +104,20 @@ fn change(
     step: &Step<'_>,
 ) -> Rescan
     requires tokens { AreTokensOf (lexicon_of scanner.now) text.old tokens.old.items }
-    requires inside { step.now.at + step.now.removed ≤ length text.old }
     ensures { AreTokensOf (lexicon_of scanner.now) text.new tokens.new.items }
 {
-    let piece = Text::open(alloc, step.piece).expect(rt, "a piece");
-    let edit = Edit {
-        at: step.at,
-        removed: step.removed,
-        inserted: piece.len(),
-        number: step.number,
-    };
-    let _before = text.len();
-    text.replace(alloc, step.at, step.at + step.removed, step.piece)
+    let (number, (at, removed, piece), _, _) = *step;
+    let length = text.len();
+    assert!(rt; at <= length && removed <= length - at);
+    text.replace(alloc, at, at + removed, piece)
         .expect(rt, "an edit");
     let _after = text.len();
+    let edit = Edit {
+        at,
+        removed,
+        inserted: count(rt, alloc, piece),
+        number,
+    };
     let source = Counted {
         whole: Whole(text),
         reads: Cell::new(0),
@@ -125,6 +128,16 @@ fn change(
         .expect(rt, "a rescan");
     let reads = source.reads.get();
     Rescan { splice, reads }
+}
+
+/// This holds.
+fn expect(rt: &impl Abort, holds: bool, what: &str) {
+    assert!(rt; holds, "{what}");
+}
+
+/// This holds at a place.
+fn expect_at(rt: &impl Abort, holds: bool, at: usize) {
+    assert!(rt; holds, "at {at}");
 }
 
 /// How many tokens have this stamp.
@@ -140,7 +153,17 @@ fn born_by(tokens: &Tokens, number: u64) -> usize {
     count
 }
 
-/// Makes the edit of a step, sees that what comes of it is what is to come, and returns how many characters were read.
+/// What comes of a step is what is to come.
+fn check_rescan(rt: &impl Abort, tokens: &Tokens, splice: &KindSplice, step: &Step<'_>) {
+    let (number, _, (scanned, count), (from, to, kinds)) = *step;
+    expect(rt, tokens.scanned() == scanned, "tokens scanned");
+    expect(rt, born_by(tokens, number) == scanned, "tokens born");
+    expect(rt, tokens.count() == count, "tokens");
+    expect(rt, (splice.from, splice.to) == (from, to), "kinds removed");
+    expect(rt, splice.kinds.as_slice() == kinds, "kinds put in");
+}
+
+/// Makes the edit of a step, sees what comes of it, and returns how many characters were read.
 fn check_step(
     rt: &impl Abort,
     alloc: Global,
@@ -152,68 +175,61 @@ fn check_step(
     requires tokens { AreTokensOf (lexicon_of scanner.now) text.old tokens.old.items }
     ensures { AreTokensOf (lexicon_of scanner.now) text.new tokens.new.items }
 {
-    let length = text.len();
-    assert!(rt; step.at <= length);
-    assert!(rt; step.removed <= length - step.at);
     let rescan = change(rt, alloc, scanner, text, tokens, step);
-    assert!(rt; tokens.scanned() == step.scanned);
-    assert!(rt; born_by(tokens, step.number) == step.scanned);
-    assert!(rt; tokens.count() == step.count);
-    assert!(rt; rescan.splice.from == step.from);
-    assert!(rt; rescan.splice.to == step.to);
-    assert!(rt; rescan.splice.kinds.as_slice() == step.kinds);
+    check_rescan(rt, tokens, &rescan.splice, step);
     rescan.reads
 }
 
-/// Opens a text, makes the edits of the steps in turn, and returns how many characters were read for the last one.
+/// What is known after the steps: how many characters were read for the last one, and in how many runs the tokens lie.
+type Ending = (usize, usize);
+
+/// Opens a text, and makes the edits of the steps in turn.
 fn check(
     rt: &impl Abort,
     alloc: Global,
     scanner: &Scanner,
     open: &str,
     steps: &[Step<'_>],
-) -> usize {
+) -> Ending {
     let mut text = Text::open(alloc, open).expect(rt, "a text");
     let mut tokens = scan(rt, alloc, scanner, &text);
     let mut reads = 0;
     'steps: for step in steps {
         reads = check_step(rt, alloc, scanner, &mut text, &mut tokens, step);
     }
-    reads
+    (reads, tokens.items().runs())
 }
 
 /// The same, by the rules of a grammar file.
-fn check_by(rt: &impl Abort, alloc: Global, file: &str, open: &str, steps: &[Step<'_>]) -> usize {
+fn check_by(rt: &impl Abort, alloc: Global, file: &str, open: &str, steps: &[Step<'_>]) -> Ending {
     let scanner = load(rt, alloc, file);
     check(rt, alloc, &scanner, open, steps)
 }
 
-/// Whether the tokens have these names, lengths, reaches and starts, and stamp 0.
-fn are_rows(grammar: &Grammar, tokens: &Tokens, rows: &[(&str, u32, u32, usize)]) -> bool {
-    if tokens.count() != rows.len() || tokens.scanned() != rows.len() {
+/// A token: its name, length, reach and start.
+type Row = (&'static str, u32, u32, usize);
+
+/// Whether token `i` is this, and has stamp 0.
+fn is_row(grammar: &Grammar, tokens: &Tokens, i: usize, row: Row) -> bool {
+    let Some(token) = tokens.token(i) else {
         return false;
-    }
+    };
+    let name = grammar.kind_name(token.kind());
+    (name, token.length, token.reach, tokens.start_of(i)) == row && token.born == 0
+}
+
+/// Whether the tokens are these.
+fn are_rows(grammar: &Grammar, tokens: &Tokens, rows: &[Row]) -> bool {
     for (i, row) in rows.iter().enumerate() {
-        let Some(token) = tokens.token(i) else {
-            return false;
-        };
-        let name = grammar.kind_name(token.kind());
-        let start = tokens.start_of(i);
-        if (name, token.length, token.reach, start) != *row || token.born != 0 {
+        if !is_row(grammar, tokens, i, *row) {
             return false;
         }
     }
-    true
+    tokens.count() == rows.len() && tokens.scanned() == rows.len()
 }
 
 /// Whether the tokens of a text are these.
-fn has_tokens(
-    rt: &impl Abort,
-    alloc: Global,
-    scanner: &Scanner,
-    text: &str,
-    rows: &[(&str, u32, u32, usize)],
-) -> bool {
+fn has_tokens(rt: &impl Abort, alloc: Global, scanner: &Scanner, text: &str, rows: &[Row]) -> bool {
     let text = Text::open(alloc, text).expect(rt, "a text");
     let tokens = scan(rt, alloc, scanner, &text);
     are_rows(scanner.grammar(), &tokens, rows)
@@ -229,41 +245,47 @@ fn repeated(rt: &impl Abort, alloc: Global, piece: &str, count: usize) -> String
 }
 
 /// Checks the tokens of a text by the rules of a grammar file.
-fn check_tokens(
-    rt: &impl Abort,
-    alloc: Global,
-    file: &str,
-    text: &str,
-    rows: &[(&str, u32, u32, usize)],
-) {
+fn check_tokens(rt: &impl Abort, alloc: Global, file: &str, text: &str, rows: &[Row]) {
     let scanner = load(rt, alloc, file);
-    assert!(rt; has_tokens(rt, alloc, &scanner, text, rows));
+    let has_tokens = has_tokens(rt, alloc, &scanner, text, rows);
+    expect(rt, has_tokens, text);
 }
+
+/// Each row is a grammar file, a text, and its tokens.
+const SCANS: &[(&str, &str, &[Row])] = &[
+    (
+        SUMS,
+        "1 +\r\n2",
+        &[
+            ("NUM", 1, 2, 0),
+            ("WS", 1, 2, 1),
+            ("PLUS", 1, 2, 2),
+            ("WS", 2, 3, 3),
+            ("NUM", 1, 2, 5),
+        ],
+    ),
+    (SUMS, "", &[]),
+    (LISTS, "\r\n", &[("invalid", 1, 1, 0), ("invalid", 1, 1, 1)]),
+    (
+        LETTERS,
+        "abd",
+        &[("A", 1, 3, 0), ("B", 1, 2, 1), ("D", 1, 2, 2)],
+    ),
+];
 
 #[test]
 fn scans_whole_texts(rt: HostRuntime) {
-    let alloc = rt.alloc();
-    let rows = [
-        ("NUM", 1, 2, 0),
-        ("WS", 1, 2, 1),
-        ("PLUS", 1, 2, 2),
-        ("WS", 2, 3, 3),
-        ("NUM", 1, 2, 5),
-    ];
-    check_tokens(&rt, alloc, SUMS, "1 +\r\n2", &rows);
-    check_tokens(&rt, alloc, SUMS, "", &[]);
-    let rows = [("invalid", 1, 1, 0), ("invalid", 1, 1, 1)];
-    check_tokens(&rt, alloc, LISTS, "\r\n", &rows);
-    let rows = [("A", 1, 3, 0), ("B", 1, 2, 1), ("D", 1, 2, 2)];
-    check_tokens(&rt, alloc, LETTERS, "abd", &rows);
+    for (file, text, rows) in SCANS {
+        check_tokens(&rt, rt.alloc(), file, text, rows);
+    }
 }
 
 /// Numbers, blanks and pluses in turn.
 fn check_tokens_in_turn(rt: &impl Abort, grammar: &Grammar, tokens: &Tokens) {
-    assert!(rt; tokens.count() == 4500);
+    expect(rt, tokens.count() == 4500, "tokens");
     for (i, token) in tokens.items().iter_from(0).enumerate() {
         let name = ["NUM", "WS", "PLUS"][i % 3];
-        assert!(rt; grammar.kind_name(token.kind()) == name, "at {i}");
+        expect_at(rt, grammar.kind_name(token.kind()) == name, i);
     }
 }
 
@@ -272,11 +294,15 @@ fn check_kinds_in_turn(rt: &impl Abort, grammar: &Grammar, tokens: &Tokens) {
     let mut count: usize = 1;
     for kind in tokens.kinds_from(1) {
         let name = ["NUM", "PLUS"][count % 2];
-        assert!(rt; grammar.kind_name(kind) == name, "at {count}");
+        expect_at(rt, grammar.kind_name(kind) == name, count);
         count = count.saturating_add(1);
     }
-    assert!(rt; count == 3000);
-    assert!(rt; tokens.kinds_from(3000).next().is_none());
+    expect(rt, count == 3000, "kinds");
+    expect(
+        rt,
+        tokens.kinds_from(3000).next().is_none(),
+        "no more kinds",
+    );
 }
 
 /// Scans 1,500 times `1 +`.
@@ -290,160 +316,136 @@ fn check_with_kinds(rt: &impl Abort, alloc: Global, scanner: &Scanner, text: &st
 /// More tokens than are put into the list at once.
 #[test]
 fn scans_a_long_text_with_its_kinds(rt: HostRuntime) {
-    let alloc = rt.alloc();
-    let text = repeated(&rt, alloc, "1 +", 1500);
-    let sums = load(&rt, alloc, SUMS);
-    check_with_kinds(&rt, alloc, &sums, &text);
+    let text = repeated(&rt, rt.alloc(), "1 +", 1500);
+    let sums = load(&rt, rt.alloc(), SUMS);
+    check_with_kinds(&rt, rt.alloc(), &sums, &text);
 }
 
 /// Checks the tokens of two numbers with a plus between them, and blanks around the plus.
 fn check_significant(rt: &impl Abort, tokens: &Tokens) {
-    assert!(rt; tokens.items().len() == 5);
+    expect(rt, tokens.items().len() == 5, "tokens");
     assert!(rt; tokens.significant() == 3);
     let places = [tokens.place(0), tokens.place(1), tokens.place(2)];
-    assert!(rt; places == [0, 2, 4]);
+    expect(rt, places == [0, 2, 4], "their places");
+}
+
+fn check_spaced(rt: &impl Abort, alloc: Global, scanner: &Scanner) {
+    let text = Text::open(alloc, "1 +\r\n2").expect(rt, "a text");
+    let tokens = scan(rt, alloc, scanner, &text);
+    check_significant(rt, &tokens);
 }
 
 #[test]
 fn shows_the_significant_tokens(rt: HostRuntime) {
-    let alloc = rt.alloc();
-    let text = Text::open(alloc, "1 +\r\n2").expect(&rt, "a text");
-    let sums = load(&rt, alloc, SUMS);
-    let tokens = scan(&rt, alloc, &sums, &text);
-    check_significant(&rt, &tokens);
+    let sums = load(&rt, rt.alloc(), SUMS);
+    check_spaced(&rt, rt.alloc(), &sums);
 }
 
-/// The edit with number 7, and what is to come of it.
-fn step_by_7<'a>(
-    (at, removed, piece): (usize, usize, &'a str),
-    (scanned, count): (usize, usize),
-    (from, to, kinds): (usize, usize, &'a [Kind]),
-) -> Step<'a> {
-    Step {
-        at,
-        removed,
-        piece,
-        number: 7,
-        scanned,
-        count,
-        from,
-        to,
-        kinds,
-    }
-}
-
-/// A text, the edit that puts a piece in the place of so many characters, how many tokens are scanned for it and how many there
-/// are after it, and the splice of kinds.
-type Row = (
-    &'static str,
-    (usize, usize, &'static str),
-    (usize, usize),
-    (usize, usize, &'static [Kind]),
-);
-
-const EDITED_SUMS: &[Row] = &[
-    ("1+2", (1, 0, " "), (2, 4), (0, 0, &[])),
-    ("1+ 2", (3, 0, "3+"), (3, 6), (2, 2, &[NUM, PLUS])),
-    ("1+2+3", (0, 0, ")"), (1, 6), (0, 0, &[RP])),
-    (")1+2+3", (0, 1, ""), (0, 5), (0, 1, &[])),
-    ("(1)", (2, 1, ""), (1, 2), (1, 3, &[NUM])),
-    ("1+2+3", (5, 0, "4"), (1, 5), (4, 4, &[])),
-    ("1+2+3", (5, 0, "+4"), (3, 7), (4, 5, &[NUM, PLUS, NUM])),
-    ("1+2+3", (0, 0, "9"), (1, 5), (0, 0, &[])),
-    ("1+2+3", (4, 1, ""), (1, 4), (3, 5, &[PLUS])),
+/// Texts, and an edit of each.
+const EDITED_SUMS: &[(&str, Step<'static>)] = &[
+    ("1+2", (7, (1, 0, " "), (2, 4), (0, 0, &[]))),
+    ("1+ 2", (7, (3, 0, "3+"), (3, 6), (2, 2, &[NUM, PLUS]))),
+    ("1+2+3", (7, (0, 0, ")"), (1, 6), (0, 0, &[RP]))),
+    (")1+2+3", (7, (0, 1, ""), (0, 5), (0, 1, &[]))),
+    ("(1)", (7, (2, 1, ""), (1, 2), (1, 3, &[NUM]))),
+    ("1+2+3", (7, (5, 0, "4"), (1, 5), (4, 4, &[]))),
+    (
+        "1+2+3",
+        (7, (5, 0, "+4"), (3, 7), (4, 5, &[NUM, PLUS, NUM])),
+    ),
+    ("1+2+3", (7, (0, 0, "9"), (1, 5), (0, 0, &[]))),
+    ("1+2+3", (7, (4, 1, ""), (1, 4), (3, 5, &[PLUS]))),
 ];
 
 #[test]
 fn rescans_sums(rt: HostRuntime) {
-    for (open, edit, counts, splice) in EDITED_SUMS {
-        let step = step_by_7(*edit, *counts, *splice);
-        check_by(&rt, rt.alloc(), SUMS, open, &[step]);
+    for (open, step) in EDITED_SUMS {
+        check_by(&rt, rt.alloc(), SUMS, open, &[*step]);
     }
 }
 
 #[test]
 fn rescans_by_reach(rt: HostRuntime) {
-    let edit = step_by_7((2, 1, "c"), (1, 1), (0, 3, &[Kind::Rule(0)]));
-    check_by(&rt, rt.alloc(), LETTERS, "abd", &[edit]);
+    const STEPS: &[Step<'static>] = &[(7, (2, 1, "c"), (1, 1), (0, 3, &[Kind::Rule(0)]))];
+    check_by(&rt, rt.alloc(), LETTERS, "abd", STEPS);
 }
 
 #[test]
 fn rescans_what_was_rescanned(rt: HostRuntime) {
-    let words = [Kind::Invalid, Kind::Rule(1), Kind::Rule(1)];
-    let first = step_by_7((0, 0, "\""), (1, 4), (0, 0, &[Kind::Invalid]));
-    let mut second = step_by_7((6, 0, "\""), (1, 1), (0, 3, &[Kind::Rule(0)]));
-    second.number = 8;
-    let mut third = step_by_7((6, 1, ""), (4, 4), (0, 1, &words));
-    third.number = 9;
-    check_by(&rt, rt.alloc(), LISTS, "ab cd", &[first, second, third]);
+    const WORDS: &[Kind] = &[Kind::Invalid, Kind::Rule(1), Kind::Rule(1)];
+    const STEPS: &[Step<'static>] = &[
+        (7, (0, 0, "\""), (1, 4), (0, 0, &[Kind::Invalid])),
+        (8, (6, 0, "\""), (1, 1), (0, 3, &[Kind::Rule(0)])),
+        (9, (6, 1, ""), (4, 4), (0, 1, WORDS)),
+    ];
+    check_by(&rt, rt.alloc(), LISTS, "ab cd", STEPS);
 }
 
 #[test]
 fn reads_few_characters(rt: HostRuntime) {
-    let alloc = rt.alloc();
-    let open = repeated(&rt, alloc, "1+", 50_000);
-    let edit = step_by_7((50_000, 0, "9"), (2, 100_000), (49_999, 49_999, &[]));
-    let reads = check_by(&rt, alloc, SUMS, &open, &[edit]);
-    assert!(rt; 0 < reads && reads < 100);
+    const STEPS: &[Step<'static>] = &[(7, (50_000, 0, "9"), (2, 100_000), (49_999, 49_999, &[]))];
+    let open = repeated(&rt, rt.alloc(), "1+", 50_000);
+    let (reads, _) = check_by(&rt, rt.alloc(), SUMS, &open, STEPS);
+    expect(&rt, 0 < reads && reads < 100, "few reads");
 }
 
 /// Three runs of 64 tokens, of each of which 28 are taken away: none is so short that it is joined with another. The plus before
 /// them is scanned again, since its reach meets the edit.
 #[test]
 fn tokens_lie_in_few_runs(rt: HostRuntime) {
-    let alloc = rt.alloc();
-    let scanner = load(&rt, alloc, SUMS);
-    let open = repeated(&rt, alloc, "1+", 96);
-    let mut text = Text::open(alloc, &open).expect(&rt, "a text");
-    let mut tokens = scan(&rt, alloc, &scanner, &text);
-    assert!(rt; tokens.items().runs() == 3);
-    let plus = [Kind::Rule(1)];
-    let last = step_by_7((144, 28, ""), (1, 164), (143, 172, &plus));
-    check_step(&rt, alloc, &scanner, &mut text, &mut tokens, &last);
-    let mut middle = step_by_7((80, 28, ""), (1, 136), (79, 108, &plus));
-    middle.number = 8;
-    check_step(&rt, alloc, &scanner, &mut text, &mut tokens, &middle);
-    let mut first = step_by_7((16, 28, ""), (1, 108), (15, 44, &plus));
-    first.number = 9;
-    check_step(&rt, alloc, &scanner, &mut text, &mut tokens, &first);
-    assert!(rt; tokens.items().runs() == 3);
+    const STEPS: &[Step<'static>] = &[
+        (7, (144, 28, ""), (1, 164), (143, 172, &[PLUS])),
+        (8, (80, 28, ""), (1, 136), (79, 108, &[PLUS])),
+        (9, (16, 28, ""), (1, 108), (15, 44, &[PLUS])),
+    ];
+    let open = repeated(&rt, rt.alloc(), "1+", 96);
+    let (_, before) = check_by(&rt, rt.alloc(), SUMS, &open, &[]);
+    let (_, after) = check_by(&rt, rt.alloc(), SUMS, &open, STEPS);
+    expect(&rt, (before, after) == (3, 3), "three runs");
 }
 
-/// So many words in quotes, and the kinds that they have once the quote after them is taken away.
-fn quoted_words(rt: &impl Abort, alloc: Global, count: usize) -> (String, Vec<Kind>) {
-    let mut text = String::from_str(alloc, "\"").expect(rt, "memory");
+/// So many words in quotes.
+fn quoted_words(rt: &impl Abort, alloc: Global, count: usize) -> String {
+    let words = repeated(rt, alloc, "a ", count);
+    format!(in alloc; "\"{words}\"").expect(rt, "memory")
+}
+
+/// The kinds that they have once the quote after them is taken away.
+fn kinds_of_words(rt: &impl Abort, alloc: Global, count: usize) -> Vec<Kind> {
     let mut kinds = vec![in alloc; Kind::Invalid].expect(rt, "memory");
     for _ in 0..count {
-        text.push_str("a ").expect(rt, "memory");
         kinds.push(Kind::Rule(1)).expect(rt, "memory");
     }
-    text.push('"').expect(rt, "memory");
-    (text, kinds)
+    kinds
 }
 
 /// The quote after the words is taken away, so that each of them is a token again.
 #[test]
 fn rescans_ten_thousand_tokens(rt: HostRuntime) {
-    let alloc = rt.alloc();
-    let (open, kinds) = quoted_words(&rt, alloc, 5_000);
-    let edit = step_by_7((10_001, 1, ""), (10_001, 10_001), (0, 1, &kinds));
-    check_by(&rt, alloc, LISTS, &open, &[edit]);
+    let open = quoted_words(&rt, rt.alloc(), 5_000);
+    let kinds = kinds_of_words(&rt, rt.alloc(), 5_000);
+    let step = (
+        7,
+        (10_001, 1, ""),
+        (10_001, 10_001),
+        (0, 1, kinds.as_slice()),
+    );
+    check_by(&rt, rt.alloc(), LISTS, &open, &[step]);
 }
 
 /// Faces are a rule's; other characters outside the first plane are no rule's.
 #[test]
 fn scans_characters_outside_the_first_plane(rt: HostRuntime) {
-    let alloc = rt.alloc();
-    let file = "lrgrammar 1\ntoken FACE = [\\u{1F600}-\\u{1F64F}]+\nstart S\nS = FACE\n";
-    let rows = [
+    const FILE: &str = "lrgrammar 1\ntoken FACE = [\\u{1F600}-\\u{1F64F}]+\nstart S\nS = FACE\n";
+    const ROWS: &[Row] = &[
         ("FACE", 2, 3, 0),
         ("invalid", 1, 1, 2),
         ("FACE", 1, 2, 3),
         ("invalid", 1, 1, 4),
     ];
     let text = "\u{1f600}\u{1f64f}\u{10000}\u{1f601}\u{10ffff}";
-    check_tokens(&rt, alloc, file, text, &rows);
-    let long = repeated(&rt, alloc, "\u{1f600}", 262_144);
-    let rows = [("FACE", 262_144, 262_145, 0)];
-    check_tokens(&rt, alloc, file, &long, &rows);
+    check_tokens(&rt, rt.alloc(), FILE, text, ROWS);
+    let long = repeated(&rt, rt.alloc(), "\u{1f600}", 262_144);
+    let rows = &[("FACE", 262_144, 262_145, 0)];
+    check_tokens(&rt, rt.alloc(), FILE, &long, rows);
 }
