@@ -2,6 +2,8 @@
 #![tactic(auto)]
 
 #[cfg(test)]
+mod checks;
+#[cfg(test)]
 mod node_forms;
 #[cfg(test)]
 mod tree_stores;

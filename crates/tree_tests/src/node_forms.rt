@@ -3,6 +3,7 @@
 ghost use Rattle.std.specs.Prelude.{◌<◌, length};
 ghost use Rattle.trees.specs.Cells.{AreBelow, IsBelow};
 
+use crate::checks::{expect, expect_at, expect_in, expect_len};
 use std::alloc::Global;
 use std::process::Abort;
 use trees::{Child, Children, Kind, NodeId, Store};
@@ -49,7 +50,7 @@ fn check_child(rt: &impl Abort, store: &Store, child: Child)
     ensures { IsBelow (length store.now) child }
 {
     if let Child::Node(id) = child {
-        assert!(rt; id.index < store.len());
+        expect_in(rt, store, id);
     }
 }
 
@@ -93,42 +94,64 @@ fn make_all(rt: &impl Abort, alloc: Global, store: &mut Store) -> NodeId {
 /// The first child is a node over a plus, if there are more.
 fn check_first(rt: &impl Abort, store: &Store, first: Option<Child>, count: usize) {
     if let Some(Child::Node(leaf)) = first {
-        assert!(rt; leaf.index < store.len());
-        assert!(rt; (store.production(leaf), store.born(leaf)) == (2, 9));
+        expect_in(rt, store, leaf);
+        let shown = (store.production(leaf), store.born(leaf));
+        expect(rt, shown == (2, 9), "the first child");
     } else {
-        assert!(rt; count < 2);
+        expect(rt, count < 2, "no node is the first child");
+    }
+}
+
+/// Each child of a node is what it is to be, where the first one is this.
+fn check_in_order(rt: &impl Abort, store: &Store, id: NodeId, first: Child, rest: (usize, Child))
+    requires { id.index < length store.now }
+{
+    let (count, last) = rest;
+    for (k, child) in store.children(id).enumerate() {
+        expect_at(rt, store.child(id, k) == Some(child), k);
+        let is_awaited = k < count && child == child_at(first, count, last, k);
+        expect_at(rt, is_awaited, k);
+    }
+}
+
+/// The same from the last child on.
+fn check_reversed(rt: &impl Abort, store: &Store, id: NodeId, first: Child, rest: (usize, Child))
+    requires { id.index < length store.now }
+{
+    let (count, last) = rest;
+    let mut left = store.children(id);
+    for k in 0..count {
+        let back = child_at(first, count, last, count - 1 - k);
+        expect_at(rt, left.next_back() == Some(back), k);
     }
 }
 
 fn check_row(rt: &impl Abort, store: &Store, id: NodeId, (production, born, count, last): Row) {
-    assert!(rt; id.index < store.len());
+    expect_in(rt, store, id);
     let shown = (store.production(id), store.born(id), store.tokens(id));
-    assert!(rt; shown == (production, born, count as u64));
+    expect(rt, shown == (production, born, count as u64), "a node");
     let first = store.child(id, 0);
     check_first(rt, store, first, count);
-    assert!(rt; store.children(id).count() == count);
-    let mut left = store.children(id);
-    for (k, child) in store.children(id).enumerate() {
-        assert!(rt; k < count);
-        assert!(rt;
-            child == child_at(first.unwrap_or(PLUS), count, last, k),
-            "at {k}"
-        );
-        assert!(rt; store.child(id, k) == Some(child), "at {k}");
-        let back = child_at(first.unwrap_or(PLUS), count, last, count - 1 - k);
-        assert!(rt; left.next_back() == Some(back), "at {k}");
-    }
-    assert!(rt; store.child(id, count) == None);
+    expect(rt, store.children(id).count() == count, "children");
+    expect(rt, store.child(id, count) == None, "no child after them");
+    let first = first.unwrap_or(PLUS);
+    check_in_order(rt, store, id, first, (count, last));
+    check_reversed(rt, store, id, first, (count, last));
+}
+
+/// The child of a node with this number, which is a node.
+fn node_below(rt: &impl Abort, store: &Store, root: NodeId, k: usize) -> NodeId {
+    expect_in(rt, store, root);
+    let Some(Child::Node(id)) = store.child(root, k) else {
+        panic!(rt; "no node");
+    };
+    id
 }
 
 /// Below a root are the nodes of all rows.
 fn check_all(rt: &impl Abort, store: &Store, root: NodeId) {
     for (k, row) in ROWS.iter().enumerate() {
-        assert!(rt; root.index < store.len());
-        let Some(Child::Node(id)) = store.child(root, k) else {
-            panic!(rt; "no node");
-        };
-        check_row(rt, store, id, *row);
+        check_row(rt, store, node_below(rt, store, root, k), *row);
     }
 }
 
@@ -142,18 +165,20 @@ fn children_of_nodes_of_each_form(rt: HostRuntime) {
 /// Compacts a store to one tree in place, and to the same tree twice by copies.
 fn check_compaction(rt: &impl Abort, alloc: Global, store: &mut Store) {
     let root = make_all(rt, alloc, store);
-    assert!(rt; root.index < store.len());
+    expect_in(rt, store, root);
     let mut roots = [root];
     store.compact(alloc, &mut roots).expect(rt, "memory");
-    assert!(rt; store.len() == 25);
-    check_all(rt, store, roots[0]);
-    assert!(rt; roots[0].index < store.len());
-    let mut roots = [roots[0], roots[0]];
+    let [root] = roots;
+    expect_len(rt, store, 25);
+    check_all(rt, store, root);
+    expect_in(rt, store, root);
+    let mut roots = [root, root];
     store.compact(alloc, &mut roots).expect(rt, "memory");
-    assert!(rt; (store.len(), roots[0] == roots[1]) == (50, false));
-    for root in roots {
-        check_all(rt, store, root);
-    }
+    let [first, second] = roots;
+    expect_len(rt, store, 50);
+    expect(rt, first != second, "two trees");
+    check_all(rt, store, first);
+    check_all(rt, store, second);
 }
 
 #[test]
