@@ -1,15 +1,16 @@
 #!/usr/bin/env python3
-"""Writes docs/DEFINITIONS.md from the comments in crates/*/specs.
+"""Writes docs/DEFINITIONS.md and docs/OTHER_DEFINITIONS.md from the comments in crates/*/specs.
 
 The comment right above a public definition says what it means. It begins with the name and the arguments in backquotes and a colon
 where the definition doesn't show them: it shows them as the parameters of a record, or in a first equation that only has variables.
 The comment at a file's head says what the file is about.
 
-    tests/definitions.py            writes the page
-    tests/definitions.py --check    ends with status 1 where the page isn't what this would write
+    tests/definitions.py            writes the pages
+    tests/definitions.py --check    ends with status 1 where a page isn't what this would write
 
-What the contract of `server::run` rests on comes first, in the order in which a reader meets it who goes down from there; then all
-other definitions that have a comment, by crates.txt; then the laws, each with the comment above its function.
+The first page has what the contract of `server::run` rests on, in the order in which a reader meets it who goes down from there, and
+then what it means that a file defines the language that `run` is given. The second one has all other definitions that have a comment,
+by crates.txt, and then the laws, each with the comment above its function.
 """
 
 import difflib
@@ -20,13 +21,15 @@ import sys
 
 sys.dont_write_bytecode = True
 
-from specs import Definitions, lines_of, words_of_run
+from specs import Definitions, lines_of, words_of_file, words_of_run
 
 TOP = os.path.dirname(os.path.dirname(os.path.abspath(__file__)))
 PAGE = os.path.join("docs", "DEFINITIONS.md")
+OTHER_PAGE = os.path.join("docs", "OTHER_DEFINITIONS.md")
 
-# What follows the names that `run` rests on.
+# What follows the names that `run` rests on, and those that the meaning of a grammar's file rests on besides.
 MARK = " •"
+FILE_MARK = " ◦"
 
 RECORD = re.compile(r"\s*(?:pub )?(?:record|data) ")
 PUBLIC = re.compile(r"\s*(?:abbrev |unfoldable |opaque )*pub ")
@@ -52,12 +55,21 @@ How to read them:
   break. In a tree a *branch* is a node that has a production, and a *leaf* a kind alone.
 - The files `proofs/*Rows.antt` work the definitions out on small examples, most of them by `refl` alone: positions in `TextRows`,
   patterns in `PatternRows` and `MatchRows`, edits in `TokenRows` and `TreeRows`, grammars in `GrammarRows` and `ExpectedRows`, answers
-  in `AnswerRows`, `FoldRows` and `TreeTextRows`; in `theory` `FreeRows`, a grammar and an edit that meet the premises of the laws. The
-  check refuses a row that a definition doesn't give.
+  in `AnswerRows`, `FoldRows` and `TreeTextRows`; streams in `FrameRows` of `frames`, what is sent in `ReplyRows` of `replies`, what is
+  received in `MessageRows` and `ReceivedTextRows` of `rpc`, steps, runs and a session in `SessionRows` of `sessions`; in `theory`
+  `FreeRows`, a grammar and an edit that meet the premises of the laws. The check refuses a row that a definition doesn't give.
 - A • after a name marks what the theorem rests on (docs/THEOREM.md): whoever has read these definitions has read the statement. They
-  are found by the names that each mentions, from the contract of `server::run` down. The others are the words of the contracts
-  between crates, and of the proofs.
-- The laws at the end are contracts of functions that do nothing: what is proved about the definitions alone.
+  are found by the names that each mentions, from the contract of `server::run` down. A ◦ marks what it means besides that a grammar's
+  file defines the language that `run` is given (`IsLanguageOf`).
+- docs/OTHER_DEFINITIONS.md has the others, which are the words of the contracts between crates, and of the proofs; and the laws, which
+  are contracts of functions that do nothing: what is proved about the definitions alone.
+"""
+
+OTHER_INTRO = """\
+# The other definitions, and the laws
+
+The words of the contracts between crates, and of the proofs, on which the theorem doesn't rest. `tests/definitions.py` writes this page
+from the comments above the definitions; docs/DEFINITIONS.md has those of the theorem, and says how to read both.
 """
 
 
@@ -118,19 +130,19 @@ def commented_in(module):
     return [name for name, lines in module.definitions.items() if module.comments[name] and PUBLIC.match(lines[0])]
 
 
-def first_part(definitions, rest):
-    """What `run` rests on, in the order in which it is met from there down."""
-    lines = ["# What the theorem rests on", ""]
-    for place in dict.fromkeys(key[:2] for key in rest):
+def first_part(definitions, title, keys, mark):
+    """These definitions, in the order in which they are met from their roots down."""
+    lines = [f"# {title}", ""]
+    for place in dict.fromkeys(key[:2] for key in keys):
         module = definitions.modules[place]
-        names = [key[2] for key in rest if key[:2] == place]
-        lines += [f"## {link(*place)}", "", *about(module), *rows_of(module, names, MARK)]
+        names = [key[2] for key in keys if key[:2] == place]
+        lines += [f"## {link(*place)}", "", *about(module), *rows_of(module, names, mark)]
     return lines
 
 
 def second_part(top, definitions, rest):
     """The other definitions, by crate."""
-    lines, seen = ["# The other definitions", ""], {key[:2] for key in rest}
+    lines, seen = [], {key[:2] for key in rest}
     for crate in crates_of(top):
         files = []
         for name in modules_of(top, crate):
@@ -159,31 +171,43 @@ def last_part(top):
     return lines
 
 
+def of_file(definitions, rest):
+    """What the meaning of a grammar's file rests on, and `run` doesn't."""
+    return [key for key in definitions.rest(words_of_file(definitions)) if key not in rest]
+
+
 def written(top):
-    """The page."""
+    """The pages, each by its path."""
     definitions = Definitions(top)
     rest = dict.fromkeys(definitions.rest(words_of_run(top, definitions)))
-    lines = first_part(definitions, rest) + second_part(top, definitions, rest) + last_part(top)
-    return INTRO + "\n" + "\n".join(lines).rstrip("\n") + "\n"
+    meaning = of_file(definitions, rest)
+    first = first_part(definitions, "What the theorem rests on", rest, MARK)
+    first += first_part(definitions, "What it means that a file defines a language", meaning, FILE_MARK)
+    other = second_part(top, definitions, {**rest, **dict.fromkeys(meaning)}) + last_part(top)
+    return {page: intro + "\n" + "\n".join(lines).rstrip("\n") + "\n" for page, intro, lines in ((PAGE, INTRO, first), (OTHER_PAGE, OTHER_INTRO, other))}
 
 
 def differences(top):
-    """The lines in which the page differs from what would be written."""
-    path = os.path.join(top, PAGE)
-    found = difflib.unified_diff(lines_of(path), written(top).split("\n"), PAGE, "tests/definitions.py", n=0, lineterm="")
-    return list(found)
+    """The lines in which the pages differ from what would be written."""
+    found = []
+    for page, text in written(top).items():
+        path = os.path.join(top, page)
+        there = lines_of(path) if os.path.exists(path) else []
+        found += difflib.unified_diff(there, text.split("\n"), page, "tests/definitions.py", n=0, lineterm="")
+    return found
 
 
 def main(words):
     if words == ["--check"]:
         found = differences(TOP)
-        print("\n".join(found) if found else f"{PAGE} is up to date")
+        print("\n".join(found) if found else f"{PAGE} and {OTHER_PAGE} are up to date")
         return 1 if found else 0
     if words:
         print("usage: tests/definitions.py [--check]", file=sys.stderr)
         return 2
-    with open(os.path.join(TOP, PAGE), "w", encoding="utf-8") as file:
-        file.write(written(TOP))
+    for page, text in written(TOP).items():
+        with open(os.path.join(TOP, page), "w", encoding="utf-8") as file:
+            file.write(text)
     return 0
 
 

@@ -131,6 +131,10 @@ class Definitions:
             left += new
         return left
 
+    def named(self, name):
+        """The definitions of this name, in all crates."""
+        return [(*place, name) for place, module in self.modules.items() if name in module.definitions]
+
     def lines(self, keys):
         return sum(len(self.modules[crate, module].definitions[name]) for crate, module, name in keys)
 
@@ -148,3 +152,8 @@ def words_of_run(top, definitions):
     words = re.findall(r"(?<![\w.])[A-Za-z_]\w*", clauses_of(path, "run"))
     found = (definitions.found(*names[word]) for word in words if word in names)
     return [it for it in dict.fromkeys(found) if it is not None]
+
+
+def words_of_file(definitions):
+    """The definition by which a grammar's file defines a language."""
+    return definitions.named("IsLanguageOf")

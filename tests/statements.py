@@ -9,11 +9,26 @@ import os
 import re
 
 import definitions as definitions_page
+import libraries
 from specs import Definitions, files_of, imports_of, lines_of, words_of_run
 
 # The most columns of a line of a contract, and of a line of a definition.
 WIDTH_OF_CONTRACTS = 100
 WIDTH_OF_DEFINITIONS = 140
+
+# What a proof that isn't written looks like, and how THEOREM.md writes the number of the lines that look so.
+HOLE = re.compile(r"\?|\{!")
+NUMBERS = ("no", "one", "two", "three", "four", "five", "six", "seven", "eight", "nine", "ten")
+
+# The definitions under `run` that have no row of their own, and why.
+WITHOUT_A_ROW = {
+    "sessions.Alone.EachDocumentIsAlone": "a law of all steps, which is proved; its words have rows",
+    "sessions.Alone.EachRunHasAHistory": "a law of all runs, which is proved; its words have rows",
+    "sessions.Alone.HistoriesDecide": "a law of all histories, which is proved; its words have rows",
+    "sessions.Fresh.EachTextIsItsEdits": "a law of all steps, which is proved; its words have rows",
+    "sessions.Fresh.EveryAnswerIsFresh": "a law of all runs, which is proved; its words have rows",
+    "sessions.Fresh.IsFresh": "it needs a reading of a text by a whole grammar; its words have rows",
+}
 
 CLAUSE = re.compile(r"^\s*(?:ensures|requires|invariant|ghost view)\b")
 GHOST_USE = re.compile(r"^[ \t]*ghost use [^;]*?\{([^}]*)\};", re.M)
@@ -94,6 +109,16 @@ def idle_in_common(top):
     return sorted(f"{crate}: {name}" for crate, names in passed_on.items() for name in names - taken[crate])
 
 
+def without_rows(top, definitions, keys):
+    """Those of these definitions that no file `proofs/*Rows.antt` names, and on which nothing rests that such a file names."""
+    named = set()
+    for path in files_of(top, "proofs", "Rows.antt"):
+        names, _ = imports_of("\n".join(lines_of(path)))
+        named |= {definitions.found(*place) for place in names.values()}
+    covered = definitions.rest(sorted(named - {None}))
+    return sorted(".".join(key) for key in keys if key not in covered)
+
+
 def wrong_edits(top):
     """How many edits there are that the check has to refuse."""
     folders = (os.path.join(top, "crates", crate, "must-fail") for crate in os.listdir(os.path.join(top, "crates")))
@@ -121,13 +146,18 @@ def check(cases, top):
     definitions = Definitions(top)
     rest = definitions.rest(words_of_run(top, definitions))
     cases.check("each definition under `run` has a comment", [], untold(definitions, rest))
+    cases.check("each definition under `run` has a row, or a reason why not", sorted(WITHOUT_A_ROW), without_rows(top, definitions, rest))
     cases.check("each definition that another crate names has a comment", [], untold(definitions, used_elsewhere(top, definitions)))
-    cases.check("docs/DEFINITIONS.md is what tests/definitions.py writes", [], definitions_page.differences(top))
+    cases.check("the pages of definitions are what tests/definitions.py writes", [], definitions_page.differences(top))
     theorem = page(top, "docs/THEOREM.md")
     files = len({key[:2] for key in rest})
     said = re.search(r"rests on (\d+) definitions in (\d+) files of `specs/`, ([\d,]+) lines", theorem)
     awaited = (str(len(rest)), str(files), f"{definitions.lines(rest):,}")
     cases.check("docs/THEOREM.md says what `run` rests on", awaited, said and said.groups())
+    meaning = definitions_page.of_file(definitions, dict.fromkeys(rest))
+    said = re.search(r"rests on (\d+) definitions more, (\d+) lines", theorem)
+    awaited = (str(len(meaning)), str(definitions.lines(meaning)))
+    cases.check("docs/THEOREM.md says what a grammar's file means", awaited, said and said.groups())
     edits = re.findall(r"(\d+) files", theorem)
     cases.check("docs/THEOREM.md gives the number of wrong edits", True, str(wrong_edits(top)) in edits)
     reported = re.findall(r"^\|.*\| ([\d,]+) \|$", theorem, re.M)
@@ -136,4 +166,7 @@ def check(cases, top):
     cases.check("no line of a definition is too wide", [], wide_definitions(top))
     cases.check("each name that a contract's file brings in is named there", [], idle_imports(top))
     cases.check("each name that a `proofs/Common` passes on is taken from there", [], idle_in_common(top))
+    libraries.check(cases, top)
+    found = sum(bool(HOLE.search(line)) for path in files_of(top, "crates", ".antt") for line in lines_of(path))
+    cases.check("docs/THEOREM.md says how many lines its search for holes prints", True, f"prints {NUMBERS[found]} lines of comments" in theorem)
     cases.check("README.md has at most 1,800 words", True, len(page(top, "README.md").split()) <= 1_800)

@@ -1,6 +1,6 @@
 //! What words ask for, and the texts and statuses of faults.
 
-use commands::{Fault, Task, words};
+use commands::{Fault, Words, words};
 use frames::FrameFault;
 use std::alloc::{AllocError, Global};
 use std::process::Abort;
@@ -16,21 +16,21 @@ fn split(rt: &impl Abort, alloc: Global, line: &str) -> Vec<String> {
 }
 
 /// What is asked for: the command, and the paths that it names.
-fn shown(alloc: Global, task: &Task) -> Result<String, AllocError> {
-    match task {
-        Task::Check(path) => format!(in alloc; "check of {path}"),
-        Task::Parse(grammar, text) => format!(in alloc; "parse by {grammar} of {text}"),
-        Task::Serve(path) => format!(in alloc; "serve by {path}"),
+fn shown(alloc: Global, asked: &Words) -> Result<String, AllocError> {
+    match asked {
+        Words::Check(path) => format!(in alloc; "check of {path}"),
+        Words::Parse(grammar, text) => format!(in alloc; "parse by {grammar} of {text}"),
+        Words::Serve(path) => format!(in alloc; "serve by {path}"),
     }
 }
 
 /// The words of the line ask for this.
 fn asks(rt: &impl Abort, alloc: Global, line: &str, wanted: &str) {
     let given = split(rt, alloc, line);
-    let task = words(alloc, &given)
+    let asked = words(alloc, &given)
         .expect(rt, "words")
-        .expect(rt, "a task");
-    let shown = shown(alloc, &task).expect(rt, "memory");
+        .expect(rt, "a command");
+    let shown = shown(alloc, &asked).expect(rt, "memory");
     assert!(rt; shown.as_str() == wanted);
 }
 
@@ -52,8 +52,8 @@ fn commands_name_their_grammar(rt: HostRuntime) {
 /// The words of the line ask for nothing.
 fn asks_for_nothing(rt: &impl Abort, alloc: Global, line: &str) {
     let given = split(rt, alloc, line);
-    let task = words(alloc, &given).expect(rt, "words");
-    assert!(rt; task.is_none(), "{line}");
+    let asked = words(alloc, &given).expect(rt, "words");
+    assert!(rt; asked.is_none(), "{line}");
 }
 
 #[test]

@@ -1,0 +1,5 @@
+pub mod Common
+mod Flags
+mod Commands
+mod Lines
+mod Read

@@ -9,9 +9,9 @@ use Rattle.docs.specs.declared.doc.Outcome.{Outcome}
 use Rattle.docs.specs.declared.doc.Outcome.TheVariants.{Tree, Fault}
 use Rattle.docs.specs.Outcomes.{IsOutcome}
 use Rattle.docs.specs.Texts.{fits}
-use Rattle.faults.specs.declared.fault.Fault.TheVariants.{TextNotUtf8, TextTooLarge}
-use Rattle.faults.specs.declared.printed.Printed.{Printed}
-use Rattle.faults.specs.Texts.{PrintsFault}
+use Rattle.commands.specs.declared.fault.Fault.TheVariants.{TextNotUtf8, TextTooLarge}
+use Rattle.commands.specs.declared.printed.Printed.{Printed}
+use Rattle.commands.specs.Texts.{PrintsFault}
 
 -- `L:C`
 abbrev pub place_text : Position → List ℕ

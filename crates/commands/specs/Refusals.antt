@@ -1,13 +1,13 @@
 -- What is printed of a grammar file that defines no language.
 use Rattle.std.specs.Prelude.{◌≡◌, ◌⊎◌, ℕ, List, []}
 use Rattle.std.specs.Str.{IsUtf8}
-use Rattle.languages.specs.Languages.{IsLoadFault}
-use Rattle.languages.specs.declared.language.LoadFault.{LoadFault}
-use Rattle.languages.specs.declared.language.LoadFault.TheVariants as load
-use Rattle.faults.specs.Conflicts.{conflict_text}
-use Rattle.faults.specs.Texts.{PrintsFault}
-use Rattle.faults.specs.declared.fault.Fault.TheVariants.{Grammar, TooManyStates, TooManySets, NotUtf8}
-use Rattle.faults.specs.declared.printed.Printed.{Printed}
+use Rattle.docs.specs.Languages.{IsLoadFault}
+use Rattle.docs.specs.declared.language.LoadFault.{LoadFault}
+use Rattle.docs.specs.declared.language.LoadFault.TheVariants as load
+use Rattle.commands.specs.Conflicts.{conflict_text}
+use Rattle.commands.specs.Texts.{PrintsFault}
+use Rattle.commands.specs.declared.fault.Fault.TheVariants.{Grammar, TooManyStates, TooManySets, NotUtf8}
+use Rattle.commands.specs.declared.printed.Printed.{Printed}
 
 -- `Reports fault printed`: what is printed of a fault on standard error, with status 2 and nothing on standard output: of a conflict its
 -- four lines, of any other its text. That memory was refused has no such text

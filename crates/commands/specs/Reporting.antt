@@ -3,7 +3,7 @@ use Rattle.std.specs.Prelude.{◌≡◌, ℕ, ◌++◌, List, [], codes, encode_
 use Rattle.definitions.specs.declared.Symbol.{Symbol}
 use Rattle.grammar.specs.Grammars.{FileGrammar}
 use Rattle.grammar.specs.Notes.{AreNotes, symbol_name}
-use Rattle.faults.specs.declared.printed.Printed.{Printed}
+use Rattle.commands.specs.declared.printed.Printed.{Printed}
 
 -- `note: unreachable NAME` and the end of the line
 abbrev pub note_line : List ℕ → List ℕ

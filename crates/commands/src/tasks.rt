@@ -4,15 +4,16 @@ ghost use Rattle.std.specs.Prelude.{◌≡◌, ℕ, ◌++◌, List, IfOk, IfErr,
 ghost use Rattle.std.specs.Str.{IsUtf8, chars};
 ghost use Rattle.docs.specs.Outcomes.{IsOutcome};
 ghost use Rattle.docs.specs.Docs.{IsCurrent};
-ghost use Rattle.languages.specs.Languages.{IsLanguageOf, IsLoadFault};
+ghost use Rattle.docs.specs.Languages.{IsLanguageOf, IsLoadFault};
 ghost use Rattle.docs.specs.declared.doc.Outcome.{Outcome};
 ghost use Rattle.commands.specs.Refusals.{IsRefused, Reports};
 ghost use Rattle.commands.specs.Parsing.{IsParsed, Prints, fault_line, place_text};
 ghost use Rattle.commands.specs.Reporting.{IsChecked, note_line};
 
+use crate::fault::Fault;
+use crate::printed::Printed;
 use definitions::{Diagnostic, Position, Unit};
 use docs::{Doc, DocFault, Language, LoadFault, Outcome};
-use faults::{Fault, Printed};
 use std::alloc::{AllocError, Global};
 
 /// What is printed of the fault of a grammar file, with status 2. Refuses for memory alone.

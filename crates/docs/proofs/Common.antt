@@ -40,7 +40,7 @@ pub use Rattle.docs.specs.declared.doc.DocFault.{DocFault}
 pub use Rattle.docs.specs.declared.doc.DocFault.TheVariants.{Memory, TooLarge}
 pub use Rattle.docs.specs.declared.doc.Outcome.TheVariants.{Fault as OutcomeFault}
 pub use Rattle.grammar.specs.Grammars.{FileGrammar, lexicon_of}
-pub use Rattle.languages.specs.Languages.{LanguageData}
+pub use Rattle.docs.specs.Languages.{LanguageData}
 pub use Rattle.lexer.specs.Rescans.{AreRescanned, plain_all, significant_kinds}
 pub use Rattle.lexer.specs.Tokens.{AreTokensOf, is_significant, kind_in, plain, plain as plain_token}
 pub use Rattle.lexer.specs.declared.sums.Token.{Token}
@@ -57,8 +57,9 @@ pub use Rattle.readings.specs.Diagnostics.{IsDiagnosis, shown as fault_of}
 pub use Rattle.readings.specs.Edits.{AreStats, IsAbove, IsNext, ReportsLast, edit_of, number_after, number_of}
 pub use Rattle.readings.specs.Layers.{LayersAnswer}
 pub use Rattle.readings.specs.Texts.{LastEdit, OpenDocument, fits}
-pub use Rattle.reports.specs.Contents.{AreFoldsOf, AreRootsOf, IsSelectionOf, placed_parts, trees_of_roots}
-pub use Rattle.reports.specs.Views.{text_of}
+pub use Rattle.readings.specs.Contents.{AreFoldsOf, IsSelectionOf, placed_parts}
+pub use Rattle.views.specs.Roots.{AreRootsOf, trees_of_roots}
+pub use Rattle.views.specs.Views.{text_of}
 pub use Rattle.tables.specs.Decidable.{AreMovesDecided}
 pub use Rattle.tables.specs.Tables.{IsAccepted, Sets}
 pub use Rattle.text.specs.declared.document.TextFault.{TextFault}

@@ -4,3 +4,4 @@ mod StoredReading
 mod Edits
 mod Stamps
 mod JoinedEdits
+mod AsciiTexts

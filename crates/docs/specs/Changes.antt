@@ -4,7 +4,7 @@ use Rattle.definitions.specs.declared.Range.{Range}
 use Rattle.definitions.specs.Text.{changed}
 use Rattle.docs.specs.Docs.{IsCurrent, last_edit, open_document}
 use Rattle.readings.specs.Edits.{IsNext}
-use Rattle.languages.specs.Languages.{LanguageData}
+use Rattle.docs.specs.Languages.{LanguageData}
 use Rattle.docs.specs.Stamps.{AreStamped, next_edit}
 use Rattle.readings.specs.Texts.{LastEdit}
 use Rattle.docs.specs.declared.doc.Doc.{Doc}

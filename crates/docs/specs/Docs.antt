@@ -5,7 +5,7 @@ use Rattle.lexer.specs.Rescans.{significant_kinds}
 use Rattle.lexer.specs.Tokens.{AreTokensOf}
 use Rattle.parser.specs.Compact.{bound}
 use Rattle.parser.specs.Parses.{IsParseOf}
-use Rattle.languages.specs.Languages.{LanguageData}
+use Rattle.docs.specs.Languages.{LanguageData}
 use Rattle.readings.specs.Texts.{LastEdit, OpenDocument}
 use Rattle.docs.specs.declared.doc.Doc.{Doc}
 

@@ -4,7 +4,7 @@ use Rattle.definitions.specs.declared.Edit.{Edit}
 use Rattle.definitions.specs.declared.Unit.{Unit as Encoding}
 use Rattle.definitions.specs.Text.{edit}
 use Rattle.docs.specs.Docs.{IsCurrent}
-use Rattle.languages.specs.Languages.{LanguageData}
+use Rattle.docs.specs.Languages.{LanguageData}
 use Rattle.docs.specs.declared.doc.Doc.{Doc}
 use Rattle.docs.specs.declared.pending.Pending.{Pending}
 

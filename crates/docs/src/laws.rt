@@ -1,9 +1,11 @@
-//! What is proved of answers, as a contract of a function that does nothing.
+//! What is proved of answers and of faults, as contracts of functions that do nothing.
 
+ghost use Rattle.std.specs.Prelude.{◌≡◌, ◌↔◌, IsTrue};
+ghost use Rattle.docs.specs.declared.doc.DocFault.{DocFault as Fault};
 ghost use Rattle.readings.specs.Answers.{AlwaysAnswers, AnswersOnce};
 ghost use Rattle.readings.specs.Edits.{AlwaysCounts, CountsOnce};
 
-use languages::Language;
+use crate::language::Language;
 use lexer::each_text_has_tokens;
 use readings::laws::{
     answers_are_unique, answers_exist, edits_are_counted, edits_are_counted_once,
@@ -35,3 +37,8 @@ pub fn always_answers(language: &Language)
     let _start = language.tables().start();
     let _automaton = language.automaton();
 }
+
+/// Faults of documents are equal by `==` exactly where they are the same.
+pub fn equal_faults_are_the_same()
+    ensures { (a b : Fault) → IsTrue (⟦<crate::DocFault as PartialEq>⟧.eq a b) ↔ (a ≡ b) }
+{}

@@ -1,9 +1,11 @@
 //! Documents of a language, with all that is reported on them.
 //!
-//! A `Language` is that of `languages`; `Doc::open` opens a document of it, with a unit of positions, a version and a
-//! text. `change` consumes the document and returns it with one change applied, and `set_version` gives it a version.
-//! `text`, `rows`, `tree`, `diagnostic`, `outcome`, `folds`, `selections` and `stats` report on the document. `Pending`
-//! takes many changes of a document and scans and parses as few edits as can be.
+//! `Language::load` makes a language of a grammar file's text, or returns why the file defines none: the first fault of
+//! the text, too many states of the automaton, too many sets of the tables, or a conflict. `Doc::open` opens a document of
+//! it, with a unit of positions, a version and a text. `change` consumes the document and returns it with one change
+//! applied, and `set_version` gives it a version. `text`, `rows`, `tree`, `diagnostic`, `outcome`, `folds`, `selections`
+//! and `stats` report on the document. `Pending` takes many changes of a document, and scans and parses those that touch
+//! each other together.
 //!
 //! Words: a document is *current* for the language that it was opened with; the calls that take a language require that
 //! one.
@@ -24,12 +26,15 @@
 #![tactic(auto)]
 
 mod doc;
+mod language;
 pub mod laws;
 mod parses;
 mod pending;
+mod significant;
 
-pub use definitions::{Diagnostic, Position, Range, Stats};
+pub use definitions::{Diagnostic, Position, Range, Stats, Unit};
 pub use doc::{Doc, DocFault, Outcome};
-pub use languages::{Language, LoadFault};
+pub use language::{Language, LoadFault};
 pub use pending::Pending;
+pub use significant::Significant;
 pub use views::Row;

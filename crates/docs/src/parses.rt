@@ -7,8 +7,9 @@ ghost use Rattle.lexer.specs.Rescans.{significant_kinds};
 ghost use Rattle.parser.specs.Changes.{IsParseAfter};
 ghost use Rattle.parser.specs.Parses.{IsParseOf};
 
+use crate::language::Language;
+use crate::significant::Significant;
 use definitions::KindSplice;
-use languages::{Language, Significant};
 use lexer::Tokens;
 use parser::Parse;
 use std::alloc::{AllocError, Global};

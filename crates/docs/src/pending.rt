@@ -5,15 +5,15 @@ ghost use Rattle.std.specs.Str.{chars};
 ghost use Rattle.definitions.specs.Text.{changed, edit};
 ghost use Rattle.docs.specs.Docs.{last_edit, IsCurrent};
 ghost use Rattle.readings.specs.Edits.{number_of};
-ghost use Rattle.languages.specs.Languages.{LanguageData};
+ghost use Rattle.docs.specs.Languages.{LanguageData};
 ghost use Rattle.docs.specs.Pending.{HasNone, IsPending, LeadsTo, pending_number, pending_text, pending_unit, pending_version};
 ghost use Rattle.readings.specs.Texts.{fits};
 ghost use Rattle.docs.specs.declared.doc.DocFault.TheVariants.{Memory};
 
 use crate::doc::{Doc, DocFault};
+use crate::language::Language;
 use crate::parses::reparse;
 use definitions::{Edit, Range};
-use languages::Language;
 use std::alloc::{AllocError, Global};
 
 /// The most places that are scanned and parsed each by itself. Changes at more places than these are rare, and opening the

@@ -9,7 +9,7 @@ ghost use Rattle.lexer.specs.Rescans.{significant_kinds};
 ghost use Rattle.parser.specs.Parses.{IsParseOf};
 
 use definitions::{Edit, KindSplice};
-use languages::{Language, Significant};
+use docs::{Language, Significant};
 use lexer::Tokens;
 use parser::{Parse, Verdict};
 use std::alloc::Global;

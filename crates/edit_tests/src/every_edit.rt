@@ -5,7 +5,7 @@ ghost use Rattle.parser.specs.Parses.{IsParseOf};
 
 use crate::document::{Change, Document, apply, load, open};
 use crate::facts::{Branch, Facts, Placed, facts_of, kinds_in};
-use languages::Language;
+use docs::Language;
 use lexer::Token;
 use std::alloc::Global;
 use std::process::Abort;

@@ -8,7 +8,7 @@ ghost use Rattle.parser.specs.Parses.{IsParseOf};
 
 use crate::document::{Document, Ending, ending_of};
 use definitions::Kind;
-use languages::Language;
+use docs::Language;
 use lexer::{Token, Tokens};
 use parser::Parse;
 use std::alloc::Global;

@@ -8,7 +8,7 @@ ghost use Rattle.parser.specs.Parses.{IsParseOf};
 
 use crate::document::{Change, Document, load, open, rescan};
 use definitions::Kind;
-use languages::{Language, Significant};
+use docs::{Language, Significant};
 use lexer::KindsAhead;
 use std::alloc::Global;
 use std::cell::Cell;

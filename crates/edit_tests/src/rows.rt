@@ -7,7 +7,7 @@ ghost use Rattle.lexer.specs.Rescans.{significant_kinds};
 ghost use Rattle.parser.specs.Parses.{IsParseOf};
 
 use crate::document::{Change, Document, Ending, apply, ending_of, load, open};
-use languages::Language;
+use docs::Language;
 use std::alloc::Global;
 use std::process::Abort;
 use worked::{LISTS, SUMS};

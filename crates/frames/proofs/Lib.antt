@@ -14,3 +14,4 @@ mod Searched
 mod Lines
 mod FieldLines
 mod FirstFault
+mod FrameRows

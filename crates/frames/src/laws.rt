@@ -1,6 +1,9 @@
 //! Laws of the definitions.
 
-ghost use Rattle.std.specs.Prelude.{◌≡◌, ◌↔◌, ℕ, List, Some, None, Result, take};
+ghost use Rattle.std.specs.Prelude.{◌≡◌, ◌↔◌, ℕ, List, Some, None, Result, take, IsTrue};
+ghost use Rattle.frames.specs.declared.fault.DeviceFault.{DeviceFault as Device};
+ghost use Rattle.frames.specs.declared.fault.FrameFault.{FrameFault as Fault};
+ghost use Rattle.frames.specs.declared.fault.RunFault.{RunFault as Ending};
 ghost use Rattle.frames.specs.Frames.{Tail, Splits, HasSplit};
 ghost use Rattle.frames.specs.Header.{header_size, header_length, IsWhole, IsHeaderPart, IsHeaderLength};
 
@@ -24,4 +27,12 @@ pub fn shortest_header_part()
 pub fn first_fault_decides()
     ensures { (part : List ℕ) (result : Result ℕ FrameFault) → IsWhole part →
         (header_length part ≡ result) ↔ IsHeaderLength part result }
+{}
+
+/// Faults are equal by `==` exactly where they are the same: no part of them is left out.
+pub fn equal_faults_are_the_same()
+    ensures devices { (a b : Device) →
+        IsTrue (⟦<crate::DeviceFault as PartialEq>⟧.eq a b) ↔ (a ≡ b) }
+    ensures frames { (a b : Fault) → IsTrue (⟦<crate::FrameFault as PartialEq>⟧.eq a b) ↔ (a ≡ b) }
+    ensures runs { (a b : Ending) → IsTrue (⟦<crate::RunFault as PartialEq>⟧.eq a b) ↔ (a ≡ b) }
 {}

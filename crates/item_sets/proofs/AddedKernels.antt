@@ -9,7 +9,7 @@ none = record { from = 0; symbol = Terminal 0 }
 module _ (g : Shape) where
   start_ordered : IsOrdered g (start_item ∷ [])
   start_ordered = record {
-    known = All-cons (IsItem g) start_item [] (record { production = tt; dot = omega arith; look = tt }) (λ k d l. absurd (omega (arith, l)));
+    known = All-cons (IsItem g) start_item [] (record { production = tt; at = omega arith; look = tt }) (λ k d l. absurd (omega (arith, l)));
     inside = All-cons IsInside start_item [] (inl refl) (λ k d l. absurd (omega (arith, l)));
     rising = λ i j d l m. absurd (omega (arith, l, m));
   }

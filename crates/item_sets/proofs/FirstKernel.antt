@@ -3,7 +3,7 @@ use Rattle.std.proofs.Common.{◌≡◌, List, [], ◌∷◌, None, refl, subst,
 use Rattle.item_sets.proofs.Common.{Symbol, Grammar, LrItem, IsValid, HaveSameItems, Contains-cases, ByRules, Start, Goto, Close, rules_valid, valid_rules, kernel_shows, not_empty, IsKernel, Item, item_of, HasKernel}
 
 abbrev pub start_item : Item
-start_item = record { production = None; dot = 0; look = None }
+start_item = record { production = None; at = 0; look = None }
 
 module _ (g : Grammar) where
   only_start : {full : List Symbol} {k : LrItem} → ByRules g full k → IsKernel k → full ≡ [] → item_of g start_item ≡ k

@@ -13,7 +13,7 @@ module _ (g : Shape) (sound : IsSound g) where
   side_known (Some p) h = sound.right p (left_of g.grammar p) (right_of g.grammar p) (has_production g.grammar p h)
 
   pub after_known : (i : Item) → IsItem g i → All (IsKnown g) (after_dot g.grammar i)
-  after_known i h = All-drop (IsKnown g) i.dot (side g.grammar i.production) (side_known i.production h.production)
+  after_known i h = All-drop (IsKnown g) i.at (side g.grammar i.production) (side_known i.production h.production)
 
   pub rest_known : (i : Item) → IsItem g i → (n : ℕ) (rest : List Symbol) → after_dot g.grammar i ≡ Nonterminal n ∷ rest → All (IsKnown g) rest
   rest_known i h n rest e = All-tail (IsKnown g) (Nonterminal n) rest (subst (All (IsKnown g)) e (after_known i h))
@@ -27,7 +27,7 @@ module _ (g : Shape) (sound : IsSound g) where
     in_known (Kernel {i = i} c) = subst (IsItem g) c.2 (items c.0 i c.1)
     in_known (Closed {i = i} n rest p a h e l s m) =
         let x = in_known h in
-        record { production = l; dot = omega arith; look = may_known g sound rest i.look a m (rest_known i x n rest e) x.look }
+        record { production = l; at = omega arith; look = may_known g sound rest i.look a m (rest_known i x n rest e) x.look }
 
     -- what may follow a nonterminal after an item's dot is called for, in its column
     called_at : {i : Item} (n : ℕ) (rest : List Symbol) (a : Option ℕ) → IsIn g.grammar kernel i → after_dot g.grammar i ≡ Nonterminal n ∷ rest → MayFollow g.grammar rest i.look a → (k : ℕ) × (k < g.grammar.rules + 1) × (lookahead_at k ≡ a) × CallFor g.grammar (after_dot g.grammar i) i.look n k
@@ -58,4 +58,4 @@ module _ (g : Shape) (sound : IsSound g) where
       has_all (Closed {i = i} n rest p a x e l s m) =
           let k = called_at n rest a x e m in
           let on : marked rows n k.0 ≡ true = called.complete n k.0 k.1 (i, x, k.3) in
-          subst (λ y. Contains all (record { production = Some p; dot = 0; look = y })) k.2 (h.added p k.0 (inl l) k.1 (subst (λ y. marked rows y k.0 ≡ true) (sym s) on))
+          subst (λ y. Contains all (record { production = Some p; at = 0; look = y })) k.2 (h.added p k.0 (inl l) k.1 (subst (λ y. marked rows y k.0 ≡ true) (sym s) on))

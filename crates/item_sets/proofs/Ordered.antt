@@ -3,9 +3,9 @@ use Rattle.std.proofs.Common.{◌≡◌, ◌<◌, ◌+◌, ℕ, zero, suc, List,
 use Rattle.item_sets.proofs.Common.{Contains-get_or, all_pairs_push, Contains-cases, Item, beginning_of, step, rank, Below, IsRising, IsBefore, rank-lookahead_at}
 
 pub before_below : (p k : ℕ) (i : Item) → IsBefore p k i → Below i (beginning_of p k)
-before_below p k i (inl (inl e)) = at_start (i.dot) refl
+before_below p k i (inl (inl e)) = at_start (i.at) refl
   where
-    at_start : (n : ℕ) → i.dot ≡ n → Below i (beginning_of p k)
+    at_start : (n : ℕ) → i.at ≡ n → Below i (beginning_of p k)
     at_start zero f = inr (f, inl (let r = ap rank e in omega (arith, r)))
     at_start (suc n) f = inl (omega (arith, f))
 before_below p k i (inl (inr l)) = inl l

@@ -27,8 +27,8 @@ module _ (g : Shape) (sound : IsSound g) (productive : AllProductive g.grammar) 
     in_rules (Kernel {i = i} c) = valid_rules g.grammar prefix (item_of g.grammar i) (h.sound i c)
     in_rules (Closed {i = i} n rest p a x e l s m) =
         let k = in_known g sound kernel items x in
-        let has = tail_trees g.grammar (Nonterminal n) rest (subst (HasTrees g.grammar) e (drop_trees g.grammar i.dot (side g.grammar i.production) (side_trees i.production k.production))) in
-        Close (subst (λ after. ByRules g.grammar prefix (record { production = i.production; before = take i.dot (side g.grammar i.production); after = after; look = i.look })) e (in_rules x)) (left_production g.grammar p n l s) (first_of_rules g.grammar productive rest i.look a has m)
+        let has = tail_trees g.grammar (Nonterminal n) rest (subst (HasTrees g.grammar) e (drop_trees g.grammar i.at (side g.grammar i.production) (side_trees i.production k.production))) in
+        Close (subst (λ after. ByRules g.grammar prefix (record { production = i.production; before = take i.at (side g.grammar i.production); after = after; look = i.look })) e (in_rules x)) (left_production g.grammar p n l s) (first_of_rules g.grammar productive rest i.look a has m)
 
     -- each item of the set is valid for the prefix
     pub set_sound : (i : Item) → IsIn g.grammar kernel i → IsValid g.grammar prefix (item_of g.grammar i)
@@ -51,7 +51,7 @@ module _ (g : Shape) (sound : IsSound g) (productive : AllProductive g.grammar) 
             let left : left_of g.grammar p ≡ n = ap (λ y. y.left) is in
             let same : right_of g.grammar p ≡ right = ap (λ y. y.right) is in
             let m = subst (λ y. MayFollow g.grammar after y a) (sym (ap (λ y. y.look) x.2)) (first_by_rules g.grammar after look a f) in
-            (record { production = Some p; dot = 0; look = a }, Closed n after p a x.1 (ap (λ y. y.after) x.2) l left m, ap (λ y. record { production = Some p; before = []; after = y; look = a }) same)
+            (record { production = Some p; at = 0; look = a }, Closed n after p a x.1 (ap (λ y. y.after) x.2) l left m, ap (λ y. record { production = Some p; before = []; after = y; look = a }) same)
 
     pub set_of : (all : List Item) → ((i : Item) → Contains all i → IsIn g.grammar kernel i) → ((i : Item) → IsIn g.grammar kernel i → Contains all i) → HasSet g.grammar all prefix
     set_of all each every = record { sound = λ i c. set_sound i (each i c); complete = λ k v. let x = set_complete k v in (x.0, every x.0 x.1, x.2) }

@@ -11,8 +11,8 @@ option_same (Some a) (Some b) = (λ e. ap (λ n. Some n) ((Decides-eqb a b).0 e)
 
 item_same : (a b : Item) → Decides (ghosts.eq a b) (a ≡ b)
 item_same a b =
-    let d = Decides-and (option_eq eqb a.production b.production) (eqb a.dot b.dot && option_eq eqb a.look b.look) (option_same a.production b.production) (Decides-and (eqb a.dot b.dot) (option_eq eqb a.look b.look) (Decides-eqb a.dot b.dot) (option_same a.look b.look)) in
-    (λ e. let h = d.0 e in λ i. record { production = h.0 i; dot = h.1.0 i; look = h.1.1 i }, λ e. d.1 (ap (λ x. x.production) e, (ap (λ x. x.dot) e, ap (λ x. x.look) e)))
+    let d = Decides-and (option_eq eqb a.production b.production) (eqb a.at b.at && option_eq eqb a.look b.look) (option_same a.production b.production) (Decides-and (eqb a.at b.at) (option_eq eqb a.look b.look) (Decides-eqb a.at b.at) (option_same a.look b.look)) in
+    (λ e. let h = d.0 e in λ i. record { production = h.0 i; at = h.1.0 i; look = h.1.1 i }, λ e. d.1 (ap (λ x. x.production) e, (ap (λ x. x.at) e, ap (λ x. x.look) e)))
 
 abbrev pub items_of : Vec Item Global → List Item
 items_of v = v.items

@@ -41,7 +41,7 @@ pub record IsLed (g : Grammar) (t : Found) (s : ℕ) : Type 0 where
 pub record AreStates (g : Shape) (t : Found) : Type 0 where
   pub sound : IsSound g
   pub begins : 0 < length t.kernels
-  pub start : kernel_at t.kernels 0 ≡ record { production = None; dot = 0; look = None } ∷ []
+  pub start : kernel_at t.kernels 0 ≡ record { production = None; at = 0; look = None } ∷ []
   pub ordered : (s : ℕ) → s < length t.kernels → IsOrdered g (kernel_at t.kernels s)
   pub reached : (s : ℕ) → s < length t.kernels → IsReached g.grammar (kernel_at t.kernels s)
   pub distinct : (s : ℕ) → s < length t.kernels → (r : ℕ) → r < s → kernel_at t.kernels r ≡ kernel_at t.kernels s → ⊥

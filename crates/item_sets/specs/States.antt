@@ -21,7 +21,7 @@ pub record HasKernel (g : Grammar) (kernel : List Item) (prefix : List Symbol) :
   pub complete : (k : LrItem) → IsKernel k → IsValid g prefix k → (i : Item) × Contains kernel i × (item_of g i ≡ k)
 
 abbrev pub step : Item → Item
-step i = record { production = i.production; dot = i.dot + 1; look = i.look }
+step i = record { production = i.production; at = i.at + 1; look = i.look }
 
 -- the items with the symbol s after their dots, with their dots after it
 pub record Shifted (g : Grammar) (items : List Item) (s : Symbol) (kernel : List Item) : Type 0 where

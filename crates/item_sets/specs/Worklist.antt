@@ -65,7 +65,7 @@ pub record AreCalledFor (g : Shape) (kernel : List Item) (rows : List (List Bool
   pub complete : AreMarked g rows (IsCalledFor g.grammar kernel)
 
 abbrev pub beginning_of : ℕ → ℕ → Item
-beginning_of p k = record { production = Some p; dot = 0; look = lookahead_at k }
+beginning_of p k = record { production = Some p; at = 0; look = lookahead_at k }
 
 -- the item begins production p, with a lookahead that is marked for n
 abbrev pub IsBeginning : List (List Bool) → ℕ → ℕ → Item → Type 0

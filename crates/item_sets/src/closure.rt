@@ -133,7 +133,7 @@ impl<'a> Worklist<'a> {
             None => &start,
             Some(p) => grammar.right(ProductionNumber::new(p)),
         };
-        self.insert_first(side.split_at(item.dot).1, item.look)
+        self.insert_first(side.split_at(item.at).1, item.look)
     }
 
     /// Adds all that the set with this kernel calls for, to an empty worklist.
@@ -171,7 +171,7 @@ impl<'a> Worklist<'a> {
             if self.has(left, column) {
                 items.push(Item {
                     production: Some(p.index()),
-                    dot: 0,
+                    at: 0,
                     look: lookahead_at(column),
                 })?;
             }

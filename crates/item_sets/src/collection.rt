@@ -49,7 +49,7 @@ impl States {
         let mut kernel = Vec::new(alloc);
         kernel.push(Item {
             production: None,
-            dot: 0,
+            at: 0,
             look: None,
         })?;
         kernels.place(alloc, &kernel)?;

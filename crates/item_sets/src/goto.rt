@@ -84,7 +84,7 @@ pub fn kernels_after(
             let kernel = &mut kernels[number_of(grammar, symbol)];
             kernel.add(Item {
                 production: item.production,
-                dot: item.dot + 1,
+                at: item.at + 1,
                 look: item.look,
             })?;
         }

@@ -7,16 +7,13 @@ ghost use Rattle.item_sets.specs.Sets.{IsItem, after_dot};
 use definitions::Symbol;
 use first_sets::{AugmentedGrammar, ProductionNumber};
 
-/// How many symbols of a production's right side are before an item's dot.
-pub type Dot = usize;
-
-/// An item: its production, its dot, and its lookahead. None is the added start production, and the end.
+/// An item: its production, where its dot is, and its lookahead. None is the added start production, and the end.
 #[derive(Clone, Copy, Debug, PartialEq, Eq, Hash)]
 pub struct Item {
     /// The number of the production in file order, from 0.
     pub production: Option<usize>,
     /// How many symbols of the right side are before the dot.
-    pub dot: Dot,
+    pub at: usize,
     /// The token rule that may follow.
     pub look: Option<usize>,
 }
@@ -27,11 +24,11 @@ impl Item {
         requires { IsItem grammar.now self }
         ensures next { result ≡ first (after_dot grammar.now.grammar self) }
         ensures known { IfSome result (IsKnown grammar.now) }
-        ensures fits { IfSome result (λ s. self.dot + 1 < 2 ^ 64) }
+        ensures fits { IfSome result (λ s. self.at + 1 < 2 ^ 64) }
     {
         match self.production {
             None => {
-                if self.dot == 0 {
+                if self.at == 0 {
                     Some(Symbol::Nonterminal(grammar.start()))
                 } else {
                     None
@@ -39,8 +36,8 @@ impl Item {
             }
             Some(p) => {
                 let right = grammar.right(ProductionNumber::new(p));
-                if self.dot < right.len() {
-                    Some(right[self.dot])
+                if self.at < right.len() {
+                    Some(right[self.at])
                 } else {
                     None
                 }

@@ -32,5 +32,5 @@ mod worklist;
 
 pub use closure::close;
 pub use collection::States;
-pub use item::{Dot, Item};
+pub use item::Item;
 pub use state_number::StateNumber;

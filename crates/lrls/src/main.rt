@@ -12,7 +12,7 @@
 //! frames are out before the next read.
 #![tactic(auto)]
 
-use commands::{Fault, Printed, Task, check, load, parse, words};
+use commands::{Fault, Printed, Words, check, load, parse, words};
 use frames::{ReadInput, WriteOutput};
 use server::{Language, run};
 use std::alloc::Global;
@@ -79,25 +79,26 @@ fn serve(rt: &HostRuntime, alloc: Global, language: Language) -> Result<u8, Faul
 }
 
 /// The path of the grammar's file.
-fn grammar_of(task: &Task) -> &str {
-    match task {
-        Task::Check(grammar) | Task::Parse(grammar, _) | Task::Serve(grammar) => grammar.as_str(),
+fn grammar_of(asked: &Words) -> &str {
+    match asked {
+        Words::Check(grammar) | Words::Parse(grammar, _) | Words::Serve(grammar) =>
+            grammar.as_str(),
     }
 }
 
-/// Does a task by the language of its grammar.
-fn perform_in(rt: &HostRuntime, task: &Task, language: Language) -> Result<u8, Fault> {
-    match task {
-        Task::Check(_) => check_grammar(rt, &language),
-        Task::Parse(_, text) => parse_file(rt, &language, text.as_str()),
-        Task::Serve(_) => serve(rt, rt.alloc(), language),
+/// Does what is asked by the language of its grammar.
+fn perform_in(rt: &HostRuntime, asked: &Words, language: Language) -> Result<u8, Fault> {
+    match asked {
+        Words::Check(_) => check_grammar(rt, &language),
+        Words::Parse(_, text) => parse_file(rt, &language, text.as_str()),
+        Words::Serve(_) => serve(rt, rt.alloc(), language),
     }
 }
 
-/// Does a task, or prints why its grammar gives no language. No other file is read before the grammar's.
-fn perform(rt: &HostRuntime, task: &Task) -> Result<u8, Fault> {
-    match load_language(rt, grammar_of(task))? {
-        Ok(language) => perform_in(rt, task, language),
+/// Does what is asked, or prints why its grammar gives no language. No other file is read before the grammar's.
+fn perform(rt: &HostRuntime, asked: &Words) -> Result<u8, Fault> {
+    match load_language(rt, grammar_of(asked))? {
+        Ok(language) => perform_in(rt, asked, language),
         Err(printed) => print(rt, &printed),
     }
 }
@@ -106,7 +107,7 @@ fn perform(rt: &HostRuntime, task: &Task) -> Result<u8, Fault> {
 fn start(rt: &HostRuntime) -> Result<u8, Fault> {
     let given = given_words(rt)?;
     match words(rt.alloc(), &given)? {
-        Some(task) => perform(rt, &task),
+        Some(asked) => perform(rt, &asked),
         None => Err(Fault::CommandLine),
     }
 }

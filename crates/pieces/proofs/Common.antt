@@ -11,9 +11,9 @@ pub use Rattle.std.proofs.lemmas.Iterator.Consumers.{YieldsList-end, YieldsList-
 pub use Rattle.std.proofs.lemmas.List.{append-nil, append_assoc, drop_all, drop_more, get_or_past, length_push, map-id, take-append-drop, take_all, take_at, take_more}
 pub use Rattle.std.proofs.lemmas.List.Sums.{sum_by-append, sum_by-cons, sum_by-take-le, take_while-cons}
 pub use Rattle.std.proofs.lemmas.Str.{IsCharBoundary-at_seam, IsCharBoundary-past_char, IsUtf8-append, IsUtf8-drop, IsUtf8-from_ascii, IsUtf8-take, chars-IsAscii, chars-append, chars-encodes, chars-nil, encode_same, encodes-append, encodes-chars, len_utf8_ascii, len_utf8_bounds, length-encode, length-le-encodes, scalars-chars}
-pub use Rattle.chunks.proofs.Cutting.{done, first, last, more}
-pub use Rattle.chunks.proofs.Joined.{all_before, cut_at_end, cut_in, inside, joined-append, none_after, prefix-more, whole_at, within_chunks}
-pub use Rattle.chunks.specs.Chunks.{IsCutting}
+pub use Rattle.seqtree.proofs.Cutting.{done, first, last, more}
+pub use Rattle.seqtree.proofs.Joined.{all_before, cut_at_end, cut_in, inside, joined-append, none_after, prefix-more, whole_at, within_chunks}
+pub use Rattle.seqtree.specs.Chunks.{IsCutting}
 pub use Rattle.definitions.proofs.OffsetOfPosition.{ended, ended-cons, line_start-le, none_ended, units-take-lt}
 pub use Rattle.definitions.proofs.OffsetsInLine.{in_line}
 pub use Rattle.definitions.proofs.TextLaws.{IsOffset-offset, greatest-is}

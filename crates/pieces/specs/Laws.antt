@@ -3,7 +3,7 @@ use Rattle.std.specs.Prelude.{◌≡◌, ℕ, zero, suc, ◌<◌, ◌≤◌, ◌
 use Rattle.std.proofs.Common.{ap, sym, ◌∙◌, inl, inr, arith}
 use Rattle.std.proofs.lemmas.Bool.{ltb-true, lt-ltb, or_cases, and_parts, eqb-true, false≢true, and_from, or_left, or_right, eq-eqb}
 use Rattle.std.proofs.lemmas.List.Sums.{sum_by-append}
-use Rattle.chunks.specs.Chunks.{IsMeasure}
+use Rattle.seqtree.specs.Chunks.{IsMeasure}
 use Rattle.seqtree.specs.Monoid.{MonoidLaws}
 use Rattle.seqtree.specs.Goal.{StaysReached}
 use Rattle.seqtree.specs.Saturated.{saturated-zero_right, saturated-assoc}

@@ -1,7 +1,7 @@
 -- The text of pieces, and what holds of a piece of a text.
 use Rattle.std.specs.Prelude.{◌≡◌, ◌≤◌, ℕ, List, length}
 use Rattle.std.specs.Str.{chars}
-use Rattle.chunks.specs.Chunks.{joined}
+use Rattle.seqtree.specs.Chunks.{joined}
 use Rattle.pieces.specs.declared.piece.TheConstants.{LONGEST_PIECE}
 use Rattle.pieces.specs.declared.sums.Sums.{Sums}
 use Rattle.pieces.specs.Sums.{sums_of}

@@ -1,7 +1,7 @@
 -- What a cut of a text in pieces says.
 use Rattle.std.specs.Prelude.{◌≡◌, ◌<◌, ◌^◌, ℕ, List, take}
 use Rattle.std.specs.Str.{chars}
-use Rattle.chunks.specs.Chunks.{IsCut as IsCutAt}
+use Rattle.seqtree.specs.Chunks.{IsCut as IsCutAt}
 use Rattle.definitions.specs.Text.{units}
 use Rattle.definitions.specs.declared.Unit.TheVariants.{Utf8}
 use Rattle.pieces.specs.declared.places.Cut.{Cut}

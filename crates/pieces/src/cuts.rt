@@ -2,7 +2,7 @@
 
 ghost use Rattle.std.specs.Prelude.{◌≡◌, ◌+◌, ◌<◌, ◌≤◌, length, IfOk};
 ghost use Rattle.std.specs.Str.{IsCharBoundary, chars};
-ghost use Rattle.chunks.specs.Chunks.{AreCut};
+ghost use Rattle.seqtree.specs.Chunks.{AreCut};
 ghost use Rattle.definitions.specs.Text.{units};
 ghost use Rattle.definitions.specs.declared.Unit.TheVariants.{Utf8};
 

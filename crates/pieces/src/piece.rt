@@ -6,8 +6,7 @@ ghost use Rattle.pieces.specs.Sums.{sums_of};
 
 use crate::cuts::{SHORTEST_OF_SEVERAL, pieces_of};
 use crate::sums::{Sums, of_text};
-use chunks::Chunk;
-use seqtree::Measured;
+use seqtree::{Chunk, Measured};
 use std::alloc::{AllocError, Global};
 use std::marker::Model;
 

@@ -11,8 +11,7 @@ ghost use Rattle.pieces.specs.Places.{IsCut};
 use crate::cuts::SHORTEST_OF_SEVERAL;
 use crate::piece::Piece;
 use crate::sums::{AfterCharacter, Sums};
-use chunks::Chunks;
-use seqtree::{Measured, Seq};
+use seqtree::{Chunks, Measured, Seq};
 use std::alloc::{AllocError, Global};
 use std::marker::Model;
 

@@ -35,7 +35,7 @@ pub use Rattle.readings.specs.Diagnostics.{IsDiagnosis, IsFaultAfter, looks}
 pub use Rattle.readings.specs.Edits.{AlwaysCounts, AreStats, CountsOnce, IsAbove, IsNext, Makes, ReportsLast, edit_of, number_after, without_nodes}
 pub use Rattle.readings.specs.Layers.{LayersAnswer}
 pub use Rattle.readings.specs.Texts.{LastEdit, OpenDocument, fits}
-pub use Rattle.reports.specs.Contents.{AreFoldsOf, IsSelectionOf, placed_parts}
+pub use Rattle.readings.specs.Contents.{AreFoldsOf, IsSelectionOf, placed_parts}
 pub use Rattle.theory.proofs.MadeIsBuilt.{not_in_leaf}
 pub use Rattle.theory.proofs.ReuseIsExact.{stands_split}
 pub use Rattle.theory.proofs.Stack.{nowhere, stands_in_prefix}

@@ -12,7 +12,7 @@ use Rattle.definitions.specs.Text.{offset}
 use Rattle.definitions.specs.Tokens.{Token, AreTokens, placed, kinds}
 use Rattle.definitions.specs.Trees.{Tree}
 use Rattle.grammar.specs.Grammars.{FileGrammar, lefts}
-use Rattle.reports.specs.Contents.{AreFoldsOf, IsSelectionOf}
+use Rattle.readings.specs.Contents.{AreFoldsOf, IsSelectionOf}
 use Rattle.readings.specs.Diagnostics.{IsDiagnosis, in_utf8, stored_diagnostic}
 use Rattle.readings.specs.Texts.{fits}
 

@@ -10,7 +10,7 @@ use Rattle.definitions.specs.Answers.{Diagnostic, diagnostic}
 use Rattle.definitions.specs.Sentences.{IsExpected, Verdict, HasTree, FaultAt, FaultAtEnd}
 use Rattle.definitions.specs.Tokens.{Token, kinds}
 use Rattle.grammar.specs.Grammars.{FileGrammar}
-use Rattle.reports.specs.Contents.{placed_parts}
+use Rattle.readings.specs.Contents.{placed_parts}
 
 -- these rules as kinds, and after them the end where it may come
 abbrev pub looks : List ℕ → Bool → List (Option Kind)

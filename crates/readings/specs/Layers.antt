@@ -10,7 +10,7 @@ use Rattle.definitions.specs.Text.{IsText}
 use Rattle.definitions.specs.Tokens.{Token, AreTokens, kinds}
 use Rattle.definitions.specs.Trees.{HaveRoots, Tree, all_kinds}
 use Rattle.grammar.specs.Grammars.{FileGrammar}
-use Rattle.reports.specs.Contents.{AreFoldsOf, IsSelectionOf}
+use Rattle.readings.specs.Contents.{AreFoldsOf, IsSelectionOf}
 
 -- each text has tokens, each list of kinds a verdict and, where a sentence begins with it, settled trees and what may follow it; and
 -- all trees have folds, and each offset a selection in them

@@ -1,4 +1,5 @@
 pub mod Texts
+pub mod Contents
 pub mod Diagnostics
 pub mod Answers
 pub mod Layers
@@ -6,4 +7,3 @@ pub mod Edits
 pub use Rattle.definitions.specs.Nodes
 pub use Rattle.definitions.specs.Text
 pub use Rattle.grammar.specs.Grammars
-pub use Rattle.reports.specs.Contents

@@ -2,3 +2,4 @@ pub mod Common
 mod Replies
 mod SentItems
 mod Objects
+mod ReplyRows

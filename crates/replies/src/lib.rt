@@ -18,6 +18,7 @@
 #![tactic(auto)]
 
 mod id;
+pub mod laws;
 mod reply;
 mod sending;
 

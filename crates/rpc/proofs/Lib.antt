@@ -5,3 +5,5 @@ mod KnownMethods
 mod Strings
 mod Values
 mod Texts
+mod MessageRows
+mod ReceivedTextRows

@@ -4,7 +4,7 @@ use Rattle.std.proofs.Common.{arith, length-append}
 use Rattle.std.proofs.lemmas.Bool.{ltb-true, lt-ltb}
 use Rattle.seqtree.specs.Monoid.{MonoidLaws}
 use Rattle.seqtree.specs.Saturated.{saturated, saturated-zero_left, saturated-zero_right, saturated-assoc}
-use Rattle.chunks.specs.Chunks.{IsMeasure}
+use Rattle.seqtree.specs.Chunks.{IsMeasure}
 use Rattle.runs.specs.declared.run.TheConstants.{LONGEST_RUN, SHORTEST_OF_SEVERAL}
 use Rattle.runs.specs.declared.counted.Counted.{Counted}
 use Rattle.runs.specs.Counted.{most, nothing, join_three}

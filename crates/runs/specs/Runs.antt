@@ -1,6 +1,6 @@
 -- A list that lies in runs: its items, and what a run keeps.
 use Rattle.std.specs.Prelude.{◌≡◌, ◌≤◌, List, length}
-use Rattle.chunks.specs.Chunks.{joined}
+use Rattle.seqtree.specs.Chunks.{joined}
 use Rattle.seqtree.specs.Monoid.{total}
 use Rattle.runs.specs.declared.run.TheConstants.{LONGEST_RUN}
 

@@ -2,7 +2,7 @@
 
 ghost use Rattle.std.specs.Prelude.{◌≡◌, ◌^◌, ◌<◌, length, take};
 ghost use Rattle.seqtree.specs.Monoid.{total};
-ghost use Rattle.chunks.specs.Chunks.{IsCut};
+ghost use Rattle.seqtree.specs.Chunks.{IsCut};
 ghost use Rattle.runs.specs.Runs.{flattened};
 
 use crate::counted::{AfterItem, Counted};

@@ -9,8 +9,7 @@ use crate::counted::{Counted, OfSum};
 use crate::cuts::{cut_at, cut_with_sum};
 use crate::items::Iter;
 use crate::run::{Run, join_three, sum_of};
-use chunks::Chunks;
-use seqtree::{Goal, Measured, Monoid, Seq};
+use seqtree::{Chunks, Goal, Measured, Monoid, Seq};
 use std::alloc::{AllocError, Global};
 use std::marker::Model;
 

@@ -2,11 +2,10 @@
 
 ghost use Rattle.std.specs.Prelude.{◌≡◌, ◌+◌, ◌<◌, ◌≤◌, ◌++◌, length, IfOk};
 ghost use Rattle.seqtree.specs.Monoid.{total};
-ghost use Rattle.chunks.specs.Chunks.{AreCut};
+ghost use Rattle.seqtree.specs.Chunks.{AreCut};
 
 use crate::counted::Counted;
-use chunks::Chunk;
-use seqtree::{Measured, Monoid};
+use seqtree::{Chunk, Measured, Monoid};
 use std::alloc::{AllocError, Global};
 use std::marker::Model;
 

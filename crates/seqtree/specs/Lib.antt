@@ -4,3 +4,4 @@ pub mod Parts
 pub mod Falls
 pub mod Goal
 pub mod Saturated
+pub mod Chunks

@@ -6,12 +6,12 @@ ghost use Rattle.docs.specs.Docs.{open_document, IsCurrent};
 ghost use Rattle.rpc.specs.Ids.{id_view};
 ghost use Rattle.rpc.specs.Replies.{reply_view, row_view};
 ghost use Rattle.sessions.specs.Answers.{IsAnswerOf, IsPublished};
-ghost use Rattle.steps.specs.Questions.{question_view};
+ghost use Rattle.server.specs.Questions.{question_view};
 
+use crate::question::Question;
 use docs::{Doc, Language};
 use rpc::{Id, Reply, Row};
 use std::alloc::{AllocError, Global};
-use steps::Question;
 
 /// The reply to a question about an open document. Refuses for memory alone.
 pub fn answer(

@@ -7,13 +7,13 @@ ghost use Rattle.rpc.specs.Messages.{change_view};
 ghost use Rattle.server.specs.Losses.{loss_of};
 ghost use Rattle.sessions.specs.Changes.{IsAfter};
 ghost use Rattle.sessions.specs.Documents.{is_lost, Becomes};
-ghost use Rattle.steps.specs.Holding.{entry_view, IsEntryOf};
+ghost use Rattle.server.specs.Holding.{entry_view, IsEntryOf};
 
+use crate::entry::Entry;
 use docs::laws::always_answers;
 use docs::{Doc, DocFault, Language, Pending};
 use rpc::{Change, Loss};
 use std::alloc::Global;
-use steps::Entry;
 
 /// How a document is lost by a change that is refused so.
 fn loss_of(fault: DocFault) -> Loss
@@ -33,12 +33,12 @@ fn apply_each(
     mut doc: Doc,
     version: i32,
     changes: &[Change],
-) -> Entry<Doc>
+) -> Entry
     requires { IsCurrent language.now doc }
     ensures becomes { let changes = map change_view changes.now in
         Becomes language.now.file version (open_document doc) changes
-        (entry_view open_document result) }
-    ensures current { IsEntryOf (IsCurrent language.now) result }
+        (entry_view result) }
+    ensures current { IsEntryOf language.now result }
 {
     for change in changes {
         match doc.change(alloc, language, change.range, change.text.as_str()) {
@@ -90,12 +90,12 @@ pub fn apply_changes(
     doc: Doc,
     version: i32,
     changes: &[Change],
-) -> Entry<Doc>
+) -> Entry
     requires { IsCurrent language.now doc }
     ensures becomes { let changes = map change_view changes.now in
         Becomes language.now.file version (open_document doc) changes
-        (entry_view open_document result) }
-    ensures current { IsEntryOf (IsCurrent language.now) result }
+        (entry_view result) }
+    ensures current { IsEntryOf language.now result }
 {
     // Where the numbers of edits end, they share the last one, and what each makes is counted by what the one before it made.
     let numbers_left = u64::MAX - doc.stats().edit;

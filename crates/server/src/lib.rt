@@ -2,9 +2,8 @@
 //!
 //! `run` is a whole session, from an `Input` to an `Output`: it returns the exit status, or why it ended without one
 //! (`RunFault`). `Server::new` and `handle` are for a program that has its own loop: `handle` takes one message, and
-//! the `Out` that it returns has the replies and, at `exit`, the status. What a session is stands in `sessions`, with the
-//! loop that `run` calls; what is done with each message, in `steps`, which asks of a document what is said here of a
-//! `Doc`.
+//! the `Out` that it returns has the replies and, at `exit`, the status. What a session is, and what is done with each
+//! message, is defined in `sessions`.
 //!
 //! Words: the *phase* of a session is before `initialize`, ready, or after `shutdown`; a document is *lost* where the
 //! server no longer has its text.
@@ -14,7 +13,7 @@
 //!
 //! ```
 //! let language = Language::load(alloc, SUMS).ok()?;
-//! let mut server = Server::new(alloc, Served { language });
+//! let mut server = Server::new(alloc, language);
 //! let message = read(alloc, br#"{"jsonrpc":"2.0","method":"exit"}"#);
 //! let out = server.handle(alloc, message).ok()?;
 //! println!(rt; "{} replies; status {:?}", out.replies.len(), out.stop).ok()
@@ -24,11 +23,18 @@
 
 mod answers;
 mod changes;
-mod document;
+mod documents;
+mod entry;
+mod notifications;
+mod out;
+mod question;
+mod requests;
 mod session;
+mod state;
+mod stream;
 
-pub use docs::{Doc, DocFault, Language, LoadFault, Outcome};
-pub use document::{Served, Server};
+pub use docs::{Doc, DocFault, Language, LoadFault, Outcome, Unit};
 pub use frames::RunFault;
 pub use session::run;
 pub use sessions::{Out, Phase};
+pub use state::Server;

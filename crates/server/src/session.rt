@@ -8,13 +8,13 @@ ghost use Rattle.sessions.specs.Alone.{EachDocumentIsAlone, EachRunHasAHistory, 
 ghost use Rattle.sessions.specs.Fresh.{EveryAnswerIsFresh, EachTextIsItsEdits};
 ghost use Rattle.sessions.specs.Sessions.{Session};
 
-use crate::document::{Served, Server};
+use crate::state::Server;
+use crate::stream::serve;
 use docs::Language;
 use docs::laws::always_answers;
 use frames::{Input, Output, RunFault};
 use rpc::each_text_is_unicode;
 use sessions::laws::{each_document_is_alone, each_text_is_its_edits, every_answer_is_fresh};
-use sessions::serve;
 use std::alloc::Global;
 
 /// A session from its first byte to `exit`, to the end of the input, or to a fault.
@@ -51,6 +51,6 @@ pub fn run<R: Input, W: Output>(
     each_text_is_its_edits();
     each_document_is_alone();
     each_text_is_unicode();
-    let mut server = Server::new(alloc, Served { language });
+    let mut server = Server::new(alloc, language);
     serve(alloc, &mut server, input, output)
 }

@@ -2,25 +2,15 @@
 pub use Rattle.std.specs.Cmp.{eq_by_cmp_equiv}
 pub use Rattle.std.specs.Cmp.Lexicographic.{slice_cmp}
 pub use Rattle.std.specs.FinMap.{empty, get, get-empty, get-insert, get-remove, insert, len, len-empty, nat_cmp-IsAntisymmetric, remove, same_map, slice_cmp-IsAntisymmetric}
-pub use Rattle.std.specs.Io.KnownBytes.{Appends, Consumes, IsAtEnd, Keeps}
 pub use Rattle.std.specs.Ordering.{eq_by_cmp, is_eq, nat_cmp}
 pub use Rattle.std.specs.Str.{chars}
-pub use Rattle.std.specs.Vec.Iter.{into_iter_items}
 pub use Rattle.std.specs.declared.cmp.Ordering.{Ordering}
 pub use Rattle.std.specs.declared.cmp.Ordering.TheVariants.{Equal, Greater, Less}
 pub use Rattle.std.proofs.Math.Nat.{min-eq_left}
 pub use Rattle.std.proofs.lemmas.Bool.{cases_eq}
 pub use Rattle.std.proofs.lemmas.Cmp.{nat_list_cmp_total}
-pub use Rattle.std.proofs.lemmas.Grind.{flat_map-append}
 pub use Rattle.std.proofs.lemmas.List.{drop_more, length-drop, map-append, take-append-drop, take_more}
 pub use Rattle.std.proofs.lemmas.List.Elements.{All-append, All-from_recursion}
-pub use Rattle.std.proofs.lemmas.Result.{err_from_is_err_and}
-pub use Rattle.frames.specs.Contents.{contents}
-pub use Rattle.frames.specs.Frames.{Faulty, GoesOn, IsOpen, Open, Splits, Tail, fault_of, finish_of}
-pub use Rattle.frames.specs.Write.{frame}
-pub use Rattle.frames.specs.declared.fault.FrameFault.{FrameFault}
-pub use Rattle.frames.specs.declared.fault.RunFault.{RunFault}
-pub use Rattle.frames.specs.declared.fault.RunFault.TheVariants.{Frame, Read, Write}
 pub use Rattle.readings.proofs.Texts.{spelled_again}
 pub use Rattle.readings.specs.Answers.{AlwaysAnswers, AnswersOnce, AreSelections, IsReading, Reading, rows, written_tree}
 pub use Rattle.readings.specs.Contents.{AreFoldsOf}
@@ -34,23 +24,20 @@ pub use Rattle.rpc.specs.Ids.{Ident, numbered}
 pub use Rattle.rpc.specs.Log.TheVariants.{Lost}
 pub use Rattle.rpc.specs.Loss.{Loss}
 pub use Rattle.rpc.specs.Loss.TheVariants.{MalformedChange, Memory, TooLarge}
-pub use Rattle.rpc.specs.Messages.{Notification, Question, Received, Request, TextChange, Unfit, about, accepted, change_text, change_view, close, exit, ignored, initialize, initialized, invalid, its_folds, its_selections, its_text, its_tokens, its_tree, malformed, notification, open_text, params, received_of, refused, request, shutdown, stats, unfit_change, unfit_close, unfit_open, unknown, unread}
+pub use Rattle.rpc.specs.Messages.{Notification, Question, Received, Request, TextChange, Unfit, about, accepted, change_text, change_view, close, exit, ignored, initialize, initialized, invalid, its_folds, its_selections, its_text, its_tokens, its_tree, malformed, notification, open_text, params, refused, request, shutdown, stats, unfit_change, unfit_close, unfit_open, unknown, unread}
 pub use Rattle.rpc.specs.Range.{Range}
 pub use Rattle.rpc.specs.Reading.{received_in}
-pub use Rattle.rpc.specs.Replies.{Answer, folds_reply, log_message, published_diagnostics, reply_data, reply_view, selections_reply, stats_reply, tokens_reply}
-pub use Rattle.rpc.specs.Reply.{Reply}
+pub use Rattle.rpc.specs.Replies.{Answer, folds_reply, log_message, published_diagnostics, selections_reply, stats_reply, tokens_reply}
 pub use Rattle.rpc.specs.Stats.{Stats}
 pub use Rattle.rpc.specs.Unit.{Unit as Encoding}
-pub use Rattle.rpc.specs.Written.{compact_text}
 pub use Rattle.rpc.specs.declared.message.Change.{Change}
 pub use Rattle.sessions.specs.Alone.{AreAlikeFor, EachDocumentIsAlone, EachRunHasAHistory, Event, HistoriesDecide, History, Notes, SameFor, SendTheSame, event_in, loses, loses_memory, named}
 pub use Rattle.sessions.specs.Answers.{IsAnswer, IsAnswerOf, IsCount, IsPublished, but_nodes, shown, tree_answer}
 pub use Rattle.sessions.specs.Changes.{AreAlikeForNext, IsAfter}
 pub use Rattle.sessions.specs.Documents.{Becomes, DocumentState, Held, IsLastAfter, edited, has_room, is_lost, is_open}
 pub use Rattle.sessions.specs.Fresh.{AnswerAlike, EachTextIsItsEdits, EveryAnswerIsFresh, IsFresh, IsLastPublished, Publishes, RepliesOnly}
-pub use Rattle.sessions.specs.Loop.{AllFit, CanServe, EndsAt, HasServed, IsCutShort, Served, ServedInPart, run_fault}
-pub use Rattle.sessions.specs.Runs.{Run, bytes_of}
-pub use Rattle.sessions.specs.Sessions.{AppendsPrefix, Ends, Session}
-pub use Rattle.sessions.specs.Steps.{Changes, Closes, Forgets, Holds, Ignores, OnMalformed, OnNotification, OnRequest, Opens, Replies, Spoils, State, Step, StepOn, first_state, new_document}
+pub use Rattle.sessions.specs.Runs.{Run}
+pub use Rattle.sessions.specs.Steps.{Changes, Closes, Forgets, Holds, Ignores, OnMalformed, OnNotification, OnRequest, Opens, Replies, Spoils, State, Step, first_state, new_document}
 pub use Rattle.sessions.specs.declared.phase.Phase.{Phase}
 pub use Rattle.sessions.specs.declared.phase.Phase.TheVariants.{Down, New, Ready}
+pub use Rattle.sessions.specs.Serving.{AllFit, CanServe}

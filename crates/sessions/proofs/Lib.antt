@@ -3,11 +3,9 @@ pub mod LookUps
 pub mod Edits
 pub mod UncountedChanges
 mod Effects
-mod Fits
-mod Totals
-mod Runs
-mod CutSessions
-mod Loop
+pub mod Fits
+pub mod Totals
 mod Fresh
 mod Alone
 mod Histories
+mod SessionRows

@@ -1,4 +1,5 @@
--- What is sent about a document depends on that document alone.
+-- What is sent about a document depends on what is received about it: the messages that name it, the phase at each, the room for it where
+-- it is opened, and whether memory was refused in its changes.
 use Rattle.std.specs.Prelude.{◌≡◌, ◌≢◌, ◌⊎◌, ℕ, Bool, true, false, List, [], ◌∷◌, ◌++◌, map, All, Option, Some, None, MatchOption}
 use Rattle.std.specs.FinMap.{get}
 use Rattle.readings.specs.Grammars.{FileGrammar}

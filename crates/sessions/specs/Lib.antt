@@ -3,9 +3,9 @@ pub mod Stored
 pub mod Changes
 pub mod Answers
 pub mod Steps
+pub mod Serving
 pub mod Sent
 pub mod Runs
 pub mod Sessions
-pub mod Loop
 pub mod Fresh
 pub mod Alone

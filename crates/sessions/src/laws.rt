@@ -1,10 +1,12 @@
 //! What is proved of sessions, as contracts of functions that do nothing.
 
+ghost use Rattle.std.specs.Prelude.{◌≡◌, ◌↔◌, IsTrue};
 ghost use Rattle.readings.specs.Answers.{AlwaysAnswers, AnswersOnce};
 ghost use Rattle.readings.specs.Edits.{CountsOnce};
 ghost use Rattle.readings.specs.Grammars.{FileGrammar};
 ghost use Rattle.sessions.specs.Alone.{EachDocumentIsAlone, EachRunHasAHistory, HistoriesDecide};
 ghost use Rattle.sessions.specs.Fresh.{EveryAnswerIsFresh, EachTextIsItsEdits};
+ghost use Rattle.sessions.specs.declared.phase.Phase.{Phase as Stage};
 
 /// In a session by a file that has one answer to each question, whatever was read before: there is a fresh server for each
 /// open document, and to each question about the document it and the server have one answer, the same; and the
@@ -32,4 +34,9 @@ pub fn each_document_is_alone()
     ensures histories { EachRunHasAHistory }
     ensures by_history { (file : FileGrammar) → AnswersOnce file → CountsOnce file
         → HistoriesDecide file }
+{}
+
+/// Phases are equal by `==` exactly where they are the same, with their units.
+pub fn equal_phases_are_the_same()
+    ensures { (a b : Stage) → IsTrue (⟦<crate::Phase as PartialEq>⟧.eq a b) ↔ (a ≡ b) }
 {}

@@ -1,37 +1,28 @@
-//! Sessions: what a server does with each message, what holds in every session, and the loop from bytes to bytes
-//! (LSP 3.17; JSON-RPC 2.0).
+//! Sessions: what a server does with each message, and what holds in every session (LSP 3.17; JSON-RPC 2.0).
 //!
-//! `serve` is the loop over an `Input` and an `Output`. What answers the messages is a `Handler`: it takes one message
-//! and returns an `Out`, the replies and, at `exit`, the status. The server of documents is in `server`; the loop needs
-//! none. The functions of `laws` are theorems, with empty bodies: every answer is that of a fresh server on the text,
-//! each text is its edits, and what is sent about a document depends on that document alone.
+//! The definitions are `Step`, the step on one message, `Run`, the steps on the contents of frames, and `Session`, from
+//! the bytes that are read to the bytes that are written. `server` has the server that makes these steps, and the loop.
+//!
+//! Nothing here runs but the types of what `server` returns (`Out`, `Phase`): the functions of `laws` are theorems, with
+//! empty bodies. Call one in a proof, or in code that needs its fact. `every_answer_is_fresh` says that each answer is that
+//! of a fresh server on the text, `each_text_is_its_edits` that each text is the result of its edits, and
+//! `each_document_is_alone` that what is sent about a document depends on the messages about it, the phase at each, the
+//! room for it where it is opened, and whether memory was refused in its changes.
 //!
 //! Words: the *phase* of a session is before `initialize`, ready, or after `shutdown`.
 //!
-//! Limits: frames are those of `frames`; the replies to all whole frames are written before the next read. In the example
-//! `SUMS` is the grammar file in README.md.
-//!
 //! ```
-//! let language = Language::load(alloc, SUMS).ok()?;
-//! always_answers(&language);
-//! let mut server = Server::new(alloc, Served { language });
-//! let exit = b"Content-Length: 33\r\n\r\n{\"jsonrpc\":\"2.0\",\"method\":\"exit\"}";
-//! let mut input = ReadInput::new(&exit[..]);
-//! let mut output = WriteOutput::new(Vec::new(alloc));
-//! let status = serve(alloc, &mut server, &mut input, &mut output).ok()?;
-//! println!(rt; "status {status}").ok()
-//! // status 1
+//! each_text_is_its_edits();
+//! let phase = Phase::Ready(Unit::Utf16);
+//! println!(rt; "{phase:?}").ok()
+//! // Ready(Utf16)
 //! ```
 #![tactic(auto)]
 
-mod handler;
 pub mod laws;
 mod out;
 mod phase;
-mod stream;
 
 pub use frames::RunFault;
-pub use handler::Handler;
 pub use out::Out;
 pub use phase::Phase;
-pub use stream::serve;

@@ -4,13 +4,13 @@ use Rattle.tables.proofs.Common.{list_any, eqb, Decides-eqb, eqb-true, get_or_de
 use Rattle.tables.proofs.AllSets.{all_stand}
 
 module _ (g : Shape) where
-  before_long : (i : Item) → IsItem g i → length (item_of g.grammar i).before ≡ i.dot
-  before_long i h = length-take-le i.dot (side g.grammar i.production) h.dot
+  before_long : (i : Item) → IsItem g i → length (item_of g.grammar i).before ≡ i.at
+  before_long i h = length-take-le i.at (side g.grammar i.production) h.at
 
   item_back : (i j : Item) → IsItem g i → IsItem g j → item_of g.grammar i ≡ item_of g.grammar j → i ≡ j
   item_back i j h k e =
-      let dot : i.dot ≡ j.dot = sym (before_long i h) ∙ ap (λ x. length x.before) e ∙ before_long j k in
-      λ n. record { production = (ap (λ x. x.production) e) n; dot = dot n; look = (ap (λ x. x.look) e) n }
+      let dot : i.at ≡ j.at = sym (before_long i h) ∙ ap (λ x. length x.before) e ∙ before_long j k in
+      λ n. record { production = (ap (λ x. x.production) e) n; at = dot n; look = (ap (λ x. x.look) e) n }
 
   inside_kernel : (i : Item) → IsItem g i → IsInside i → IsKernel (item_of g.grammar i)
   inside_kernel i h (inl e) = inl e

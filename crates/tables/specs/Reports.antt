@@ -29,5 +29,5 @@ Differ g c = (m : Move) × (n : Move) × CallsFor (item_of g c.one) (kind_of c.l
 pub record IsReport (g : Grammar) (c : Conflict) : Type 0 where
   pub conflict : IsConflict g c.prefix.items (kind_of c.look) (item_of g c.first) (item_of g c.second)
   pub order : IsInOrder (item_of g c.first) (item_of g c.second)
-  pub first_dot : c.first.dot ≤ length (side g c.first.production)
-  pub second_dot : c.second.dot ≤ length (side g c.second.production)
+  pub first_dot : c.first.at ≤ length (side g c.first.production)
+  pub second_dot : c.second.at ≤ length (side g c.second.production)

@@ -34,5 +34,5 @@ mod tables;
 pub use conflict::Conflict;
 pub use decisions::Move;
 pub use expected::Expected;
-pub use item_sets::{Dot, Item};
+pub use item_sets::Item;
 pub use tables::{MOST_SETS, TableFault, Tables};

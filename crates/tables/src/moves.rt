@@ -65,7 +65,7 @@ pub fn decide(grammar: &AugmentedGrammar, items: &[Item], look: Option<usize>) -
     let mut agreed: Option<Call> = None;
     let mut one = Item {
         production: None,
-        dot: 0,
+        at: 0,
         look: None,
     };
     for item in items {

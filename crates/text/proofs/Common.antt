@@ -14,8 +14,8 @@ pub use Rattle.std.proofs.lemmas.List.Sums.{prefix_len_passes, sum_by-cons, sum_
 pub use Rattle.std.proofs.lemmas.Option.{none-some}
 pub use Rattle.std.proofs.lemmas.Str.{IsCharBoundary-after_ascii, IsCharBoundary-start, IsUtf8-from_ascii, chars-IsAscii, chars-append, chars-nil, chars_past_char, encodes-append, encodes-chars, len_utf8_bounds, length-le-encodes}
 pub use Rattle.std.proofs.lemmas.Str.Ascii.{IsAscii-from_all}
-pub use Rattle.chunks.proofs.Gaps.{filled_between}
-pub use Rattle.chunks.proofs.Joined.{in_order}
+pub use Rattle.seqtree.proofs.Gaps.{filled_between}
+pub use Rattle.seqtree.proofs.Joined.{in_order}
 pub use Rattle.definitions.proofs.Characters.{IsText-chars, IsText-edit}
 pub use Rattle.definitions.proofs.OffsetOfPosition.{ended, ended-cons, none_ended}
 pub use Rattle.definitions.proofs.OffsetsInLine.{in_line_end}

@@ -4,7 +4,7 @@ pub use mathlib.Core.List.{head-eq_of_cons-eq, tail-eq_of_cons-eq}
 pub use Rattle.std.proofs.Math.Seq.{drop-append_seam, get_or-append_seam, take-append_seam}
 pub use Rattle.std.proofs.lemmas.Bool.{cases_lt}
 pub use Rattle.std.proofs.lemmas.Grind.{common_steps}
-pub use Rattle.std.proofs.lemmas.List.{append-nil, drop-drop, drop-map, drop-set-lt, drop_all, get_or-set_other, get_or-set_same, get_or_append_left, get_or_read_under, length-map, length-reverse, length-set, map-append, reverse-append, take-map, take-set-le, take-take, take_all, take_more, take_more_set, take_rest}
+pub use Rattle.std.proofs.lemmas.List.{append-nil, drop-drop, drop-set-lt, drop_all, get_or-set_other, get_or-set_same, get_or_append_left, get_or_read_under, length-reverse, length-set, reverse-append, take-set-le, take-take, take_all, take_more, take_more_set, take_rest}
 pub use Rattle.std.proofs.lemmas.List.Sums.{count_by-le-length, count_by_more_no, count_by_more_yes, sum_by-take-le}
 pub use Rattle.std.proofs.lemmas.Option.{slice_get_within}
 pub use Rattle.definitions.specs.Nodes.{all_branches, branches, branches_of}
@@ -14,7 +14,6 @@ pub use Rattle.definitions.specs.declared.Kind.{Kind}
 pub use Rattle.definitions.specs.declared.Kind.TheVariants.{Invalid, Rule}
 pub use Rattle.trees.specs.Cells.{AreBelow, AreCells, Cell, IsBelow, IsCell, IsStore, KeepsTrees, all_trees, blank, branch_of, branches_below, cell_of, forest_in, forest_of, most, tokens_below, tree, tree_of, trees_from, trees_of}
 pub use Rattle.trees.specs.Compaction.{nodes, sizes}
-pub use Rattle.trees.specs.Forms.{AreInvalid, IsFilled, IsForm, cell, cell_in, label_of}
 pub use Rattle.trees.specs.Packing.{unpack}
 pub use Rattle.trees.specs.Slides.{AreMarked, AreRanks, IsClosed, IsClosedFrom, IsMarked, mark_all, rank, renamed}
 pub use Rattle.trees.specs.declared.compaction.Begun.{Begun}

@@ -12,7 +12,7 @@ use std::marker::Model;
 const HALF: usize = 2_147_483_648;
 
 /// The same number in 32 bits.
-pub(crate) const INVALID: u32 = 2_147_483_648;
+const INVALID: u32 = 2_147_483_648;
 
 /// Children of a node, in order. It takes no memory.
 #[derive(Drop)]

@@ -7,7 +7,7 @@
 //!
 //! Words: a `Child` is a token's kind or a `NodeId`; `born` is the number of the edit that made a node.
 //!
-//! Limits: `tokens` and `size` saturate at the greatest `u64`; otherwise memory is the only limit. A node takes 32 bytes
+//! Limits: `tokens` and `size` saturate at the greatest `u64`; otherwise memory is the only limit. A node takes 48 bytes
 //! with up to four children. `branch` costs the number of children, and `compact` that of nodes.
 //!
 //! ```

@@ -1,14 +1,15 @@
 //! Nodes in little room: 16 bits for the production, and 32 for each other number and each child, where they fit.
 
-ghost use Rattle.std.specs.Prelude.{◌≡◌, ◌<◌, ◌≤◌, ℕ, length, map, take, slice_index_or, IfOk, IfSome, IsSome};
+ghost use Rattle.std.specs.Prelude.{◌≡◌, ◌≤◌, ℕ, length, map, slice_index_or, IfOk, IfSome, IsSome};
 ghost use Rattle.std.specs.List.{All};
 ghost use Rattle.trees.specs.Cells.{AreBelow};
-ghost use Rattle.trees.specs.Forms.{label_of, IsFew, IsFilled, IsFormOf, IsPacked, IsSmall};
+ghost use Rattle.trees.specs.Forms.{cell, cell_in, label_of, IsNarrow, IsSmall};
 ghost use Rattle.trees.specs.Packing.{unpack, HasNumber};
 ghost use Rattle.trees.specs.Slides.{renamed};
 
-use crate::children::{Children, INVALID, pack, unpack};
+use crate::children::{Children, pack, unpack};
 use crate::store::{Child, NodeId};
+use smallvec::SmallVec;
 use std::alloc::{AllocError, Global};
 use std::marker::Model;
 
@@ -18,7 +19,7 @@ const GREATEST_PRODUCTION: usize = 65_535;
 /// The greatest number of 32 bits.
 const GREATEST: u64 = 4_294_967_295;
 
-/// How many children lie in the node itself.
+/// How many children lie in a node itself.
 const FEW: usize = 4;
 
 /// The numbers of a node.
@@ -43,21 +44,18 @@ pub(crate) struct Node {
 /// How a node lies in memory. The production lies beside the tag, where a struct would begin 8 bytes later.
 #[derive(Drop)]
 enum Form {
-    /// A node whose numbers fit, over at most [`FEW`] children, each with a number.
-    Few {
-        count: u8,
+    /// A node whose numbers fit, over children that each have a number.
+    Narrow {
         production: u16,
         numbers: Numbers,
-        /// The packed number of each child, and after them that of an invalid token.
-        children: [u32; FEW],
+        /// The packed number of each child.
+        children: SmallVec<u32, FEW>,
     },
-    /// One over any children that each have a number.
-    Many(Box<Many>),
     /// Any other one.
     Wide(Box<Wide>),
 }
 
-const _: () = prove!(size_of::<Node>() == 32);
+const _: () = prove!(size_of::<Node>() == 48);
 
 /// The numbers of a node, but for its production, where they fit.
 #[derive(Clone, Copy)]
@@ -67,28 +65,20 @@ struct Numbers {
     size: u32,
 }
 
-#[derive(Drop)]
-struct Many {
-    label: Label,
-    /// The packed number of each child.
-    children: Vec<u32>,
-}
-
+/// A node as it is.
 #[derive(Drop)]
 struct Wide {
     label: Label,
-    children: Vec<Child>,
+    children: SmallVec<Child, FEW>,
 }
 
 impl Model for Node {
     ghost use Rattle.trees.specs.Cells.{Cell};
-    ghost use Rattle.trees.specs.Forms.{cell_in, IsForm};
+    ghost use Rattle.trees.specs.Forms.{cell_in};
 
     ghost Value = { Cell };
 
     ghost view = { λ n. cell_in n.form };
-
-    ghost invariant = { λ n. IsForm n.form };
 }
 
 impl Node {
@@ -114,12 +104,11 @@ impl Node {
         ensures size { result.size ≡ self.now.size }
     {
         match &self.form {
-            Form::Few {
+            Form::Narrow {
                 production,
                 numbers,
                 ..
             } => numbers.label(*production),
-            Form::Many(many) => many.label,
             Form::Wide(wide) => wide.label,
         }
     }
@@ -129,12 +118,7 @@ impl Node {
         ensures { result ≡ self.now.children }
     {
         match &self.form {
-            Form::Few {
-                count,
-                children,
-                ..
-            } => Children::narrow(&children[..*count as usize]),
-            Form::Many(many) => Children::narrow(many.children.as_slice()),
+            Form::Narrow { children, .. } => Children::narrow(children.as_slice()),
             Form::Wide(wide) => Children::of(wide.children.as_slice()),
         }
     }
@@ -152,9 +136,8 @@ impl Node {
         } }
     {
         match &mut self.form {
-            Form::Few { children, .. } => rename_numbers(children, names),
-            Form::Many(many) => rename_numbers(&mut many.children, names),
-            Form::Wide(wide) => rename_children(&mut wide.children, names),
+            Form::Narrow { children, .. } => rename_numbers(children.as_mut_slice(), names),
+            Form::Wide(wide) => rename_children(wide.children.as_mut_slice(), names),
         }
     }
 }
@@ -221,67 +204,67 @@ fn rename_children(children: &mut [Child], names: &[u32])
     }
 }
 
-/// The form of a node. It takes no more memory than its numbers and its children need.
+/// The form of a node: a narrow one wherever its numbers fit and each child has one.
 fn form_of(alloc: Global, label: Label, children: &[Child]) -> Result<Form, AllocError>
-    ensures is { IfOk result (IsFormOf label children.now) }
-    ensures few { IsSmall label → All HasNumber children.now → length children.now ≤ 4
-        → IfOk result IsFew }
-    ensures packed { All HasNumber children.now → IfOk result IsPacked }
+    ensures is { IfOk result (λ form. cell_in form ≡ cell label children.now) }
+    ensures narrow { IsSmall label → All HasNumber children.now → IfOk result IsNarrow }
 {
-    if let Some(form) = few_form(label, children) {
+    if let Some(form) = narrow_form(alloc, label, children)? {
         return Ok(form);
     }
-    if let Some(children) = pack_all(alloc, children)? {
-        let many = Box::new(alloc, Many { label, children })?;
-        return Ok(Form::Many(many));
-    }
-    let children = Vec::from_slice(alloc, children)?;
+    let children = SmallVec::from_slice(alloc, children)?;
     let wide = Box::new(alloc, Wide { label, children })?;
     Ok(Form::Wide(wide))
 }
 
-/// The form of a node with few children, where its numbers fit and each child has one.
-fn few_form(label: Label, children: &[Child]) -> Option<Form>
-    ensures is { IfSome result (IsFormOf label children.now) }
-    ensures few { IfSome result IsFew }
-    ensures every { IsSmall label → All HasNumber children.now → length children.now ≤ 4
-        → IsSome result }
+/// The narrow form of a node, where its numbers fit and each child has one.
+fn narrow_form(alloc: Global, label: Label, children: &[Child]) -> Result<Option<Form>, AllocError>
+    ensures is { IfOk result (λ r. IfSome r (λ form. cell_in form ≡ cell label children.now)) }
+    ensures narrow { IfOk result (λ r. IfSome r IsNarrow) }
+    ensures every { IsSmall label → All HasNumber children.now → IfOk result IsSome }
 {
-    let (production, numbers) = Numbers::of(label)?;
-    let (count, children) = pack_few(children)?;
-    Some(Form::Few {
-        count,
+    let Some((production, numbers)) = Numbers::of(label) else {
+        return Ok(None);
+    };
+    let Some(children) = pack_all(alloc, children)? else {
+        return Ok(None);
+    };
+    Ok(Some(Form::Narrow {
         production,
         numbers,
         children,
-    })
+    }))
 }
 
-/// How many children there are, and the packed number of each, where there are few and each has one.
-fn pack_few(children: &[Child]) -> Option<(u8, [u32; FEW])>
-    ensures filled { IfSome result (λ r. IsFilled r.0 r.1) }
-    ensures are { IfSome result (λ r. map unpack (take r.0 r.1) ≡ children.now) }
-    ensures every { All HasNumber children.now → length children.now ≤ 4 → IsSome result }
-{
-    let mut packed = [INVALID; FEW];
-    let mut count = 0;
-    for child in children {
-        let number = pack(*child)?;
-        if count == FEW {
-            return None;
-        }
-        packed[count] = number;
-        count += 1;
-    }
-    Some((count as u8, packed))
-}
-
-/// The packed number of each of the children, where each has one.
-fn pack_all(alloc: Global, children: &[Child]) -> Result<Option<Vec<u32>>, AllocError>
+/// The packed number of each of the children, where each has one. Nearly all nodes have one to three: an array of known length is
+/// written at once, and no room is looked for at each child.
+fn pack_all(alloc: Global, children: &[Child]) -> Result<Option<SmallVec<u32, FEW>>, AllocError>
     ensures are { IfOk result (λ r. IfSome r (λ ns. map unpack ns.items ≡ children.now)) }
     ensures every { All HasNumber children.now → IfOk result IsSome }
 {
-    let mut packed = Vec::new(alloc);
+    match children {
+        [a] => match pack(*a) {
+            Some(a) => Ok(Some(SmallVec::from_array(alloc, [a])?)),
+            None => Ok(None),
+        },
+        [a, b] => match (pack(*a), pack(*b)) {
+            (Some(a), Some(b)) => Ok(Some(SmallVec::from_array(alloc, [a, b])?)),
+            _ => Ok(None),
+        },
+        [a, b, c] => match (pack(*a), pack(*b), pack(*c)) {
+            (Some(a), Some(b), Some(c)) => Ok(Some(SmallVec::from_array(alloc, [a, b, c])?)),
+            _ => Ok(None),
+        },
+        _ => pack_many(alloc, children),
+    }
+}
+
+/// The same, one child after another.
+fn pack_many(alloc: Global, children: &[Child]) -> Result<Option<SmallVec<u32, FEW>>, AllocError>
+    ensures are { IfOk result (λ r. IfSome r (λ ns. map unpack ns.items ≡ children.now)) }
+    ensures every { All HasNumber children.now → IfOk result IsSome }
+{
+    let mut packed = SmallVec::with_capacity(alloc, children.len())?;
     for child in children {
         let Some(number) = pack(*child) else {
             return Ok(None);

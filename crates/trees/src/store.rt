@@ -28,6 +28,17 @@ pub enum Child {
     Node(NodeId),
 }
 
+impl Default for Child {
+    ghost use Rattle.definitions.specs.declared.Kind.{Kind as KindOf};
+
+    ghost is_default = { λ child. child ≡ Child.Token KindOf.Invalid };
+
+    /// An invalid token.
+    fn default() -> Child {
+        Child::Token(Kind::Invalid)
+    }
+}
+
 /// The nodes of trees, each after those of its children.
 ///
 /// A [`NodeId`] means one tree until the store is cut at or below it, or compacted. No calls but

@@ -1,29 +1,14 @@
 //! Examples of reports, of messages and of documents.
 
-use definitions::{Kind, Unit};
-use docs::Doc;
+use definitions::Unit;
+use docs::{Doc, Language};
 use grammar::Grammar;
-use languages::Language;
 use lexer::Tokens;
 use replies::{Id, Reply, to_bytes};
-use reports::tree_text;
 use rpc::{Message, read};
 use std::alloc::Global;
 use text::Text;
-use trees::{Child, Store};
 use views::token_rows;
-use worked::SUMS;
-
-/// The example of `reports`.
-pub fn use_reports(rt: &HostRuntime, alloc: Global, grammar: &Grammar) -> Option<()> {
-    let mut store = Store::new(alloc);
-    let number = Child::Token(Kind::Rule(0));
-    let atom = store.branch(alloc, 2, &[number], 0).ok()?;
-    let text = tree_text(alloc, grammar, &store, atom).ok()?;
-    println!(rt; "{text}").ok()?;
-    // (Atom NUM)
-    Some(())
-}
 
 /// The example of `views`.
 pub fn use_views(
@@ -55,13 +40,6 @@ pub fn use_rpc(rt: &HostRuntime, alloc: Global) -> Option<()> {
     };
     println!(rt; "request {id}").ok()
     // request 7
-}
-
-/// The example of `languages`.
-pub fn use_languages(rt: &HostRuntime, alloc: Global) -> Option<()> {
-    let language = Language::load(alloc, SUMS).ok()?;
-    println!(rt; "{} rules", language.grammar().rules()).ok()
-    // 5 rules
 }
 
 /// The example of `docs`.

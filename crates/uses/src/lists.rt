@@ -1,6 +1,5 @@
 //! Examples of lists, of pieces, of patterns and of stores of trees.
 
-use chunks::{Chunk, Chunks};
 use lexer::{Kind, ShortKind, Token};
 use patterns::Pattern;
 use pieces::{Piece, Sums, of_text, pieces_of};
@@ -16,18 +15,6 @@ pub fn use_seqtree(rt: &HostRuntime, alloc: Global) -> Option<()> {
     let _gone = pieces.replace(0, 0, slots);
     println!(rt; "{} piece", pieces.len()).ok()?;
     // 1 piece
-    Some(())
-}
-
-/// The example of `chunks`.
-pub fn use_chunks(rt: &HostRuntime, alloc: Global) -> Option<()> {
-    let mut pieces: Chunks<Piece> = Chunks::new();
-    let text = String::from_str(alloc, "1+2").ok()?;
-    println!(rt; "size {}", Piece::size(&text)).ok()?;
-    // size 3
-    pieces.replace(alloc, 0, 0, text).ok()?;
-    println!(rt; "{} chunk", pieces.seq().len()).ok()?;
-    // 1 chunk
     Some(())
 }
 

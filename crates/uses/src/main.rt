@@ -11,8 +11,8 @@ mod programs;
 mod sets;
 mod texts;
 
+use docs::Language;
 use grammar::{Grammar, Scanner};
-use languages::Language;
 use lexer::{Tokens, Whole};
 use std::alloc::Global;
 use std::process::ExitCode;
@@ -27,7 +27,6 @@ fn of_values(rt: &HostRuntime, alloc: Global) -> Option<()> {
     plain::use_readings();
     plain::use_frames(rt, alloc)?;
     lists::use_seqtree(rt, alloc)?;
-    lists::use_chunks(rt, alloc)?;
     lists::use_runs(rt, alloc)?;
     lists::use_patterns(rt, alloc)?;
     lists::use_pieces(rt, alloc)?;
@@ -35,8 +34,6 @@ fn of_values(rt: &HostRuntime, alloc: Global) -> Option<()> {
     texts::use_text(rt, alloc)?;
     answers::use_replies(rt, alloc)?;
     answers::use_rpc(rt, alloc)?;
-    programs::use_command_line(rt, alloc)?;
-    programs::use_faults(rt)?;
     grammars::use_grammar_line(rt, alloc)?;
     grammars::use_grammar_file(rt, alloc)?;
     grammars::use_grammar(rt, alloc)
@@ -61,7 +58,6 @@ fn of_file(rt: &HostRuntime, alloc: Global) -> Option<()> {
 fn by_grammar(rt: &HostRuntime, alloc: Global, grammar: &Grammar) -> Option<()> {
     texts::use_dfa(rt, alloc, grammar)?;
     parses::use_tables(rt, alloc, grammar)?;
-    answers::use_reports(rt, alloc, grammar)?;
     with_tables(rt, alloc, grammar)
 }
 
@@ -89,7 +85,6 @@ fn with_tokens(rt: &HostRuntime, alloc: Global, scanner: &Scanner) -> Option<()>
 
 /// The examples of a language, and of a document of it.
 fn of_document(rt: &HostRuntime, alloc: Global) -> Option<()> {
-    answers::use_languages(rt, alloc)?;
     let language = Language::load(alloc, SUMS).ok()?;
     answers::use_docs(rt, alloc, &language)
 }
@@ -97,8 +92,7 @@ fn of_document(rt: &HostRuntime, alloc: Global) -> Option<()> {
 /// The examples that load a language.
 fn of_language(rt: &HostRuntime, alloc: Global) -> Option<()> {
     of_document(rt, alloc)?;
-    programs::use_sessions(rt, alloc)?;
-    programs::use_steps(rt, alloc)?;
+    programs::use_sessions(rt)?;
     programs::use_server(rt, alloc)?;
     programs::use_commands(rt, alloc)
 }

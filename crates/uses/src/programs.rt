@@ -1,61 +1,26 @@
 //! Examples of the server and of what the program prints.
 
-use command_line::words;
 use commands::{load, parse};
-use docs::laws::always_answers;
-use docs::{Doc, Language};
-use faults::Fault;
-use frames::{ReadInput, WriteOutput};
+use docs::{Language, Unit};
 use rpc::read;
-use server::{Served, Server};
-use sessions::serve;
+use server::Server;
+use sessions::Phase;
+use sessions::laws::each_text_is_its_edits;
 use std::alloc::Global;
-use steps::ServerOf;
 use worked::SUMS;
 
-/// The example of `command_line`.
-pub fn use_command_line(rt: &HostRuntime, alloc: Global) -> Option<()> {
-    let check = String::from_str(alloc, "check").ok()?;
-    let path = String::from_str(alloc, "sums.lr").ok()?;
-    let task = words(alloc, &[check, path]).ok()?;
-    println!(rt; "{task:?}").ok()
-    // Some(Check("sums.lr"))
-}
-
-/// The example of `faults`.
-pub fn use_faults(rt: &HostRuntime) -> Option<()> {
-    let fault = Fault::TooManySets;
-    println!(rt; "{fault}; status {}", fault.status()).ok()
-    // lrls: over 8192 table states; status 2
-}
-
 /// The example of `sessions`.
-pub fn use_sessions(rt: &HostRuntime, alloc: Global) -> Option<()> {
-    let language = Language::load(alloc, SUMS).ok()?;
-    always_answers(&language);
-    let mut server = Server::new(alloc, Served { language });
-    let exit = b"Content-Length: 33\r\n\r\n{\"jsonrpc\":\"2.0\",\"method\":\"exit\"}";
-    let mut input = ReadInput::new(&exit[..]);
-    let mut output = WriteOutput::new(Vec::new(alloc));
-    let status = serve(alloc, &mut server, &mut input, &mut output).ok()?;
-    println!(rt; "status {status}").ok()
-    // status 1
-}
-
-/// The example of `steps`.
-pub fn use_steps(rt: &HostRuntime, alloc: Global) -> Option<()> {
-    let language = Language::load(alloc, SUMS).ok()?;
-    let mut server: ServerOf<Served, Doc> = ServerOf::new(alloc, Served { language });
-    let message = read(alloc, br#"{"jsonrpc":"2.0","id":7,"method":"shutdown"}"#);
-    let out = server.handle(alloc, message).ok()?;
-    println!(rt; "{} reply", out.replies.len()).ok()
-    // 1 reply
+pub fn use_sessions(rt: &HostRuntime) -> Option<()> {
+    each_text_is_its_edits();
+    let phase = Phase::Ready(Unit::Utf16);
+    println!(rt; "{phase:?}").ok()
+    // Ready(Utf16)
 }
 
 /// The example of `server`.
 pub fn use_server(rt: &HostRuntime, alloc: Global) -> Option<()> {
     let language = Language::load(alloc, SUMS).ok()?;
-    let mut server = Server::new(alloc, Served { language });
+    let mut server = Server::new(alloc, language);
     let message = read(alloc, br#"{"jsonrpc":"2.0","method":"exit"}"#);
     let out = server.handle(alloc, message).ok()?;
     println!(rt; "{} replies; status {:?}", out.replies.len(), out.stop).ok()

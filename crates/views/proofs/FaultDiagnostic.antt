@@ -25,8 +25,8 @@ use Rattle.parser.specs.Parses.{AreExpectedAt, IsParseOf, Stop, verdict_in}
 use Rattle.tables.specs.Expected.{AreExpected, in_file_order}
 use Rattle.tables.specs.Tables.{Sets}
 use Rattle.trees.specs.Cells.{Cell}
-use Rattle.reports.specs.Contents.{placed_parts}
-use Rattle.reports.proofs.Significant.{IsMarked, count_of_parts}
+use Rattle.readings.specs.Contents.{placed_parts}
+use Rattle.views.proofs.Significant.{IsMarked, count_of_parts}
 use Rattle.readings.specs.Diagnostics.{IsDiagnosis, IsFaultAfter, looks}
 
 -- the names of what could have stood at a fault

@@ -1,2 +1,5 @@
-pub use Rattle.reports.specs.Contents
-pub use Rattle.reports.specs.Views
+pub mod Roots
+pub mod Around
+pub mod Folds
+pub mod NodesFrom
+pub mod Views

@@ -11,11 +11,11 @@ ghost use Rattle.parser.specs.Parses.{IsParseOf, verdict_in};
 ghost use Rattle.trees.specs.Cells.{Cell};
 ghost use Rattle.readings.specs.Diagnostics.{IsDiagnosis, in_utf8, stored_diagnostic, shown};
 
+use crate::parts::span_of;
 use definitions::{Diagnostic, Range, Unit};
 use grammar::Grammar;
 use lexer::{Kind, Tokens};
 use parser::{Parse, Verdict};
-use reports::span_of;
 use std::alloc::{AllocError, Global};
 use tables::{Expected, Tables};
 use text::Text;

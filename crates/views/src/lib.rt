@@ -1,14 +1,16 @@
 //! What is reported of a document besides its text: the rows of its tokens, the text of its tree, its fault, the lines
 //! that can be folded, and what can be selected.
 //!
-//! Each call makes one report, from the text, its tokens, its parse and their nodes; `docs` calls them for you.
-//! `diagnostic` is the fault with its range and message. All other calls are those of `reports`, which needs neither a
-//! parse nor tables, so that it can be proved beside `parser`.
+//! Each call makes one report, from the text, its tokens, its trees and their nodes; `docs` calls them for you.
+//! `token_rows` are the names and ranges of all tokens, `tree_text` is the text of a tree, `diagnostic` the fault with its
+//! range and message, `folds` are the first and last lines of the nodes that fold, and `selection` the ranges around an
+//! offset, from inner to outer.
 //!
 //! Words: positions count in the *unit* that the caller gives.
 //!
-//! Limits: `diagnostic` looks at the tokens around the fault alone, and its message can have the names of all rules. In
-//! the example `grammar` is read from the grammar file in README.md, and `tokens` are those of `text`, which is `12`.
+//! Limits: a selection has at most 32 ranges. Each call costs the tokens or nodes that it goes over, which is all of
+//! them, except for `selection`, and for `diagnostic`, whose message can have the names of all rules. In the example
+//! `grammar` is read from the grammar file in README.md, and `tokens` are those of `text`, which is `12`.
 //!
 //! ```
 //! let rows = token_rows(alloc, grammar, Unit::Utf8, text, tokens).ok()?;
@@ -19,10 +21,18 @@
 #![tactic(auto)]
 
 mod diagnoses;
+mod foldable;
+mod laws;
+mod parts;
+mod rows;
+mod selections;
+mod tree;
 
 pub use definitions::{Diagnostic, Position, Range};
 pub use diagnoses::diagnostic;
-pub use reports::{
-    Row, each_offset_has_a_selection, equal_rows_are_the_same, folds, selection, token_rows,
-    tree_text, trees_have_folds,
-};
+pub use foldable::folds;
+pub use laws::{each_offset_has_a_selection, equal_rows_are_the_same, trees_have_folds};
+pub use parts::{Part, span_of};
+pub use rows::{Row, token_rows};
+pub use selections::selection;
+pub use tree::tree_text;

@@ -22,7 +22,7 @@ loop-item-preserved c =
     let at = c.loop-item.item-index in
     let old = c.loop-item.kernels.items in
     let i = c.loop-item.invariant in
-    let zero : Item = record { production = None; dot = 0; look = None } in
+    let zero : Item = record { production = None; at = 0; look = None } in
     let item = slice_index_or items at zero in
     let below : at < length items = search rules in
     elim c.match-next.branch [

@@ -13,7 +13,7 @@ loop-item-preserved c =
     let i = c.loop-item.invariant in
     let at = c.loop-item.item-index in
     let old = c.loop-item.called.items in
-    let zero : Item = record { production = None; dot = 0; look = None } in
+    let zero : Item = record { production = None; at = 0; look = None } in
     let item = slice_index_or items at zero in
     let below : at < length items = search rules in
     let default : (d : Item) → slice_index_or items at d ≡ item = λ d. get_or_default items at d zero below in

@@ -10,7 +10,7 @@ loop-item-preserved c =
     let g = c.args.grammar.now.grammar in
     let items = c.args.items.now in
     let at = c.loop-item.item-index in
-    let zero : Item = record { production = None; dot = 0; look = None } in
+    let zero : Item = record { production = None; at = 0; look = None } in
     let Asks : Item → Option ℕ → Type 0 = λ i look. (m : Move) × CallsFor (item_of g i) (kind_of look) m in
     let place = c.column_of_call.ensures.column in
     let long = c.loop-item.invariant.long in

@@ -5,7 +5,7 @@ use Rattle.item_sets.proofs.collection.States.new.Goals as goal
 
 pub returns : goal.returns
 returns c =
-    let item : Item = record { production = None; dot = 0; look = None } in
+    let item : Item = record { production = None; at = 0; look = None } in
     let kernel = c.deref.ensures.value ∙ c.in_ok-push.ensures.items ∙ ap (λ x. x ++ item ∷ []) c.new-kernel.ensures.items in
     let kernels = first_placed _ c.place.new.self _ c.in_ok-place.field-0 c.new-kernels.ensures kernel c.in_ok-place.ensures.list c.in_ok-place.ensures.place.0 in
     let o : Origin = record { from = c.new.result; symbol = Nonterminal c.start.result } in

@@ -14,7 +14,7 @@ loop-column-preserved c =
     let has : c.has.result ≡ marked rows (left_of g.grammar p) at = c.has.ensures ∙ ap (λ n. marked rows n at) (c.left-left.ensures.left ∙ ap (λ h. left_of h.grammar p) c.grammar-grammar.ensures) in
     elim c.if-has.branch [
       | then-has+in_ok-push w ↦
-          let new : c.if-has.items.items ≡ old ++ beginning_of p at ∷ [] = ap (λ v. v.items) w.items-is ∙ w.in_ok-push.ensures.items ∙ ap (λ n. old ++ record { production = Some n; dot = 0; look = w.lookahead_at.result } ∷ []) w.index.ensures ∙ ap (λ a. old ++ record { production = Some p; dot = 0; look = a } ∷ []) w.lookahead_at.ensures in
+          let new : c.if-has.items.items ≡ old ++ beginning_of p at ∷ [] = ap (λ v. v.items) w.items-is ∙ w.in_ok-push.ensures.items ∙ ap (λ n. old ++ record { production = Some n; at = 0; look = w.lookahead_at.result } ∷ []) w.index.ensures ∙ ap (λ a. old ++ record { production = Some p; at = 0; look = a } ∷ []) w.lookahead_at.ensures in
           rw new (λ kernel h. one_more g kernel rows p at old (c.loop-column.invariant kernel h) c.requires (sym has ∙ w.if-has.true))
       | else-has w ↦ rw w.items-is (λ kernel h. no_more g kernel rows p at old (c.loop-column.invariant kernel h) (sym has ∙ w.if-has.false))
     ]

@@ -1,4 +1,0 @@
-pub mod Few
-pub mod Joined
-pub mod Gaps
-pub mod Cutting

@@ -1,5 +1,0 @@
-pub mod Common
-mod Flags
-mod Commands
-mod Lines
-mod Read

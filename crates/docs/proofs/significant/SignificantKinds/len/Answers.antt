@@ -1,0 +1,10 @@
+use Rattle.std.proofs.Common.{sym, ◌∙◌, filter}
+use Rattle.std.proofs.lemmas.List.{length-map}
+use Rattle.std.proofs.lemmas.List.Sums.{length-filter}
+use Rattle.lexer.specs.Tokens.{is_significant, kind_in}
+use Rattle.docs.proofs.significant.SignificantKinds.len.Goals as goal
+
+pub returns : goal.returns
+returns c =
+    let items = c.args.self.now.0.now.items in
+    c.significant.ensures ∙ sym (length-map (filter is_significant items) kind_in ∙ length-filter is_significant items)

@@ -1,6 +1,0 @@
-use Rattle.std.proofs.Common.{sym, ap}
-use Rattle.faults.specs.Status.{fault_of}
-use Rattle.faults.proofs.fault.FaultFromRunFault.from.Goals as goal
-
-pub returns-in-Memory : goal.returns-in-Memory
-returns-in-Memory c = ap fault_of (sym c.in-Memory.is)

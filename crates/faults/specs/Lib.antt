@@ -1,3 +1,0 @@
-pub mod Conflicts
-pub mod Status
-pub mod Texts

@@ -1,5 +1,0 @@
-use Rattle.std.proofs.Common.{rules}
-use Rattle.reports.proofs.foldable.span.Goals as goal
-
-pub returns-then-first-last : goal.returns-then-first-last
-returns-then-first-last c = search rules

@@ -1,5 +1,0 @@
-use Rattle.reports.proofs.RowsOfTokens.{IsReported}
-use Rattle.reports.proofs.rows.token_rows.Given as goal
-
-abbrev pub invariant-loop-token : goal.invariant-loop-token
-invariant-loop-token l = IsReported l.fn.unit l.grammar l.text l.tokens.items l.rows.items l.places l.token-iterator

@@ -1,6 +1,0 @@
-use Rattle.std.proofs.Common.{◌≡◌, ◌++◌, map, reverse}
-use Rattle.reports.proofs.Common.{range_of}
-use Rattle.reports.proofs.selections.ranges_of.Given as goal
-
-abbrev pub invariant-loop-start : goal.invariant-loop-start
-invariant-loop-start l = l.ranges.items ++ reverse (map (range_of l.unit l.text) l.start-iterator.iter.rest.now) ≡ reverse (map (range_of l.unit l.text) l.offsets)

@@ -1,4 +1,0 @@
-pub mod Common
-mod MapEntries
-mod Holding
-mod Refusals

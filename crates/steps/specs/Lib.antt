@@ -1,3 +1,0 @@
-pub mod Holding
-pub mod Questions
-pub mod States

@@ -1,5 +1,0 @@
-use Rattle.std.proofs.Common.{rules}
-use Rattle.trees.proofs.node.form_of.Goals as goal
-
-pub returns-in-Some-2-clause-few : goal.returns-in-Some-2-clause-few
-returns-in-Some-2-clause-few c = search rules
