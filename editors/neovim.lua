@@ -47,6 +47,7 @@ local languages = {
 local keys = { ["<M-o>"] = "LrlsGrow", ["<M-i>"] = "LrlsShrink" }
 
 local marks = vim.api.nvim_create_namespace("lrls")
+local grammar_faults = vim.api.nvim_create_namespace("lrls grammars")
 local group = vim.api.nvim_create_augroup("lrls", { clear = true })
 local is_new = vim.fn.has("nvim-0.11") == 1
 
@@ -55,45 +56,32 @@ local is_new = vim.fn.has("nvim-0.11") == 1
 local served = {}
 -- The number of the client that serves each language, by the language's name.
 local clients = {}
+-- All languages, with those that `add` has added.
+local known = {}
 -- What is to be done once the client of this number has ended.
 local after_end = {}
+-- The job that looks at the grammar of each language, by the language's name.
+local checks = {}
 
-local function notify(text, level)
-  vim.notify("lrls: " .. text, level or vim.log.levels.ERROR)
+-- Shows a message. Where it has several lines, Neovim 0.7 draws its prompt over the last one.
+local function notify(text)
+  vim.notify("lrls: " .. text .. (text:find("\n") and "\n" or ""), vim.log.levels.ERROR)
 end
 
 local function tick_of(buffer)
   return vim.api.nvim_buf_get_changedtick(buffer)
 end
 
--- Columns. The server counts in units of the encoding that it agreed on with the client, and Neovim in bytes.
-
-local function byte_of(line, character, encoding)
-  if encoding == "utf-8" or not line:find("[\128-\255]") then
-    return math.min(character, #line)
-  end
-  local found, byte
-  if is_new then
-    found, byte = pcall(vim.str_byteindex, line, encoding, character, false)
-  else
-    found, byte = pcall(vim.str_byteindex, line, character, encoding == "utf-16")
-  end
-  return found and byte or #line
-end
-
-local function character_of(line, byte, encoding)
-  byte = math.min(byte, #line)
-  if encoding == "utf-8" then
-    return byte
-  elseif is_new then
-    return vim.str_utfindex(line, encoding, byte, false)
-  end
-  local points, units = vim.str_utfindex(line, byte)
-  return encoding == "utf-16" and units or points
-end
+-- Places. Lines and bytes count from 0, as the server counts them too: it is asked for bytes when it starts.
 
 local function line_of(buffer, line)
   return vim.api.nvim_buf_get_lines(buffer, line, line + 1, false)[1] or ""
+end
+
+-- The part of a line between two bytes, or nothing where the line ends before the second one.
+local function part_of(buffer, line, first, last)
+  local is_there, lines = pcall(vim.api.nvim_buf_get_text, buffer, line, first, line, last, {})
+  return is_there and lines[1] or ""
 end
 
 -- Whether the first place (line and column) is before the second.
@@ -170,20 +158,38 @@ local function separated(folds)
   return found
 end
 
--- What 'foldexpr' answers of each line that lies in a fold, by its number from 1 on.
-local function levels_of(folds)
-  local depth, begins, ends = {}, {}, {}
-  for _, fold in ipairs(separated(folds)) do
-    begins[fold[1]] = true
+-- How many of these folds begin in each line, and how many end there; and the last line of them all.
+local function bounds_of(folds)
+  local begins, ends, last = {}, {}, -1
+  for _, fold in ipairs(folds) do
+    begins[fold[1]] = (begins[fold[1]] or 0) + 1
     ends[fold[2]] = (ends[fold[2]] or 0) + 1
-    for line = fold[1], fold[2] do
-      depth[line] = (depth[line] or 0) + 1
-    end
+    last = math.max(last, fold[2])
   end
-  local levels = {}
-  for line, level in pairs(depth) do
-    local ended = ends[line] and "<" .. (level - ends[line] + 1)
-    levels[line + 1] = begins[line] and ">" .. level or ended or tostring(level)
+  return begins, ends, last
+end
+
+-- What 'foldexpr' answers where folds begin or end: this mark and a level. Each text is made once.
+local function texts_with(mark)
+  return setmetatable({}, {
+    __index = function(texts, level)
+      texts[level] = mark .. level
+      return texts[level]
+    end,
+  })
+end
+
+local beginning, ending = texts_with(">"), texts_with("<")
+
+-- What 'foldexpr' answers of each line up to the end of the last fold, by its number from 1 on.
+local function levels_of(folds)
+  local begins, ends, last = bounds_of(separated(folds))
+  local levels, depth = {}, 0
+  for line = 0, last do
+    local begun, ended = begins[line], ends[line] or 0
+    depth = depth + (begun or 0)
+    levels[line + 1] = begun and beginning[depth] or ended > 0 and ending[depth - ended + 1] or depth
+    depth = depth - ended
   end
   return levels
 end
@@ -191,7 +197,7 @@ end
 -- 'foldexpr' can name a global function alone.
 function _G.lrls_fold(line)
   local state = served[vim.api.nvim_get_current_buf()]
-  return state and state.levels[line] or "0"
+  return state and state.levels[line] or 0
 end
 
 -- Has Neovim ask 'foldexpr' of all lines anew. It doesn't do so in insert mode, so then it waits for the mode's end.
@@ -256,46 +262,53 @@ local function move_folds(buffer, first, last, new_last)
   state.is_drawn = false
 end
 
--- Colours. Only the lines that a window shows are coloured.
+-- Tokens. They stay text, as the server writes them: a list of rows `["NAME",line,byte,line,byte]`. A token is known by the place
+-- at which its row begins in this text.
 
--- The lines that windows show of a buffer, as pairs of first and last line from 0, without those in closed folds.
-local function shown(buffer)
-  local parts = {}
-  local function add_part(first, last)
-    local open = parts[#parts]
-    if open and open[2] == first - 1 then
-      open[2] = last
+local function token_at(tokens, at)
+  local name, line, byte, last_line, last_byte = tokens:match('^%["([^"]+)",(%d+),(%d+),(%d+),(%d+)%]', at)
+  return { name, tonumber(line), tonumber(byte), tonumber(last_line), tonumber(last_byte) }
+end
+
+-- The first token whose row begins at this place of the text or after it, or nil.
+local function token_from(tokens, at)
+  return tokens:find('["', at, true)
+end
+
+-- The first token that ends in this line or after it, or nil.
+local function first_token(tokens, line)
+  local low, high = 1, #tokens + 1
+  while low < high do
+    local middle = math.floor((low + high) / 2)
+    local at = token_from(tokens, middle)
+    if at and token_at(tokens, at)[4] < line then
+      low = at + 1
     else
-      table.insert(parts, { first, last })
+      high = middle
     end
   end
+  return token_from(tokens, low)
+end
+
+-- Colours. Only the lines that a window shows are coloured, and of each only what begins before the column 'synmaxcol', where
+-- Neovim's own colours end too.
+
+-- The lines that windows show of a buffer, without those in closed folds.
+local function shown(buffer)
+  local lines = {}
   for _, window in ipairs(vim.fn.win_findbuf(buffer)) do
     vim.api.nvim_win_call(window, function()
       local line, last = vim.fn.line("w0"), vim.fn.line("w$")
       while line <= last do
         local closed = vim.fn.foldclosedend(line)
         if closed < 0 then
-          add_part(line - 1, line - 1)
+          table.insert(lines, line - 1)
         end
         line = math.max(line, closed) + 1
       end
     end)
   end
-  return parts
-end
-
--- The number of the first token that ends in this line or after it. A token is a name and two positions.
-local function first_token(tokens, line)
-  local low, high = 1, #tokens + 1
-  while low < high do
-    local middle = math.floor((low + high) / 2)
-    if tokens[middle][4] < line then
-      low = middle + 1
-    else
-      high = middle
-    end
-  end
-  return low
+  return lines
 end
 
 -- Makes a mark of a colour between two places, or moves the one of this number there.
@@ -305,14 +318,9 @@ local function set_colour(buffer, line, byte, last_line, last_byte, colour, numb
   pcall(vim.api.nvim_buf_set_extmark, buffer, marks, line, byte, place)
 end
 
-local function colour_token(buffer, token, colour, encoding)
-  local first, last = line_of(buffer, token[2]), line_of(buffer, token[4])
-  set_colour(buffer, token[2], byte_of(first, token[3], encoding), token[4], byte_of(last, token[5], encoding), colour)
-end
-
 -- Has the colour of a token take in the letters that were typed after it, since the server's answer comes later.
 local function extend_colour(buffer, line, byte, count)
-  local letters = line_of(buffer, line):sub(byte + 1, byte + count):match("^[%w_\128-\255]+")
+  local letters = part_of(buffer, line, byte, byte + count):match("^[%w_\128-\255]+")
   local before = { details = true, limit = 1 }
   local mark = vim.api.nvim_buf_get_extmarks(buffer, marks, { line, byte }, { line, 0 }, before)[1]
   if letters and mark and mark[4].end_row == line and mark[4].end_col == byte then
@@ -320,145 +328,224 @@ local function extend_colour(buffer, line, byte, count)
   end
 end
 
+-- Colours the tokens of a line that begin before this column, but for those that are done.
+local function paint_line(buffer, line, columns, done)
+  local tokens, colours = served[buffer].tokens, served[buffer].language.colours or {}
+  local at = first_token(tokens, line)
+  local token = at and token_at(tokens, at)
+  while token and is_before(token[2], token[3], line, columns) do
+    if colours[token[1]] and not done[at] then
+      set_colour(buffer, token[2], token[3], token[4], token[5], colours[token[1]])
+    end
+    done[at] = true
+    at = token_from(tokens, at + 1)
+    token = at and token_at(tokens, at)
+  end
+end
+
 local function paint(buffer)
-  local state, client = served[buffer], client_of(buffer)
-  if not client or state.tick ~= tick_of(buffer) then
+  local state, columns = served[buffer], vim.bo[buffer].synmaxcol
+  if not client_of(buffer) or state.tick ~= tick_of(buffer) then
     return
   end
   vim.api.nvim_buf_clear_namespace(buffer, marks, 0, -1)
-  local done, colours = {}, state.language.colours or {}
-  for _, part in ipairs(shown(buffer)) do
-    local at = first_token(state.tokens, part[1])
-    while state.tokens[at] and state.tokens[at][2] <= part[2] do
-      local token = state.tokens[at]
-      local colour = colours[token[1]]
-      if colour and not done[at] then
-        done[at] = true
-        colour_token(buffer, token, colour, client.offset_encoding)
-      end
-      at = at + 1
-    end
+  local done = {}
+  for _, line in ipairs(shown(buffer)) do
+    paint_line(buffer, line, columns > 0 and columns or math.huge, done)
   end
 end
 
--- The tree.
+-- The tree. Its window holds the nodes around the one under the cursor, and so many at most.
+local drawn_nodes = 1000
+-- So many nodes are read at once.
+local slice = 5000
 
--- The significant tokens among all: those that the text of the tree names, in its order. The others are skipped ones.
-local function leaves_of(tree, tokens)
-  local leaves, at = {}, 1
-  for name in tree:gmatch(" ([^%s()]+)") do
-    while tokens[at] and tokens[at][1] ~= name do
-      at = at + 1
+-- Calls a function in slices, each of which ends where it yields, so that Neovim takes keys in between. `done` gets its result,
+-- unless that isn't wanted any more.
+local function in_slices(run, is_wanted, done)
+  local thread = coroutine.create(run)
+  local function go_on()
+    if not is_wanted() then
+      return
     end
-    table.insert(leaves, tokens[at])
-    at = at + 1
+    local is_right, result = coroutine.resume(thread)
+    assert(is_right, result)
+    if coroutine.status(thread) == "dead" then
+      return done(result)
+    end
+    vim.defer_fn(go_on, 0)
   end
-  return leaves
+  go_on()
 end
 
--- The nodes and tokens of a tree, from the root on: each with its name, its depth, and its first and last leaf.
-local function nodes_of(tree)
-  local nodes, open, leaf = {}, {}, 0
-  for opening, name, closing in tree:gmatch("(%(?)([^%s()]+)(%)*)") do
-    local node = { name = name, depth = #open, first = leaf + 1, is_token = opening == "" }
-    table.insert(nodes, node)
-    if node.is_token then
-      leaf = leaf + 1
-      node.last = leaf
+-- The first token of this name from a place of the text on.
+local function token_named(tokens, at, name)
+  return tokens:find('["' .. name .. '"', at, true)
+end
+
+-- Reads a tree from its text, in slices. Of each node and token, in the order of the text from the root on: its name, its depth,
+-- the number of the node that it lies in, and of its first and its last leaf. The leaves are the tokens that the text of the tree
+-- names (the others are skipped ones), and `leaf_nodes` has their numbers among the nodes.
+local function read_tree(text, tokens)
+  local tree = { names = {}, depths = {}, parents = {}, firsts = {}, lasts = {}, tokens = tokens, leaves = {}, leaf_nodes = {} }
+  local open, depth, number, leaf, at = { [0] = 0 }, 0, 0, 0, 0
+  for opening, name, closing in text:gmatch("(%(?)([^%s()]+)(%)*)") do
+    number = number + 1
+    tree.names[number], tree.depths[number], tree.parents[number], tree.firsts[number] = name, depth, open[depth], leaf + 1
+    if opening == "" then
+      leaf, at = leaf + 1, token_named(tokens, at + 1, name)
+      tree.leaves[leaf], tree.leaf_nodes[leaf], tree.lasts[number] = at, number, leaf
     else
-      table.insert(open, node)
+      depth = depth + 1
+      open[depth] = number
     end
-    for _ = 1, #closing do
-      table.remove(open).last = leaf
+    for closed = depth, depth - #closing + 1, -1 do
+      tree.lasts[open[closed]] = leaf
+    end
+    depth = depth - #closing
+    if number % slice == 0 then
+      coroutine.yield()
     end
   end
-  return nodes
+  return tree
 end
 
--- How a token looks in the tree: its text up to the end of its line, shortened.
-local function text_of(buffer, token, encoding)
-  local line = line_of(buffer, token[2])
-  local last = token[4] == token[2] and byte_of(line, token[5], encoding) or #line
-  return vim.fn.strcharpart(line:sub(byte_of(line, token[3], encoding) + 1, last), 0, 40)
+-- How a node looks: nothing, or of a token its text up to the end of its line, shortened to so many characters.
+local function text_of(buffer, tree, number)
+  local leaf = tree.firsts[number]
+  if tree.leaf_nodes[leaf] ~= number then
+    return ""
+  end
+  local token, count = token_at(tree.tokens, tree.leaves[leaf]), 40
+  local last = token[4] == token[2] and math.min(token[5], token[3] + 4 * count) or -1
+  return "  " .. vim.fn.strcharpart(part_of(buffer, token[2], token[3], last), 0, count)
 end
 
--- Writes the tree into its window. Where the text has a fault there is none, and the last one stays.
-local function draw_tree(buffer, tree, encoding)
-  local state = served[buffer]
-  local view, lines = state.tree, {}
-  for _, window in ipairs(vim.fn.win_findbuf(view.buffer)) do
-    vim.wo[window].statusline = tree and "tree" or "the text has a fault: this is the tree before it"
+-- Writes the nodes around this one into the window of the tree.
+local function draw_nodes(buffer, number)
+  local view = served[buffer].tree
+  local tree, depth, lines = view.tree, math.huge, {}
+  local first = math.max(1, math.min(number - drawn_nodes / 2, #tree.names - drawn_nodes + 1))
+  local last = math.min(#tree.names, first + drawn_nodes - 1)
+  for node = first, last do
+    depth = math.min(depth, tree.depths[node])
   end
-  if not tree then
-    return
+  for node = first, last do
+    table.insert(lines, ("  "):rep(tree.depths[node] - depth) .. tree.names[node] .. text_of(buffer, tree, node))
   end
-  view.nodes, view.leaves, view.tick = nodes_of(tree), leaves_of(tree, state.tokens), state.tick
-  for _, node in ipairs(view.nodes) do
-    local text = node.is_token and "  " .. text_of(buffer, view.leaves[node.first], encoding) or ""
-    table.insert(lines, ("  "):rep(node.depth) .. node.name .. text)
-  end
+  view.first, view.depth, view.middle = first, depth, number
   vim.bo[view.buffer].modifiable = true
   vim.api.nvim_buf_set_lines(view.buffer, 0, -1, false, lines)
   vim.bo[view.buffer].modifiable = false
 end
 
+-- The number of the last leaf that begins at this place or before it, or 0.
+local function leaf_before(tree, line, byte)
+  local low, high = 0, #tree.leaves
+  while low < high do
+    local middle = math.ceil((low + high) / 2)
+    local token = token_at(tree.tokens, tree.leaves[middle])
+    if is_before(line, byte, token[2], token[3]) then
+      high = middle - 1
+    else
+      low = middle
+    end
+  end
+  return low
+end
+
+-- The number of the innermost node around a place, or of the root.
+local function node_at(tree, line, byte)
+  local number = tree.leaf_nodes[leaf_before(tree, line, byte)] or 1
+  local function ends_before()
+    local last = token_at(tree.tokens, tree.leaves[tree.lasts[number]])
+    return not is_before(line, byte, last[4], last[5])
+  end
+  while tree.parents[number] > 0 and ends_before() do
+    number = tree.parents[number]
+  end
+  return number
+end
+
+-- Shows a line of the window of the tree that is indented so far, and puts the cursor there.
+local function show_row(row, indent)
+  local is_shown = row >= vim.fn.line("w0") and row <= vim.fn.line("w$")
+  vim.api.nvim_win_set_cursor(0, { row, indent })
+  if not is_shown then
+    vim.cmd("normal! zz")
+  end
+  vim.fn.winrestview({ leftcol = math.max(0, indent - math.floor(vim.api.nvim_win_get_width(0) / 2)) })
+end
+
 -- Marks in the window of the tree the innermost node around the cursor, where the tree is that of the text.
 local function mark_node(buffer)
-  local view, client = served[buffer].tree, client_of(buffer)
-  if not view or not client or view.tick ~= tick_of(buffer) then
+  local view = served[buffer].tree
+  if not view or not view.tree or view.tick ~= tick_of(buffer) then
     return
   end
   local cursor = vim.api.nvim_win_get_cursor(0)
-  local line = cursor[1] - 1
-  local column = character_of(line_of(buffer, line), cursor[2], client.offset_encoding)
-  local innermost = 1
-  for number, node in ipairs(view.nodes) do
-    local first, last = view.leaves[node.first], view.leaves[node.last]
-    if first and last and node.first <= node.last then
-      local is_inside = not is_before(line, column, first[2], first[3]) and is_before(line, column, last[4], last[5])
-      innermost = is_inside and number or innermost
-    end
+  local number = node_at(view.tree, cursor[1] - 1, cursor[2])
+  if math.abs(number - view.middle) > drawn_nodes / 4 then
+    draw_nodes(buffer, number)
   end
+  local row, indent = number - view.first + 1, 2 * (view.tree.depths[number] - view.depth)
   vim.api.nvim_buf_clear_namespace(view.buffer, marks, 0, -1)
-  vim.api.nvim_buf_set_extmark(view.buffer, marks, innermost - 1, 0, { line_hl_group = "Visual" })
+  vim.api.nvim_buf_set_extmark(view.buffer, marks, row - 1, 0, { line_hl_group = "Visual" })
   for _, window in ipairs(vim.fn.win_findbuf(view.buffer)) do
     vim.api.nvim_win_call(window, function()
-      local indent = 2 * view.nodes[innermost].depth
-      local is_shown = innermost >= vim.fn.line("w0") and innermost <= vim.fn.line("w$")
-      vim.api.nvim_win_set_cursor(0, { innermost, indent })
-      if not is_shown then
-        vim.cmd("normal! zz")
-      end
-      vim.fn.winrestview({ leftcol = math.max(0, indent - math.floor(vim.api.nvim_win_get_width(0) / 2)) })
+      show_row(row, indent)
     end)
+  end
+end
+
+-- Shows a tree, and the node under the cursor in it.
+local function take_tree(buffer, tree)
+  local view = served[buffer].tree
+  view.tree, view.tick = tree, tick_of(buffer)
+  draw_nodes(buffer, math.min(view.middle, #tree.names))
+  if vim.api.nvim_get_current_buf() == buffer then
+    mark_node(buffer)
+  end
+end
+
+-- Says in the window of the tree whether the text has one. Where it has a fault there is none, and the last one stays.
+local function name_tree(buffer, is_there)
+  for _, window in ipairs(vim.fn.win_findbuf(served[buffer].tree.buffer)) do
+    vim.wo[window].statusline = is_there and "tree" or "the text has a fault: this is the tree before it"
   end
 end
 
 -- Asks for the tree, and shows it. The tokens have to be those of the same text.
 local function refresh_tree(buffer)
   local state, tick = served[buffer], tick_of(buffer)
-  ask(buffer, "lr/tree", {}, function(err, tree)
-    local client = client_of(buffer)
-    if err or not client or not state.tree or state.tick ~= tick or tick_of(buffer) ~= tick then
+  local function is_wanted()
+    return served[buffer] == state and state.tree and state.tick == tick and tick_of(buffer) == tick
+  end
+  ask(buffer, "lr/tree", {}, function(err, text)
+    if err or not is_wanted() then
       return
     end
-    draw_tree(buffer, tree ~= vim.NIL and tree or nil, client.offset_encoding)
-    if vim.api.nvim_get_current_buf() == buffer then
-      mark_node(buffer)
+    local is_there = type(text) == "string"
+    name_tree(buffer, is_there)
+    if is_there then
+      in_slices(function()
+        return read_tree(text, state.tokens)
+      end, is_wanted, function(tree)
+        take_tree(buffer, tree)
+      end)
     end
   end)
 end
 
 -- Goes to the text of the node that the cursor is on in the window of the tree.
 local function go_to_node(buffer)
-  local view, client = served[buffer].tree, client_of(buffer)
-  local node = view.nodes[vim.api.nvim_win_get_cursor(0)[1]]
-  local leaf = node and view.leaves[node.first]
-  local window = vim.fn.win_findbuf(buffer)[1]
-  if leaf and window and client then
+  local view, window = served[buffer].tree, vim.fn.win_findbuf(buffer)[1]
+  local number = vim.api.nvim_win_get_cursor(0)[1] + view.first - 1
+  local leaf = view.tree and view.tree.leaves[view.tree.firsts[number]]
+  if leaf and window then
+    local token = token_at(view.tree.tokens, leaf)
     vim.api.nvim_set_current_win(window)
-    local byte = byte_of(line_of(buffer, leaf[2]), leaf[3], client.offset_encoding)
-    vim.api.nvim_win_set_cursor(window, { leaf[2] + 1, byte })
+    vim.api.nvim_win_set_cursor(window, { token[2] + 1, token[3] })
   end
 end
 
@@ -497,34 +584,224 @@ local function refresh_soon(buffer)
   end))
 end
 
+-- Faults of grammars: diagnostics in the buffer of the grammar file.
+
+local function is_file(path, real)
+  return real and vim.loop.fs_realpath(path) == real
+end
+
+-- The buffer in which this file is loaded.
+local function buffer_of(path)
+  local real = vim.loop.fs_realpath(path)
+  for _, buffer in ipairs(vim.api.nvim_list_bufs()) do
+    if vim.api.nvim_buf_is_loaded(buffer) and is_file(vim.api.nvim_buf_get_name(buffer), real) then
+      return buffer
+    end
+  end
+end
+
+-- Whether a line of a grammar file says this production: it does so itself, or by a name with a mark, or as the start.
+local function says(line, production)
+  local words, left = vim.split(vim.trim(line), "%s+"), production:match("^%S+")
+  if left == "(start)" then
+    return words[1] == "start" and words[2] ~= "="
+  end
+  return table.concat(words, " ") == production or left:find("[*+?]$") and vim.tbl_contains(words, left)
+end
+
+-- The productions in the items of a conflict.
+local function productions_of(message)
+  local productions = {}
+  for item in message:gmatch("\nitem: ([^,\n]*),") do
+    local production = item:gsub(" %.", "", 1)
+    table.insert(productions, production)
+  end
+  return productions
+end
+
+-- The lines of a grammar file that a message is about: the one that it names, or those of a conflict's two items, or the first.
+local function lines_of_fault(buffer, message)
+  local named, lines = tonumber(message:match("^line (%d+): ")), vim.api.nvim_buf_get_lines(buffer, 0, -1, false)
+  if named then
+    return { math.max(0, math.min(named, #lines) - 1) }
+  end
+  local productions, found = productions_of(message), {}
+  for number, line in ipairs(lines) do
+    for _, production in ipairs(productions) do
+      found[number - 1] = found[number - 1] or says(line, production) or nil
+    end
+  end
+  return next(found) and vim.tbl_keys(found) or { 0 }
+end
+
+-- Shows what is wrong with the grammar of a language in the grammar's buffer, or that nothing is.
+local function show_grammar_fault(language, message)
+  local buffer, diagnostics = buffer_of(language.grammar), {}
+  if not buffer then
+    return
+  end
+  for _, line in ipairs(message and lines_of_fault(buffer, message) or {}) do
+    local last = #line_of(buffer, line)
+    table.insert(diagnostics, { lnum = line, col = 0, end_lnum = line, end_col = last, source = "lrls", message = message })
+  end
+  vim.diagnostic.set(grammar_faults, buffer, diagnostics)
+end
+
+-- The connection to a server. Neovim's own would decode each answer when it comes, and all tokens of a megabyte take it half a
+-- second. Here the answer to `lr/tokens` stays text.
+
+-- Returns a function that takes what a server writes, and calls `take` with the content of each frame.
+local function frames(take)
+  local chunks, size, wanted = {}, 0, nil
+  local function cut(count)
+    local text = table.concat(chunks)
+    chunks, size = { text:sub(count + 1) }, #text - count
+    return text:sub(1, count)
+  end
+  return function(chunk)
+    table.insert(chunks, chunk)
+    size = size + #chunk
+    while true do
+      local head = not wanted and table.concat(chunks):match("^Content%-Length: %d+\r\n\r\n")
+      if head then
+        wanted = tonumber(cut(#head):match("%d+"))
+      end
+      if not wanted or size < wanted then
+        return
+      end
+      take(cut(wanted))
+      wanted = nil
+    end
+  end
+end
+
+-- Returns a function that takes the content of a frame: a notification, or the answer to one of the requests that wait.
+local function receiver(waiting, dispatchers)
+  local function answer(id, err, result)
+    local request = waiting[id]
+    waiting[id] = nil
+    if request then
+      vim.schedule(function()
+        request.is_answered(id)
+        request.done(err, result)
+      end)
+    end
+  end
+  return function(content)
+    local id = tonumber(content:match('^{"id":(%d+),"jsonrpc":"2.0","result":'))
+    if id and waiting[id] and waiting[id].method == "lr/tokens" then
+      return answer(id, nil, content)
+    end
+    local message = vim.json.decode(content, { luanil = { object = true } })
+    if not message.method then
+      return answer(message.id, message.error, message.result)
+    end
+    vim.schedule(function()
+      dispatchers.notification(message.method, message.params)
+    end)
+  end
+end
+
+-- What Neovim's client calls to speak with a process that reads from this pipe.
+local function speaker(process, pid, input, waiting)
+  local count = 0
+  local function send(message)
+    local content = vim.json.encode(message)
+    return not process:is_closing() and input:write(("Content-Length: %d\r\n\r\n%s"):format(#content, content)) ~= nil
+  end
+  return {
+    pid = pid,
+    handle = process,
+    notify = function(method, params)
+      return send({ jsonrpc = "2.0", method = method, params = params })
+    end,
+    request = function(method, params, done, is_answered)
+      count = count + 1
+      waiting[count] = { method = method, done = done, is_answered = is_answered or function() end }
+      return send({ id = count, jsonrpc = "2.0", method = method, params = params }), count
+    end,
+    is_closing = function()
+      return process:is_closing()
+    end,
+    terminate = function()
+      process:kill("sigterm")
+    end,
+  }
+end
+
+-- Runs a server, and returns what Neovim's client needs to speak with it.
+local function connection(command, dispatchers)
+  local input, output, waiting = vim.loop.new_pipe(false), vim.loop.new_pipe(false), {}
+  local process, pid
+  process, pid = vim.loop.spawn(command[1], { args = vim.list_slice(command, 2), stdio = { input, output } }, function(...)
+    input:close()
+    output:close()
+    process:close()
+    dispatchers.on_exit(...)
+  end)
+  local take = frames(receiver(waiting, dispatchers))
+  output:read_start(function(_, chunk)
+    if chunk then
+      take(chunk)
+    end
+  end)
+  return speaker(process, pid, input, waiting)
+end
+
 -- The server.
 
--- Says why a server has ended, in its own words, and goes on where one was to be started anew.
-local function ended(language, id, code, errors)
-  local text = ""
+local function command_of(language, errors)
+  return { "sh", "-c", 'exec "$0" serve "$1" 2> "$2"', language.program or program, language.grammar, errors }
+end
+
+-- What a server wrote on its standard error, which went into this file.
+local function take_errors(errors)
   local file = io.open(errors)
+  local text = file and file:read("*a") or ""
   if file then
-    text = file:read("*a")
     file:close()
     os.remove(errors)
   end
+  return text
+end
+
+-- The status with which a server ends at a fault of its grammar.
+local faulty_grammar = 2
+
+local function message_of(text)
+  return vim.trim(text:gsub("^lrls: ", ""))
+end
+
+-- Says why a server has ended, in its own words, and goes on where one was to be started anew.
+local function ended(language, id, code, signal, errors)
+  local text, go_on = take_errors(errors), after_end[id]
   if clients[language.name] == id then
     clients[language.name] = nil
   end
-  local go_on = after_end[id]
   after_end[id] = nil
   if go_on then
-    go_on()
-  elseif code ~= 0 then
-    notify(("the server of %s ended with status %d:\n%s:LrlsRestart starts it anew"):format(language.name, code, text))
+    return go_on()
+  elseif code == 0 and signal == 0 then
+    return
   end
+  if code == faulty_grammar then
+    show_grammar_fault(language, message_of(text))
+  end
+  local how = signal ~= 0 and "was ended by signal " .. signal or "ended with status " .. code
+  notify(("the server of %s %s:\n%s:LrlsRestart starts it anew"):format(language.name, how, text))
 end
 
 local function config_of(language)
   local errors = vim.fn.tempname()
+  local capabilities = vim.lsp.protocol.make_client_capabilities()
+  capabilities.general = vim.tbl_extend("force", capabilities.general or {}, { positionEncodings = { "utf-8" } })
   return {
     name = "lrls " .. language.name,
-    cmd = { "sh", "-c", 'exec "$0" serve "$1" 2> "$2"', language.program or program, language.grammar, errors },
+    cmd = function(dispatchers)
+      return connection(command_of(language, errors), dispatchers)
+    end,
+    capabilities = capabilities,
+    offset_encoding = "utf-8",
     handlers = {
       ["window/logMessage"] = function(_, message)
         notify(message.message)
@@ -535,12 +812,32 @@ local function config_of(language)
         refresh_soon(buffer)
       end
     end,
-    on_exit = function(code, _, id)
+    on_exit = function(code, signal, id)
       vim.schedule(function()
-        ended(language, id, code, errors)
+        ended(language, id, code, signal, errors)
       end)
     end,
   }
+end
+
+-- Starts a client, and returns its number.
+local function start(config, buffer)
+  if vim.lsp.start then
+    local function never()
+      return false
+    end
+    return vim.lsp.start(config, { bufnr = buffer, reuse_client = never })
+  end
+  -- Neovim 0.7 takes no connection of another kind than its own.
+  local rpc, connect = require("vim.lsp.rpc"), config.cmd
+  local own = rpc.start
+  rpc.start = function(_, _, dispatchers)
+    return connect(dispatchers)
+  end
+  config.cmd = { "sh" }
+  local id = vim.lsp.start_client(config)
+  rpc.start = own
+  return id
 end
 
 -- Has the server of a buffer's language hear of the buffer, and starts it where it doesn't run.
@@ -548,23 +845,12 @@ local function connect(buffer)
   local language = served[buffer].language
   local id = clients[language.name]
   if not id then
-    if vim.lsp.start then
-      local function never()
-        return false
-      end
-      id = vim.lsp.start(config_of(language), { bufnr = buffer, reuse_client = never })
-    else
-      id = vim.lsp.start_client(config_of(language))
-    end
+    id = start(config_of(language), buffer)
     clients[language.name] = id
-    if id then
-      local namespace = vim.lsp.diagnostic.get_namespace(id)
-      vim.diagnostic.config({ update_in_insert = true, virtual_text = true }, namespace)
-    end
+    local namespace = vim.lsp.diagnostic.get_namespace(id)
+    vim.diagnostic.config({ update_in_insert = true, virtual_text = true }, namespace)
   end
-  if id then
-    vim.lsp.buf_attach_client(buffer, id)
-  end
+  vim.lsp.buf_attach_client(buffer, id)
 end
 
 local function connect_all(language)
@@ -575,9 +861,8 @@ local function connect_all(language)
   end
 end
 
--- Starts the server of the current buffer's language anew, after an edit of its grammar, say.
-local function restart(buffer)
-  local language = served[buffer].language
+-- Starts the server of a language anew.
+local function restart(language)
   local id = clients[language.name]
   if not id or not vim.lsp.get_client_by_id(id) then
     clients[language.name] = nil
@@ -589,29 +874,74 @@ local function restart(buffer)
   vim.lsp.stop_client(id)
 end
 
+-- The languages whose grammar is in this file.
+local function languages_in(path)
+  local real = vim.loop.fs_realpath(path)
+  return vim.tbl_filter(function(language)
+    return is_file(language.grammar, real)
+  end, known)
+end
+
+-- Starts the servers anew of a buffer's language, and of the languages whose grammar the buffer is.
+local function restart_servers(buffer)
+  restart(served[buffer].language)
+  for _, language in ipairs(languages_in(vim.api.nvim_buf_get_name(buffer))) do
+    if language ~= served[buffer].language then
+      restart(language)
+    end
+  end
+end
+
+-- Looks at the grammar of a language: a server without input reads it, and ends. (`check` would build a program that isn't built.)
+-- `done` gets the fault, or nil.
+local function check_grammar(language, done)
+  local errors = vim.fn.tempname()
+  vim.fn.jobstop(checks[language.name] or 0)
+  checks[language.name] = vim.fn.jobstart(command_of(language, errors), {
+    stdin = "null",
+    on_exit = function(job, code)
+      local text = take_errors(errors)
+      if checks[language.name] == job then
+        local message = text ~= "" and message_of(text) or nil
+        show_grammar_fault(language, code == faulty_grammar and message or nil)
+        done(message)
+      end
+    end,
+  })
+end
+
+-- Has the languages of a grammar file that was written go by it. Where it has a fault, their servers go on with the grammar before.
+local function grammar_written(path)
+  for _, language in ipairs(languages_in(path)) do
+    check_grammar(language, function(message)
+      if message then
+        return notify(("%s: %s"):format(vim.fn.fnamemodify(path, ":t"), message))
+      end
+      restart(language)
+    end)
+  end
+end
+
 -- The selection.
 
--- A range of the server in lines and bytes from 0, up to and without its last place. One that ends at the beginning of a line
--- ends after the line before, since a selection holds no line break alone.
-local function range_in_bytes(buffer, range, encoding)
+-- A range of the server, up to and without its last place. One that ends at the beginning of a line ends after the line before,
+-- since a selection holds no line break alone.
+local function range_of(range)
   local first, last = range.start, range["end"]
-  local line, byte = last.line, byte_of(line_of(buffer, last.line), last.character, encoding)
-  if byte == 0 and line > first.line then
-    line = line - 1
-    byte = #line_of(buffer, line)
+  if last.character == 0 and last.line > first.line then
+    return { first.line, first.character, last.line - 1, vim.fn.col({ last.line, "$" }) - 1 }
   end
-  return { first.line, byte_of(line_of(buffer, first.line), first.character, encoding), line, byte }
+  return { first.line, first.character, last.line, last.character }
 end
 
 -- The ranges around the cursor from inner to outer.
-local function ranges_around_cursor(buffer, encoding)
+local function ranges_around_cursor(buffer)
   local cursor = vim.api.nvim_win_get_cursor(0)
-  local line = line_of(buffer, cursor[1] - 1)
-  local position = { line = cursor[1] - 1, character = character_of(line, cursor[2], encoding) }
+  local position = { line = cursor[1] - 1, character = cursor[2] }
   local answer = ask_now(buffer, "textDocument/selectionRange", { positions = { position } })
   local found, link = {}, answer and answer[1]
   while type(link) == "table" do
-    local range = range_in_bytes(buffer, link.range, encoding)
+    local range = range_of(link.range)
     if is_before(range[1], range[2], range[3], range[4]) then
       table.insert(found, range)
     end
@@ -651,8 +981,8 @@ end
 
 -- Selects the innermost node around the cursor, or around the selection a wider one.
 local function grow(buffer)
-  local client, state, now = client_of(buffer), served[buffer], selected()
-  local ranges = ranges_around_cursor(buffer, client and client.offset_encoding)
+  local state, now = served[buffer], selected()
+  local ranges = ranges_around_cursor(buffer)
   if not now then
     state.grown = {}
   end
@@ -677,7 +1007,7 @@ end
 -- Opens a window for the tree, beside the current one.
 local function open_tree(buffer)
   local own = vim.api.nvim_create_buf(false, true)
-  served[buffer].tree = { buffer = own, nodes = {}, leaves = {} }
+  served[buffer].tree = { buffer = own, first = 1, middle = 1 }
   vim.bo[own].bufhidden = "wipe"
   local window = vim.api.nvim_get_current_win()
   vim.cmd("rightbelow vertical sbuffer " .. own)
@@ -776,10 +1106,34 @@ local function show_folds()
   vim.cmd("setlocal foldmethod=expr foldexpr=v:lua.lrls_fold(v:lnum) foldlevel=99")
 end
 
+-- A line of more bytes is a long one.
+local long_line = 100000
+
+local function has_long_line(buffer)
+  for _, line in ipairs(vim.api.nvim_buf_get_lines(buffer, 0, -1, false)) do
+    if #line > long_line then
+      return true
+    end
+  end
+  return false
+end
+
+-- Switches off what Neovim does at each key with all of a long line: its own colours of the file type, and the marking of matching
+-- parentheses.
+local function spare(buffer)
+  vim.bo[buffer].syntax = ""
+  if vim.fn.exists(":NoMatchParen") == 2 then
+    vim.cmd("NoMatchParen")
+  end
+end
+
 local function serve(buffer, language)
-  served[buffer] = { language = language, folds = {}, levels = {}, tokens = {}, grown = {}, pause = 50 }
+  served[buffer] = { language = language, folds = {}, levels = {}, tokens = "", grown = {}, pause = 50 }
   vim.bo[buffer].filetype = language.name
   vim.bo[buffer].commentstring = language.comment or ""
+  if has_long_line(buffer) then
+    spare(buffer)
+  end
   for key, command in pairs(keys) do
     vim.keymap.set({ "n", "x" }, key, "<Cmd>" .. command .. "<CR>", { buffer = buffer })
   end
@@ -799,6 +1153,7 @@ local function command(name, run, description)
 end
 
 local function add(language)
+  table.insert(known, language)
   vim.api.nvim_create_autocmd({ "BufRead", "BufNewFile" }, {
     group = group,
     pattern = language.files,
@@ -836,9 +1191,23 @@ vim.api.nvim_create_autocmd("WinScrolled", {
   end,
 })
 at({ "CursorMoved", "CursorMovedI" }, mark_node)
+vim.api.nvim_create_autocmd("BufWritePost", {
+  group = group,
+  callback = function(event)
+    grammar_written(event.match)
+  end,
+})
+vim.api.nvim_create_autocmd("BufReadPost", {
+  group = group,
+  callback = function(event)
+    for _, language in ipairs(languages_in(event.match)) do
+      check_grammar(language, function() end)
+    end
+  end,
+})
 command("LrlsGrow", grow, "selects the innermost node around the cursor, or around the selection")
 command("LrlsShrink", shrink, "goes back to the selection before the last :LrlsGrow")
 command("LrlsTree", toggle_tree, "opens or closes a window with the tree")
-command("LrlsRestart", restart, "starts the server anew")
+command("LrlsRestart", restart_servers, "starts the server anew")
 
 return { add = add }
