@@ -1,0 +1,271 @@
+"""The answers that the core doesn't have: colours, outline, completion, hover and brackets."""
+
+import json
+from array import array
+from typing import Any, Awaitable, Callable
+
+from . import highlight, hover
+from .colours import Colours
+from .core import Core, Refused
+from .documents import MOST_DOCUMENTS, Document, Documents
+from .language import Language
+from .probe import NoRoom, Probe
+from .settings import TYPES
+from .structure import Structure
+from .symbols import Entry, flat, hierarchy
+from .symbols import joined as joined_outlines
+from .text import Place, place_in, range_in
+from .tokens import Tokens
+
+INVALID_PARAMS = Refused(-32602, "invalid params")
+CAPABILITIES = {
+    "semanticTokensProvider": {"legend": {"tokenTypes": TYPES, "tokenModifiers": []}, "full": {"delta": True}, "range": True},
+    "documentSymbolProvider": True,
+    "completionProvider": {},
+    "hoverProvider": True,
+    "documentHighlightProvider": True,
+}
+
+
+class Changed(Exception):
+    """The document was changed while it was looked at."""
+
+
+def uri_in(params: Any) -> str:
+    """The document that parameters name."""
+    document = params.get("textDocument") if isinstance(params, dict) else None
+    uri = document.get("uri") if isinstance(document, dict) else None
+    if not isinstance(uri, str):
+        raise INVALID_PARAMS
+    return uri
+
+
+class Answers:
+    """Answers requests about documents, by the core and what a language says."""
+
+    def __init__(self, core: Core, documents: Documents, language: Language, client: dict[str, Any]) -> None:
+        self.core, self.documents, self.language = core, documents, language
+        self.probe = Probe("probe", core, documents.unit, self.has_room)
+        self.window = Probe("window", core, documents.unit, self.has_room)
+        self.has_hierarchy = bool(member(client, "textDocument", "documentSymbol", "hierarchicalDocumentSymbolSupport"))
+        self.methods: dict[str, Callable[[Any], Awaitable[Any]]] = {
+            "textDocument/semanticTokens/full": self.colours,
+            "textDocument/semanticTokens/full/delta": self.colours_since,
+            "textDocument/semanticTokens/range": self.colours_between,
+            "textDocument/documentSymbol": self.outline,
+            "textDocument/completion": self.completion,
+            "textDocument/hover": self.hover,
+            "textDocument/documentHighlight": self.brackets,
+        }
+
+    def has_room(self) -> bool:
+        """Whether the core can hold one more document."""
+        open_ones = sum(probe.text is not None for probe in (self.probe, self.window))
+        return self.documents.count() + open_ones < MOST_DOCUMENTS
+
+    def make_room(self) -> None:
+        """Closes what is open here besides the editor's documents, where these may need the room."""
+        if self.documents.count() + 2 > MOST_DOCUMENTS:
+            self.probe.close()
+            self.window.close()
+
+    def published(self, uri: str, diagnostics: list[dict[str, Any]]) -> bool:
+        """The core publishes diagnostics. Answers whether they are of a document that is open here besides the editor's."""
+        for probe in (self.probe, self.window):
+            if uri == probe.uri:
+                probe.published(diagnostics)
+                return True
+        return False
+
+    async def asked(self, method: str, uri: str) -> tuple[Document, bytes]:
+        """What the core says of a document, and the document as it was then. The core refuses one that isn't open, or lost."""
+        answer, clock = await self.core.ask(method, uri)
+        document = self.documents.held.get(uri)
+        if document is None or document.serial > clock:
+            raise Changed
+        return document, answer
+
+    async def tokens(self, uri: str) -> tuple[Document, Tokens]:
+        """A document and its tokens, brought up to date by what its edits made; all are read where that isn't enough."""
+        document, _ = await self.asked("lr/stats", uri)
+        async with document.lock:
+            serial = document.serial
+            is_known = document.tokens is not None and self.followed(document) and await self.filled(document)
+            if not is_known:
+                await self.read_tokens(document)
+            self.unchanged(document, serial)
+            assert document.tokens
+            return document, document.tokens
+
+    def followed(self, document: Document) -> bool:
+        """Follows the edits of a document. Answers whether its tokens are known then, but for a gap."""
+        edits, document.edits = document.edits or [], []
+        for edit in edits:
+            if edit.change is None or edit.scanned is None or document.tokens is None:
+                return False
+            document.tokens.edit(edit.change, edit.scanned, edit.total, document.text.unit)
+        return True
+
+    async def filled(self, document: Document) -> bool:
+        """Asks for the tokens of the gap. Answers whether they fit."""
+        tokens = document.tokens
+        if tokens is None or tokens.gap is None:
+            return tokens is not None
+        serial = document.serial
+        async with self.window.lock:
+            try:
+                await self.window.show(document.text.between(*tokens.gap))
+                rows = json.loads(await self.window.ask("lr/tokens"))
+            except NoRoom:
+                return False
+        self.unchanged(document, serial)
+        return tokens.fill(rows, document.text)
+
+    async def read_tokens(self, document: Document) -> None:
+        """Reads all tokens of a document."""
+        document.tokens, document.edits = None, []
+        _, data = await self.asked("lr/tokens", document.uri)
+        serial = document.serial
+        tokens = Tokens(document.text)
+        await tokens.read(data)
+        self.unchanged(document, serial)
+        document.tokens, document.edits = tokens, []
+
+    def unchanged(self, document: Document, serial: int) -> None:
+        """Refuses to go on with a document that was changed."""
+        if self.documents.held.get(document.uri) is not document or document.serial != serial:
+            raise Changed
+
+    async def painted(self, uri: str) -> tuple[Colours, "array[int]"]:
+        """What was sent of the colours of a document, and its colours."""
+        document, tokens = await self.tokens(uri)
+        painter = self.language.painter
+        if document.made.get("painter") is not painter:
+            document.made["painter"] = painter
+            tokens.paints = [None] * len(tokens.lines)
+        return document.made.setdefault("colours", Colours()), painter.painted(tokens, document.text)
+
+    async def colours(self, params: Any) -> Any:
+        """`textDocument/semanticTokens/full`"""
+        colours, data = await self.painted(uri_in(params))
+        colours.take(data)
+        return {"resultId": str(colours.number), "data": data.tolist()}
+
+    async def colours_since(self, params: Any) -> Any:
+        """`textDocument/semanticTokens/full/delta`"""
+        colours, data = await self.painted(uri_in(params))
+        if not colours.number or params.get("previousResultId") != str(colours.number):
+            colours.take(data)
+            return {"resultId": str(colours.number), "data": data.tolist()}
+        edits = colours.delta(data)
+        return {"resultId": str(colours.number), "edits": edits}
+
+    async def colours_between(self, params: Any) -> Any:
+        """`textDocument/semanticTokens/range`"""
+        uri = uri_in(params)
+        places = range_in(params.get("range"))
+        if places is None:
+            raise INVALID_PARAMS
+        document, tokens = await self.tokens(uri)
+        first, last = (min(place[0], len(tokens.lines) - 1) for place in sorted(places))
+        begin = tokens.begin_of(first)
+        return {"data": self.language.painter.painted(tokens, document.text, begin, last + 1).tolist()}
+
+    async def structure(self, uri: str) -> tuple[Document, Structure]:
+        """The tree of a document, or of what stands before its fault."""
+        document, tokens = await self.tokens(uri)
+        async with document.lock:
+            serial, known = document.made.get("structure", (None, None))
+            if serial == document.serial and known is not None:
+                return document, known
+            serial = document.serial
+            _, tree = await self.asked("lr/tree", uri)
+            self.unchanged(document, serial)
+            builder = self.language.builder
+            if tree == b"null":
+                made = await builder.before_fault(document, tokens, self.probe)
+            else:
+                made = await builder.whole(builder.significant(tokens), tree)
+            self.unchanged(document, serial)
+            document.made["structure"] = (serial, made)
+            return document, made
+
+    async def outline(self, params: Any) -> Any:
+        """`textDocument/documentSymbol`"""
+        uri = uri_in(params)
+        document, structure = await self.structure(uri)
+        serial = document.serial
+        entries = await self.language.outliner.entries(structure, document.text)
+        self.unchanged(document, serial)
+        old = self.moved(document)
+        if structure.fault is not None:
+            entries = joined_outlines(entries, old, structure.fault)
+        else:
+            document.made["outline"] = entries
+        return hierarchy(entries) if self.has_hierarchy else flat(entries, uri)
+
+    def moved(self, document: Document) -> list[Entry]:
+        """The outline of the last whole text that was asked for, where it is now."""
+        entries: list[Entry] = document.made.get("outline", [])
+        for change in document.moves:
+            entries = [entry.moved(change, document.text.unit) for entry in entries]
+        document.moves.clear()
+        if "outline" in document.made:
+            document.made["outline"] = entries
+        return entries
+
+    async def completion(self, params: Any) -> Any:
+        """`textDocument/completion`"""
+        uri, place = uri_in(params), self.place(params)
+        document, _ = await self.asked("lr/stats", uri)
+        serial = document.serial
+        try:
+            items = await self.language.completer.items(self.probe, document.text, place)
+        except NoRoom:
+            items = []
+        self.unchanged(document, serial)
+        return {"isIncomplete": False, "items": items}
+
+    def place(self, params: Any) -> Place:
+        """The place that parameters name."""
+        place = place_in(params.get("position"))
+        if place is None:
+            raise INVALID_PARAMS
+        return place
+
+    async def hover(self, params: Any) -> Any:
+        """`textDocument/hover`"""
+        uri, place = uri_in(params), self.place(params)
+        document, tokens = await self.tokens(uri)
+        place = document.text.place(*document.text.inside(place))
+        fault = hover.fault_at(document.diagnostics, place)
+        if fault is not None:
+            return hover.of_fault(self.language.wording, fault, document.text)
+        row = tokens.at(place)
+        if row is None:
+            return None
+        document, structure = await self.structure(uri)
+        return hover.of_token(row, document.text, structure, row[0] in self.language.grammar.skipped)
+
+    async def brackets(self, params: Any) -> Any:
+        """`textDocument/documentHighlight`"""
+        uri, place = uri_in(params), self.place(params)
+        document, structure = await self.structure(uri)
+        place = document.text.place(*document.text.inside(place))
+        return highlight.brackets(structure, self.language.grammar, place)
+
+
+def member(value: Any, *names: str) -> Any:
+    """What objects within objects have under these names; None where something is missing."""
+    for name in names:
+        value = value.get(name) if isinstance(value, dict) else None
+    return value
+
+
+def with_capabilities(result: bytes, language: str, comment: str) -> bytes:
+    """What the core answers to `initialize`, with what is answered here."""
+    answer = json.loads(result)
+    answer["capabilities"].update(CAPABILITIES)
+    answer["capabilities"]["experimental"] = {"lrls": {"comment": comment}}
+    answer["serverInfo"] = {"name": f"lrls-ide {language}"}
+    return json.dumps(answer, ensure_ascii=False, separators=(",", ":")).encode()

@@ -1,0 +1,125 @@
+"""The colours of a text: what the protocol calls semantic tokens."""
+
+import itertools
+from array import array
+from dataclasses import dataclass
+
+from .settings import TYPES, Settings
+from .text import Place, Text
+from .tokens import Token, Tokens
+
+# A token of the protocol is five numbers.
+WIDTH = 5
+# Each answer has a number of its own, so that no document's colours are taken for those of another one.
+NUMBERS = itertools.count(1)
+
+
+@dataclass
+class Paint:
+    """The colours of the tokens that begin in a line. Lines are counted from that one. The first part's place is told by itself, since
+    it is counted from what stands before it."""
+
+    numbers: "array[int]"
+    first: Place = (0, 0)
+    last: Place = (0, 0)
+
+
+NOTHING = Paint(array("I"))
+
+
+class Painter:
+    """Makes colours of tokens, by the settings of a language."""
+
+    def __init__(self, settings: Settings) -> None:
+        self.types = {name: TYPES.index(type_) for name, type_ in settings.colours.items()}
+
+    def paint(self, tokens: list[Token], line: int, text: Text) -> Paint:
+        """The colours of the tokens that begin in a line."""
+        numbers: list[int] = []
+        in_line, at, begun = 0, 0, (0, 0)
+        types = self.types
+        for name, start, more, end in tokens:
+            kind = types.get(name)
+            if kind is None:
+                continue
+            parts = [(0, start, end - start)] if not more else self.parts(line, start, more, end, text)
+            for part, character, width in parts:
+                if not numbers:
+                    in_line, at = begun = part, character
+                numbers += (part - in_line, character - at if part == in_line else character, width, kind, 0)
+                in_line, at = part, character
+        return Paint(array("I", numbers), begun, (in_line, at)) if numbers else NOTHING
+
+    def parts(self, line: int, start: int, more: int, end: int, text: Text) -> list[tuple[int, int, int]]:
+        """A token of several lines, line by line: its line, its first character and its width."""
+        widths = [*text.widths(line, line + more), end]
+        parts = [(number, 0, width) for number, width in enumerate(widths)]
+        parts[0] = (0, start, widths[0] - start)
+        return [part for part in parts if part[2] > 0]
+
+    def painted(self, tokens: Tokens, text: Text, first: int = 0, last: int | None = None) -> "array[int]":
+        """The colours of these lines, the last one left out."""
+        found: "array[int]" = array("I")
+        line, character = 0, 0
+        for number in range(first, len(tokens.lines) if last is None else min(last, len(tokens.lines))):
+            paint = tokens.paints[number]
+            if not isinstance(paint, Paint):
+                paint = tokens.paints[number] = self.paint(tokens.lines[number], number, text)
+            if paint is NOTHING:
+                continue
+            at = len(found)
+            found += paint.numbers
+            begin, begin_in = number + paint.first[0], paint.first[1]
+            found[at] = begin - line
+            found[at + 1] = begin_in - (character if begin == line else 0)
+            line, character = number + paint.last[0], paint.last[1]
+        return found
+
+
+class Colours:
+    """The colours that were sent last of a document."""
+
+    def __init__(self) -> None:
+        self.sent: "array[int]" = array("I")
+        self.number = 0
+
+    def take(self, new: "array[int]") -> None:
+        """These are sent, under a new number."""
+        self.sent, self.number = new, next(NUMBERS)
+
+    def delta(self, new: "array[int]") -> list[dict[str, object]]:
+        """What turns the colours that were sent last into these, which are sent under a new number."""
+        old = self.sent
+        self.take(new)
+        width = WIDTH * new.itemsize
+        was, is_ = old.tobytes(), new.tobytes()
+        front = common_front(was, is_) // width
+        back = common_back(was, is_, (min(len(was), len(is_)) // width - front) * width) // width
+        if front * width == len(was) == len(is_):
+            return []
+        start, count = front * WIDTH, len(old) - (front + back) * WIDTH
+        return [{"start": start, "deleteCount": count, "data": new[start : len(new) - back * WIDTH].tolist()}]
+
+
+def common_front(old: bytes | str, new: bytes | str) -> int:
+    """How much both begin with."""
+    low, high = 0, min(len(old), len(new))
+    while low < high:
+        middle = (low + high + 1) // 2
+        if old[low:middle] == new[low:middle]:
+            low = middle
+        else:
+            high = middle - 1
+    return low
+
+
+def common_back(old: bytes | str, new: bytes | str, most: int) -> int:
+    """How much both end with, and not more than this."""
+    low, high = 0, most
+    while low < high:
+        middle = (low + high + 1) // 2
+        if old[len(old) - middle : len(old) - low] == new[len(new) - middle : len(new) - low]:
+            low = middle
+        else:
+            high = middle - 1
+    return low
