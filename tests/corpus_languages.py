@@ -5,8 +5,10 @@ no fault of form: it returns None where it had read the whole text before it sai
 may have any form.
 """
 
+import configparser
 import glob
 import gzip
+import io
 import json
 import os
 import re
@@ -15,6 +17,7 @@ import sqlite3
 import subprocess
 import sys
 import sysconfig
+import tempfile
 import threading
 
 import corpus_c
@@ -102,6 +105,48 @@ def python_toml(roots):
         return None
 
     return "tomllib", parse
+
+
+def ini_keys(text):
+    """The keys that configparser reads, in order."""
+    keys = []
+    parser = configparser.RawConfigParser(strict=False)
+    parser.optionxform = lambda key: keys.append(key) or key
+    # Entries may stand before the first section, and each kind of line end ends a line.
+    parser.read_file(io.StringIO("[first]\n" + text, newline=None))
+    return keys
+
+
+def python_ini(roots):
+    def parse(text):
+        try:
+            ini_keys(text)
+        except configparser.Error as fault:
+            return first_line(str(fault).replace("\n", " "))
+        return None
+
+    return "Python's configparser", parse
+
+
+# What protoc says of a text's form. A missing label is a matter of the version that the text names.
+PROTO_FAULT = re.compile(
+    r"text\.proto:\d+:\d+: (?!Expected \"required\")(Expected|Missing|Unexpected|Invalid|Reached end|End-of-file|String literals cannot"
+    r"|\"/\*\"|\"0x\"|\"e\"|Numbers starting|Hex and octal|Already saw|Fields in oneofs must not|Interpreting non)"
+)
+
+
+def protoc(roots):
+    program(["protoc"], "protobuf-compiler")
+
+    def parse(text):
+        with tempfile.TemporaryDirectory() as folder:
+            with open(os.path.join(folder, "text.proto"), "w", encoding="utf-8", newline="") as file:
+                file.write(text)
+            _, _, err = ran(["protoc", "-I", folder, "--descriptor_set_out=/dev/null", "text.proto"], "")
+        found = [line for line in err.split("\n") if PROTO_FAULT.match(line)]
+        return first_line(found[0]) if found else None
+
+    return "protoc", parse
 
 
 C_FAULT = re.compile(
@@ -235,10 +280,11 @@ def statements(path, text):
 
 class Language:
     """Where files are, by globs below a root; the other parser; what makes texts of a file, and what does where they are edited;
-    and what is done to a text before `lrls` reads it."""
+    what is done to a text before `lrls` reads it; and, where nearly every text is accepted, a rule and what reads the texts of its
+    tokens."""
 
-    def __init__(self, globs, parser, texts=whole, edited=None, adapted=lambda text: text):
-        self.globs, self.parser, self.texts, self.adapted = globs, parser, texts, adapted
+    def __init__(self, globs, parser, texts=whole, edited=None, adapted=lambda text: text, words=None):
+        self.globs, self.parser, self.texts, self.adapted, self.words = globs, parser, texts, adapted, words
         self.edited = edited or texts
 
     def files(self, roots):
@@ -268,10 +314,27 @@ LANGUAGES = {
     "css": Language(["usr/share/**/*.css"], tinycss),
     "dot": Language(["usr/share/doc/graphviz/examples/**/*.gv", "usr/share/doc/graphviz/examples/**/*.gv.gz"], graphviz),
     "graphql": Language(["usr/share/gocode/**/*.graphql", "usr/share/nodejs/**/*.graphql"], node_graphql),
+    "ini": Language(
+        [
+            f"{STDLIB}/test/**/cfgparser.*",
+            f"{PACKAGES}/*/entry_points.txt",
+            "etc/**/*.ini",
+            "etc/fail2ban/**/*.conf",
+            "usr/share/**/*.ini",
+            "usr/share/**/*.desktop",
+            "lib/systemd/**/*.*",
+        ],
+        python_ini,
+        words=("KEY", ini_keys),
+    ),
     "json": Language(
         [f"{STDLIB}/test/**/*.json", f"{PACKAGES}/**/*.json", "usr/share/**/*.json", "usr/lib/node_modules/**/*.json"], python_json
     ),
     "lua": Language(["usr/share/nvim/runtime/**/*.lua", "usr/share/luajit-*/**/*.lua"], luac),
+    "proto": Language(
+        ["usr/include/google/**/*.proto", "usr/share/gocode/**/*.proto", "usr/share/grpc-proto/**/*.proto", "usr/share/cargo/**/*.proto"],
+        protoc,
+    ),
     "sql": Language(
         [
             "usr/share/mediawiki/**/sqlite/**/*.sql",

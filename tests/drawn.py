@@ -4,7 +4,7 @@ a grammar with a conflict. It is looked at on a terminal (tests/screens.py). Pic
 import os
 
 import screens
-from surroundings import placed, surroundings
+from surroundings import EMACS_START, placed, surroundings
 
 TOP = os.path.dirname(os.path.dirname(os.path.abspath(__file__)))
 DOCS = os.path.join(TOP, "docs")
@@ -37,9 +37,7 @@ NEOVIM_INIT = """local lrls = dofile("{top}/editors/neovim.lua")
 lrls.add({{ name = "ambiguous", files = "*.amb", grammar = "{folder}/ambiguous.lr" }})
 vim.cmd("highlight Number ctermfg=1 | highlight Operator ctermfg=2 | highlight Visual ctermbg=4")
 """
-EMACS_INIT = """(setq native-comp-deferred-compilation nil native-comp-async-report-warnings-errors nil)
-(setq inhibit-startup-screen t make-backup-files nil auto-save-default nil create-lockfiles nil)
-(load "{top}/editors/emacs.el")
+EMACS_INIT = EMACS_START + """(load "{top}/editors/emacs.el")
 (lrls-add-language "ambiguous" "\\\\.amb\\\\'" "{folder}/ambiguous.lr")
 (defun trial-region ()
   (interactive)
@@ -118,6 +116,9 @@ TREE = """Sum
 NEOVIM_ENDS = [
     ("a lost document", ["text::edit large.sum", "Enter"], ["lrls: document lost: too large"], []),
     ("asked about it", ["Enter", "text::LrlsTree", "Enter"], ["lrls: document lost: too large"], ["│"]),
+    ("its first line", ["Enter", "text:gg"], ["W 1+1+", "\u25a0 document lost: too large"], ["unexpected"]),
+    ("typed into it", ["text:i22", "Escape"], ["W 221+1+", "\u25a0 document lost: too large"], ["unexpected"]),
+    ("made small, and opened again", ["text:jdG:LrlsRestart", "Enter"], ["E 221+1+", "unexpected end"], ["document lost"]),
     ("a conflict", ["Enter", "text::edit some.amb", "Enter"], CONFLICT, []),
 ]
 
@@ -190,6 +191,9 @@ EMACS_STEPS = [
     ("nested folds", ["C-x", "C-f", "text:nested.sum", "Enter", "F6"], ["7+((1...\n+(4..."], ["+2)", "+5)"]),
     ("a lost document", ["C-x", "C-f", "text:large.sum", "Enter"], ["document lost: too large"], []),
     ("asked about it", ["C-x", "1", "C-c", "C-e"], ["lrls: document lost: too large"], ["*lrls*"]),
+    ("typed into it", ["text:22"], ["221+1+"], ["Flymake[1"]),
+    ("made small", ["C-n", "C-a", "C-Space", "M->", "C-w", "M-<"], ["221+1+"], ["\n1+1+"]),
+    ("and opened again", ["C-c", "C-r", "C-x", "1"], ["221+1+", "Flymake[1 0]"], []),
     ("a conflict", ["C-x", "C-f", "text:some.amb", "Enter"], CONFLICT, []),
 ]
 
@@ -253,9 +257,7 @@ lrls.add({{
 vim.cmd("set noshowcmd noruler nohlsearch background=dark")
 vim.cmd("highlight SignColumn ctermbg=NONE | highlight Folded ctermbg=NONE")
 """
-EMACS_SCRIPT = """(setq native-comp-deferred-compilation nil native-comp-async-report-warnings-errors nil)
-(setq inhibit-startup-screen t make-backup-files nil auto-save-default nil create-lockfiles nil)
-(setq frame-background-mode 'dark)
+EMACS_SCRIPT = EMACS_START + """(setq frame-background-mode 'dark)
 (menu-bar-mode 0)
 (load "{top}/editors/emacs.el")
 (lrls-add-language "script" "\\\\.script\\\\'" "{top}/grammars/script.lr" "//"

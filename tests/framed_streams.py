@@ -45,6 +45,10 @@ STREAMS = [
     (b"X: " + b"x" * 4_093, [], "F8"),
     (padded(4_097)[:4_096], [], "F8"),
     (padded(4_097), [], "F8"),
+    # lines that end in LF alone end no header part
+    (b"Content-Length: 2\n\n{}", [], "F6"),
+    (b"Content-Length: 2\n\n{}Content-Length: 2\r\n\r\n{}", [], "F1"),
+    (b"Content-Length: 2\n\n{}" + b" " * 4_096, [], "F8"),
     # the first faulty line decides
     (b"Content-Type: \r\nContent-Length: x\r\nX\r\n\r\n{}", [], "F5"),
     (b"X\r\nContent-Type: x\r\nContent-Length: x\r\n\r\n{}", [], "F1"),

@@ -20,7 +20,7 @@ import termios
 import time
 
 import screens
-from surroundings import placed, surroundings
+from surroundings import EMACS_START, placed, surroundings
 
 TOP = os.path.dirname(os.path.dirname(os.path.abspath(__file__)))
 LINES = 5_000
@@ -183,9 +183,7 @@ def neovim(folder):
     return compared("neovim", folder, *words, ["/here\r", "ea"], 2, "\x7f")
 
 
-EMACS_PLAIN = """(setq native-comp-deferred-compilation nil native-comp-async-report-warnings-errors nil)
-(setq inhibit-startup-screen t make-backup-files nil auto-save-default nil create-lockfiles nil)
-(setq-default mode-line-format nil)
+EMACS_PLAIN = EMACS_START + """(setq-default mode-line-format nil)
 """
 EMACS_INIT = """{plain}(load "{top}/editors/emacs.el")
 (set-face-foreground 'font-lock-variable-name-face "red")

@@ -377,6 +377,7 @@ def sessions():
     begin = (INITIALIZE, [capabilities(1, "utf-16")])
     for content, written, after in FIRST:
         yield f"first {content}", grammar_files.SUMS, [(content, written), (ASK, after)]
+    yield "a document opened before initialize", grammar_files.SUMS, [(opened("a:x", "1+"), []), begin, (ASK, IS_READY)]
     for content, written, after in OPEN:
         talk = [begin, (opened("a:x", "1+2"), [published(1)]), (content, written), (ASK, after)]
         yield str(content), grammar_files.SUMS, talk

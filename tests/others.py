@@ -5,7 +5,7 @@ import os
 import re
 
 import screens
-from surroundings import placed, surroundings
+from surroundings import EMACS_START, placed, surroundings
 
 TOP = os.path.dirname(os.path.dirname(os.path.abspath(__file__)))
 DOCS = os.path.join(TOP, "docs")
@@ -47,9 +47,7 @@ EXTEND = ["M-x", "text:lsp-extend-selection", "Enter"]
 
 
 def lsp_mode(folder, draws=False):
-    before = """(setq native-comp-deferred-compilation nil native-comp-async-report-warnings-errors nil)
-(setq inhibit-startup-screen t make-backup-files nil auto-save-default nil create-lockfiles nil)
-(package-initialize)
+    before = EMACS_START + """(package-initialize)
 (setq lsp-auto-guess-root t)
 (defun show () (interactive) (message "selected: %S" (buffer-substring (region-beginning) (region-end))))
 (global-set-key (kbd "<f5>") #'show)

@@ -15,7 +15,9 @@ example goes untested. `cases` needs the built program, and a folder to write th
 
 import os
 import re
+import shlex
 import subprocess
+import sys
 
 from serving import PATIENCE
 
@@ -31,7 +33,7 @@ PLACE = re.compile(r"\d+:\d+-\d+:\d+: unexpected ")
 ITEM = re.compile(r"after:|item: ")
 PATH = re.compile(r"(?:docs|editors|grammars|tests)/[\w./]*")
 CODE = re.compile(r"`([^`]+)`")
-COMMANDS = ("lrls ", "printf ", "tests/sizes ")
+COMMANDS = ("lrls ", "printf ", "echo ", "tests/sizes ")
 
 
 class Block:
@@ -92,18 +94,26 @@ def streams(lines):
     for line in lines:
         is_fault = line.startswith("lrls: ") or (err and ITEM.match(line))
         (err if is_fault else out).append(line + "\n")
-    status = 2 if err else 1 if out and PLACE.match(out[-1]) else 0
+    status = 2 if err else 1 if any(map(PLACE.match, out)) else 0
     return "".join(out), "".join(err), status
 
 
+def command_of(program, top):
+    """A script that does as the script `lrls` does where the program is built."""
+    show = shlex.join([sys.executable, os.path.join(top, "script", "show"), program])
+    return f'#!/bin/sh\nif [ "$1" = show ]; then\n    shift\n    exec {show} "$@"\nfi\nexec {shlex.quote(program)} "$@"\n'
+
+
 class Page:
-    """Runs the parts of a page one after the other in a folder, in which `lrls` is the built program."""
+    """Runs the parts of a page one after the other in a folder, in which `lrls` is the built program, and `lrls show` what shows
+    its reports."""
 
     def __init__(self, program, top, folder):
         self.folder, self.printed = folder, set()
         tools = os.path.join(folder, "tools")
         os.mkdir(tools)
-        os.symlink(program, os.path.join(tools, "lrls"))
+        self.write("tools/lrls", command_of(program, top))
+        os.chmod(self.path("tools/lrls"), 0o755)
         for name in ("grammars", "tests"):
             os.symlink(os.path.join(top, name), os.path.join(folder, name))
         self.environment = {**os.environ, "PATH": tools + os.pathsep + os.environ["PATH"]}

@@ -48,6 +48,7 @@ SPOILS = [
     Spoil("the items of a conflict exchanged", ["conflict_rows"], err=replaced(rb"(item: .*\n)(item: .*\n)", rb"\2\1")),
     Spoil("no limit on sets of items", ["sizes"], err=replaced(rb"over 8192 table states", b"over 9000 table states")),
     Spoil("a token missing in each tree", ["marked_words", "samples"], out=replaced(rb" LBRACKET| LP", b"")),
+    Spoil("two expected tokens exchanged", ["samples", "left_out"], out=replaced(rb"expected (\w+), (\w+)", rb"expected \2, \1")),
     Spoil("an empty node that looks like a token", ["marked_words"], out=replaced(rb"\((\S+[*?])\)", rb"\1")),
     Spoil("no node for a file", ["grammars_as_texts"], out=replaced(rb"^\(File ", b"(")),
     Spoil("a byte of a reply", ["message_rows", "transcript_rows", "session"], reply=replaced(rb"\}$", b"]")),
@@ -58,6 +59,8 @@ SPOILS = [
     Spoil("no replies", ["streams", "session", "nesting"], times=0),
     Spoil("replies after the end of the input", ["nesting", "counts"], is_late=True),
     Spoil("nodes too many are counted", ["counts", "transcript_rows"], reply=replaced(rb'"built":', b'"built":1')),
+    Spoil("a token left out of the tokens", ["shown"], reply=replaced(rb'"result":\[\["\w+",0,0,0,1\],', b'"result":[')),
+    Spoil("trees without their last node", ["shown"], reply=replaced(rb'("result":"\(.*) \(.*?\)\)"', rb'\1)"')),
     Spoil("a character missing in each text", ["changes_together"], reply=replaced(rb'"text":".', b'"text":"')),
     Spoil("all is scanned again", ["nesting", "changes_together"], reply=replaced(rb'"scanned":\d+', b'"scanned":200001')),
 ]

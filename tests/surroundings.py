@@ -2,6 +2,11 @@
 
 import os
 
+# What Emacs' init.el begins with: no file and no message that isn't asked for.
+EMACS_START = """(setq native-comp-deferred-compilation nil native-comp-async-report-warnings-errors nil)
+(setq inhibit-startup-screen t make-backup-files nil auto-save-default nil create-lockfiles nil)
+"""
+
 
 def surroundings(folder):
     """The environment of an editor that reads no file of its user."""

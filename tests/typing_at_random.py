@@ -11,7 +11,7 @@ import random
 import time
 
 import screens
-from surroundings import placed, surroundings
+from surroundings import EMACS_START, placed, surroundings
 
 TOP = os.path.dirname(os.path.dirname(os.path.abspath(__file__)))
 KEYS_A_MINUTE = 300
@@ -44,9 +44,7 @@ EMACS_COMMANDS = [
     *"M-< M-> C-d BSpace BSpace C-k C-y C-w C-o C-t M-d M-u C-_ C-_ C-_ M-^ C-j".split(),
     *"C-@,C-n,C-w C-@,M-f,M-w C-c,C-e C-c,C-e,C-w C-c,C-e,C-c,C-e,C-c,C-s C-c,C-f".split(),
 ]
-EMACS_INIT = """(setq native-comp-deferred-compilation nil native-comp-async-report-warnings-errors nil)
-(setq ring-bell-function #'ignore)
-(setq inhibit-startup-screen t make-backup-files nil auto-save-default nil create-lockfiles nil)
+EMACS_INIT = EMACS_START + """(setq ring-bell-function #'ignore)
 ;; An error would throw away the keys that wait.
 (setq command-error-function #'ignore)
 (load "{top}/editors/emacs.el")

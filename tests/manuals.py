@@ -1,0 +1,47 @@
+"""The manual pages: the examples that they show are run, and `man` and `mandoc`, where they are installed, find nothing wrong with them."""
+
+import os
+import re
+import shutil
+import subprocess
+
+from pages import Block, Page
+
+INSTALLED = "/usr/share/lrls/grammars/"
+# What `mandoc` says of a page that isn't installed yet.
+NOT_INSTALLED = "referenced manual not found"
+
+
+def examples(path):
+    """The lines of each literal display of a page."""
+    with open(path, encoding="utf-8") as file:
+        found = re.findall(r"^\.Bd -literal.*\n((?:.*\n)*?)\.Ed$", file.read(), re.M)
+    return [display.replace("\\e", "\\").splitlines() for display in found]
+
+
+def complaints(path):
+    """What the programs that format a page say of it."""
+    said = ""
+    for words in (["man", "--warnings", "-l", path], ["mandoc", "-T", "lint", path]):
+        if shutil.which(words[0]):
+            ran = subprocess.run(words, capture_output=True, text=True, check=False, env={**os.environ, "MANWIDTH": "80"})
+            said += ran.stderr + (ran.stdout if words[0] == "mandoc" else "")
+    return [line for line in said.splitlines() if NOT_INSTALLED not in line]
+
+
+def cases(program, top, folder):
+    """What is awaited of each page, and what was found, under a name."""
+    page = Page(program, top, folder)
+    for name in sorted(os.listdir(os.path.join(top, "man"))):
+        yield f"manual {name}: its form", [], complaints(os.path.join(top, "man", name))
+    for name in ("lrls.1", "lrgrammar.5"):
+        path = os.path.join(top, "man", name)
+        shown = examples(path)
+        yield f"manual {name}: has an example", 1, len(shown)
+        for lines in shown:
+            if lines[0].startswith("$ "):
+                block = Block(0, ["console"])
+                block.lines = [line.replace(INSTALLED, "grammars/") for line in lines]
+                yield from page.console(block)
+            else:
+                yield from page.sound(f"manual {name}: its example", "\n".join([*lines, ""]))
