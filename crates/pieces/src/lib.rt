@@ -31,7 +31,7 @@ mod sums;
 
 pub use cuts::{SHORTEST_OF_SEVERAL, pieces_of};
 pub use definitions::{Position, Unit};
-pub use laws::sums_join;
+pub use laws::{equal_sums_are_the_same, sums_join};
 pub use piece::{LONGEST_PIECE, Piece, join_three};
 pub use places::{Cut, Pieces};
 pub use sums::{AfterCharacter, AfterPosition, Counts, Sums, Units, of_character, of_text};
