@@ -2,7 +2,7 @@
 //! themselves: they are stored in runs of up to 64.
 //!
 //! `Runs::new` is an empty list; `replace` puts items in the place of others. `len`, `get`, `total`, `iter_from` and
-//! `locate` are as those of a `Seq`; `total_before` is the sum before a place, and `runs` the number of runs.
+//! `locate` are as those of a `Seq`; `total_before` is the sum before a place, and `seq` the runs.
 //!
 //! Words: a *run* is a node's items, which lie together. The items are `Measured`, and `Copy`: here tokens.
 //!
@@ -33,4 +33,5 @@ mod run;
 
 pub use items::Iter;
 pub use list::Runs;
+pub use run::Run;
 pub use seqtree::{Goal, Measured, Monoid};

@@ -41,8 +41,8 @@ impl<T: Measured + Copy> Runs<T> {
         }
     }
 
-    /// The runs, in which the items lie.
-    fn seq(&self) -> &Seq<Run<T>>
+    /// The runs, in which the items lie: few, but enough to hold them.
+    pub fn seq(&self) -> &Seq<Run<T>>
         ensures items { flattened result.now ≡ self.now }
         ensures counted { length self.now < 2 ^ 64 }
         ensures few { 32 * length result.now ≤ length self.now + 32 }
@@ -56,14 +56,6 @@ impl<T: Measured + Copy> Runs<T> {
         ensures { result ≡ length self.now }
     {
         self.seq().total().items
-    }
-
-    /// In how many runs the items lie: few, but enough to hold them.
-    pub fn runs(&self) -> usize
-        ensures few { 32 * result ≤ length self.now + 32 }
-        ensures enough { length self.now ≤ 64 * result }
-    {
-        self.seq().len()
     }
 
     /// The sum of all items.

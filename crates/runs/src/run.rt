@@ -47,7 +47,7 @@ impl<T: Measured> Run<T> {
 impl<T: Measured + Copy> Run<T> {
     /// The run of these items, of which there must be at least one and at most [`LONGEST_RUN`]. Takes memory once, and
     /// refuses for memory alone.
-    pub fn new(alloc: Global, items: &[T]) -> Result<Run<T>, AllocError>
+    fn new(alloc: Global, items: &[T]) -> Result<Run<T>, AllocError>
         requires some { 1 ≤ length items.now }
         requires few { length items.now ≤ LONGEST_RUN }
         ensures { IfOk result (λ run. run ≡ items.now) }

@@ -197,7 +197,7 @@ fn check(
     'steps: for step in steps {
         reads = check_step(rt, alloc, scanner, &mut text, &mut tokens, step);
     }
-    (reads, tokens.items().runs())
+    (reads, tokens.items().seq().len())
 }
 
 /// The same, by the rules of a grammar file.

@@ -12,6 +12,13 @@ module _ {X A : Type 0} (items : X → List A) (size : List A → ℕ) (shortest
   abbrev Short : X → Type 0
   Short = IsShort items size longest
 
+  none_empty : size [] ≡ 0
+  none_empty = omega (arith, measure.adds [] [])
+
+  no_chunk : (chunks : List X) → length chunks ≡ 0 → chunks ≡ []
+  no_chunk [] h = refl
+  no_chunk (x ∷ xs) h = absurd (omega (arith, h))
+
   pub first : (list : List A) → IsCutting items size shortest longest list [] list
   first list = record {
     joined_are = refl;
@@ -30,6 +37,7 @@ module _ {X A : Type 0} (items : X → List A) (size : List A → ℕ) (shortest
       large = λ _. so_far.large;
       short = so_far.short;
       one = λ h. omega (arith, so_far.none h);
+      none = λ e. no_chunk chunks (so_far.none (omega (arith, ap size e, none_empty)));
     }
 
     module _ (made : List X) (chunk : X) (same : made ≡ chunks ++ chunk ∷ []) (back : List A) (parts : rest ≡ items chunk ++ back) (fits : size (items chunk) ≤ longest) where
@@ -59,12 +67,13 @@ module _ {X A : Type 0} (items : X → List A) (size : List A → ℕ) (shortest
       }
 
       -- the last chunk
-      pub last : back ≡ [] → AreCut items size shortest longest list made
-      last none =
+      pub last : back ≡ [] → 0 < size (items chunk) → AreCut items size shortest longest list made
+      last none some =
           let whole : rest ≡ items chunk = parts ∙ ap (λ b. items chunk ++ b) none ∙ append-nil (items chunk) in
           record {
             joined_are = sym (ap (λ b. joined items made ++ b) none ∙ append-nil (joined items made)) ∙ joined_more;
             large = λ h. large_more (omega (arith, so_far.left h, ap size whole));
             short = short_more;
             one = λ h. omega (arith, so_far.none h, ap length same, length-append chunks (chunk ∷ []));
+            none = λ e. absurd (omega (arith, some, ap size whole, so_far.shorter, ap size e, none_empty));
           }

@@ -30,13 +30,14 @@ pub record AreFew {X A : Type 0} (items : X → List A) (size : List A → ℕ) 
   pub small : count_by (is_small items size shortest) chunks ≤ 1
 
 -- these are chunks of the items `list`, none longer than `longest`, and none small where the items aren't; items that aren't too long for
--- one chunk are at most one
+-- one chunk are at most one, and no items are none
 pub record AreCut {X A : Type 0} (items : X → List A) (size : List A → ℕ) (shortest longest : ℕ) (list : List A) (chunks : List X) : Type 0
   where
     pub joined_are : joined items chunks ≡ list
     pub large : shortest ≤ size list → All (IsLarge items size shortest) chunks
     pub short : All (IsShort items size longest) chunks
     pub one : size list ≤ longest → length chunks ≤ 1
+    pub none : list ≡ [] → chunks ≡ []
 
 -- the same of chunks that are followed by the items `rest`, which are still to be cut
 pub record IsCutting {X A : Type 0} (items : X → List A) (size : List A → ℕ) (shortest longest : ℕ) (list : List A) (chunks : List X)

@@ -40,6 +40,7 @@ returns-clause-cut c =
       | then-rest-gt0+in_ok-new-2+in_ok-push-2 w ↦
           last (λ p. p) (units Utf8) 509 1024 bytes_measure (chars c.args.text.now) pieces (chars rest) c.loop-rest.invariant.cut _ w.in_ok-new-2.field-0 (ap (λ p. p.items) w.pieces-is ∙ w.in_ok-push-2.ensures.items) [] (sym w.in_ok-new-2.ensures ∙ sym (append-nil _))
           (omega (arith, ap (units Utf8) w.in_ok-new-2.ensures, units-chars rest c.loop-rest.invariant.text, c.loop-rest-test.false)) refl
+          (omega (arith, ap (units Utf8) w.in_ok-new-2.ensures, units-chars rest c.loop-rest.invariant.text, w.if-rest-gt0))
       | else-rest-gt0 w ↦
           done (λ p. p) (units Utf8) 509 1024 bytes_measure (chars c.args.text.now) pieces (chars rest) c.loop-rest.invariant.cut _ (ap (λ p. p.items) w.pieces-is) (empty rest (omega (arith, w.if-rest-gt0)))
     ]
