@@ -4,6 +4,7 @@ pub use Rattle.std.proofs.lemmas.Bool.{cases_eq, cases_lt, eq-eqb, eqb-true, le-
 pub use Rattle.std.proofs.lemmas.List.{get_or_append_left, get_or_default}
 pub use Rattle.std.proofs.lemmas.List.Elements.{All-head, All-push, All-tail, Contains-append_left, Contains-push}
 pub use Rattle.std.proofs.lemmas.List.Sums.{sum_by-set}
+pub use Rattle.std.proofs.lemmas.List.Quantifiers.{all_pairs_push}
 pub use Rattle.std.proofs.lemmas.Option.{get_or_from_slice_get, slice_get-get_or, slice_get_cases}
 pub use Rattle.definitions.specs.Trees.{Grammar, HasProduction, left_of, production_of, right_of}
 pub use Rattle.definitions.specs.declared.Symbol.{Symbol}

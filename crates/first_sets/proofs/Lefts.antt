@@ -1,6 +1,6 @@
 -- The numbers of productions by their left sides, with one production more.
-use Rattle.std.proofs.Common.{◌≡◌, ◌+◌, ◌<◌, ℕ, List, [], ◌∷◌, ◌++◌, All, Contains, length, slice_index_or, slice_set, sym, subst, ⊎_elim, arith, ap, ◌∙◌, get_or-set_same, get_or-set_other}
-use Rattle.first_sets.proofs.Common.{cases_eq, All-push, Contains-push, Contains-append_left}
+use Rattle.std.proofs.Common.{◌≡◌, ◌+◌, ◌<◌, ℕ, List, [], ◌∷◌, ◌++◌, All, AllPairs, Contains, length, slice_index_or, slice_set, sym, subst, ⊎_elim, arith, ap, ◌∙◌, get_or-set_same, get_or-set_other}
+use Rattle.first_sets.proofs.Common.{cases_eq, All-push, Contains-push, Contains-append_left, all_pairs_push}
 
 module _ (left : ℕ → ℕ) (rows : List (List ℕ)) (at : ℕ) (within : left at < length rows) where
   abbrev pub row : List ℕ
@@ -35,3 +35,12 @@ module _ (left : ℕ → ℕ) (rows : List (List ℕ)) (at : ℕ) (within : left
       (λ s. subst (λ q. Contains (slice_index_or after (left q) []) q) (sym s) (subst (λ r. Contains r at) (sym same_row) (Contains-push row at)))
       (λ o. kept (left p) p (h p (omega (arith, l, o))))
       (cases_eq p at)
+
+  pub rising_more : ((n : ℕ) → All (λ p. (p < at) × (left p ≡ n)) (slice_index_or rows n [])) → ((n : ℕ) → AllPairs (λ p q. p < q) (slice_index_or rows n [])) → (n : ℕ) → AllPairs (λ p q. p < q) (slice_index_or after n [])
+  rising_more theirs h n = ⊎_elim
+      (λ s. subst (AllPairs (λ p q. p < q)) (sym (ap (λ m. slice_index_or after m []) s ∙ same_row)) (all_pairs_push (λ p q. p < q) row at (h (left at)) (λ k d l. (theirs (left at) k d l).0)))
+      (λ o. subst (AllPairs (λ p q. p < q)) (sym (other_row n o)) (h n))
+      (cases_eq n (left at))
+
+pub rising_none : (xs : List ℕ) → xs ≡ [] → AllPairs (λ p q. p < q) xs
+rising_none xs none = λ i j d b c. absurd (omega (arith, c, ap length none))

@@ -1,5 +1,5 @@
 -- The productions of a grammar, with the number of its nonterminals.
-use Rattle.std.specs.Prelude.{◌≡◌, ◌+◌, ◌<◌, ◌^◌, ℕ, List, [], ◌∷◌, ◌++◌, All, Contains, length}
+use Rattle.std.specs.Prelude.{◌≡◌, ◌+◌, ◌<◌, ◌^◌, ℕ, List, [], ◌∷◌, ◌++◌, All, AllPairs, Contains, length}
 use Rattle.std.specs.List.{slice_index_or}
 use Rattle.definitions.specs.declared.Symbol.{Symbol}
 use Rattle.definitions.specs.declared.Symbol.TheVariants.{Rule as Terminal, Nonterminal}
@@ -39,8 +39,9 @@ pub record IsSound (g : Shape) : Type 0 where
   pub productive : AllProductive g.grammar
   pub distinct : HasDistinctProductions g.grammar
 
--- a row for each nonterminal, with the numbers of the productions that have it on the left
+-- a row for each nonterminal, with the numbers of the productions that have it on the left, in ascending order
 pub record AreByLeft (g : Shape) (rows : List (List ℕ)) : Type 0 where
   pub wide : length rows ≡ g.nonterminals
   pub theirs : (n : ℕ) → All (λ p. (p < length g.grammar.productions) × (left_of g.grammar p ≡ n)) (slice_index_or rows n [])
   pub all : (p : ℕ) → p < length g.grammar.productions → Contains (slice_index_or rows (left_of g.grammar p) []) p
+  pub rising : (n : ℕ) → AllPairs (λ p q. p < q) (slice_index_or rows n [])

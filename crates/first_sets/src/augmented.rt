@@ -1,5 +1,5 @@
 //! A grammar with the added start production, as items are read by it.
-ghost use Rattle.std.specs.Prelude.{◌≡◌, ◌<◌, ◌+◌, ◌↔◌, ◌∷◌, ◌++◌, ℕ, [], Option, IsTrue, IfOk, OnOk, IfSome, All, Contains, length, slice_index_or};
+ghost use Rattle.std.specs.Prelude.{◌≡◌, ◌<◌, ◌+◌, ◌↔◌, ◌∷◌, ◌++◌, ℕ, [], Option, IsTrue, IfOk, OnOk, IfSome, All, AllPairs, Contains, length, slice_index_or};
 ghost use Rattle.definitions.specs.Trees.{left_of, right_of};
 ghost use Rattle.first_sets.specs.Lookaheads.{rank};
 ghost use Rattle.first_sets.specs.Productions.{IsKnown, IsSound, AreByLeft};
@@ -206,13 +206,14 @@ impl AugmentedGrammar {
         self.productions.right(p)
     }
 
-    /// The numbers of the productions of a nonterminal.
+    /// The numbers of the productions of a nonterminal, in ascending order, each once.
     pub fn of_left(&self, nonterminal: usize) -> &[ProductionNumber]
         requires { nonterminal < self.now.nonterminals }
         ensures theirs { All (λ p. (p < length self.now.grammar.productions)
             × (left_of self.now.grammar p ≡ nonterminal)) result.now }
         ensures all { (p : ℕ) → p < length self.now.grammar.productions
             → left_of self.now.grammar p ≡ nonterminal → Contains result.now p }
+        ensures rising { AllPairs (λ p q. p < q) result.now }
     {
         self.by_left[nonterminal].list()
     }

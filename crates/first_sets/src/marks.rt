@@ -1,5 +1,5 @@
 //! Marks on numbers.
-ghost use Rattle.std.specs.Prelude.{◌≡◌, ◌<◌, ℕ, Bool, true, false, length, IfOk, slice_index_or, slice_set};
+ghost use Rattle.std.specs.Prelude.{◌≡◌, ◌↔◌, ◌<◌, ℕ, Bool, true, false, length, IfOk, IsTrue, slice_index_or, slice_set};
 
 use std::alloc::{AllocError, Global};
 use std::marker::Model;
@@ -14,13 +14,14 @@ pub struct Marks {
 }
 
 impl Model for Marks {
-    ghost use Rattle.std.specs.Prelude.{List, Bool, ℕ, false, ◌≡◌, slice_index_or};
+    ghost use Rattle.std.specs.Prelude.{List, Bool, ℕ, false, ◌≡◌, ◌↔◌, slice_index_or};
 
     ghost Value = { List Bool };
 
     ghost view = { λ a. a.bits.items };
 
-    ghost invariant = { λ a. a.some ≡ false → (i : ℕ) → slice_index_or a.bits.items i false ≡ false };
+    ghost invariant = { λ a. (a.some ≡ false)
+        ↔ ((i : ℕ) → slice_index_or a.bits.items i false ≡ false) };
 }
 
 impl Marks {
@@ -35,7 +36,7 @@ impl Marks {
 
     /// Whether no number is marked.
     pub fn is_blank(&self) -> bool
-        ensures { result ≡ true → (i : ℕ) → slice_index_or self.now i false ≡ false }
+        ensures { IsTrue result ↔ ((i : ℕ) → slice_index_or self.now i false ≡ false) }
     {
         !self.some
     }

@@ -1,6 +1,6 @@
 use Rattle.std.proofs.Common.{rules, ◌≡◌, ◌<◌, ◌∷◌, ◌++◌, [], length, slice_index_or, slice_set, length-set, sym, subst, ap, ◌∙◌}
 use Rattle.first_sets.proofs.Common.{get_or_default, left_of, right_of}
-use Rattle.first_sets.proofs.Lefts.{after, theirs_more, all_more}
+use Rattle.first_sets.proofs.Lefts.{after, theirs_more, all_more, rising_more}
 use Rattle.first_sets.proofs.Numbers.{has_production}
 use Rattle.first_sets.proofs.augmented.by_left.Goals as goal
 
@@ -21,4 +21,5 @@ loop-index-preserved c =
       wide = length-set rows (left_of g at) (slice_index_or rows (left_of g at) [] ++ at ∷ []) ∙ i.wide;
       theirs = theirs_more (left_of g) rows at within i.theirs;
       all = all_more (left_of g) rows at within i.all;
+      rising = rising_more (left_of g) rows at within i.theirs i.rising;
     })

@@ -1,4 +1,4 @@
-use Rattle.std.proofs.Common.{◌≡◌, ◌<◌, ℕ, [], All, Contains, length, slice_index_or}
+use Rattle.std.proofs.Common.{◌≡◌, ◌<◌, ℕ, [], All, AllPairs, Contains, length, slice_index_or}
 use Rattle.first_sets.proofs.Common.{left_of}
 use Rattle.first_sets.proofs.augmented.by_left.Given as goal
 
@@ -7,4 +7,5 @@ invariant-loop-index l = record {
   wide : length l.rows.items ≡ l.productions.nonterminals;
   theirs : (n : ℕ) → All (λ p. (p < l.index) × (left_of l.productions.grammar p ≡ n)) (slice_index_or l.rows.items n []);
   all : (p : ℕ) → p < l.index → Contains (slice_index_or l.rows.items (left_of l.productions.grammar p) []) p;
+  rising : (n : ℕ) → AllPairs (λ p q. p < q) (slice_index_or l.rows.items n []);
 }

@@ -1,4 +1,4 @@
-use Rattle.std.proofs.Common.{◌≡◌, ◌<◌, [], All, Contains, length, slice_index_or, sym, subst, ap, ◌∙◌}
+use Rattle.std.proofs.Common.{◌≡◌, ◌<◌, [], All, AllPairs, Contains, length, slice_index_or, sym, subst, ap, ◌∙◌}
 use Rattle.first_sets.proofs.Common.{get_or_default, left_of}
 use Rattle.first_sets.proofs.augmented.AugmentedGrammar.of_left.Goals as goal
 use Rattle.first_sets.proofs.augmented.AugmentedGrammar.of_left.Goals.{After-list}
@@ -21,3 +21,6 @@ returns-clause-all c = λ p l e.
     let here = c.self.invariant.by_left.all p (subst (λ g. p < length g.grammar.productions) back l) in
     let left : left_of c.self.inside.productions.grammar p ≡ c.args.nonterminal = subst (λ g. left_of g.grammar p ≡ c.args.nonterminal) back e in
     subst (λ r. Contains r p) (sym (row_is c)) (subst (λ m. Contains (slice_index_or c.self.inside.by_left.items m []) p) left here)
+
+pub returns-clause-rising : goal.returns-clause-rising
+returns-clause-rising c = subst (AllPairs (λ p q. p < q)) (sym (row_is c)) (c.self.invariant.by_left.rising c.args.nonterminal)
