@@ -35,7 +35,7 @@ pub use Rattle.item_sets.specs.Collection.{AreStates, Found, GoesOn, IsAbsent, I
 pub use Rattle.item_sets.specs.Order.{Below, IsBefore, IsInside, IsOrdered, IsRising}
 pub use Rattle.item_sets.specs.Sets.{Closed, IsIn, IsItem, Kernel, after_dot, item_of, side}
 pub use Rattle.item_sets.specs.States.{HasKernel, HasSet, IsKernelAfter, IsSetOf, Shifted, ShiftsUpTo, step}
-pub use Rattle.item_sets.specs.Worklist.{AreCalledFor, AreMarked, CallFor, HaveBeginnings, IsCalledFor, IsExpanded, IsGrownBy, beginning_of, marked, unmarked_in}
+pub use Rattle.item_sets.specs.Worklist.{AreCalledFor, AreMarked, CallFor, Entries, HaveBeginnings, IsCalledFor, IsExpanded, IsGrownBy, beginning_of, marked, unmarked_in}
 pub use Rattle.item_sets.specs.contracts.item.ItemPartialEq.TheImpl.{ghosts}
 pub use Rattle.item_sets.specs.declared.collection.Origin.{Origin}
 pub use Rattle.item_sets.specs.declared.item.Item.{Item}

@@ -8,5 +8,6 @@ pub mod Ordered
 pub mod VectorSets
 pub mod AddedKernels
 pub mod GotosGrow
+pub mod Grown
 pub mod KernelsAfter
 pub mod Beginnings

@@ -43,7 +43,8 @@ impl Model for States {
 impl States {
     /// The set of the empty prefix alone.
     pub fn new(alloc: Global, grammar: &AugmentedGrammar) -> Result<States, AllocError>
-        ensures { IfOk result (AreStates grammar.now) }
+        ensures states { IfOk result (AreStates grammar.now) }
+        ensures alone { IfOk result (λ states. length states.kernels ≡ 1) }
     {
         let mut kernels = Kernels::new(alloc);
         let mut kernel = Vec::new(alloc);
@@ -148,7 +149,7 @@ impl States {
     }
 
     /// The symbols by which the state was first reached. Where the states are taken in order to be followed, no fewer symbols
-    /// lead there.
+    /// lead there, which no contract says.
     pub fn prefix(
         &self,
         alloc: Global,

@@ -1,5 +1,5 @@
 //! What the closure of a set of items wants: nonterminals, each with a lookahead that may follow it.
-ghost use Rattle.std.specs.Prelude.{◌≡◌, ◌<◌, ◌+◌, ℕ, true, false, length, slice_index_or, IfOk, OnOk};
+ghost use Rattle.std.specs.Prelude.{◌≡◌, ◌↔◌, ◌<◌, ◌+◌, ℕ, false, IsTrue, length, slice_index_or, IfOk, OnOk};
 ghost use Rattle.first_sets.specs.Productions.{IsSound};
 ghost use Rattle.item_sets.specs.Worklist.{marked, AreEntries, IsGrownBy};
 
@@ -86,7 +86,8 @@ impl<'a> Worklist<'a> {
     /// Whether the nonterminal has no entry.
     pub fn has_none(&self, nonterminal: usize) -> bool
         requires { nonterminal < self.now.grammar.nonterminals }
-        ensures { result ≡ true → (k : ℕ) → marked self.now.rows nonterminal k ≡ false }
+        ensures { IsTrue result
+            ↔ ((k : ℕ) → marked self.now.rows nonterminal k ≡ false) }
     {
         self.rows[nonterminal].is_blank()
     }
