@@ -22,9 +22,11 @@
 
 mod characters;
 mod document;
+mod laws;
 mod places;
 
 pub use characters::Chars;
 pub use definitions::{Position, Range, Unit};
 pub use document::{LONGEST_TEXT, Text, TextFault};
+pub use laws::equal_faults_are_the_same;
 pub use places::Places;
