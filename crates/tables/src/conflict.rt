@@ -16,8 +16,8 @@ use std::alloc::{AllocError, Global};
 /// is at the end of its right side; where both are, its production is the earlier one, the added start production before all.
 #[derive(Debug, Drop)]
 pub struct Conflict {
-    /// Symbols for which both items are valid, no more than in any other prefix of their set: the sets are met breadth first, and
-    /// of several with a conflict the one that is met first is reported.
+    /// Symbols for which both items are valid, which is proved. That they are no more than in any other prefix of their set is not:
+    /// the sets are met breadth first, and of several with a conflict the one that is met first is reported.
     pub prefix: Vec<Symbol>,
     /// The token rule at which both call for a move, or none at the end.
     pub look: Option<usize>,

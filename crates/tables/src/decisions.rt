@@ -32,13 +32,14 @@ pub enum Move {
 const FIRST_REDUCTION: usize = 32_768;
 
 impl Small for Move {
-    ghost use Rattle.std.specs.Prelude.{◌≡◌, IfSome};
+    ghost use Rattle.std.specs.Prelude.{◌≡◌, ◌≢◌, ◌<◌, ◌^◌, ℕ, None, IfSome};
     ghost use Rattle.tables.specs.Numbers.{move_of_number};
 
     ghost meant = { move_of_number };
 
     fn number(entry: Option<Move>) -> Option<u16>
-        ensures { IfSome result (λ n. move_of_number n ≡ entry) }
+        ensures is { IfSome result (λ n. move_of_number n ≡ entry) }
+        ensures none { result ≡ None → (n : ℕ) → n < 2 ^ 16 → move_of_number n ≢ entry }
     {
         match entry {
             None => Some(0),

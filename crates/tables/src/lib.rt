@@ -10,7 +10,7 @@
 //!
 //! Limits: more than 8,192 sets of items are refused as `TooManySets`. Building costs what the collection of
 //! `item_sets` costs; the other calls are one look-up each and don't allocate. An entry of a table takes 16 bits, where
-//! all of its row fit. In the example `grammar` is read from the grammar file in README.md.
+//! the grammar has at most 32,768 productions. In the example `grammar` is read from the grammar file in README.md.
 //!
 //! ```
 //! let tables = Tables::build(alloc, grammar).ok()?;

@@ -1,28 +1,29 @@
 //! A row of a table in little room: 16 bits for each entry, where all entries have numbers of so few.
 
 ghost use Rattle.std.specs.Prelude.{◌≡◌, ◌<◌, [], None, drop, length, map, slice_index_or, IfOk, IfSome};
-ghost use Rattle.tables.specs.Packed.{entries_in};
+ghost use Rattle.tables.specs.Packed.{entries_in, HasLarge};
 
 use std::alloc::{AllocError, Global};
 use std::marker::Model;
 
 /// What may stand in a row. A small entry has a number of 16 bits, and a missing one has one too.
 pub trait Small: Copy + Drop {
-    ghost use Rattle.std.specs.Prelude.{◌≡◌, ℕ, Option, IfSome};
+    ghost use Rattle.std.specs.Prelude.{◌≡◌, ◌≢◌, ◌<◌, ◌^◌, ℕ, Option, None, IfSome};
 
     /// What a number stands for.
     ghost meant: { ℕ → Option Self };
 
     /// The number of an entry, where it has one.
     fn number(entry: Option<Self>) -> Option<u16>
-        ensures { IfSome result (λ n. meant n ≡ entry) };
+        ensures is { IfSome result (λ n. meant n ≡ entry) }
+        ensures none { result ≡ None → (n : ℕ) → n < 2 ^ 16 → meant n ≢ entry };
 
     /// The entry of a number.
     fn entry(number: u16) -> Option<Self>
         ensures { result ≡ meant number };
 }
 
-/// Entries, each of which may be missing.
+/// Entries, each of which may be missing. They lie in 16 bits each, but where one of them has no such number.
 #[derive(Drop)]
 pub struct PackedRow<T: Small> {
     form: Form<T>,
@@ -39,11 +40,13 @@ enum Form<T: Small> {
 
 impl<T: Small> Model for PackedRow<T> {
     ghost use Rattle.std.specs.Prelude.{List, Option};
-    ghost use Rattle.tables.specs.Packed.{entries_in};
+    ghost use Rattle.tables.specs.Packed.{entries_in, IsNarrowIfSmall};
 
     ghost Value = { List (Option T) };
 
     ghost view = { λ r. entries_in T.meant r.form };
+
+    ghost invariant = { λ r. IsNarrowIfSmall T.meant r.form };
 }
 
 impl<T: Small> PackedRow<T> {
@@ -153,7 +156,9 @@ fn numbers_of<T: Small>(
     alloc: Global,
     entries: &[Option<T>],
 ) -> Result<Option<Vec<u16>>, AllocError>
-    ensures { IfOk result (λ found. IfSome found (λ ns. map T.meant ns.items ≡ entries.now)) }
+    ensures all { IfOk result (λ found. IfSome found (λ ns.
+        map T.meant ns.items ≡ entries.now)) }
+    ensures none { IfOk result (λ found. found ≡ None → HasLarge T.meant entries.now) }
 {
     let mut numbers = Vec::with_capacity(alloc, entries.len())?;
     for entry in entries {

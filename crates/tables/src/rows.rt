@@ -55,13 +55,14 @@ impl GotoRow {
 }
 
 impl Small for StateNumber {
-    ghost use Rattle.std.specs.Prelude.{◌≡◌, IfSome};
+    ghost use Rattle.std.specs.Prelude.{◌≡◌, ◌≢◌, ◌<◌, ◌^◌, ℕ, None, IfSome};
     ghost use Rattle.tables.specs.Numbers.{state_of_number};
 
     ghost meant = { state_of_number };
 
     fn number(entry: Option<StateNumber>) -> Option<u16>
-        ensures { IfSome result (λ n. state_of_number n ≡ entry) }
+        ensures is { IfSome result (λ n. state_of_number n ≡ entry) }
+        ensures none { result ≡ None → (n : ℕ) → n < 2 ^ 16 → state_of_number n ≢ entry }
     {
         match entry {
             None => Some(0),
