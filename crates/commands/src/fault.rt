@@ -13,7 +13,7 @@ use std::fmt;
 use thiserror::Error;
 
 /// A fault that the program prints on standard error.
-#[derive(Debug, Drop, PartialEq, Eq, Error)]
+#[derive(Debug, Drop, Error)]
 pub enum Fault {
     CommandLine,
     /// The first fault of the grammar's file.
