@@ -51,13 +51,19 @@ fn unused_names_are_noted(rt: HostRuntime) {
 
 #[test]
 fn refusals_are_printed(rt: HostRuntime) {
-    for (file, fault) in [
-        ("", "lrls: line 1: G1 first line\n"),
-        (
-            CHOICES,
-            "lrls: conflict on ELSE\nafter: IF IF S\nitem: S = IF S ., ELSE\nitem: S = IF S . ELSE S, end\n",
-        ),
-    ] {
-        prints(&rt, rt.alloc(), file, "", fault, 2);
-    }
+    prints(&rt, rt.alloc(), "", "", "lrls: line 1: G1 first line\n", 2);
+}
+
+/// Which way leads to a conflict is open, and so is the terminal of the item that shifts. `tests/program` walks the ways.
+#[test]
+fn conflicts_are_printed(rt: HostRuntime) {
+    let printed = checked(&rt, rt.alloc(), CHOICES);
+    let err = printed.err.as_slice();
+    let items = " IF S\nitem: S = IF S ., ELSE\nitem: S = IF S . ELSE S,";
+    let by_else = format!(in rt.alloc(); "{items} ELSE\n").expect(&rt, "memory");
+    let by_end = format!(in rt.alloc(); "{items} end\n").expect(&rt, "memory");
+    assert!(rt; printed.out.is_empty());
+    assert!(rt; err.starts_with(b"lrls: conflict on ELSE\nafter: IF"));
+    assert!(rt; err.ends_with(by_else.as_bytes()) || err.ends_with(by_end.as_bytes()));
+    assert!(rt; printed.status == 2);
 }

@@ -7,12 +7,15 @@ use std::alloc::Global;
 use std::cell::RefCell;
 use std::io::{self, Read};
 
-/// What an output took, how much of it was flushed, and whether each reply was flushed before the read after its request.
+/// What an output took, how much of it was flushed, whether each reply was flushed before the read after its request, and how many
+/// calls of the input and of the output succeeded.
 #[derive(Drop)]
 pub struct Record {
     pub taken: Vec<u8>,
     pub flushed: usize,
     pub is_prompt: bool,
+    pub reads: u64,
+    pub calls: u64,
 }
 
 impl Record {
@@ -21,6 +24,8 @@ impl Record {
             taken: Vec::new(alloc),
             flushed: 0,
             is_prompt: true,
+            reads: 0,
+            calls: 0,
         }
     }
 }

@@ -33,7 +33,7 @@ pub fn language(rt: &impl Abort, alloc: Global, file: &str) -> Language {
     language
 }
 
-/// Runs a session, and returns its outcome and its record.
+/// Runs a session, and returns its outcome and its record, with how many calls of each device succeeded.
 pub fn run_by(
     alloc: Global,
     language: Language,
@@ -59,7 +59,11 @@ pub fn run_by(
         has_failed: false,
     };
     let outcome = run(alloc, language, &mut pieces, &mut taker);
-    (outcome, record.into_inner())
+    let (reads, calls) = (pieces.reads, taker.calls);
+    let mut record = record.into_inner();
+    record.reads = way.reads.saturating_sub(reads);
+    record.calls = way.calls.saturating_sub(calls);
+    (outcome, record)
 }
 
 /// Puts a frame of this content after the bytes.
