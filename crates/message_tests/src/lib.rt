@@ -4,6 +4,8 @@
 #[cfg(test)]
 mod adapters;
 #[cfg(test)]
+mod faults;
+#[cfg(test)]
 mod framed_streams;
 #[cfg(test)]
 mod messages;
