@@ -1,12 +1,13 @@
 """The answers that the core doesn't have: colours, outline, completion, hover and brackets."""
 
+import asyncio
 import json
 from array import array
 from typing import Any, Awaitable, Callable
 
 from . import highlight, hover
 from .colours import Colours
-from .core import Core, Refused
+from .core import Answer, Core, Refused
 from .documents import MOST_DOCUMENTS, Document, Documents
 from .language import Language
 from .probe import NoRoom, Probe
@@ -15,7 +16,7 @@ from .structure import Structure
 from .symbols import Entry, flat, hierarchy
 from .symbols import joined as joined_outlines
 from .text import Place, place_in, range_in
-from .tokens import Tokens
+from .tokens import Tokens, Unread
 
 INVALID_PARAMS = Refused(-32602, "invalid params")
 CAPABILITIES = {
@@ -47,6 +48,8 @@ class Answers:
         self.core, self.documents, self.language = core, documents, language
         self.probe = Probe("probe", core, documents.unit, self.has_room)
         self.window = Probe("window", core, documents.unit, self.has_room)
+        # The tokens that were asked for when a document was opened, until somebody takes them.
+        self.early: dict[str, asyncio.Future[Answer]] = {}
         self.has_hierarchy = bool(member(client, "textDocument", "documentSymbol", "hierarchicalDocumentSymbolSupport"))
         self.methods: dict[str, Callable[[Any], Awaitable[Any]]] = {
             "textDocument/semanticTokens/full": self.colours,
@@ -77,9 +80,17 @@ class Answers:
                 return True
         return False
 
+    def ask_early(self, uri: str) -> None:
+        """Asks for the tokens of a document that is just opened, so that the core goes on with them at once."""
+        asked = self.early[uri] = self.core.ask("lr/tokens", uri)
+        asked.add_done_callback(lambda _: self.early.pop(uri, None) if asked.cancelled() or asked.exception() else None)
+
     async def asked(self, method: str, uri: str) -> tuple[Document, bytes]:
         """What the core says of a document, and the document as it was then. The core refuses one that isn't open, or lost."""
-        answer, clock = await self.core.ask(method, uri)
+        return self.held(uri, *await self.core.ask(method, uri))
+
+    def held(self, uri: str, answer: bytes, clock: int) -> tuple[Document, bytes]:
+        """An answer about a document, with the document, where that is as it was when the answer came."""
         document = self.documents.held.get(uri)
         if document is None or document.serial > clock:
             raise Changed
@@ -122,18 +133,30 @@ class Answers:
         return tokens.fill(rows, document.text)
 
     async def read_tokens(self, document: Document) -> None:
-        """Reads all tokens of a document."""
+        """Reads all tokens of a document. Whoever needs only some of them takes these from `unread` meanwhile."""
         document.tokens, document.edits = None, []
-        _, data = await self.asked("lr/tokens", document.uri)
-        serial = document.serial
-        tokens = Tokens(document.text)
-        await tokens.read(data)
+        document.unread = asyncio.ensure_future(self.sent_tokens(document.uri))
+        try:
+            serial, unread = await asyncio.shield(document.unread)
+            tokens = Tokens(document.text)
+            await tokens.read(unread.data, lambda: self.is_unchanged(document, serial))
+        finally:
+            document.unread = None
         self.unchanged(document, serial)
         document.tokens, document.edits = tokens, []
 
+    async def sent_tokens(self, uri: str) -> tuple[int, Unread]:
+        """All tokens of a document as the core sends them, with the document's serial then."""
+        document, data = self.held(uri, *await (self.early.pop(uri, None) or self.core.ask("lr/tokens", uri)))
+        return document.serial, Unread(data)
+
+    def is_unchanged(self, document: Document, serial: int) -> bool:
+        """Whether a document is the one that it was, without a change."""
+        return self.documents.held.get(document.uri) is document and document.serial == serial
+
     def unchanged(self, document: Document, serial: int) -> None:
         """Refuses to go on with a document that was changed."""
-        if self.documents.held.get(document.uri) is not document or document.serial != serial:
+        if not self.is_unchanged(document, serial):
             raise Changed
 
     async def painted(self, uri: str) -> tuple[Colours, "array[int]"]:
@@ -166,10 +189,24 @@ class Answers:
         places = range_in(params.get("range"))
         if places is None:
             raise INVALID_PARAMS
-        document, tokens = await self.tokens(uri)
-        first, last = (min(place[0], len(tokens.lines) - 1) for place in sorted(places))
-        begin = tokens.begin_of(first)
-        return {"data": self.language.painter.painted(tokens, document.text, begin, last + 1).tolist()}
+        first, last = (place[0] for place in sorted(places))
+        document, _ = await self.asked("lr/stats", uri)
+        data = await self.unread_colours(document, first, last)
+        if data is None:
+            document, tokens = await self.tokens(uri)
+            first, last = (min(line, len(tokens.lines) - 1) for line in (first, last))
+            data = self.language.painter.painted(tokens, document.text, tokens.begin_of(first), last + 1)
+        return {"data": data.tolist()}
+
+    async def unread_colours(self, document: Document, first: int, last: int) -> "array[int] | None":
+        """The colours of these lines, by what the core has sent, where all tokens are being read just now and nothing was changed."""
+        if document.unread is None:
+            return None
+        serial, unread = await asyncio.shield(document.unread)
+        if not self.is_unchanged(document, serial):
+            return None
+        first, last = (min(line, len(document.text.lines) - 1) for line in (first, last))
+        return self.language.painter.painted_rows(unread.rows(unread.begin_of(first), last + 1), document.text)
 
     async def structure(self, uri: str) -> tuple[Document, Structure]:
         """The tree of a document, or of what stands before its fault."""

@@ -3,10 +3,11 @@
 import itertools
 from array import array
 from dataclasses import dataclass
+from typing import Iterable
 
 from .settings import TYPES, Settings
 from .text import Place, Text
-from .tokens import Token, Tokens
+from .tokens import Row, Token, Tokens, token_of
 
 # A token of the protocol is five numbers.
 WIDTH = 5
@@ -59,21 +60,36 @@ class Painter:
 
     def painted(self, tokens: Tokens, text: Text, first: int = 0, last: int | None = None) -> "array[int]":
         """The colours of these lines, the last one left out."""
-        found: "array[int]" = array("I")
-        line, character = 0, 0
-        for number in range(first, len(tokens.lines) if last is None else min(last, len(tokens.lines))):
-            paint = tokens.paints[number]
-            if not isinstance(paint, Paint):
-                paint = tokens.paints[number] = self.paint(tokens.lines[number], number, text)
-            if paint is NOTHING:
-                continue
-            at = len(found)
-            found += paint.numbers
-            begin, begin_in = number + paint.first[0], paint.first[1]
-            found[at] = begin - line
-            found[at + 1] = begin_in - (character if begin == line else 0)
-            line, character = number + paint.last[0], paint.last[1]
-        return found
+        stop = len(tokens.lines) if last is None else min(last, len(tokens.lines))
+        return joined((line, self.paint_of(tokens, line, text)) for line in range(first, stop))
+
+    def paint_of(self, tokens: Tokens, line: int, text: Text) -> Paint:
+        """The colours of a line, which are kept with its tokens."""
+        paint = tokens.paints[line]
+        if not isinstance(paint, Paint):
+            paint = tokens.paints[line] = self.paint(tokens.lines[line], line, text)
+        return paint
+
+    def painted_rows(self, rows: list[Row], text: Text) -> "array[int]":
+        """The colours of these tokens."""
+        lines = itertools.groupby(rows, lambda row: row[1])
+        return joined((line, self.paint([token_of(row) for row in of_line], line, text)) for line, of_line in lines)
+
+
+def joined(paints: Iterable[tuple[int, Paint]]) -> "array[int]":
+    """The colours of some lines, as one list."""
+    found: "array[int]" = array("I")
+    line, character = 0, 0
+    for number, paint in paints:
+        if paint is NOTHING:
+            continue
+        at = len(found)
+        found += paint.numbers
+        begin, begin_in = number + paint.first[0], paint.first[1]
+        found[at] = begin - line
+        found[at + 1] = begin_in - (character if begin == line else 0)
+        line, character = number + paint.last[0], paint.last[1]
+    return found
 
 
 class Colours:

@@ -11,7 +11,7 @@ from dataclasses import dataclass, field
 from typing import Any
 
 from .text import Change, Text, Unit, is_count, range_in
-from .tokens import Tokens
+from .tokens import Tokens, Unread
 
 # The core refuses more, and longer ones.
 MOST_DOCUMENTS = 64
@@ -44,7 +44,8 @@ class Edit:
 class Document:
     """An open document. `serial` is what the clock said at its last change; `lost` says why the core has lost it, where it has.
     `made` is what was made of the text, and `moves` are the changes since its outline was. `edits` are those since its tokens were
-    brought up to date, None where nobody has asked for them."""
+    brought up to date, None where nobody has asked for them. While all tokens are read anew, `unread` has them as the core sends them,
+    with the serial of then."""
 
     def __init__(self, uri: str, sent: Sent, unit: Unit, serial: int) -> None:
         self.uri = uri
@@ -60,6 +61,7 @@ class Document:
         self.moves: list[Change] = []
         self.made: dict[str, Any] = {}
         self.tokens: Tokens | None = None
+        self.unread: asyncio.Future[tuple[int, Unread]] | None = None
         self.edits: list[Edit] | None = None
 
     def apply(self, sent: Sent, serial: int) -> None:

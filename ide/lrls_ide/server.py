@@ -349,6 +349,10 @@ class Server:
         if method == "textDocument/didOpen" and self.answers:
             self.answers.make_room()
         self.to_core(content)
+        if self.answers and isinstance(uri, str):
+            self.answers.early.pop(uri, None)
+            if method == "textDocument/didOpen" and self.wants_colours():
+                self.answers.ask_early(uri)
         if document is not None and document.edits is not None and self.core is not None:
             self.core.note("lr/stats", document.uri, document.counted)
 

@@ -11,6 +11,9 @@ Change = tuple[Place, Place, str]
 
 def lines_of(text: str) -> list[str]:
     """The lines, each with its break. The last one has none."""
+    if "\r" not in text:
+        *lines, last = text.split("\n")
+        return [*(line + "\n" for line in lines), last]
     parts = BREAK.split(text)
     return [line + end for line, end in zip(parts[::2], parts[1::2])] + [parts[-1]]
 

@@ -1,12 +1,15 @@
 """The tokens of a text, line by line.
 
-They are read once for a whole text. From then on only those are asked for that an edit makes, and from the numbers of `lr/stats`
-is known where these are: what an edit makes stands together, and at most as many of them stand before the edit as it makes.
+They are read once for a whole text; meanwhile those of some lines can be taken from what the core has sent. From then on only those
+are asked for that an edit makes, and from the numbers of `lr/stats` is known where these are: what an edit makes stands together, and
+at most as many of them stand before the edit as it makes.
 """
 
 import asyncio
 import json
-from bisect import bisect_right
+import math
+import re
+from bisect import bisect_left, bisect_right
 from typing import Callable, Iterator
 
 from .text import BREAK, Change, Place, Text, Unit
@@ -16,6 +19,8 @@ Row = tuple[str, int, int, int, int]
 # A token of a line: its rule, its first character, in how many lines more it ends, and at which character of that one.
 Token = tuple[str, int, int, int]
 BETWEEN = b"],["
+# How a row begins: its rule, its first line and its first character.
+HEAD = re.compile(rb'\["[^"]*",(\d+),(\d+)')
 # So many bytes of rows are read without letting other work go on.
 PIECE = 1 << 14
 
@@ -30,6 +35,12 @@ def end_of(row: Row) -> Place:
     return row[3], row[4]
 
 
+def token_of(row: Row) -> Token:
+    """A row as a token of its line."""
+    name, line, start, last, end = row
+    return name, start, last - line, end
+
+
 def pieces(data: bytes) -> Iterator[bytes]:
     """The list of rows that the core has sent, in lists that are shorter."""
     begin, last = 1, len(data) - 1
@@ -38,6 +49,43 @@ def pieces(data: bytes) -> Iterator[bytes]:
         end = last if end < 0 else end + 1
         yield b"[" + data[begin:end] + b"]"
         begin = end + 1
+
+
+class Unread:
+    """The list of all rows of a text, as the core has sent it. Those of some lines are read without the others."""
+
+    def __init__(self, data: bytes) -> None:
+        self.data = data
+
+    def row_from(self, at: int) -> int:
+        """Where the first row begins that begins at an index or behind it; where the list ends, if none does."""
+        if at <= 1:
+            return 1
+        found = self.data.find(BETWEEN, at - 2)
+        return len(self.data) - 1 if found < 0 else found + 2
+
+    def place_from(self, at: int) -> tuple[float, float]:
+        """The place of the token whose row is the first one from an index on; behind all places, if there is none."""
+        head = HEAD.match(self.data, self.row_from(at))
+        return (int(head.group(1)), int(head.group(2))) if head else (math.inf, 0)
+
+    def index_of(self, line: int) -> int:
+        """An index behind which the rows stand that begin in a line or below it, and no others."""
+        return bisect_left(range(len(self.data)), (line, 0), key=self.place_from)
+
+    def begin_of(self, line: int) -> int:
+        """The last line before this one, or it itself, in which a token begins that may reach into it."""
+        at = self.row_from(self.index_of(line))
+        if self.place_from(at) == (line, 0):
+            return line
+        before = HEAD.match(self.data, self.data.rfind(BETWEEN, 0, at) + 2)
+        return int(before.group(1)) if at > 1 and before else line
+
+    def rows(self, first: int, last: int) -> list[Row]:
+        """The tokens that begin in these lines, the last one left out."""
+        begin, end = (self.row_from(self.index_of(line)) for line in (first, last))
+        found: list[Row] = json.loads(b"[" + self.data[begin:end].rstrip(b",") + b"]")
+        return found
 
 
 class Tokens:
@@ -51,11 +99,13 @@ class Tokens:
         self.gap: tuple[Place, Place] | None = None
         self.total = self.known = 0
 
-    async def read(self, data: bytes) -> None:
-        """Reads all rows of a text. Other work goes on meanwhile."""
+    async def read(self, data: bytes, is_wanted: Callable[[], bool] = lambda: True) -> None:
+        """Reads all rows of a text, or as many as are read while this is so. Other work goes on meanwhile."""
         for piece in pieces(data):
             self.add(json.loads(piece))
             await asyncio.sleep(0)
+            if not is_wanted():
+                return
         self.total = self.known
 
     def add(self, rows: list[Row], at: Place = (0, 0)) -> None:
