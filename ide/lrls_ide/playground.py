@@ -6,6 +6,7 @@ import hmac
 import json
 import os
 import secrets
+import signal
 import sys
 import time
 import webbrowser
@@ -126,6 +127,7 @@ class Playground:
         outbox: asyncio.Queue[str] = asyncio.Queue()
 
         def send(message: dict[str, Any] | bytes) -> None:
+            """Puts a message where it waits for the page."""
             outbox.put_nowait(message.decode() if isinstance(message, bytes) else json.dumps(message, ensure_ascii=False))
 
         page = Page(self.program, send)
@@ -174,7 +176,7 @@ def arguments() -> argparse.Namespace:
 
 
 async def serve(given: argparse.Namespace, program: str) -> None:
-    """Serves pages until the program is ended."""
+    """Serves pages until the program is ended. Then it closes them, so that their folders and cores go too."""
     playground = Playground(program)
     runner = web.AppRunner(playground.application(), access_log=None)
     await runner.setup()
@@ -185,8 +187,10 @@ async def serve(given: argparse.Namespace, program: str) -> None:
     print(f"{address}\nWhoever has this address can use the page; Ctrl-C ends it.", flush=True)
     if given.open:
         webbrowser.open(address)
+    ended = asyncio.Event()
+    asyncio.get_running_loop().add_signal_handler(signal.SIGTERM, ended.set)
     try:
-        await asyncio.Event().wait()
+        await ended.wait()
     finally:
         await runner.cleanup()
 
