@@ -14,7 +14,6 @@ MOST_TRIES = 1_500
 MOST_TOKENS = 8
 MOST_CLOSERS = 400
 
-
 # Rules of tokens in a row, and what may follow after them.
 Way = tuple[list[str], list[str]]
 
@@ -30,9 +29,7 @@ class Endings:
         self.samples = {name: rule.literal or rule.pattern.sample() for name, rule in grammar.rules.items() if not rule.is_skipped}
         self.openers = {first for first, _ in grammar.pairs}
         self.closers = {last for _, last in grammar.pairs}
-        self.gaps = ["\n", " ", ""]
-        skipped = [rule.pattern.sample() for rule in grammar.rules.values() if rule.is_skipped]
-        self.gaps = [gap for gap in self.gaps if gap in skipped or gap == "" or self.is_skipped(grammar, gap)]
+        self.gaps = [gap for gap in ("\n", " ") if self.is_skipped(grammar, gap)] + [""]
         self.last: list[str] = []
 
     @staticmethod

@@ -57,6 +57,7 @@ class GrammarFault:
         lines = text.split("\n")
 
         def whole(number: int, start: int = 0) -> dict[str, Any]:
+            """The range of a line, from this character on."""
             line = lines[number].rstrip("\r") if number < len(lines) else ""
             width = len(line) + sum(character > "\uffff" for character in line)
             return {"start": {"line": number, "character": min(start, width)}, "end": {"line": number, "character": width}}

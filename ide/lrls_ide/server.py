@@ -32,7 +32,6 @@ MOST_TRIES = 8
 MOST_STARTS = 3
 # The seconds between two looks at the files of the language.
 WATCH = 0.3
-NOT_INITIALIZED = Refused(-32002, "server not initialized")
 MODIFIED = Refused(-32801, "content modified")
 CANCELLED = Refused(-32800, "request cancelled")
 ENCODINGS = ("utf-8", "utf-16", "utf-32")
