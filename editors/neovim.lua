@@ -72,6 +72,26 @@ local function tick_of(buffer)
   return vim.api.nvim_buf_get_changedtick(buffer)
 end
 
+-- Calls a function in each window that shows a buffer, as if it were the current one.
+local function in_windows(buffer, run)
+  for _, window in ipairs(vim.fn.win_findbuf(buffer)) do
+    vim.api.nvim_win_call(window, run)
+  end
+end
+
+-- The first of these numbers of which something is so. It is so of the last one, and of all after the first.
+local function first_of(first, last, is_so)
+  while first < last do
+    local middle = math.floor((first + last) / 2)
+    if is_so(middle) then
+      last = middle
+    else
+      first = middle + 1
+    end
+  end
+  return first
+end
+
 -- Places. Lines and bytes count from 0, as the server counts them too: it is asked for bytes when it starts.
 
 local function line_of(buffer, line)
@@ -97,6 +117,14 @@ local function client_of(buffer)
   return client and client.initialized and vim.lsp.buf_is_attached(buffer, id) and client or nil
 end
 
+-- Calls a method of a client, which takes the client itself from Neovim 0.11 on.
+local function call(client, name, ...)
+  if is_new then
+    return client[name](client, ...)
+  end
+  return client[name](...)
+end
+
 -- Asks the server about a buffer. `done` is called with the error, or with nil and the result.
 local function ask(buffer, method, params, done)
   local client = client_of(buffer)
@@ -109,11 +137,7 @@ local function ask(buffer, method, params, done)
       done(err, result)
     end
   end
-  if is_new then
-    client:request(method, params, answered, buffer)
-  else
-    client.request(method, params, answered, buffer)
-  end
+  call(client, "request", method, params, answered, buffer)
 end
 
 -- The same, for a command: waits for the result, and shows an error. Returns nil after an error.
@@ -207,11 +231,9 @@ local function draw_folds(buffer)
     return
   end
   state.is_drawn = true
-  for _, window in ipairs(vim.fn.win_findbuf(buffer)) do
-    vim.api.nvim_win_call(window, function()
-      vim.cmd("setlocal foldmethod=expr")
-    end)
-  end
+  in_windows(buffer, function()
+    vim.cmd("setlocal foldmethod=expr")
+  end)
 end
 
 local function set_folds(buffer, folds)
@@ -277,17 +299,10 @@ end
 
 -- The first token that ends in this line or after it, or nil.
 local function first_token(tokens, line)
-  local low, high = 1, #tokens + 1
-  while low < high do
-    local middle = math.floor((low + high) / 2)
-    local at = token_from(tokens, middle)
-    if at and token_at(tokens, at)[4] < line then
-      low = at + 1
-    else
-      high = middle
-    end
-  end
-  return token_from(tokens, low)
+  return token_from(tokens, first_of(1, #tokens + 1, function(place)
+    local at = token_from(tokens, place)
+    return not at or token_at(tokens, at)[4] >= line
+  end))
 end
 
 -- Colours. Only the lines that a window shows are coloured, and of each only what begins before the column 'synmaxcol', where
@@ -296,18 +311,16 @@ end
 -- The lines that windows show of a buffer, without those in closed folds.
 local function shown(buffer)
   local lines = {}
-  for _, window in ipairs(vim.fn.win_findbuf(buffer)) do
-    vim.api.nvim_win_call(window, function()
-      local line, last = vim.fn.line("w0"), vim.fn.line("w$")
-      while line <= last do
-        local closed = vim.fn.foldclosedend(line)
-        if closed < 0 then
-          table.insert(lines, line - 1)
-        end
-        line = math.max(line, closed) + 1
+  in_windows(buffer, function()
+    local line, last = vim.fn.line("w0"), vim.fn.line("w$")
+    while line <= last do
+      local closed = vim.fn.foldclosedend(line)
+      if closed < 0 then
+        table.insert(lines, line - 1)
       end
-    end)
-  end
+      line = math.max(line, closed) + 1
+    end
+  end)
   return lines
 end
 
@@ -378,11 +391,6 @@ local function in_slices(run, is_wanted, done)
   go_on()
 end
 
--- The first token of this name from a place of the text on.
-local function token_named(tokens, at, name)
-  return tokens:find('["' .. name .. '"', at, true)
-end
-
 -- Reads a tree from its text, in slices. Of each node and token, in the order of the text from the root on: its name, its depth,
 -- the number of the node that it lies in, and of its first and its last leaf. The leaves are the tokens that the text of the tree
 -- names (the others are skipped ones), and `leaf_nodes` has their numbers among the nodes.
@@ -393,7 +401,7 @@ local function read_tree(text, tokens)
     number = number + 1
     tree.names[number], tree.depths[number], tree.parents[number], tree.firsts[number] = name, depth, open[depth], leaf + 1
     if opening == "" then
-      leaf, at = leaf + 1, token_named(tokens, at + 1, name)
+      leaf, at = leaf + 1, tokens:find('["' .. name .. '"', at + 1, true)
       tree.leaves[leaf], tree.leaf_nodes[leaf], tree.lasts[number] = at, number, leaf
     else
       depth = depth + 1
@@ -441,17 +449,10 @@ end
 
 -- The number of the last leaf that begins at this place or before it, or 0.
 local function leaf_before(tree, line, byte)
-  local low, high = 0, #tree.leaves
-  while low < high do
-    local middle = math.ceil((low + high) / 2)
-    local token = token_at(tree.tokens, tree.leaves[middle])
-    if is_before(line, byte, token[2], token[3]) then
-      high = middle - 1
-    else
-      low = middle
-    end
-  end
-  return low
+  return first_of(1, #tree.leaves + 1, function(leaf)
+    local token = token_at(tree.tokens, tree.leaves[leaf])
+    return is_before(line, byte, token[2], token[3])
+  end) - 1
 end
 
 -- The number of the innermost node around a place, or of the root.
@@ -491,11 +492,9 @@ local function mark_node(buffer)
   local row, indent = number - view.first + 1, 2 * (view.tree.depths[number] - view.depth)
   vim.api.nvim_buf_clear_namespace(view.buffer, marks, 0, -1)
   vim.api.nvim_buf_set_extmark(view.buffer, marks, row - 1, 0, { line_hl_group = "Visual" })
-  for _, window in ipairs(vim.fn.win_findbuf(view.buffer)) do
-    vim.api.nvim_win_call(window, function()
-      show_row(row, indent)
-    end)
-  end
+  in_windows(view.buffer, function()
+    show_row(row, indent)
+  end)
 end
 
 -- Shows a tree, and the node under the cursor in it.
@@ -1054,11 +1053,7 @@ local function resend(buffer)
   local text = table.concat(vim.api.nvim_buf_get_lines(buffer, 0, -1, true), "\n") .. "\n"
   local document = { uri = vim.uri_from_bufnr(buffer), version = tick_of(buffer) }
   local params = { textDocument = document, contentChanges = { { text = text } } }
-  if is_new then
-    client:notify("textDocument/didChange", params)
-  else
-    client.notify("textDocument/didChange", params)
-  end
+  call(client, "notify", "textDocument/didChange", params)
 end
 
 local function is_empty(buffer)
@@ -1167,44 +1162,37 @@ for _, language in ipairs(languages) do
   add(language)
 end
 
--- Calls a function with the current buffer at these events, where the buffer is served.
+-- Calls a function with what Neovim tells of each of these events.
 local function at(events, run)
-  vim.api.nvim_create_autocmd(events, {
-    group = group,
-    callback = function(event)
-      if served[event.buf] then
-        run(event.buf)
-      end
-    end,
-  })
+  vim.api.nvim_create_autocmd(events, { group = group, callback = run })
 end
 
-at("BufWinEnter", show_folds)
-at("BufWinEnter", paint)
-at("InsertLeave", draw_folds)
-vim.api.nvim_create_autocmd("WinScrolled", {
-  group = group,
-  callback = function()
-    for buffer in pairs(served) do
-      paint(buffer)
+-- Calls a function with the current buffer at these events, where the buffer is served.
+local function at_served(events, run)
+  at(events, function(event)
+    if served[event.buf] then
+      run(event.buf)
     end
-  end,
-})
-at({ "CursorMoved", "CursorMovedI" }, mark_node)
-vim.api.nvim_create_autocmd("BufWritePost", {
-  group = group,
-  callback = function(event)
-    grammar_written(event.match)
-  end,
-})
-vim.api.nvim_create_autocmd("BufReadPost", {
-  group = group,
-  callback = function(event)
-    for _, language in ipairs(languages_in(event.match)) do
-      check_grammar(language, function() end)
-    end
-  end,
-})
+  end)
+end
+
+at_served("BufWinEnter", show_folds)
+at_served("BufWinEnter", paint)
+at_served("InsertLeave", draw_folds)
+at_served({ "CursorMoved", "CursorMovedI" }, mark_node)
+at("WinScrolled", function()
+  for buffer in pairs(served) do
+    paint(buffer)
+  end
+end)
+at("BufWritePost", function(event)
+  grammar_written(event.match)
+end)
+at("BufReadPost", function(event)
+  for _, language in ipairs(languages_in(event.match)) do
+    check_grammar(language, function() end)
+  end
+end)
 command("LrlsGrow", grow, "selects the innermost node around the cursor, or around the selection")
 command("LrlsShrink", shrink, "goes back to the selection before the last :LrlsGrow")
 command("LrlsTree", toggle_tree, "opens or closes a window with the tree")
