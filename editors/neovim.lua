@@ -1102,7 +1102,7 @@ local function show_folds()
 end
 
 -- A line of more bytes is a long one.
-local long_line = 100000
+local long_line = 20000
 
 local function has_long_line(buffer)
   for _, line in ipairs(vim.api.nvim_buf_get_lines(buffer, 0, -1, false)) do
