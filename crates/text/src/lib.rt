@@ -28,5 +28,5 @@ mod places;
 pub use characters::Chars;
 pub use definitions::{Position, Range, Unit};
 pub use document::{LONGEST_TEXT, Text, TextFault};
-pub use laws::equal_faults_are_the_same;
+pub use laws::{changes_keep_texts, equal_faults_are_the_same};
 pub use places::Places;
