@@ -4,7 +4,7 @@ ghost use Rattle.std.specs.Prelude.{◌≡◌, ◌↔◌, ℕ, List, Some, None,
 ghost use Rattle.frames.specs.declared.fault.DeviceFault.{DeviceFault as Device};
 ghost use Rattle.frames.specs.declared.fault.FrameFault.{FrameFault as Fault};
 ghost use Rattle.frames.specs.declared.fault.RunFault.{RunFault as Ending};
-ghost use Rattle.frames.specs.Frames.{Tail, Splits, HasSplit};
+ghost use Rattle.frames.specs.Frames.{Tail, Splits, HasSplit, Continues, GoesOn};
 ghost use Rattle.frames.specs.Header.{header_size, header_length, IsWhole, IsHeaderPart, IsHeaderLength};
 
 use crate::fault::FrameFault;
@@ -14,6 +14,12 @@ pub fn one_split()
     ensures some { (bytes : List ℕ) → HasSplit bytes }
     ensures at_most_one { (bytes : List ℕ) (cs ds : List (List ℕ)) (t u : Tail) →
         Splits bytes cs t → Splits bytes ds u → (cs ≡ ds) × (t ≡ u) }
+{}
+
+/// Whole frames stay as they are when their stream goes on: what the tail and the piece after it make comes after them.
+pub fn streams_go_on()
+    ensures { (old : Tail) (piece : List ℕ) (contents : List (List ℕ)) (new : Tail) →
+        Continues old piece contents new → GoesOn old piece contents new }
 {}
 
 /// `header_size` is the size of the header part, where there is one, and none where no prefix is a whole header part.

@@ -30,7 +30,9 @@ mod write;
 
 pub use decoder::{Decoder, Frame};
 pub use fault::{DeviceFault, FrameFault, RunFault};
-pub use laws::{equal_faults_are_the_same, first_fault_decides, one_split, shortest_header_part};
+pub use laws::{
+    equal_faults_are_the_same, first_fault_decides, one_split, shortest_header_part, streams_go_on,
+};
 pub use sink::{Output, WriteOutput};
 pub use source::{Input, ReadInput};
 pub use write::write_frame;
