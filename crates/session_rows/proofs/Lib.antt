@@ -1,0 +1,5 @@
+mod Known
+mod FewBytes
+mod Sums
+mod TypedSession
+mod Digits

@@ -1,0 +1,409 @@
+-- What a session comes to in which a text of sums is opened empty and then typed in.
+use Rattle.std.specs.Prelude.{◌≡◌, ℕ, pos, List, [], ◌∷◌, ◌++◌, codes, Bool, true, false, ◌||◌, nat_lt, Option, Some, None, Result, Ok, Err, refl, take, ◌⊎◌, option_map, ◌+◌, encode_utf8_all, ◌↔◌}
+use Rattle.std.proofs.Common.{ap, sym, subst, ◌∙◌, inl, inr, arith}
+use Rattle.std.specs.Char.{encode_utf8}
+use Rattle.std.specs.FinMap.{empty, get, insert, len, contains_key, get-insert, len-empty}
+use Rattle.std.proofs.lemmas.Cmp.{nat_list_cmp_total}
+use Rattle.std.specs.Fmt.{digits}
+use Rattle.std.specs.Str.{chars, is_utf8}
+use Rattle.definitions.specs.Answers.{message, diagnostic}
+use Rattle.definitions.specs.Sentences.{IsExpected, IsViable, IsVerdict, Verdict, HasTree, FaultAt, FaultAtEnd}
+use Rattle.definitions.specs.Text.{changed, offset, line_start, line_from, line_of, position, break_ends, units, greatest}
+use Rattle.definitions.specs.Tokens.{Token as Piece, AreTokens, kinds}
+use Rattle.definitions.specs.declared.Kind.{Kind}
+use Rattle.definitions.specs.declared.Kind.TheVariants.{Rule as Token}
+use Rattle.definitions.specs.declared.Range.{Range}
+use Rattle.definitions.specs.declared.Symbol.TheVariants.{Rule as Terminal, Nonterminal}
+use Rattle.definitions.specs.declared.expression.Expression.{Expression}
+use Rattle.definitions.specs.Patterns.{Matches}
+use Rattle.definitions.specs.Spelling.{Spells, IsPattern}
+use Rattle.definitions.specs.Trees.{Grammar}
+use Rattle.grammar.specs.Meaning.{IsGrammarOf, file_grammar}
+use Rattle.grammar_file.specs.Contents.{rules}
+use Rattle.grammar_file.specs.Kept.{ArePatterns}
+use Rattle.grammar_line.specs.Statements.{statements}
+use Rattle.json.specs.Print.{escape_byte}
+use Rattle.serde_json.proofs.OnLiterals.{serde_json_on_literals}
+use Rattle.frames.specs.Frames.{Open, Splits}
+use Rattle.frames.specs.declared.fault.RunFault.{RunFault}
+use Rattle.frames.specs.declared.fault.RunFault.TheVariants.{Frame, Read, Write, Memory}
+use Rattle.readings.specs.Answers.{Diagnostic}
+use Rattle.readings.specs.Diagnostics.{IsDiagnosis, looks}
+use Rattle.readings.specs.Grammars.{FileGrammar}
+use Rattle.readings.specs.Texts.{OpenDocument}
+use Rattle.rpc.specs.Ids.{Ident, numbered}
+use Rattle.rpc.specs.Log.TheVariants as log
+use Rattle.rpc.specs.Loss.TheVariants as loss
+use Rattle.rpc.specs.Messages.{accepted, request, notification, initialize, shutdown, about, its_text, exit, open_text, change_text, TextChange}
+use Rattle.rpc.specs.Reading.{received_in}
+use Rattle.rpc.specs.Refusal.TheVariants as refusal
+use Rattle.rpc.specs.Replies.{Answer, capabilities_reply, null_reply, text_reply, error_reply, published_diagnostics, log_message}
+use Rattle.rpc.specs.Unit.{Unit as Encoding}
+use Rattle.rpc.specs.Unit.TheVariants.{Utf16}
+use Rattle.sessions.specs.Answers.{IsPublished, IsAnswer, shown}
+use Rattle.sessions.specs.Documents.{DocumentState, is_open, is_lost, Held, Becomes, edited, has_room}
+use Rattle.sessions.specs.Runs.{Run, bytes_of}
+use Rattle.sessions.specs.Steps.{State, Step, first_state, new_document, Opens, Holds, Changes}
+use Rattle.sessions.specs.declared.phase.Phase.TheVariants.{Ready, Down}
+use Rattle.session_rows.specs.Known.{ComesTo, CameEither}
+use Rattle.session_rows.specs.Written.{typed, typed_and_lost}
+use Rattle.session_rows.proofs.FewBytes.{Known, next, last}
+use Rattle.session_rows.proofs.Sums.{sums, skips, number, not_empty, at_first, no_tokens, one_kind}
+
+-- ---- what is received
+
+abbrev uri : List ℕ
+uri = codes "a:x"
+
+abbrev of : ℕ → Ident
+of n = numbered (pos n)
+
+abbrev initializes : List ℕ
+initializes = codes "{\"jsonrpc\":\"2.0\",\"id\":1,\"method\":\"initialize\",\"params\":{}}"
+
+abbrev opens : List ℕ
+opens = codes "{\"jsonrpc\":\"2.0\",\"method\":\"textDocument/didOpen\",\"params\":{\"textDocument\":{\"uri\":\"a:x\",\"languageId\":\"g\",\"version\":1,\"text\":\"\"}}}"
+
+abbrev types : List ℕ
+types =
+    codes "{\"jsonrpc\":\"2.0\",\"method\":\"textDocument/didChange\",\"params\":{\"textDocument\":{\"uri\":\"a:x\",\"version\":2},"
+    ++ codes "\"contentChanges\":[{\"range\":{\"start\":{\"line\":0,\"character\":0},\"end\":{\"line\":0,\"character\":0}},\"text\":\"12\"},"
+    ++ codes "{\"range\":{\"start\":{\"line\":0,\"character\":0},\"end\":{\"line\":0,\"character\":1}},\"text\":\"\"}]}}"
+
+abbrev asks : List ℕ
+asks = codes "{\"jsonrpc\":\"2.0\",\"id\":2,\"method\":\"lr/text\",\"params\":{\"textDocument\":{\"uri\":\"a:x\"}}}"
+
+abbrev shuts_down : List ℕ
+shuts_down = codes "{\"jsonrpc\":\"2.0\",\"id\":3,\"method\":\"shutdown\"}"
+
+abbrev exits : List ℕ
+exits = codes "{\"jsonrpc\":\"2.0\",\"method\":\"exit\"}"
+
+abbrev both_changes : List TextChange
+both_changes =
+    record { range = Some (record { start = record { line = 0; character = 0 }; end = record { line = 0; character = 0 } }); text = codes "12" }
+    ∷ record { range = Some (record { start = record { line = 0; character = 0 }; end = record { line = 0; character = 1 } }); text = [] }
+    ∷ []
+
+initializes_is : received_in initializes ≡ accepted (request (of 1) (initialize Utf16))
+unfolding chars encode_utf8 is_utf8 serde_json_on_literals
+initializes_is = refl
+
+opens_is : received_in opens ≡ accepted (notification (open_text uri (pos 1) []))
+unfolding chars encode_utf8 is_utf8 serde_json_on_literals
+opens_is = refl
+
+types_is : received_in types ≡ accepted (notification (change_text uri (pos 2) both_changes))
+unfolding chars encode_utf8 is_utf8 serde_json_on_literals
+types_is = refl
+
+asks_is : received_in asks ≡ accepted (request (of 2) (about uri its_text))
+unfolding chars encode_utf8 is_utf8 serde_json_on_literals
+asks_is = refl
+
+shuts_down_is : received_in shuts_down ≡ accepted (request (of 3) shutdown)
+unfolding chars encode_utf8 is_utf8 serde_json_on_literals
+shuts_down_is = refl
+
+exits_is : received_in exits ≡ accepted (notification exit)
+unfolding chars encode_utf8 is_utf8 serde_json_on_literals
+exits_is = refl
+
+-- ---- what is published
+
+-- what the file of sums defines, with these patterns
+abbrev pub sums_file : List Expression → FileGrammar
+sums_file patterns = record {
+  names = codes "NUM" ∷ codes "PLUS" ∷ codes "LP" ∷ codes "RP" ∷ codes "WS" ∷ [];
+  patterns = patterns;
+  skips = skips;
+  nonterminals = codes "Sum" ∷ codes "Atom" ∷ [];
+  folds = false ∷ true ∷ [];
+  grammar = sums;
+  defined = Terminal 0 ∷ Terminal 1 ∷ Terminal 2 ∷ Terminal 3 ∷ Terminal 4 ∷ Nonterminal 0 ∷ Nonterminal 1 ∷ [];
+}
+
+abbrev no_text : OpenDocument
+no_text = record { unit = Utf16; version = pos 1; text = []; last = None }
+
+abbrev start : Range
+start = record { start = record { line = 0; character = 0 }; end = record { line = 0; character = 0 } }
+
+abbrev first_published : Answer
+first_published = published_diagnostics uri (Some (pos 1)) (Some (start, codes "unexpected end; expected NUM, LP"))
+
+-- a fault is reported of the empty text: that a number or a parenthesis is expected
+module _ (only_rules : (r s : List ℕ) (a b : Bool) → IsExpected sums [] r a → IsExpected sums [] s b → r ≡ s)
+    (only_end : (r s : List ℕ) (a b : Bool) → IsExpected sums [] r a → IsExpected sums [] s b → a ≡ b)
+    (patterns : List Expression) where
+  fault_of_none : (v : Verdict) (fault : Option Diagnostic) → IsVerdict sums [] v → IsDiagnosis Utf16 (sums_file patterns) [] [] v fault
+      → fault ≡ Some (record { range = start; message = codes "unexpected end; expected NUM, LP" })
+  unfolding message position line_of line_start line_from break_ends units
+  fault_of_none (HasTree t) fault is d = absurd (not_empty (t, is))
+  fault_of_none (FaultAt k) fault is d = absurd (omega (arith, is.0))
+  fault_of_none FaultAtEnd fault is (rules, at_end, expected, reported) =
+      let rules_are : rules ≡ 0 ∷ 2 ∷ [] = only_rules rules (0 ∷ 2 ∷ []) at_end false expected at_first in
+      let end_is : at_end ≡ false = only_end rules (0 ∷ 2 ∷ []) at_end false expected at_first in
+      subst (λ rs. fault ≡ Some (diagnostic Utf16 (sums_file patterns).names [] [] 0 (looks rs false))) rules_are
+      (subst (λ b. fault ≡ Some (diagnostic Utf16 (sums_file patterns).names [] [] 0 (looks rules b))) end_is reported)
+
+  published_of_none : (answer : Answer) → IsPublished (sums_file patterns) uri no_text answer → answer ≡ first_published
+  unfolding encode_utf8
+  published_of_none answer (reading, is, (fault, diagnosis, sent)) =
+      let none : reading.tokens ≡ [] = no_tokens patterns reading.tokens is.tokens in
+      let verdict = subst (λ xs. IsVerdict sums (kinds skips xs) reading.verdict) none is.verdict in
+      let of_none = subst (λ xs. IsDiagnosis Utf16 (sums_file patterns) [] xs reading.verdict fault) none diagnosis in
+      sent ∙ ap (λ f. published_diagnostics uri (Some (pos 1)) (option_map shown f)) (fault_of_none reading.verdict fault verdict of_none)
+
+-- no fault is reported of `2`
+module _ (e : Expression) (es : List Expression) (two : Matches e (50 ∷ [])) where
+  no_fault : (u : Encoding) (xs : List Piece) (v : Verdict) (fault : Option Diagnostic) → IsVerdict sums (Token 0 ∷ []) v
+      → IsDiagnosis u (sums_file (e ∷ es)) (codes "2") xs v fault → fault ≡ None
+  no_fault u xs (HasTree t) fault is d = d
+  no_fault u xs (FaultAt k) fault is d =
+      let first : k ≡ 0 = omega (arith, is.0) in
+      absurd (subst (λ n. ¬ IsViable sums (take (n + 1) (Token 0 ∷ []))) first is.1 ([], number))
+  no_fault u xs FaultAtEnd fault is d = absurd (is.0 number)
+
+  published_of_two : (d : OpenDocument) (answer : Answer) → d.text ≡ codes "2" → d.version ≡ pos 2 → IsPublished (sums_file (e ∷ es)) uri d answer
+      → answer ≡ published_diagnostics uri (Some (pos 2)) None
+  published_of_two d answer text version (reading, is, (fault, diagnosis, sent)) =
+      let tokens = subst (λ t. AreTokens (e ∷ es) t reading.tokens) text is.tokens in
+      let verdict = subst (λ ks. IsVerdict sums ks reading.verdict) (one_kind e es two reading.tokens tokens) is.verdict in
+      let of_two = subst (λ t. IsDiagnosis d.unit (sums_file (e ∷ es)) t reading.tokens reading.verdict fault) text diagnosis in
+      let none = no_fault d.unit reading.tokens reading.verdict fault verdict of_two in
+      sent ∙ ap (λ f. published_diagnostics uri (Some d.version) (option_map shown f)) none ∙ ap (λ n. published_diagnostics uri (Some n) None) version
+
+-- ---- the steps
+
+or_true : (b : Bool) → (b || true) ≡ true
+or_true true = refl
+or_true false = refl
+
+-- there is room where nothing is held
+room : (documents : Held) → len documents ≡ 0 → has_room uri documents ≡ true
+room documents none = ap (λ n. contains_key documents uri || nat_lt n 64) none ∙ or_true (contains_key documents uri)
+
+module _ (file : FileGrammar) where
+  abbrev ready : Held → State
+  ready documents = record { file = file; phase = Ready Utf16; documents = documents }
+
+  abbrev down : Held → State
+  down documents = record { file = file; phase = Down; documents = documents }
+
+  -- what follows the change: the text is asked for, and the server shuts down and exits
+  ends : (documents : Held) (reply : Answer) → ((other : Answer) → IsAnswer file (of 2) (get documents uri) its_text other → other ≡ reply)
+      → (answers : List Answer) (stop : Option ℕ) (after : State) → Run (ready documents) (asks ∷ shuts_down ∷ exits ∷ []) answers stop after
+      → (answers ≡ reply ∷ null_reply (of 3) ∷ []) × (stop ≡ Some 0)
+  ends documents reply only answers stop after run =
+      let asked = next (ready documents) (ready documents) asks (shuts_down ∷ exits ∷ []) _ asks_is answers (reply ∷ []) stop after
+      (λ sent halt m s. (s.2.0 ∙ ap (λ a. a ∷ []) (only s.0 s.1), s.2.1, s.2.2)) run in
+      let shut = next (ready documents) (down documents) shuts_down (exits ∷ []) _ shuts_down_is asked.0 (null_reply (of 3) ∷ []) stop after (λ sent halt m s. s) asked.2 in
+      let exited = last (down documents) exits [] _ exits_is shut.0 stop after 0 (λ sent halt m s. (s.0, s.1)) shut.2 in
+      (asked.1 ∙ ap (λ l. reply ∷ l) (shut.1 ∙ ap (λ l. null_reply (of 3) ∷ l) exited.0), exited.1)
+
+  abbrev held : DocumentState → Held
+  held state = insert empty uri state
+
+  found : (documents : Held) (state : DocumentState) → get (insert documents uri state) uri ≡ Some state
+  found documents state = get-insert nat_list_cmp_total documents uri state uri
+
+  fits_is : new_document Utf16 (pos 1) (chars []) ≡ is_open no_text
+  unfolding chars encode_utf8
+  fits_is = refl
+
+  -- the first two contents, and what is sent on them
+  opened : (answers : List Answer) (stop : Option ℕ) (after : State)
+      → ((answer : Answer) → IsPublished file uri no_text answer → answer ≡ first_published)
+      → Run (first_state file) (initializes ∷ opens ∷ types ∷ asks ∷ shuts_down ∷ exits ∷ []) answers stop after
+      → (rest : List Answer) × (answers ≡ capabilities_reply (of 1) Utf16 ∷ first_published ∷ rest)
+      × Run (ready (held (is_open no_text))) (types ∷ asks ∷ shuts_down ∷ exits ∷ []) rest stop after
+  opened answers stop after published run =
+      let first = next (first_state file) (ready empty) initializes (opens ∷ types ∷ asks ∷ shuts_down ∷ exits ∷ []) _ initializes_is answers
+      (capabilities_reply (of 1) Utf16 ∷ []) stop after (λ sent halt m s. s) run in
+      let second = next (ready empty) (ready (held (is_open no_text))) opens (types ∷ asks ∷ shuts_down ∷ exits ∷ []) _ opens_is first.0 (first_published ∷ []) stop after
+      (λ sent halt m s. holds sent halt m (subst (λ d. Opens true (ready empty) uri d sent halt m) fits_is
+      (subst (λ b. Opens b (ready empty) uri (new_document Utf16 (pos 1) (chars [])) sent halt m) (room empty (len-empty _ _)) s))) first.2 in
+      (second.0, first.1 ∙ ap (λ l. capabilities_reply (of 1) Utf16 ∷ l) second.1, second.2)
+    where
+      holds : (sent : List Answer) (halt : Option ℕ) (m : State) → Holds (ready empty) uri (is_open no_text) sent halt m
+          → (sent ≡ first_published ∷ []) × (halt ≡ None) × (m ≡ ready (held (is_open no_text)))
+      holds sent halt m h = (h.2 ∙ ap (λ a. a ∷ []) (published h.0 h.1), h.3.0, h.3.1)
+
+abbrev typed_answers : List Answer
+typed_answers = capabilities_reply (of 1) Utf16 ∷ first_published ∷ published_diagnostics uri (Some (pos 2)) None ∷ text_reply (of 2) (pos 2) (codes "2") ∷ null_reply (of 3) ∷ []
+
+abbrev lost_answers : List Answer
+lost_answers = capabilities_reply (of 1) Utf16 ∷ first_published ∷ published_diagnostics uri None None ∷ log_message (log.Lost loss.Memory)
+    ∷ error_reply (Some (of 2)) (refusal.DocumentLost loss.Memory) ∷ null_reply (of 3) ∷ []
+
+typed_bytes : bytes_of typed_answers ≡ typed
+unfolding digits escape_byte
+typed_bytes = refl
+
+lost_bytes : bytes_of lost_answers ≡ typed_and_lost
+unfolding digits escape_byte
+lost_bytes = refl
+
+edited_is : edited Utf16 [] both_changes ≡ Some (codes "2")
+unfolding chars encode_utf8 changed offset line_start line_from break_ends units greatest
+edited_is = refl
+
+-- ---- the change
+
+abbrev after_open : List Answer
+after_open = published_diagnostics uri (Some (pos 2)) None ∷ text_reply (of 2) (pos 2) (codes "2") ∷ null_reply (of 3) ∷ []
+
+abbrev after_loss : List Answer
+after_loss = published_diagnostics uri None None ∷ log_message (log.Lost loss.Memory) ∷ error_reply (Some (of 2)) (refusal.DocumentLost loss.Memory) ∷ null_reply (of 3) ∷ []
+
+module _ (file : FileGrammar)
+    (published : (d : OpenDocument) (answer : Answer) → d.text ≡ codes "2" → d.version ≡ pos 2 → IsPublished file uri d answer
+    → answer ≡ published_diagnostics uri (Some (pos 2)) None) where
+  abbrev before : Held
+  before = held file (is_open no_text)
+
+  its_reply : (e : OpenDocument) → e.text ≡ codes "2" → e.version ≡ pos 2 → (other : Answer)
+      → IsAnswer file (of 2) (get (insert before uri (is_open e)) uri) its_text other → other ≡ text_reply (of 2) (pos 2) (codes "2")
+  unfolding encode_utf8
+  its_reply e text version other answer =
+      subst (λ o. IsAnswer file (of 2) o its_text other) (found file before (is_open e)) answer
+      ∙ ap (λ v. text_reply (of 2) v (encode_utf8_all e.text)) version ∙ ap (λ t. text_reply (of 2) (pos 2) (encode_utf8_all t)) text
+
+  its_loss : (other : Answer) → IsAnswer file (of 2) (get (insert before uri (is_lost loss.Memory)) uri) its_text other
+      → other ≡ error_reply (Some (of 2)) (refusal.DocumentLost loss.Memory)
+  its_loss other answer = subst (λ o. IsAnswer file (of 2) o its_text other) (found file before (is_lost loss.Memory)) answer
+
+  becomes : (state : DocumentState) (sent : List Answer) (m : State) (later answers : List Answer) (stop : Option ℕ) (after : State)
+      → Becomes file (pos 2) no_text both_changes state → Holds (ready file before) uri state sent None m
+      → answers ≡ sent ++ later → Run m (asks ∷ shuts_down ∷ exits ∷ []) later stop after
+      → ((answers ≡ after_open) ⊎ (answers ≡ after_loss)) × (stop ≡ Some 0)
+  becomes (is_open e) sent m later answers stop after b h is run =
+      let same : Some e.text ≡ Some (codes "2") = sym b.0 ∙ edited_is in
+      let text : e.text ≡ codes "2" = cc same in
+      let rest = ends file (insert before uri (is_open e)) (text_reply (of 2) (pos 2) (codes "2")) (its_reply e text b.2) later stop after
+      (subst (λ x. Run x (asks ∷ shuts_down ∷ exits ∷ []) later stop after) h.3.1 run) in
+      (inl (is ∙ ap (λ l. l ++ later) (h.2 ∙ ap (λ a. a ∷ []) (published e h.0 text b.2 h.1)) ∙ ap (λ l. published_diagnostics uri (Some (pos 2)) None ∷ l) rest.0), rest.1)
+  becomes (is_lost loss.TooLarge) sent m later answers stop after b h is run = let f : ⊥ = cc (sym edited_is ∙ b) in absurd f
+  becomes (is_lost loss.MalformedChange) sent m later answers stop after b h is run = absurd b
+  becomes (is_lost loss.Memory) sent m later answers stop after b h is run =
+      let rest = ends file (insert before uri (is_lost loss.Memory)) (error_reply (Some (of 2)) (refusal.DocumentLost loss.Memory)) its_loss later stop after
+      (subst (λ x. Run x (asks ∷ shuts_down ∷ exits ∷ []) later stop after) h.1.1 run) in
+      (inr (is ∙ ap (λ l. l ++ later) h.0 ∙ ap (λ l. published_diagnostics uri None None ∷ log_message (log.Lost loss.Memory) ∷ l) rest.0), rest.1)
+
+  goes_on : (state : DocumentState) (sent : List Answer) (halt : Option ℕ) (m : State) → Holds (ready file before) uri state sent halt m → halt ≡ None
+  goes_on (is_open e) sent halt m h = h.3.0
+  goes_on (is_lost l) sent halt m h = h.1.0
+
+  change_of : (sent : List Answer) (halt : Option ℕ) (m : State) → Step (ready file before) (received_in types) sent halt m
+      → (state : DocumentState) × Becomes file (pos 2) no_text both_changes state × Holds (ready file before) uri state sent halt m
+  change_of sent halt m step =
+      subst (λ o. Changes o (ready file before) uri (pos 2) both_changes sent halt m) (found file empty (is_open no_text)) (subst (λ r. Step (ready file before) r sent halt m) types_is step)
+
+  typed_in : (answers : List Answer) (stop : Option ℕ) (after : State) → Run (ready file before) (types ∷ asks ∷ shuts_down ∷ exits ∷ []) answers stop after
+      → ((answers ≡ after_open) ⊎ (answers ≡ after_loss)) × (stop ≡ Some 0)
+  typed_in answers stop after (sent, None, m, step, (later, is, run)) =
+      let c = change_of sent None m step in becomes c.0 sent m later answers stop after c.1 c.2 is run
+  typed_in answers stop after (sent, Some status, m, step, end) =
+      let c = change_of sent (Some status) m step in absurd (cc (goes_on c.0 sent (Some status) m c.2))
+
+-- ---- the whole session
+
+abbrev all_contents : List (List ℕ)
+all_contents = initializes ∷ opens ∷ types ∷ asks ∷ shuts_down ∷ exits ∷ []
+
+abbrev pub session_bytes : List ℕ
+session_bytes =
+    codes "Content-Length: 58\r\n\r\n" ++ initializes ++ codes "Content-Length: 128\r\n\r\n" ++ opens ++ codes "Content-Length: 296\r\n\r\n" ++ types
+    ++ codes "Content-Length: 83\r\n\r\n" ++ asks ++ codes "Content-Length: 44\r\n\r\n" ++ shuts_down ++ codes "Content-Length: 33\r\n\r\n" ++ exits
+
+splits : Splits session_bytes all_contents (Open [])
+splits = (
+  22,
+  record { header = refl; follows = refl },
+  (
+    23,
+    record { header = refl; follows = refl },
+    (
+      23,
+      record { header = refl; follows = refl },
+      (
+        22,
+        record { header = refl; follows = refl },
+        (
+          22,
+          record { header = refl; follows = refl },
+          (22, record { header = refl; follows = refl }, (refl, tt)),
+        ),
+      ),
+    ),
+  ),
+)
+
+module _ (file : FileGrammar)
+    (first : (answer : Answer) → IsPublished file uri no_text answer → answer ≡ first_published)
+    (second : (d : OpenDocument) (answer : Answer) → d.text ≡ codes "2" → d.version ≡ pos 2 → IsPublished file uri d answer
+    → answer ≡ published_diagnostics uri (Some (pos 2)) None) where
+  whole : (answers : List Answer) (stop : Option ℕ) (after : State) → Run (first_state file) all_contents answers stop after
+      → ((answers ≡ typed_answers) ⊎ (answers ≡ lost_answers)) × (stop ≡ Some 0)
+  whole answers stop after run =
+      let begun = opened file answers stop after first run in
+      let done = typed_in file second begun.0 stop after begun.2 in
+      (by begun.0 begun.1 done.0, done.1)
+    where
+      by : (rest : List Answer) → answers ≡ capabilities_reply (of 1) Utf16 ∷ first_published ∷ rest → (rest ≡ after_open) ⊎ (rest ≡ after_loss)
+          → (answers ≡ typed_answers) ⊎ (answers ≡ lost_answers)
+      by rest is (inl e) = inl (is ∙ ap (λ l. capabilities_reply (of 1) Utf16 ∷ first_published ∷ l) e)
+      by rest is (inr e) = inr (is ∙ ap (λ l. capabilities_reply (of 1) Utf16 ∷ first_published ∷ l) e)
+
+  written_so : (answers : List Answer) (written : List ℕ) → written ≡ bytes_of answers → (answers ≡ typed_answers) ⊎ (answers ≡ lost_answers)
+      → (written ≡ typed) ⊎ (written ≡ typed_and_lost)
+  written_so answers written is (inl e) = inl (is ∙ ap bytes_of e ∙ typed_bytes)
+  written_so answers written is (inr e) = inr (is ∙ ap bytes_of e ∙ lost_bytes)
+
+  came : (written : List ℕ) (outcome : Result ℕ RunFault) → ComesTo file all_contents (Open []) written outcome → CameEither (Ok 0) typed typed_and_lost outcome written
+  came written (Ok status) (answers, stop, after, run, is, inl some) =
+      let w = whole answers stop after run in
+      let same : Some status ≡ Some 0 = sym some ∙ w.1 in
+      let zero_is : status ≡ 0 = cc same in
+      inl (ap (λ n. Ok n) zero_is, written_so answers written is w.0)
+  came written (Ok status) (answers, stop, after, run, is, inr (none, finish, one)) =
+      absurd (cc (sym none ∙ (whole answers stop after run).1))
+  came written (Err (Frame fault)) (answers, stop, after, run, is, (none, finish)) =
+      absurd (cc (sym none ∙ (whole answers stop after run).1))
+  came written (Err Read) k = inr tt
+  came written (Err Write) k = inr tt
+  came written (Err Memory) k = inr tt
+
+-- ---- the grammar file
+
+abbrev pub sums_text : List ℕ
+sums_text =
+    codes "lrgrammar 1\ntoken NUM = [0-9]+\ntoken PLUS = \"+\"\ntoken LP = \"(\"\ntoken RP = \")\"\nskip WS = [ \\t\\r\\n]+\n"
+    ++ codes "start Sum\nfold Atom\nSum = Sum PLUS Atom\nSum = Atom\nAtom = NUM\nAtom = LP Sum RP\n"
+
+file_is : (patterns : List Expression) → file_grammar (statements sums_text) patterns ≡ sums_file patterns
+unfolding chars encode_utf8
+file_is patterns = refl
+
+first_pattern : (patterns : List Expression) → ArePatterns (rules (statements sums_text)) patterns
+    → (e : Expression) × (es : List Expression) × (patterns ≡ e ∷ es) × IsPattern (codes "[0-9]+") e
+unfolding chars encode_utf8
+first_pattern [] are = absurd are
+first_pattern (e ∷ es) are = (e, es, refl, are.0)
+
+-- what laws say of what may follow, and of the meaning of a pattern's text
+pub record Laws : Type 0 where
+  pub rules : (g : Grammar) (x : List Kind) (r s : List ℕ) (a b : Bool) → IsExpected g x r a → IsExpected g x s b → r ≡ s
+  pub ends : (g : Grammar) (x : List Kind) (r s : List ℕ) (a b : Bool) → IsExpected g x r a → IsExpected g x s b → a ≡ b
+  pub meaning : (t : List ℕ) (e f : Expression) (u : List ℕ) → Spells e t → Spells f t → Matches e u ↔ Matches f u
+
+-- a session over these bytes of a language that the file of sums defines
+pub came_typed : Laws → (number : Expression) → Spells number (codes "[0-9]+") → Matches number (codes "2") → (file : FileGrammar) → IsGrammarOf sums_text file
+    → (written : List ℕ) (outcome : Result ℕ RunFault) → Known file session_bytes written outcome → CameEither (Ok 0) typed typed_and_lost outcome written
+came_typed laws number spelled two file grammar written outcome known =
+    let first = first_pattern file.patterns grammar.patterns in
+    let is : file ≡ sums_file (first.0 ∷ first.1) = grammar.is ∙ file_is file.patterns ∙ ap sums_file first.2 in
+    let means : Matches first.0 (codes "2") = (laws.meaning (codes "[0-9]+") number first.0 (codes "2") spelled first.3.spelled).0 two in
+    let comes = subst (λ f. ComesTo f all_contents (Open []) written outcome) is (known all_contents (Open []) splits) in
+    came (sums_file (first.0 ∷ first.1)) (published_of_none (laws.rules sums []) (laws.ends sums []) (first.0 ∷ first.1)) (published_of_two first.0 first.1 means) written outcome comes

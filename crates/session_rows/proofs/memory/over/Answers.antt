@@ -1,0 +1,10 @@
+use Rattle.std.specs.Prelude.{ℕ, List, Some, refl}
+use Rattle.std.proofs.Common.{ap}
+use Rattle.session_rows.proofs.Known.{comes_to}
+use Rattle.session_rows.proofs.memory.over.Goals as goal
+
+pub returns : goal.returns
+returns c = comes_to
+    (record { some = c.one_split.ensures.some; one = c.one_split.ensures.at_most_one; go_on = c.streams_go_on.ensures })
+    c.args.language.file c.args.bytes.now _ _ _ _ _ c.run-result.result
+    c.new-input.ensures.bytes (ap (λ (xs : List ℕ). Some xs) c.new.ensures.items) refl c.run-result.ensures.session

@@ -1,0 +1,14 @@
+//! Worked sessions. Each is a function that runs its bytes; what is written, and how the session ends, follows from the
+//! contract of `run` alone.
+//!
+//! A session may also end because a device gave out or memory was refused: an `Input` can be read so many times, and
+//! then fails, and bytes that are written take memory.
+#![tactic(auto)]
+
+mod few_bytes;
+mod memory;
+mod typed;
+
+pub use few_bytes::{cut_short, no_json, then_no_frame, two_lengths};
+pub use memory::{Ran, over};
+pub use typed::typing;
