@@ -117,7 +117,8 @@ fn a_device_that_fails_leaves_a_prefix_of_the_answers(rt: HostRuntime) {
         piece: 100,
         ..WHOLE
     };
-    let whole = run_by(alloc, language(&rt, alloc, SUMS), &stored.input, pieces, &[]).1;
+    let sums = language(&rt, alloc, SUMS);
+    let whole = run_by(alloc, sums, &stored.input, pieces, &[]).1;
     let just_enough = Way {
         reads: whole.reads,
         calls: whole.calls,
