@@ -6,4 +6,5 @@ pub mod Repeats
 pub mod Runs
 pub mod Unique
 pub mod WellMade
+pub mod WithoutFault
 pub mod Words

@@ -8,24 +8,26 @@ by_plain P c (Plain o x) p h = let Q : ℕ → Type 0 = λ y. P (Plain o y) in s
 by_plain P c (Escaped o x) p h = absurd h
 by_plain P c (BadEscape o) p h = absurd h
 
+-- `us` and whatever has P after it have Q, with the items `v` first
+abbrev pub GoesOn : {A : Type 0} → (P Q : List A → List Written → Type 0) → List A → List Written → Type 0
+GoesOn {A = A} P Q v us = (more : List A) (then : List Written) → P more then → Q (v ++ more) (us ++ then)
+
+pub one_more : {A : Type 0} (P Q : List A → List Written → Type 0) (v : List A) (c : A) (us ws : List Written) → GoesOn P Q v us → ((more : List A) (then : List Written) → P more then → P (c ∷ more) (ws ++ then)) → GoesOn P Q (v ++ c ∷ []) (us ++ ws)
+one_more {A = A} P Q v c us ws goes longer more then h =
+    let R : List A → Type 0 = λ x. Q x ((us ++ ws) ++ then) in
+    let S : List Written → Type 0 = λ x. Q (v ++ c ∷ more) x in
+    subst R (sym (append_assoc v (c ∷ []) more)) (subst S (sym (append_assoc us ws then)) (goes (c ∷ more) (ws ++ then) (longer more then h)))
+
 -- after ws come v's characters, and then vs
 abbrev pub IsLiteralSoFar : List ℕ → List Written → List Written → Type 0
-IsLiteralSoFar v ws vs =
-    (us : List Written) × (ws ≡ us ++ vs) × ((more : List ℕ) (then : List Written) → IsLiteralRest more then → IsLiteralRest (v ++ more) (us ++ then))
+IsLiteralSoFar v ws vs = (us : List Written) × (ws ≡ us ++ vs) × GoesOn IsLiteralRest IsLiteralRest v us
 
 abbrev pub IsClassSoFar : List Interval → List Written → List Written → Type 0
-IsClassSoFar is ws vs =
-    (us : List Written) × (ws ≡ us ++ vs) × ((more : List Interval) (then : List Written) → IsClassRest more then → IsClassRest (is ++ more) (us ++ then))
-
-snoc_along : {A : Type 0} (P : List A → List Written → Type 0) (v : List A) (c : A) (more : List A) (us : List Written) (w : Written) (then : List Written) → P (v ++ c ∷ more) (us ++ w ∷ then) → P ((v ++ c ∷ []) ++ more) ((us ++ w ∷ []) ++ then)
-snoc_along {A = A} P v c more us w then h =
-    let Q : List A → Type 0 = λ x. P x ((us ++ w ∷ []) ++ then) in
-    let R : List Written → Type 0 = λ x. P (v ++ c ∷ more) x in
-    subst Q (sym (append_assoc v (c ∷ []) more)) (subst R (sym (append_assoc us (w ∷ []) then)) h)
+IsClassSoFar is ws vs = (us : List Written) × (ws ≡ us ++ vs) × GoesOn IsClassRest IsClassRest is us
 
 pub one_more_literal : (v : List ℕ) (c : ℕ) (ws vs rest : List Written) (w : Written) → IsLiteralSoFar v ws vs → vs ≡ w ∷ rest → IsLiteralChar c w → IsLiteralSoFar (v ++ c ∷ []) ws rest
 one_more_literal v c ws vs rest w (us, e, goes) f char =
-    (us ++ w ∷ [], e ∙ ap (λ x. us ++ x) f ∙ sym (append_assoc us (w ∷ []) rest), λ more then h. snoc_along IsLiteralRest v c more us w then (goes (c ∷ more) (w ∷ then) (char, h)))
+    (us ++ w ∷ [], e ∙ ap (λ x. us ++ x) f ∙ sym (append_assoc us (w ∷ []) rest), one_more IsLiteralRest IsLiteralRest v c us (w ∷ []) goes (λ more then h. (char, h)))
 
 pub literal_closed : (v : List ℕ) (o : ℕ) (ws vs rest : List Written) → IsLiteralSoFar v ws vs → vs ≡ Plain o 34 ∷ rest → IsLiteralPrefix v ws rest
 literal_closed v o ws vs rest (us, e, goes) f =
@@ -109,14 +111,8 @@ no_caret n d b (Plain o x ∷ ws) h =
 no_caret n d b (w ∷ ws) h = refl
 
 pub one_more_item : (is : List Interval) (i : Interval) (ws vs rest : List Written) → IsClassSoFar is ws vs → IsItemPrefix i vs rest → IsClassSoFar (is ++ i ∷ []) ws rest
-one_more_item is i ws vs rest (us, e, goes) (item, f, h) = (
-  us ++ item,
-  e ∙ ap (λ x. us ++ x) f ∙ sym (append_assoc us item rest),
-  λ more then g.
-      let Q : List Interval → Type 0 = λ x. IsClassRest x ((us ++ item) ++ then) in
-      let R : List Written → Type 0 = λ x. IsClassRest (is ++ i ∷ more) x in
-      subst Q (sym (append_assoc is (i ∷ []) more)) (subst R (sym (append_assoc us item then)) (goes (i ∷ more) (item ++ then) (item, then, refl, h, g))),
-)
+one_more_item is i ws vs rest (us, e, goes) (item, f, h) =
+    (us ++ item, e ∙ ap (λ x. us ++ x) f ∙ sym (append_assoc us item rest), one_more IsClassRest IsClassRest is i us item goes (λ more then g. (item, then, refl, h, g)))
 
 pub class_closed : (is : List Interval) (o : ℕ) (ws vs rest : List Written) → IsClassSoFar is ws vs → vs ≡ Plain o 93 ∷ rest → IsClassPrefix is ws rest
 class_closed is o ws vs rest (us, e, goes) f =

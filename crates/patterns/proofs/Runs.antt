@@ -1,6 +1,6 @@
 -- A text that spells a well made expression has no fault.
 use Rattle.std.proofs.Common.{◌≡◌, ◌≢◌, ◌⊎◌, inl, inr, ℕ, zero, suc, ◌-◌, ◌<◌, ◌≤◌, ◌==◌, nat_lt, nat_le, Bool, true, false, not, ◌||◌, List, [], ◌∷◌, ◌++◌, refl, sym, ◌∙◌, ap, subst, append_assoc, add-one, arith, length, Option, Some, None}
-use Rattle.patterns.proofs.Common.{PatternFault, append-nil, nat_tests, list_all, AllByRecursion, Interval, Expression, IsCharacter, is_member, is_within, is_in_class, Written, Plain, Escaped, BadEscape, written, IsFault, code_after, is_everything, is_nothing, Before, Nothing, AnAtom, ARepetition, is_something, Outside, InLiteral, InClass, Opened, Items, First, Dash, closed, fault_from, or_later, first_fault, Level, Alt, Seq, Rep, Atom, SpellsAt, choice, sequence, star, plus, optional, literal, class, group, one_seq, one_rep, one_atom, blank_before, blank_after, IsSign, IsBlank, IsLiteralRest, IsLiteral, IsItem, IsClassRest, IsClass, IsClassChar, IsWellMade, IsPattern, Begins, place}
+use Rattle.patterns.proofs.Common.{PatternFault, append-nil, nat_tests, list_all, AllByRecursion, Interval, Expression, IsCharacter, is_member, is_within, is_in_class, Written, Plain, Escaped, BadEscape, written, IsFault, code_after, is_everything, is_nothing, Before, Nothing, AnAtom, ARepetition, is_something, Outside, InLiteral, InClass, Opened, Items, First, Dash, closed, fault_from, or_later, first_fault, Level, Alt, Seq, Rep, Atom, SpellsAt, choice, sequence, star, plus, optional, literal, class, group, one_seq, one_rep, one_atom, blank_before, blank_after, IsSign, IsBlank, IsLiteralRest, IsLiteral, IsItem, IsClassRest, IsClass, IsClassChar, IsWellMade, IsPattern, Spells, Begins, place}
 use Rattle.patterns.proofs.Blanks.{blank_step}
 use Rattle.patterns.proofs.WellMade.{and_both, or_case, or_left, or_right, le_tested}
 use Rattle.patterns.proofs.Unique.{one_meaning}
@@ -296,12 +296,12 @@ ended n Nothing h = cc
 ended n AnAtom h = refl
 ended n ARepetition h = refl
 
--- the text of a pattern has no fault
-pub accepted : (t : List ℕ) (e : Expression) → IsPattern t e → first_fault t ≡ None
+-- a text that spells a well made expression has no fault
+pub accepted : (t : List ℕ) (e : Expression) → Spells e t → IsWellMade e → first_fault t ≡ None
 unfolding first_fault
-accepted t e h =
+accepted t e s m =
     let n = length t in
-    let one = runs h.spelled h.well_made n Nothing [] in
+    let one = runs s m n Nothing [] in
     ap (fault_from n (Outside 0 Nothing)) (sym (append-nil (written 0 t))) ∙ one.2 ∙ ended n one.0 one.1
 
 clash : (o : Option PatternFault) (f : PatternFault) → o ≡ Some f → o ≡ None → ⊥
@@ -309,6 +309,6 @@ clash o f g h = cc
 
 -- a text with a fault is no pattern's
 pub refused : (t : List ℕ) (f : PatternFault) → IsFault t f → (e : Expression) → IsPattern t e → ⊥
-refused t f (inl g) e h = clash (first_fault t) f g (accepted t e h)
+refused t f (inl g) e h = clash (first_fault t) f g (accepted t e h.spelled h.well_made)
 refused t f (inr (none, is, (g, s, m))) e h =
     h.not_empty ((one_meaning t e g h.spelled s []).1 m)

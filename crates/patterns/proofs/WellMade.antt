@@ -54,7 +54,7 @@ le_tested a b h = grind (arith, nat_tests)
 some_outside : (is : List Interval) → list_all is_range is ≡ true → is_everything is ≡ false → (c : ℕ) × IsCharacter c × (is_member c is ≡ false)
 some_outside is r h = outside_at is (is_member 0 is) refl h (gap is is r)
 
-has_member : (negated : Bool) (is : List Interval) → list_all is_range is ≡ true → is_nothing negated is ≡ false → (c : ℕ) × IsCharacter c × (is_in_class negated is c ≡ true)
+pub has_member : (negated : Bool) (is : List Interval) → list_all is_range is ≡ true → is_nothing negated is ≡ false → (c : ℕ) × IsCharacter c × (is_in_class negated is c ≡ true)
 has_member true is r h = let g = some_outside is r h in (g.0, g.1, not_false (is_member g.0 is) g.2)
 has_member false [] r h = cc
 has_member false (i ∷ is) r h =
@@ -62,14 +62,14 @@ has_member false (i ∷ is) r h =
     let f = and_both (is_scalar i.first) (is_scalar i.last && nat_le i.first i.last) e.0 in
     (i.first, scalar_character i.first f.0, rw (reflexive i.first, (and_both (is_scalar i.last) (nat_le i.first i.last) f.1).1) refl)
 
-ranges : (is : List Interval) → list_all is_range is ≡ true → AllByRecursion (λ i. i.first ≤ i.last) is
+pub ranges : (is : List Interval) → list_all is_range is ≡ true → AllByRecursion (λ i. i.first ≤ i.last) is
 ranges [] h = tt
 ranges (i ∷ is) h =
     let e = and_both (is_range i) (list_all is_range is) h in
     let f = and_both (is_scalar i.first) (is_scalar i.last && nat_le i.first i.last) e.0 in
     (le_tested i.first i.last (and_both (is_scalar i.last) (nat_le i.first i.last) f.1).1, ranges is e.1)
 
-filled : {A : Type 0} (xs : List A) → not (is_empty xs) ≡ true → xs ≢ []
+pub filled : {A : Type 0} (xs : List A) → not (is_empty xs) ≡ true → xs ≢ []
 filled [] h p = cc
 filled (x ∷ xs) h p = cc
 

@@ -38,7 +38,7 @@ mod refusals;
 use characters::spelled_characters;
 pub use definitions::{Expression, Interval, PatternCause, PatternFault};
 use empty::matches_empty;
-pub use laws::one_text_has_one_meaning;
+pub use laws::{one_text_has_one_meaning, texts_without_a_fault_are_spelled};
 use parts::whole;
 use refusals::{Refusal, fault};
 use std::alloc::{AllocError, Global};
