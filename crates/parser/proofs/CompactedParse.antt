@@ -1,5 +1,5 @@
 -- A parse in a compacted store is the parse that it was.
-use Rattle.std.proofs.Common.{◌≡◌, List, [], ◌∷◌, sym, ap, subst, refl, arith, ◌∙◌}
+use Rattle.std.proofs.Common.{◌≡◌, List, [], ◌∷◌, sym, ap, subst, refl, ◌∙◌}
 use Rattle.parser.proofs.Common.{head-eq_of_cons-eq, tail-eq_of_cons-eq, Kind, all_branches, HaveRoots, Stamped, StampedCons, plain_trees, IsVerdict, Child, Cell, all_trees, forest_in, forest_of, tree_of, trees_from, trees_of, Sets, IsStateOf, IsSameParse, plain_of, AreStacked, AreUpTo, IsParseOf, Stop, all_branches_by, verdict_in}
 
 -- lists of the same trees are the same forests
@@ -33,6 +33,5 @@ module _ (old : List Cell) (p : Stop) (new : List Cell) (q : Stop) (same : IsSam
     branches = same.branches ∙ h.branches ∙ ap all_branches (sym same_plain);
     built = same.built ∙ h.built ∙ (λ i. all_branches_by (sym same.number i) (sym same.trees i));
     older = subst (λ n. AreUpTo n (all_trees new q.stack)) (sym same.number) (subst (AreUpTo p.number) (sym same.trees) h.older);
-    fits = omega (arith, ap all_branches same_plain, same.fits h.fits);
     countable = h.countable;
   }

@@ -1,6 +1,6 @@
 -- What a cut of a list of trees keeps of them: their kinds, their nodes, and what holds of each.
 use Rattle.std.proofs.Common.{◌≡◌, ◌⊎◌, ℕ, ◌+◌, ◌<◌, ◌≤◌, zero, suc, get_or, min, List, [], ◌∷◌, ◌++◌, length, refl, sym, ap, ◌∙◌, subst, inl, inr, ⊎_elim, arith, append_assoc, length-append}
-use Rattle.parser.proofs.Common.{Grammar, Tree, Forest, Leaf, Branch, trees, yield, yields, all_kinds, StandsIn, Top, Below, Past, all_branches, place_of, plain, plain_trees, kinds-append, kinds-trees, stands_in_prefix, stands_after, closed, branches-append, branches-trees, NodeId, Child, Node, Cell, AreBelow, all_trees, most, tree, trees_from, all_below-more, plain_of, AreParts, ComeFrom, AreOlder, kinds_in, AreChildren, IsSplitAt, Here, Used_up, Whole}
+use Rattle.parser.proofs.Common.{Grammar, Tree, Forest, Leaf, Branch, trees, yield, yields, all_kinds, StandsIn, Top, Below, Past, place_of, plain, plain_trees, kinds-append, kinds-trees, stands_in_prefix, stands_after, closed, branches-append, branches-trees, NodeId, Child, Node, Cell, AreBelow, all_trees, most, tree, trees_from, all_below-more, plain_of, AreParts, ComeFrom, AreOlder, kinds_in, AreChildren, IsSplitAt, Here, Used_up, Whole}
 use Rattle.parser.specs.Cuts.{Opened}
 use Rattle.parser.proofs.LeftEdge.{open_parts, weight}
 use Rattle.parser.proofs.Reductions.{below-append, plain-append, plain-children, kids_of}
@@ -80,9 +80,6 @@ module _ (cells : List Cell) where
     over : (P : List Tree → List Tree → Type 0) (cs : List Child) → P (trees us ++ plain_of cells cs) (Branch of_id.production us ∷ plain_of cells cs) → P (plain_of cells (kids ++ cs)) (plain_of cells (Node id ∷ cs))
     over P cs h = subst (λ t. P (plain_of cells (kids ++ cs)) (t ∷ plain_of cells cs)) is_branch (subst (λ l. P l (Branch of_id.production us ∷ plain_of cells cs)) (before_it cs) h)
 
-    pub opened_branches : (cs : List Child) → all_branches (plain_of cells (kids ++ cs)) < all_branches (plain_of cells (Node id ∷ cs))
-    opened_branches cs = over (λ one two. all_branches one < all_branches two) cs (omega (arith, branches-append (trees us) (plain_of cells cs), branches-trees us))
-
     pub opened_lighter : (cs : List Child) → weight (plain_of cells (kids ++ cs)) < weight (plain_of cells (Node id ∷ cs))
     opened_lighter cs = over (λ one two. weight one < weight two) cs (branch_lighter of_id.production us (plain_of cells cs))
 
@@ -107,13 +104,6 @@ module _ (cells : List Cell) where
   cut_kinds Used_up = refl
   cut_kinds (Whole {c = c} {start = start} {back = back} e d) = ap (λ l. yield (plain (tree cells c)) ++ l) (cut_kinds d) ∙ sym (append_assoc (yield (plain (tree cells c))) (all_kinds (plain_of cells start)) (all_kinds (plain_of cells back)))
   cut_kinds (Opened {cs = cs} some less of_id d) = sym (opened_kinds of_id cs) ∙ cut_kinds d
-
-  -- and no more branches than it
-  pub cut_branches : {n : ℕ} {cs start back : List Child} → IsSplitAt cells n cs start back → all_branches (plain_of cells start) + all_branches (plain_of cells back) ≤ all_branches (plain_of cells cs)
-  cut_branches Here = omega arith
-  cut_branches Used_up = omega arith
-  cut_branches (Whole e d) = omega (arith, cut_branches d)
-  cut_branches (Opened {cs = cs} some less of_id d) = omega (arith, cut_branches d, opened_branches of_id cs)
 
   pub cut_below : (m : ℕ) {n : ℕ} {cs start back : List Child} → IsSplitAt cells n cs start back → AreBelow m cs → AreBelow m start × AreBelow m back
   cut_below m Here h = (tt, h)

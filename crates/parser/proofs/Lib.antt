@@ -22,5 +22,4 @@ pub mod Prepared
 pub mod Replaced
 pub mod Renaming
 pub mod CompactedParse
-pub mod Fits
 pub mod Edges

@@ -1,12 +1,11 @@
 -- The children that a splice leaves, with the new kinds between them, are an input for the kinds after the splice.
 use Rattle.std.proofs.Common.{◌≡◌, ◌≢◌, ◌⊎◌, ℕ, ◌+◌, ◌-◌, ◌<◌, ◌≤◌, List, [], ◌∷◌, ◌++◌, length, take, drop, map, refl, sym, ap, ◌∙◌, subst, inl, inr, ⊎_elim, arith, append_assoc, length-append, take-append-drop}
-use Rattle.parser.proofs.Common.{drop-append_seam, take-append_seam, take-append-add, cases_lt, append-nil, Kind, Grammar, Tree, Branch, Leaf, all_kinds, plain_all, plain_trees, StampedForest, StampedIn, StandsIn, all_branches, place_of, Splice, spliced, IsPrepared, stamped_stands, branches-append, stands_length, kinds-append, Child, Token, Cell, AreBelow, all_trees, trees_from, plain_of, AreParts, IsInput, before_leaves, input_of, leaves, MoveFrom, AreOlder, IsSplitAt}
-use Rattle.parser.proofs.Fits.{no_branches}
+use Rattle.parser.proofs.Common.{drop-append_seam, take-append_seam, take-append-add, cases_lt, append-nil, Kind, Grammar, Tree, Branch, Leaf, all_kinds, plain_all, plain_trees, StampedForest, StampedIn, StandsIn, place_of, Splice, spliced, IsPrepared, stamped_stands, stands_length, kinds-append, Child, Token, Cell, AreBelow, all_trees, trees_from, plain_of, AreParts, IsInput, before_leaves, input_of, leaves, MoveFrom, AreOlder, IsSplitAt}
 use Rattle.parser.proofs.Running.{kinds_leaves}
 use Rattle.parser.proofs.LeftEdge.{parts-append}
 use Rattle.parser.proofs.Reductions.{below-append, plain-append}
 use Rattle.parser.proofs.Stamping.{nowhere_stamped, stamped_after, stamped_before, stamped_split, trees_of-append}
-use Rattle.parser.proofs.Cuts.{cut_after, cut_below, cut_branches, cut_came, cut_kinds, cut_older, cut_parts, older-append}
+use Rattle.parser.proofs.Cuts.{cut_after, cut_below, cut_came, cut_kinds, cut_older, cut_parts, older-append}
 use Rattle.parser.proofs.Prepared.{no_branch, place-append, prepared_short, prepared_within}
 
 -- new has the new kinds in the place of what the splice takes away of the old trees, or what there is of these where they end
@@ -70,11 +69,6 @@ module _ (cells : List Cell) (s : Splice) (ordered : s.from ≤ s.to) where
       let two = cut_older cells number second one.1 in
       older-append number cells prefix (map Token s.kinds ++ rest) one.0 (older-append number cells (map Token s.kinds) rest (λ lefts p born us w. absurd (no_stamped cells s.kinds w)) two.1)
   replaced_older number (Short first short) h = (cut_older cells number first h).0
-
-  pub replaced_fits : {old new : List Child} → IsReplaced cells s old new → all_branches (plain_of cells new) ≤ all_branches (plain_of cells old)
-  replaced_fits (Within {prefix = prefix} {rest = rest} first reached second fits filled) =
-      omega (arith, cut_branches cells first, cut_branches cells second, ap all_branches (within_trees prefix rest), branches-append (plain_of cells prefix) (leaves s.kinds ++ plain_of cells rest), branches-append (leaves s.kinds) (plain_of cells rest), no_branches s.kinds)
-  replaced_fits (Short first short) = omega (arith, cut_branches cells first)
 
   -- what stands before the splice stays where it is
   prefix_moved : {old prefix back : List Child} → IsSplitAt cells s.from old prefix back → place_of (plain_of cells prefix) ≤ s.from → MoveFrom s (all_trees cells old) (all_trees cells prefix)

@@ -1,11 +1,9 @@
 -- A parse whose store is compacted.
-use Rattle.std.specs.Prelude.{◌≡◌, ℕ, ◌+◌, ◌*◌, ◌≤◌, List, [], ◌∷◌, length, take}
+use Rattle.std.specs.Prelude.{◌≡◌, ℕ, ◌+◌, ◌*◌, List, [], ◌∷◌, length, take}
 use Rattle.trees.specs.declared.store.NodeId.{NodeId}
 use Rattle.trees.specs.declared.store.Child.{Child}
 use Rattle.trees.specs.declared.store.Child.TheVariants.{Token, Node}
 use Rattle.trees.specs.Cells.{Cell, AreBelow, all_trees}
-use Rattle.definitions.specs.Nodes.{all_branches}
-use Rattle.parser.specs.Machine.{plain_of}
 use Rattle.parser.specs.declared.machine.Halt.{Halt}
 use Rattle.parser.specs.Parses.{Stop, verdict_in, verdict_of}
 
@@ -17,7 +15,7 @@ bound branches = 2 * branches + 1024
 abbrev pub IsLonger : List Cell → ℕ → List Cell → Type 0
 IsLonger old n new = (take (length old) new ≡ old) × (length new ≡ length old + n)
 
--- a parse whose store was compacted is the same under other names, and has a node for each branch where it had one before
+-- a parse whose store was compacted is the same under other names
 pub record IsSameParse (old : List Cell) (p : Stop) (new : List Cell) (q : Stop) : Type 0 where
   pub trees : all_trees new q.stack ≡ all_trees old p.stack
   pub below : AreBelow (length new) q.stack
@@ -27,7 +25,6 @@ pub record IsSameParse (old : List Cell) (p : Stop) (new : List Cell) (q : Stop)
   pub branches : q.branches ≡ p.branches
   pub built : q.built ≡ p.built
   pub number : q.number ≡ p.number
-  pub fits : all_branches (plain_of old p.stack) ≤ length old → all_branches (plain_of old p.stack) ≤ length new
 
 -- the nodes among children
 abbrev pub node_ids : List Child → List NodeId

@@ -93,14 +93,13 @@ all_branches_by number (t ∷ ts) = branches_by number t + all_branches_by numbe
 abbrev pub AreUpTo : ℕ → List Stamped → Type 0
 AreUpTo number ts = (lefts : List Tree) (p born : ℕ) (us : StampedForest) → StampedIn ts lefts p born us → born ≤ number
 
--- this is the parse by the tables `t` of these kinds, with its nodes in these cells, none of them newer than its edit; there is a
--- node for each branch of its stack, and no more kinds than 64 bits can count
+-- this is the parse by the tables `t` of these kinds, with its nodes in these cells, none of them newer than its edit; there are no more
+-- kinds than 64 bits can count
 pub record IsParseOf (t : Sets) (kinds : List Kind) (cells : List Cell) (parse : Stop) : Type 0 where
   pub stop : IsStop t kinds cells parse.verdict parse.stack parse.state
   pub branches : parse.branches ≡ all_branches (plain_of cells parse.stack)
   pub built : parse.built ≡ all_branches_by parse.number (all_trees cells parse.stack)
   pub older : AreUpTo parse.number (all_trees cells parse.stack)
-  pub fits : all_branches (plain_of cells parse.stack) ≤ length cells
   pub countable : length kinds ≤ most
 
 -- the machine has stopped with this stack, under the last of these states

@@ -47,7 +47,7 @@ pub fn compact(alloc: Global, store: &mut Store, children: &mut [Child]) -> Resu
     ensures trees { OnOk result
         (all_trees store.new children.new ≡ all_trees store.old children.old) }
     ensures below { OnOk result (AreBelow (length store.new) children.new) }
-    ensures sizes { OnOk result (length store.new ≡ sizes store.old children.old) }
+    ensures sizes { OnOk result (length store.new ≤ sizes store.old children.old) }
     ensures names { OnOk result ((names : List NodeId)
         × (children.new ≡ renamed children.old names)) }
     ensures err { OnErr result ((store.new ≡ store.old) × (children.new ≡ children.old)) }
@@ -69,7 +69,7 @@ fn keep(
     ensures trees { OnOk result
         (all_trees store.new children.new ≡ all_trees store.old children.old) }
     ensures below { OnOk result (AreBelow (length store.new) children.new) }
-    ensures sizes { OnOk result (length store.new ≡ sizes store.old children.old) }
+    ensures sizes { OnOk result (length store.new ≤ sizes store.old children.old) }
     ensures names { OnOk result (children.new ≡ renamed children.old ids.new) }
     ensures err { OnErr result ((store.new ≡ store.old) × (children.new ≡ children.old)) }
 {

@@ -72,16 +72,20 @@ impl Model for Parse {
     } };
 }
 
-/// How many branches the trees of the children have, or 18,446,744,073,709,551,615 where they have more.
-fn branches_of(store: &Store, children: &[Child]) -> u64
+/// How many branches the trees of the children have. Memory is refused where they have 18,446,744,073,709,551,615 or more, since
+/// the store's counts stop there.
+fn branches_of(store: &Store, children: &[Child]) -> Result<usize, AllocError>
     requires { AreBelow (length store.now) children.now }
-    ensures { result ≡ min most (all_branches (plain_of store.now children.now)) }
+    ensures { IfOk result (λ n. n ≡ all_branches (plain_of store.now children.now)) }
 {
     let mut branches = 0u64;
     for child in children {
         branches = branches.saturating_add(store.size_of(*child));
     }
-    branches
+    if branches == u64::MAX {
+        return Err(AllocError);
+    }
+    Ok(branches as usize)
 }
 
 /// How many nodes a store may have for a parse of so many branches.
@@ -103,7 +107,6 @@ fn parse_from<K: Kinds>(
 ) -> Result<Parse, AllocError>
     requires input { IsInput tables.now.grammar store.old input (K.kinds kinds.now) 0 }
     requires older { AreOlder number (all_trees store.old input) }
-    requires fits { all_branches (plain_of store.old input) ≤ length store.old }
     ensures accepted { IsAccepted tables.now.grammar }
     ensures parse { IfOk result (λ p. IsParseOf tables.now (K.kinds kinds.now) store.new p) }
     ensures run { IfOk result
@@ -121,12 +124,12 @@ fn parse_from<K: Kinds>(
     let mut reader = Reader::new(kinds);
     let halt = machine.run(alloc, tables, store, &mut reader, input, number)?;
     let state = machine.state();
-    let branches = branches_of(store, &machine.stack);
+    let branches = branches_of(store, &machine.stack)?;
     Ok(Parse {
         halt,
         stack: machine.stack,
         state,
-        branches: branches as usize,
+        branches,
         built: store.len() - before,
         number,
     })
@@ -258,9 +261,6 @@ impl Parse {
             → IsSpliced (plain_splice splice.now) old new
             → IfOk result (λ input. IsInput t.grammar store.now input new 0) }
         ensures older { IfOk result (λ input. AreOlder number (all_trees store.now input)) }
-        ensures fits { IfOk result (λ input.
-            all_branches (plain_of store.now input)
-            ≤ all_branches (plain_of store.now self.now.stack)) }
         ensures moved { let change = plain_splice splice.now in
             let trees = all_trees store.now self.now.stack in
             IfOk result (λ input. MoveFrom change trees (all_trees store.now input)) }

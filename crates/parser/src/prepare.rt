@@ -2,7 +2,7 @@
 
 ghost use Rattle.std.specs.Prelude.{◌≡◌, ◌+◌, ◌<◌, ◌≤◌, ◌++◌, ◌∷◌, [], ℕ, List, length, map, take, slice_get, IfOk, IfSome, MatchOption};
 ghost use Rattle.definitions.specs.declared.Kind.{Kind};
-ghost use Rattle.definitions.specs.Nodes.{all_branches, place_of};
+ghost use Rattle.definitions.specs.Nodes.{place_of};
 ghost use Rattle.definitions.specs.Trees.{Grammar};
 ghost use Rattle.definitions.specs.TokenEdits.{plain_splice, spliced};
 ghost use Rattle.trees.specs.declared.store.Child.TheVariants.{Token};
@@ -119,8 +119,6 @@ pub fn prepare(
         → IfOk result (λ input. IsPrepared change trees (input_of store.now input kinds 0)) }
     ensures older { (number : ℕ) → AreOlder number (all_trees store.now old.now)
         → IfOk result (λ input. AreOlder number (all_trees store.now input)) }
-    ensures fits { IfOk result (λ input.
-        all_branches (plain_of store.now input) ≤ all_branches (plain_of store.now old.now)) }
     ensures moved { let change = plain_splice splice.now in IfOk result
         (λ input. MoveFrom change (all_trees store.now old.now) (all_trees store.now input)) }
 {

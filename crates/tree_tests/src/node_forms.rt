@@ -162,7 +162,7 @@ fn children_of_nodes_of_each_form(rt: HostRuntime) {
     check_all(&rt, &store, root);
 }
 
-/// Compacts a store to one tree in place, and to the same tree twice by copies.
+/// Compacts a store to one tree, and to the same tree twice, which is still one.
 fn check_compaction(rt: &impl Abort, alloc: Global, store: &mut Store) {
     let root = make_all(rt, alloc, store);
     expect_in(rt, store, root);
@@ -175,10 +175,9 @@ fn check_compaction(rt: &impl Abort, alloc: Global, store: &mut Store) {
     let mut roots = [root, root];
     store.compact(alloc, &mut roots).expect(rt, "memory");
     let [first, second] = roots;
-    expect_len(rt, store, 50);
-    expect(rt, first != second, "two trees");
+    expect_len(rt, store, 25);
+    expect(rt, first == second, "one tree");
     check_all(rt, store, first);
-    check_all(rt, store, second);
 }
 
 #[test]

@@ -168,8 +168,8 @@ fn may_be_counts(k: u64, counts: (u64, u64)) -> bool {
     }
 }
 
-/// Makes nodes of which each stands twice below the next one, so that the numbers double.
-fn check_doubling(rt: &impl Abort, alloc: Global, store: &mut Store) {
+/// Makes nodes of which each stands twice below the next one, so that the numbers double. The last one is above all others.
+fn check_doubling(rt: &impl Abort, alloc: Global, store: &mut Store) -> NodeId {
     let mut last = store
         .branch(alloc, 0, &[NUMBER, NUMBER], 0)
         .expect(rt, "memory");
@@ -182,12 +182,33 @@ fn check_doubling(rt: &impl Abort, alloc: Global, store: &mut Store) {
         let counts = (store.tokens(last), store.size(last));
         expect_at(rt, may_be_counts(k, counts), k as usize);
     }
+    last
+}
+
+/// Compacts a store to such nodes, of which each stays one.
+fn check_shared(rt: &impl Abort, alloc: Global, store: &mut Store) {
+    let _dropped = store.branch(alloc, 1, &[PLUS], 0).expect(rt, "memory");
+    let last = check_doubling(rt, alloc, store);
+    expect_len(rt, store, 71);
+    expect_in(rt, store, last);
+    let mut roots = [last];
+    store.compact(alloc, &mut roots).expect(rt, "memory");
+    let [last] = roots;
+    expect_len(rt, store, 70);
+    expect_label(rt, store, last, (0, 69, GREATEST, GREATEST));
+    expect(rt, store.child(last, 0) == store.child(last, 1), "shared");
 }
 
 #[test]
 fn counts_stop_at_the_greatest_number(rt: HostRuntime) {
     let mut store = Store::new(rt.alloc());
-    check_doubling(&rt, rt.alloc(), &mut store);
+    let _last = check_doubling(&rt, rt.alloc(), &mut store);
+}
+
+#[test]
+fn compacting_keeps_shared_nodes_shared(rt: HostRuntime) {
+    let mut store = Store::new(rt.alloc());
+    check_shared(&rt, rt.alloc(), &mut store);
 }
 
 /// Makes a branch over a number and a token of this kind.
@@ -274,7 +295,7 @@ fn check_root(rt: &impl Abort, store: &Store, root: NodeId) {
 }
 
 /// Compacts a store of a sum to roots that share a node, of which one stands twice. The node over both is below none. What
-/// is shared is copied for each.
+/// is shared stays one.
 fn check_compaction(
     rt: &impl Abort,
     alloc: Global,
@@ -290,10 +311,9 @@ fn check_compaction(
     let mut roots = [other, left, other];
     store.compact(alloc, &mut roots).expect(rt, "memory");
     let [other, left, again] = roots;
-    expect_len(rt, store, 10);
-    expect(rt, again != other, "two trees");
+    expect_len(rt, store, 4);
+    expect(rt, again == other, "one tree");
     check_root(rt, store, other);
-    check_root(rt, store, again);
     expect_label(rt, store, left, (1, 5, 1, 2));
     store.compact(alloc, &mut []).expect(rt, "memory");
     expect_len(rt, store, 0);
@@ -334,7 +354,7 @@ fn check_in_order(rt: &impl Abort, store: &Store) {
 }
 
 /// Compacts a store to the two trees. The nodes keep their order.
-fn check_compaction_in_place(rt: &impl Abort, alloc: Global, store: &mut Store) {
+fn check_order_after_compaction(rt: &impl Abort, alloc: Global, store: &mut Store) {
     let [other, wide] = make_apart(rt, alloc, store);
     expect_in(rt, store, wide);
     expect_in(rt, store, other);
@@ -346,9 +366,9 @@ fn check_compaction_in_place(rt: &impl Abort, alloc: Global, store: &mut Store) 
 }
 
 #[test]
-fn compacting_in_place_keeps_the_order(rt: HostRuntime) {
+fn compacting_keeps_the_order(rt: HostRuntime) {
     let mut store = Store::new(rt.alloc());
-    check_compaction_in_place(&rt, rt.alloc(), &mut store);
+    check_order_after_compaction(&rt, rt.alloc(), &mut store);
 }
 
 /// Compacts a store to a node over nine times the same, or fails to and leaves all as it was.
@@ -361,7 +381,7 @@ fn check_refused_compaction(rt: &impl Abort, alloc: Global, store: &mut Store, w
     expect_in(rt, store, last);
     let mut roots = [last];
     match store.compact(alloc, &mut roots) {
-        Ok(()) => expect_len(rt, store, 37),
+        Ok(()) => expect_len(rt, store, 5),
         Err(AllocError) => {
             expect_len(rt, store, 6);
             expect(rt, roots == [last], "the same root");

@@ -1,22 +1,18 @@
 -- What the proofs of this crate cite of definitions, of types and of other crates, passed on from one place. Declares nothing.
 pub use Rattle.std.specs.List.{SwappedAt}
-pub use mathlib.Core.List.{head-eq_of_cons-eq, tail-eq_of_cons-eq}
-pub use Rattle.std.proofs.Math.Seq.{drop-append_seam, get_or-append_seam, take-append_seam}
+pub use Rattle.std.proofs.Math.Seq.{get_or-append_seam}
 pub use Rattle.std.proofs.lemmas.Bool.{cases_lt}
 pub use Rattle.std.proofs.lemmas.Grind.{common_steps}
-pub use Rattle.std.proofs.lemmas.List.{append-nil, drop-drop, drop-set-lt, drop_all, get_or-set_other, get_or-set_same, get_or_append_left, get_or_read_under, length-reverse, length-set, reverse-append, take-set-le, take-take, take_all, take_more, take_more_set, take_rest}
-pub use Rattle.std.proofs.lemmas.List.Sums.{count_by-le-length, count_by_more_no, count_by_more_yes, sum_by-take-le}
-pub use Rattle.std.proofs.lemmas.Option.{slice_get_within}
+pub use Rattle.std.proofs.lemmas.List.{append-nil, drop-drop, drop-set-lt, drop_all, drop_more, get_or-set_other, get_or-set_same, get_or_append_left, get_or_read_under, length-replicate, length-set, take-set-le, take-take, take_all, take_more, take_more_set}
+pub use Rattle.std.proofs.lemmas.List.Sums.{count_by-le-length, count_by_more_no, count_by_more_yes, sum_by-cons, sum_by-take-le}
 pub use Rattle.definitions.specs.Nodes.{all_branches, branches, branches_of}
 pub use Rattle.definitions.specs.TreeEdits.{Stamped, StampedBranch, StampedCons, StampedLeaf, plain, plain_all, plain_trees}
-pub use Rattle.definitions.specs.Trees.{all_kinds, yield, yields}
-pub use Rattle.definitions.specs.declared.Kind.{Kind}
+pub use Rattle.definitions.specs.Trees.{yield, yields}
 pub use Rattle.definitions.specs.declared.Kind.TheVariants.{Invalid, Rule}
-pub use Rattle.trees.specs.Cells.{AreBelow, AreCells, Cell, IsBelow, IsCell, IsStore, KeepsTrees, all_trees, blank, branch_of, branches_below, cell_of, forest_in, forest_of, most, tokens_below, tree, tree_of, trees_from, trees_of}
+pub use Rattle.trees.specs.Cells.{AreBelow, AreCells, Cell, IsBelow, IsCell, IsStore, all_trees, blank, branch_of, branches_below, forest_in, forest_of, most, tokens_below, tree, tree_of, trees_from, trees_of}
 pub use Rattle.trees.specs.Compaction.{nodes, sizes}
 pub use Rattle.trees.specs.Packing.{unpack}
-pub use Rattle.trees.specs.Slides.{AreMarked, AreRanks, IsClosed, IsClosedFrom, IsMarked, mark_all, rank, renamed}
-pub use Rattle.trees.specs.declared.compaction.Begun.{Begun}
+pub use Rattle.trees.specs.Slides.{AreMarked, AreRanks, IsClosed, IsClosedFrom, IsMarked, mark_all, owed, rank, renamed}
 pub use Rattle.trees.specs.declared.store.Child.{Child}
 pub use Rattle.trees.specs.declared.store.Child.TheVariants.{Node, Token}
 pub use Rattle.trees.specs.declared.store.NodeId.{NodeId}

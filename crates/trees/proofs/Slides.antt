@@ -3,7 +3,6 @@ use Rattle.std.proofs.Common.{◌≡◌, ◌≢◌, ℕ, ◌+◌, ◌<◌, ◌�
 use Rattle.trees.proofs.Common.{drop-drop, drop-set-lt, get_or-set_other, get_or-set_same, get_or_read_under, length-set, take-set-le, take-take, take_more_set, count_by-le-length, count_by_more_no, count_by_more_yes, sum_by-take-le, cases_lt, SwappedAt, Invalid, branches_of, StampedBranch, StampedCons, StampedLeaf, plain_all, yields, NodeId, Child, Token, Node, Cell, all_trees, blank, branch_of, forest_in, most, tree, trees_from, AreBelow, IsBelow, IsCell, IsStore, nodes, unpack, mark_all, rank, renamed, AreMarked, AreRanks, IsClosed, IsClosedFrom, IsMarked}
 use Rattle.std.proofs.lemmas.List.{length-take}
 use Rattle.trees.proofs.Cells.{all_below-more, below-at, cell_made, cells-push, grown-new, grown-tree, store_at}
-use Rattle.trees.proofs.Copies.{root_below}
 
 first_of : {X : Type 0} (xs : List X) (k : ℕ) (d : X) → get_or (drop k xs) 0 d ≡ get_or xs k d
 first_of xs zero d = refl
@@ -17,6 +16,11 @@ same_next xs ys k d e = sym (first_of xs k d) ∙ ap (λ l. get_or l 0 d) e ∙ 
 -- the next of some children is below the count, where the rest of them is as it was
 pub next_below : (n : ℕ) (xs ys : List Child) (k : ℕ) (d c : Child) → drop k xs ≡ drop k ys → AreBelow n ys → k < length ys → get_or xs k d ≡ c → IsBelow n c
 next_below n xs ys k d c e h l is = subst (IsBelow n) is (below-at n ys k (get_or xs k d) d h l (same_next xs ys k d e))
+
+pub root_below : (n : ℕ) (ids : List NodeId) (i : ℕ) (none : NodeId) → AreBelow n (nodes ids) → i < length ids → (get_or ids i none).index < n
+root_below n [] i none h l = absurd (omega (arith, l))
+root_below n (id ∷ ids) zero none h l = h.0
+root_below n (id ∷ ids) (suc i) none h l = root_below n ids i none h.1 (omega (arith, l))
 
 pub next-root_below : (n : ℕ) (xs ys : List NodeId) (k : ℕ) (d : NodeId) → drop k xs ≡ drop k ys → AreBelow n (nodes ys) → k < length ys → (get_or xs k d).index < n
 next-root_below n xs ys k d e h l = omega (arith, ap (λ id. id.index) (same_next xs ys k d e), root_below n ys k d h l)
@@ -76,6 +80,14 @@ closed_next cells marks i s l m h j le e =
       | inr ge ↦ let same : i ≡ j = omega (arith, le, ge) in
           subst (λ k. AreMarked (mark_all marks cs) (get_or cells k blank).children) same (mark-done marks cs (all_below-more i (length marks) (omega (arith, l, m)) cs inside))
     ]
+
+pub closed_same : (cells : List Cell) (marks : List Bool) (i : ℕ) → get_or marks i false ≡ false → IsClosedFrom (i + 1) cells marks → IsClosedFrom i cells marks
+closed_same cells marks i none h j le e = elim (cases_lt i j) [
+  | inl lt ↦ h j (omega (arith, lt)) e
+  | inr ge ↦ let same : i ≡ j = omega (arith, le, ge) in
+      let f : true ≡ false = sym e ∙ ap (λ k. get_or marks k false) (sym same) ∙ none in
+      let g : ⊥ = cc f in absurd g
+]
 
 -- one more root is marked
 pub roots-marked : (marks : List Bool) (ids : List NodeId) (id : NodeId) → id.index < length marks → AreMarked marks (nodes ids) → AreMarked (set marks id.index true) (nodes (ids ++ (id ∷ [])))

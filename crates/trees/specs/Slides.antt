@@ -1,5 +1,7 @@
 -- Nodes that are marked, and slide down over the others.
-use Rattle.std.specs.Prelude.{◌≡◌, ℕ, ◌<◌, ◌≤◌, Bool, true, false, List, [], ◌∷◌, length, take, count_by, slice_index_or, slice_set}
+use Rattle.std.specs.Prelude.{◌≡◌, ℕ, zero, suc, ◌+◌, ◌<◌, ◌≤◌, cond, Bool, true, false, List, [], ◌∷◌, length, take, count_by, slice_index_or, slice_set}
+use Rattle.definitions.specs.Nodes.{branches}
+use Rattle.definitions.specs.TreeEdits.{Stamped, plain}
 use Rattle.trees.specs.declared.store.Child.{Child}
 use Rattle.trees.specs.declared.store.Child.TheVariants.{Token, Node}
 use Rattle.trees.specs.Cells.{Cell, blank}
@@ -32,6 +34,13 @@ IsClosed cells marks = IsClosedFrom 0 cells marks
 -- how many of the first `n` marks are set
 abbrev pub rank : List Bool → ℕ → ℕ
 rank marks n = count_by (λ mark. mark) (take n marks)
+
+-- `owed n ts marks`: the branches of the marked ones of the first `n` of these trees, and one for each mark after them
+abbrev pub owed : ℕ → List Stamped → List Bool → ℕ
+owed zero ts marks = count_by (λ mark. mark) marks
+owed (suc n) [] marks = 0
+owed (suc n) (t ∷ ts) [] = 0
+owed (suc n) (t ∷ ts) (mark ∷ marks) = cond mark (branches (plain t)) 0 + owed n ts marks
 
 -- a number for each mark: how many are set before it
 pub record AreRanks (marks : List Bool) (ranks : List ℕ) : Type 0 where

@@ -124,7 +124,7 @@ impl Node {
     }
 
     /// Gives each child that is a node the name at its index.
-    pub fn rename(&mut self, names: &[u32])
+    pub fn rename(&mut self, names: &[usize])
         requires below { AreBelow (length names.now) self.old.children }
         requires lower { (i : ℕ) → slice_index_or names.now i 0 ≤ i }
         ensures { self.new ≡ record {
@@ -179,26 +179,26 @@ impl Numbers {
 }
 
 /// Gives each of these packed children that is a node the name at its index.
-fn rename_numbers(numbers: &mut [u32], names: &[u32])
+fn rename_numbers(numbers: &mut [u32], names: &[usize])
     requires below { AreBelow (length names.now) (map unpack numbers.old) }
     requires lower { (i : ℕ) → slice_index_or names.now i 0 ≤ i }
     ensures { map unpack numbers.new ≡ map (renamed names.now) (map unpack numbers.old) }
 {
     for number in numbers.iter_mut() {
         if let Child::Node(id) = unpack(*number) {
-            *number = names[id.index];
+            *number = names[id.index] as u32;
         }
     }
 }
 
 /// Gives each of these children that is a node the name at its index.
-fn rename_children(children: &mut [Child], names: &[u32])
+fn rename_children(children: &mut [Child], names: &[usize])
     requires { AreBelow (length names.now) children.old }
     ensures { children.new ≡ map (renamed names.now) children.old }
 {
     for child in children.iter_mut() {
         if let Child::Node(id) = *child {
-            let index = names[id.index] as usize;
+            let index = names[id.index];
             *child = Child::Node(NodeId { index });
         }
     }

@@ -1,10 +1,10 @@
 //! Compaction in place: the nodes of some trees are marked, and slide down over the others.
 
-ghost use Rattle.std.specs.Prelude.{◌≡◌, ◌<◌, ◌^◌, length, map, List, IfOk};
+ghost use Rattle.std.specs.Prelude.{◌≡◌, ◌≤◌, [], length, map, List, IfOk};
 ghost use Rattle.trees.specs.declared.store.Child.{Child as PlainChild};
-ghost use Rattle.trees.specs.Cells.{AreBelow, IsStore, tree};
-ghost use Rattle.trees.specs.Compaction.{nodes};
-ghost use Rattle.trees.specs.Slides.{mark_all, rank, renamed, AreMarked, AreRanks, IsClosed, IsMarked};
+ghost use Rattle.trees.specs.Cells.{AreBelow, IsStore, tree, trees_from};
+ghost use Rattle.trees.specs.Compaction.{nodes, sizes};
+ghost use Rattle.trees.specs.Slides.{mark_all, owed, rank, renamed, AreMarked, AreRanks, IsClosed, IsMarked};
 
 use crate::children::Children;
 use crate::node::Node;
@@ -31,6 +31,8 @@ fn mark_below(stored: &[Node], marks: &mut [bool])
     ensures kept { (children : List PlainChild) → AreMarked marks.old children
         → AreMarked marks.new children }
     ensures closed { IsClosed stored.now marks.new }
+    ensures few { rank marks.new (length marks.new)
+        ≤ owed (length stored.now) (trees_from [] stored.now) marks.old }
 {
     let mut i = stored.len();
     while i > 0 {
@@ -48,6 +50,8 @@ pub fn marked(alloc: Global, stored: &[Node], roots: &[NodeId]) -> Result<Vec<bo
     ensures long { IfOk result (λ marks. length marks.items ≡ length stored.now) }
     ensures roots { IfOk result (λ marks. AreMarked marks.items (nodes roots.now)) }
     ensures closed { IfOk result (λ marks. IsClosed stored.now marks.items) }
+    ensures few { IfOk result (λ marks.
+        rank marks.items (length marks.items) ≤ sizes stored.now (nodes roots.now)) }
 {
     let mut marks = Vec::from_elem(alloc, false, stored.len())?;
     for root in roots {
@@ -57,25 +61,23 @@ pub fn marked(alloc: Global, stored: &[Node], roots: &[NodeId]) -> Result<Vec<bo
     Ok(marks)
 }
 
-/// For each mark how many are set before it, which is the new name of a marked node; and how many are set in all.
-pub fn ranks(alloc: Global, marks: &[bool]) -> Result<(Vec<u32>, usize), AllocError>
-    requires { length marks.now < 2 ^ 32 }
-    ensures ranks { IfOk result (λ r. AreRanks marks.now r.0.items) }
-    ensures count { IfOk result (λ r. r.1 ≡ rank marks.now (length marks.now)) }
+/// For each mark how many are set before it, which is the new name of a marked node.
+pub fn ranks(alloc: Global, marks: &[bool]) -> Result<Vec<usize>, AllocError>
+    ensures { IfOk result (λ ranks. AreRanks marks.now ranks.items) }
 {
     let mut ranks = Vec::with_capacity(alloc, marks.len())?;
     let mut count = 0;
     for mark in marks {
-        ranks.push(count as u32)?;
+        ranks.push(count)?;
         if *mark {
             count += 1;
         }
     }
-    Ok((ranks, count))
+    Ok(ranks)
 }
 
 /// Moves each marked node to its rank, with the ranks of its children for their names, and forgets the others.
-pub fn slide(stored: &mut Vec<Node>, marks: &[bool], ranks: &[u32])
+pub fn slide(stored: &mut Vec<Node>, marks: &[bool], ranks: &[usize])
     requires store { IsStore stored.old.items }
     requires long { length marks.now ≡ length stored.old.items }
     requires closed { IsClosed stored.old.items marks.now }
@@ -97,11 +99,11 @@ pub fn slide(stored: &mut Vec<Node>, marks: &[bool], ranks: &[u32])
 }
 
 /// Gives the roots the names of their ranks.
-pub fn rename_roots(roots: &mut [NodeId], ranks: &[u32])
+pub fn rename_roots(roots: &mut [NodeId], ranks: &[usize])
     requires { AreBelow (length ranks.now) (nodes roots.old) }
     ensures { nodes roots.new ≡ map (renamed ranks.now) (nodes roots.old) }
 {
     for root in roots.iter_mut() {
-        root.index = ranks[root.index] as usize;
+        root.index = ranks[root.index];
     }
 }

@@ -1,8 +1,6 @@
 use Rattle.std.proofs.lemmas.Grind.{common_steps}
-use Rattle.std.proofs.Common.{sym, subst, ap, arith, min, ◌∙◌, ◌<◌, ◌≤◌, ◌^◌, [], ◌∷◌, length}
-use Rattle.parser.proofs.Common.{input_of, all_trees, most, all_branches, plain_of, IsStop, verdict_of, CameFrom, SoFar}
-use Rattle.parser.proofs.Cuts.{counted}
-use Rattle.parser.proofs.Fits.{stack_fits}
+use Rattle.std.proofs.Common.{sym, subst, ap, arith, ◌∙◌, [], ◌∷◌, length}
+use Rattle.parser.proofs.Common.{input_of, all_trees, all_branches, plain_of, IsStop, verdict_of, CameFrom, SoFar}
 use Rattle.parser.proofs.WhereBranchesComeFrom.{came_begins}
 use Rattle.parser.proofs.Running.{begun}
 use Rattle.parser.proofs.parse.parse_from.Goals as goal
@@ -47,14 +45,11 @@ returns-clause-parse g c =
     let stack = c.run.new.self.stack.items in
     let made = returns-clause-run g c in
     let stops = c.in_ok-halt.ensures.stops.1 in
-    let small : c.len.result < 2 ^ 64 = c.len.type_inv in
-    let fits : all_branches (plain_of new stack) ≤ length new = stack_fits t c.args.store.now new c.args.input stack kinds c.args.number made c.requires.fits in
     record {
       stop = subst (λ ks. IsStop t ks new (verdict_of c.in_ok-halt.halt stack) stack c.state-state.result) c.new-reader.ensures (subst (IsStop t _ new (verdict_of c.in_ok-halt.halt stack) stack) (sym c.state-state.ensures) stops);
-      branches = c.branches_of-branches.ensures ∙ ap (λ l. min most (all_branches (plain_of new l))) c.deref.ensures.value ∙ counted (all_branches (plain_of new stack)) (omega (arith, fits, small, c.len.ensures.is));
+      branches = c.in_ok-branches.ensures ∙ ap (λ l. all_branches (plain_of new l)) c.deref.ensures.value;
       built = omega (arith, c.len.ensures.is, c.len-before.ensures.is, made.so_far.count, made.so_far.made);
       older = made.so_far.up_to;
-      fits = fits;
       countable = omega (arith, c.in_ok-halt.ensures.countable, ap length c.new-reader.ensures);
     }
 

@@ -1,10 +1,10 @@
 use Rattle.std.proofs.lemmas.Grind.{common_steps}
 use Rattle.std.proofs.Common.{◌≡◌, ◌≢◌, ℕ, ◌+◌, ◌-◌, ◌<◌, zero, suc, ◌≤◌, ◌∷◌, length-append, List, [], ◌++◌, length, take, drop, map, sym, ap, ◌∙◌, subst, arith, rules, length-drop}
-use Rattle.parser.proofs.Common.{append-nil, take_all, all_kinds, yield, plain, IsPrepared, all_branches, place_of, AreBelow, Cell, all_trees, tree, MoveFrom, plain_of, input_of, plain_splice, Child, Token}
+use Rattle.parser.proofs.Common.{append-nil, take_all, all_kinds, yield, plain, IsPrepared, place_of, AreBelow, Cell, all_trees, tree, MoveFrom, plain_of, input_of, plain_splice, Child, Token}
 use Rattle.parser.proofs.Reductions.{below-drop}
 use Rattle.parser.proofs.Cuts.{cut_below, cut_kinds}
 use Rattle.parser.proofs.Prepared.{prepared_same, unmoved}
-use Rattle.parser.proofs.Replaced.{IsReplaced, replaced_fits, replaced_input, replaced_moved, replaced_older, replaced_prepared, within, short}
+use Rattle.parser.proofs.Replaced.{IsReplaced, replaced_input, replaced_moved, replaced_older, replaced_prepared, within, short}
 use Rattle.parser.proofs.prepare.prepare.Goals as goal
 use Rattle.parser.proofs.prepare.prepare.Goals.{then-missing-eq0+in_ok-take_prefix+in_ok-put_kinds, else-missing-eq0, else-splice-via-then-splice+else-is_empty, else-splice-via-else-splice}
 
@@ -51,11 +51,6 @@ take_prefix-requires-then-missing-eq0-clause-below c =
     let start = subst (AreBelow n) (sym (after old c.of-2.result c.put_all-2.new.self c.new-input.result whole c.of-2.ensures c.in_ok-put_all-2.ensures c.new-input.ensures)) (below-drop n whole old c.requires.below) in
     (cut_below cells n c.in_ok-prefix.ensures.cut start).1
 
-pub returns-then-is_empty-clause-fits : goal.returns-then-is_empty-clause-fits
-returns-then-is_empty-clause-fits c =
-    let same : c.put_all.new.self ≡ c.args.old.now = c.in_ok-put_all.ensures ∙ ap (λ l. c.of.result ++ l) c.new-input.ensures ∙ append-nil c.of.result ∙ c.of.ensures in
-    omega (arith, ap (λ l. all_branches (plain_of c.args.store.now l)) same)
-
 pub take_prefix-requires-clause-countable : goal.take_prefix-requires-clause-countable
 take_prefix-requires-clause-countable c =
     let cells = c.args.store.now in
@@ -99,7 +94,6 @@ returns c =
       input = λ g kinds h fits. replaced_input cells s c.requires.ordered g r kinds h;
       prepared = λ kinds. replaced_prepared cells s c.requires.ordered changes r kinds;
       older = λ number h. replaced_older cells s c.requires.ordered number r h;
-      fits = replaced_fits cells s c.requires.ordered r;
       moved = replaced_moved cells s c.requires.ordered r;
     }
 

@@ -2,11 +2,8 @@ use Rattle.std.proofs.Common.{arith}
 use Rattle.std.proofs.lemmas.Grind.{common_steps}
 use Rattle.trees.proofs.slide.ranks.Goals as goal
 
-pub returns-clause-ranks : goal.returns-clause-ranks
-returns-clause-ranks c = grind (arith, common_steps)
-
-pub overflow_cast-count : goal.overflow_cast-count
-overflow_cast-count c = grind (arith, common_steps)
+pub returns : goal.returns
+returns c = grind (arith, common_steps)
 
 pub loop-mark-preserved : goal.loop-mark-preserved
 loop-mark-preserved c = grind (arith, common_steps)

@@ -9,9 +9,6 @@ use Rattle.parser.proofs.parse.Parse.parse_after.Goals as goal
 pub parse_from-requires-clause-input : goal.parse_from-requires-clause-input
 parse_from-requires-clause-input g c = c.in_ok-input.ensures.input c.args.tables.now c.requires.0 (g.K.Kinds.kinds c.args.kinds.now) c.requires.1 c.requires.2
 
-pub parse_from-requires-clause-fits : goal.parse_from-requires-clause-fits
-parse_from-requires-clause-fits g c = omega (arith, c.in_ok-input.ensures.fits, c.requires.1.fits)
-
 -- what holds of a value for two reasons
 with_both : {X Y : Type 0} (r : Result X Y) (P Q R : X → Type 0) → ((x : X) → P x → Q x → R x) → IfOk r P → IfOk r Q → IfOk r R
 with_both (Ok x) P Q R both p q = both x p q

@@ -1,6 +1,6 @@
 use Rattle.std.proofs.lemmas.Grind.{common_steps}
-use Rattle.std.proofs.Common.{[], ◌+◌, ap, arith, drop, length, subst, sym, rules}
-use Rattle.parser.proofs.Common.{all_branches, plain_of, all_trees, input_of, IsInput, IsMadeByRun, AreOlder}
+use Rattle.std.proofs.Common.{[], ◌+◌, arith, drop, length, subst, sym, rules}
+use Rattle.parser.proofs.Common.{all_trees, input_of, IsInput, IsMadeByRun, AreOlder}
 use Rattle.parser.proofs.WholeRun.{plain_count, plain_stamps}
 use Rattle.parser.proofs.Running.{no_input}
 use Rattle.parser.proofs.Stamping.{none_in_nothing}
@@ -21,9 +21,6 @@ parse_from-requires-clause-input g c =
 
 pub parse_from-requires-clause-older : goal.parse_from-requires-clause-older
 parse_from-requires-clause-older g c = subst (λ l. AreOlder 0 (all_trees c.args.store.now l)) (sym c.new.ensures) (none_in_nothing 0)
-
-pub parse_from-requires-clause-fits : goal.parse_from-requires-clause-fits
-parse_from-requires-clause-fits g c = omega (arith, ap (λ l. all_branches (plain_of c.args.store.now l)) c.new.ensures)
 
 pub returns-in-Ok-clause-stamps : goal.returns-in-Ok-clause-stamps
 returns-in-Ok-clause-stamps g c =

@@ -1,5 +1,5 @@
 use Rattle.std.proofs.Common.{refl, ap, sym, subst, ◌∙◌, ◌≡◌, ◌++◌, drop, length, take, arith, rules}
-use Rattle.parser.proofs.Common.{all_branches, AreBelow, all_trees, plain_of, renamed, verdict_in, verdict_of}
+use Rattle.parser.proofs.Common.{AreBelow, all_trees, renamed, verdict_in, verdict_of}
 use Rattle.parser.proofs.Renaming.{renamed_long, verdict_stays, written}
 use Rattle.parser.proofs.parse.Parse.within_bound.Goals as goal
 
@@ -25,7 +25,6 @@ returns-clause-same c =
       branches = ap (λ p. p.branches) c.self.view_is;
       built = ap (λ p. p.built) c.self.view_is;
       number = ap (λ p. p.number) c.self.view_is;
-      fits = λ h. omega (arith, done.sizes, ap (λ l. all_branches (plain_of old l)) stack);
     }
 
 pub returns-clause-kept : goal.returns-clause-kept
