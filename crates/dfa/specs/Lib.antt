@@ -1,6 +1,5 @@
 pub mod Alphabet
 pub mod Built
-pub mod Lexicon
 pub mod Marks
 pub mod Sets
 pub mod Matches

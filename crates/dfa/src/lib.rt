@@ -2,8 +2,7 @@
 //!
 //! `Automaton::build` makes the automaton of a list of patterns, which are numbered from 0; `longest` returns the
 //! longest match at an offset of a `Source`: characters by their offset, with a cursor that reads them one after
-//! another. Of two rules that match equally far the earlier one wins; if none matches, `rule` is `None`. A type that
-//! holds patterns hands them out as `TokenRules`, with the marks of those that are skipped.
+//! another. Of two rules that match equally far the earlier one wins; if none matches, `rule` is `None`.
 //!
 //! Words: the *reach* of a match is how many characters had to be looked at, the end of the text counting as one.
 //!
@@ -30,13 +29,11 @@ mod automaton;
 mod build;
 pub mod laws;
 mod positions;
-mod rules;
 mod states;
 mod tree;
 
 pub use automaton::{Automaton, Match};
 pub use build::DfaFault;
-pub use rules::TokenRules;
 
 /// A text that is read by offsets of characters. Only the offsets in its window may be asked for.
 pub trait Source {

@@ -12,8 +12,8 @@ ghost use Rattle.docs.specs.declared.language.LoadFault.TheVariants.{Memory};
 
 use definitions::{Edit, KindSplice};
 use dfa::{Automaton, DfaFault};
-use grammar::{Grammar, GrammarCause, GrammarFault, Scanner};
-use lexer::{Bytes, Characters, Tokens, Whole};
+use grammar::{Grammar, GrammarCause, GrammarFault};
+use lexer::{Bytes, Characters, Scanner, Tokens, Whole};
 use std::alloc::{AllocError, Global};
 use std::fmt;
 use std::marker::Model;

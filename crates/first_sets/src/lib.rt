@@ -1,5 +1,5 @@
 //! The productions of a grammar with an added start production, and their FIRST sets: which symbols are nullable, and
-//! with which token rules each can begin. A type that holds a grammar copies its productions as a `ContextFree`.
+//! with which token rules each can begin.
 //!
 //! `Productions::new` begins the productions, and `push` adds one. `AugmentedGrammar::of` takes them and computes the
 //! sets; `may_follow` returns whether a lookahead can come after symbols, `right` and `left` the sides of a production,
@@ -37,5 +37,5 @@ pub use augmented::AugmentedGrammar;
 pub use lookahead::lookahead_at;
 pub use marks::Marks;
 pub use production_number::ProductionNumber;
-pub use productions::{ContextFree, Productions};
+pub use productions::{Production, Productions};
 pub use symbols::{number_of, symbol_at};

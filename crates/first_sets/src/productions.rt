@@ -1,7 +1,7 @@
 //! The productions of a grammar.
-ghost use Rattle.std.specs.Prelude.{◌≡◌, ℕ, ◌<◌, IfOk, OnOk, OnErr, length};
-ghost use Rattle.definitions.specs.Trees.{Grammar, left_of, right_of};
-ghost use Rattle.first_sets.specs.Productions.{no_productions, with_production, IsSound};
+ghost use Rattle.std.specs.Prelude.{◌≡◌, ◌<◌, OnOk, OnErr, length};
+ghost use Rattle.definitions.specs.Trees.{left_of, right_of};
+ghost use Rattle.first_sets.specs.Productions.{no_productions, with_production};
 
 use crate::production_number::ProductionNumber;
 use definitions::Symbol;
@@ -12,9 +12,9 @@ use std::marker::Model;
 #[derive(Drop)]
 pub struct Production {
     /// The number of the nonterminal.
-    left: usize,
+    pub left: usize,
     /// What it may be replaced by.
-    right: Vec<Symbol>,
+    pub right: Vec<Symbol>,
 }
 
 impl Model for Production {
@@ -119,19 +119,4 @@ impl Productions {
     {
         &self.productions[p.index()].right
     }
-}
-
-/// A context-free grammar, whatever else its type holds.
-pub trait ContextFree {
-    /// The grammar.
-    ghost grammar: { Self → Grammar };
-
-    /// How many nonterminals there are.
-    ghost nonterminals: { Self → ℕ };
-
-    /// A copy of its productions. Refuses for memory alone.
-    fn copy_productions(&self, alloc: Global) -> Result<Productions, AllocError>
-        ensures grammar { IfOk result (λ p. p.grammar ≡ grammar self.now) }
-        ensures count { IfOk result (λ p. p.nonterminals ≡ nonterminals self.now) }
-        ensures sound { IfOk result IsSound };
 }

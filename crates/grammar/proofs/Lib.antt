@@ -9,4 +9,3 @@ pub mod UsedMarks
 pub mod NotesOfUses
 pub mod FaultlessFile
 pub mod Refused
-pub mod ProductionsOfFile

@@ -5,7 +5,7 @@ use Rattle.definitions.specs.declared.Symbol.TheVariants.{Rule as Terminal, Nont
 use Rattle.definitions.specs.declared.expression.Expression.{Expression}
 use Rattle.definitions.specs.Trees.{Grammar, HasProduction, HasDistinctProductions}
 use Rattle.definitions.specs.Sentences.{IsProductive}
-use Rattle.dfa.specs.Lexicon.{Lexicon}
+use Rattle.grammar.specs.Lexicon.{Lexicon}
 
 -- what a file defines: the token and skip rules, numbered in file order, with their names, their patterns and whether they are skipped; the
 -- nonterminals, numbered by their first productions, with their names and whether they fold; the grammar in these numbers; and all defined

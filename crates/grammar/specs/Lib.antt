@@ -1,6 +1,7 @@
 pub mod Contents
 pub mod Faults
 pub mod Grammars
+pub mod Lexicon
 pub mod Marks
 pub mod PublicCauses
 pub mod Texts

@@ -16,24 +16,10 @@ ghost use Rattle.grammar.specs.PublicCauses.{public_cause, ReportsCause};
 use crate::fault::{GrammarFault, public_fault};
 use crate::read::read;
 use definitions::{Kind, Symbol};
+use first_sets::Production;
 use patterns::Pattern;
 use std::alloc::Global;
 use std::marker::Model;
-
-/// A production: a nonterminal, and the symbols that may stand for it.
-#[derive(Drop)]
-pub struct Production {
-    pub left: usize,
-    pub right: Vec<Symbol>,
-}
-
-impl Model for Production {
-    ghost use Rattle.definitions.specs.Trees.{Production as Rule};
-
-    ghost Value = { Rule };
-
-    ghost view = { λ p. record { left = p.left; right = p.right.items } };
-}
 
 /// A name of a rule or of a nonterminal.
 #[derive(Drop)]
@@ -146,7 +132,7 @@ impl Grammar {
         &self.patterns
     }
 
-    /// The name of a kind: its rule's, or `invalid`. No rule's name is empty, and that of a rule that isn't there is.
+    /// The name of a kind: its rule's, or `invalid`. Rule names are never empty; for an unknown rule the result is empty.
     pub fn kind_name(&self, kind: Kind) -> &str
         ensures { chars result.now ≡ kind_name self.now.names kind }
     {

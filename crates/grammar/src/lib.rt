@@ -3,12 +3,12 @@
 //! `Grammar::read` reads the text of a file, or returns the first fault with its line (`GrammarFault`, whose `Display`
 //! is the text that `lrls` prints after `lrls: `). `patterns`, `kind_name`, `is_skipped`, `nonterminal_name`,
 //! `is_fold`, `left`, `right` and `start` return what the file defines, and `notes` the names that no derivation from
-//! the start uses. `Scanner::new` joins a grammar with the automaton of its token rules.
+//! the start uses.
 //!
 //! Words: rules, nonterminals and productions have numbers in file order, from 0; those of marked words come last.
 //!
-//! Limits: those of `grammar_file`, and of `dfa` for a `Scanner`. The calls of a `Grammar` after `read` don't allocate,
-//! and all except `notes` are a look-up. In the example `SUMS` is the grammar file in README.md.
+//! Limits: those of `grammar_file`. The calls of a `Grammar` after `read` don't allocate, and all except `notes` are a
+//! look-up. In the example `SUMS` is the grammar file in README.md.
 //!
 //! ```
 //! let grammar = Grammar::read(alloc, SUMS).ok()?;
@@ -18,7 +18,6 @@
 //! ```
 #![tactic(auto)]
 
-mod context_free;
 mod fault;
 mod grammar;
 pub mod laws;
@@ -26,8 +25,6 @@ mod notes;
 mod numbers;
 mod productive;
 mod read;
-mod scanner;
-mod token_rules;
 mod unproductive;
 mod used;
 
@@ -35,4 +32,3 @@ pub use definitions::{Kind, KindSplice, Symbol};
 pub use fault::{GrammarCause, GrammarFault};
 pub use grammar::{Grammar, Notes};
 pub use grammar_file::Limit;
-pub use scanner::Scanner;

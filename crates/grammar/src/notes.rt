@@ -9,9 +9,9 @@ ghost use Rattle.grammar.specs.Grammars.{FileGrammar};
 ghost use Rattle.grammar.specs.Notes.{AreNotes, has_rule, is_rule, is_skip};
 ghost use Rattle.grammar.specs.Uses.{AreUsed};
 
-use crate::grammar::Production;
 use crate::used::is_marked;
 use definitions::Symbol;
+use first_sets::Production;
 use std::alloc::{AllocError, Global};
 
 /// Those of the symbols, in order, that are neither skipped nor used, where `marks` has the nonterminals that are.

@@ -8,8 +8,9 @@ ghost use Rattle.grammar.specs.Contents.{symbol_of, production_of, first_of, fol
 ghost use Rattle.grammar_line.specs.Kept.{line_view, texts};
 ghost use Rattle.grammar_file.specs.Kept.{lines_view};
 
-use crate::grammar::{Name, Production};
+use crate::grammar::Name;
 use definitions::Symbol;
+use first_sets::Production;
 use grammar_file::{Line, Names, Numbered};
 use std::alloc::{AllocError, Global};
 

@@ -3,8 +3,8 @@
 ghost use Rattle.std.specs.Prelude.{◌≡◌, ◌<◌, length, IfOk, MatchOption};
 ghost use Rattle.grammar.specs.Marks.{is_marked, are_marked, is_ready, IsClosed, IsNext, AreBelow, AreSound, AreComplete};
 
-use crate::grammar::Production;
 use definitions::Symbol;
+use first_sets::Production;
 use std::alloc::{AllocError, Global};
 
 /// Whether each nonterminal is the root of some tree.

@@ -14,12 +14,13 @@ ghost use Rattle.grammar.specs.Notes.{AreNotes};
 ghost use Rattle.grammar.specs.Parts.{AreParts, AreProductive, IsUnproductive};
 ghost use Rattle.grammar.specs.Uses.{AreWithin};
 
-use crate::grammar::{Grammar, Name, Production};
+use crate::grammar::{Grammar, Name};
 use crate::notes::notes;
 use crate::numbers;
 use crate::unproductive::test_productive;
 use crate::used::mark_used;
 use definitions::Symbol;
+use first_sets::Production;
 use grammar_file::{File, Names, Numbered, Refusal, RuleName, read_file};
 use patterns::Pattern;
 use std::alloc::{AllocError, Global};

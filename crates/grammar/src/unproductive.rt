@@ -11,8 +11,8 @@ ghost use Rattle.grammar_line.specs.Kept.{line_view, texts};
 ghost use Rattle.grammar_file.specs.Kept.{lines_view};
 ghost use Rattle.grammar_file.specs.Causes.{Reports};
 
-use crate::grammar::Production;
 use crate::productive::productive;
+use first_sets::Production;
 use grammar_file::{Cause, Line, Numbered, Refusal};
 use std::alloc::Global;
 

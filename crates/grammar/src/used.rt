@@ -5,8 +5,8 @@ ghost use Rattle.definitions.specs.declared.Symbol.TheVariants.{Nonterminal};
 ghost use Rattle.grammar.specs.Marks.{are_marked};
 ghost use Rattle.grammar.specs.Uses.{IsSpread, IsUnmarkedIn, IsReached, AreWithin, AreUsed};
 
-use crate::grammar::Production;
 use definitions::Symbol;
+use first_sets::Production;
 use std::alloc::{AllocError, Global};
 
 /// Whether each nonterminal is used by some derivation from the start.

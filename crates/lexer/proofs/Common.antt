@@ -23,10 +23,12 @@ pub use Rattle.definitions.specs.declared.Kind.{Kind}
 pub use Rattle.definitions.specs.declared.Kind.TheVariants.{Invalid, Rule}
 pub use Rattle.definitions.specs.declared.expression.Expression.{Expression}
 pub use Rattle.dfa.proofs.LongestMatch.{Ends, best_more_none, best_more_some, best_none, more_dead, more_first, more_prefix, more_state, piece_of, prefixes_more, reach_of, state_after-none}
-pub use Rattle.dfa.specs.Lexicon.{Lexicon}
+pub use Rattle.grammar.specs.Lexicon.{Lexicon}
 pub use Rattle.dfa.specs.Matches.{IsBest}
+pub use Rattle.dfa.specs.Positions.{HasMoreStatesThan}
 pub use Rattle.dfa.specs.Table.{IsAutomaton, Table, follower, kind_of, state_after}
 pub use Rattle.dfa.specs.Windows.{IsWithinReach}
+pub use Rattle.grammar.specs.Grammars.{lexicon_of}
 pub use Rattle.lexer.specs.Rescans.{AreRescanned, AreTokensAfter, IsEdited, IsNeeded, IsReachedByMade, IsRemade, change, plain_all, prefix_end, significant_kinds}
 pub use Rattle.lexer.specs.Scans.{AreMade, AreNext}
 pub use Rattle.lexer.specs.Sums.{joined, later_end, most, no_tokens, token_sum}

@@ -8,7 +8,7 @@ use Rattle.definitions.specs.Text.{edit}
 use Rattle.definitions.specs.Tokens.{Token as PlainToken, AreTokens, Leads, placed}
 use Rattle.definitions.specs.TokenEdits.{kept_before, is_rejoined, rejoin, same_kinds, IsSpliced, Splice}
 use Rattle.definitions.specs.TokenEdits.{made as made_by, splice as splice_by}
-use Rattle.dfa.specs.Lexicon.{Lexicon}
+use Rattle.grammar.specs.Lexicon.{Lexicon}
 use Rattle.lexer.specs.declared.sums.Token.{Token}
 use Rattle.lexer.specs.Scans.{AreMade}
 use Rattle.lexer.specs.Tokens.{kind_in, plain, is_significant, characters, AreTokensOf, TokenList}

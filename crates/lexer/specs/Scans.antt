@@ -1,7 +1,7 @@
 -- The tokens that are made one after another.
 use Rattle.std.specs.Prelude.{◌≡◌, ℕ, ◌+◌, ◌≤◌, Bool, List, length, drop, map, All}
 use Rattle.definitions.specs.Tokens.{Leads, is_skipped}
-use Rattle.dfa.specs.Lexicon.{Lexicon}
+use Rattle.grammar.specs.Lexicon.{Lexicon}
 use Rattle.lexer.specs.declared.sums.Token.{Token}
 use Rattle.lexer.specs.Tokens.{kind_in, plain, characters}
 

@@ -3,7 +3,7 @@ use Rattle.std.specs.Prelude.{◌≡◌, ℕ, ◌≤◌, ◌^◌, Bool, not, Lis
 use Rattle.definitions.specs.declared.Kind.{Kind}
 use Rattle.definitions.specs.declared.Kind.TheVariants.{Rule, Invalid}
 use Rattle.definitions.specs.Tokens.{Token as PlainToken, AreTokens, is_skipped}
-use Rattle.dfa.specs.Lexicon.{Lexicon}
+use Rattle.grammar.specs.Lexicon.{Lexicon}
 use Rattle.lexer.specs.declared.sums.ShortKind.{ShortKind}
 use Rattle.lexer.specs.declared.sums.ShortKind.TheVariants.{Rule as ShortRule, Invalid as ShortInvalid}
 use Rattle.lexer.specs.declared.sums.Token.{Token}

@@ -3,6 +3,7 @@ ghost use Rattle.std.specs.Prelude.{◌≡◌, ℕ, ◌+◌, ◌-◌, ◌<◌, �
 ghost use Rattle.definitions.specs.declared.expression.Expression.{Expression};
 ghost use Rattle.definitions.specs.Tokens.{AreTokens};
 ghost use Rattle.dfa.specs.Table.{IsAutomaton};
+ghost use Rattle.grammar.specs.Grammars.{lexicon_of};
 ghost use Rattle.definitions.specs.TokenEdits.{kept_before, is_rejoined, plain_splice, same_kind, same_kinds};
 ghost use Rattle.lexer.specs.Walks.{IsPassed, horizon};
 ghost use Rattle.lexer.specs.Tokens.{is_significant, characters, Fits, AreTokensOf};
@@ -10,11 +11,12 @@ ghost use Rattle.lexer.specs.Rescans.{plain_all, significant_kinds, IsEdited, Is
 
 use crate::ahead::KindsAhead;
 use crate::packed::PackedToken;
-use crate::scanner::Scan;
+use crate::scan::Scan;
 use crate::sums::{AfterSignificant, ReachesPast, Token};
 use crate::walk::Walk;
 use definitions::{Edit, Kind, KindSplice};
-use dfa::{Automaton, Source, TokenRules};
+use dfa::{Automaton, Source};
+use grammar::Grammar;
 use runs::Runs;
 use std::alloc::{AllocError, Global};
 use std::marker::Model;
@@ -40,21 +42,21 @@ impl Model for Tokens {
 
 impl Tokens {
     /// All tokens of a text, made by edit 0.
-    pub fn scan<R: TokenRules, S: Source>(
+    pub fn scan<S: Source>(
         alloc: Global,
-        rules: &R,
+        grammar: &Grammar,
         automaton: &Automaton,
         source: &S,
     ) -> Result<Tokens, AllocError>
-        requires sound { IsAutomaton (R.lexicon rules.now).patterns automaton.now }
+        requires sound { IsAutomaton grammar.now.patterns automaton.now }
         requires small { length (S.text source.now) ≤ 1048576 }
         requires window { (i : ℕ) → i < length (S.text source.now) → S.in_window source.now i }
         ensures tokens { IfOk result
-            (λ r. AreTokensOf (R.lexicon rules.now) (S.text source.now) r.items) }
+            (λ r. AreTokensOf (lexicon_of grammar.now) (S.text source.now) r.items) }
         ensures born { IfOk result (λ r. All (λ x. x.born ≡ 0) r.items) }
         ensures scanned { IfOk result (λ r. r.scanned ≡ length r.items) }
     {
-        let scan = Scan::new(rules, automaton);
+        let scan = Scan::new(grammar, automaton);
         let mut items = Runs::new();
         let mut at = 0;
         while at < source.len() {
@@ -155,27 +157,28 @@ impl Tokens {
     /// Brings the tokens to the text after an edit: keeps those whose reach the edit leaves alone, makes the others with
     /// the edit's number, and returns how the list of the significant kinds changes. After a refusal nothing has
     /// changed.
-    pub fn rescan<R: TokenRules, S: Source>(
+    pub fn rescan<S: Source>(
         &mut self,
         alloc: Global,
-        rules: &R,
+        grammar: &Grammar,
         automaton: &Automaton,
         source: &S,
         edit: Edit,
     ) -> Result<KindSplice, AllocError>
-        requires sound { IsAutomaton (R.lexicon rules.now).patterns automaton.now }
+        requires sound { IsAutomaton grammar.now.patterns automaton.now }
         requires small { length (S.text source.now) ≤ 1048576 }
-        requires edited { IsEdited (R.lexicon rules.now) edit self.old.items (S.text source.now) }
+        requires edited { let lexicon = lexicon_of grammar.now in
+            IsEdited lexicon edit self.old.items (S.text source.now) }
         requires window { (i : ℕ)
-            → IsNeeded (R.lexicon rules.now).patterns edit self.old.items (S.text source.now) i
+            → IsNeeded grammar.now.patterns edit self.old.items (S.text source.now) i
             → S.in_window source.now i }
-        ensures after { IfOk result (λ s. AreTokensAfter (R.lexicon rules.now) edit
+        ensures after { IfOk result (λ s. AreTokensAfter (lexicon_of grammar.now) edit
             (S.text source.now) (plain_splice s) self.old self.new) }
         ensures err { OnErr result (self.new ≡ self.old) }
     {
         let (kept_before, end) = kept_prefix(&self.items, edit);
         let old = Walk::new(&self.items, kept_before, end);
-        let scan = Scan::new(rules, automaton);
+        let scan = Scan::new(grammar, automaton);
         let (made, to) = remake(alloc, &scan, source, edit, old)?;
         let kinds = kinds_of(alloc, &made)?;
         let splice = splice_of(&self.items, kept_before, to, kinds);
@@ -231,9 +234,9 @@ fn rejoin_place(old: &mut Walk<'_>, edit: Edit, at: usize) -> Option<usize>
 }
 
 /// The tokens from where the old ones are no longer kept to the place of rejoining, and the place of the first old token after it.
-fn remake<R: TokenRules, S: Source>(
+fn remake<S: Source>(
     alloc: Global,
-    scan: &Scan<'_, R>,
+    scan: &Scan<'_>,
     source: &S,
     edit: Edit,
     mut old: Walk<'_>,

@@ -1,7 +1,7 @@
 //! The rows of tokens, and the text of a tree. `tests/program` has long texts and deep trees.
 
-use grammar::{Grammar, Scanner};
-use lexer::{Kind, Tokens, Whole};
+use grammar::Grammar;
+use lexer::{Kind, Scanner, Tokens, Whole};
 use std::alloc::{AllocError, Global};
 use std::process::Abort;
 use text::{LONGEST_TEXT, Text, Unit};

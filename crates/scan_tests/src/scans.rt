@@ -5,8 +5,8 @@ ghost use Rattle.std.specs.Str.{chars};
 ghost use Rattle.grammar.specs.Grammars.{lexicon_of};
 ghost use Rattle.lexer.specs.Tokens.{AreTokensOf};
 
-use grammar::{Grammar, Scanner};
-use lexer::{Edit, Kind, KindSplice, Source, Tokens, Whole};
+use grammar::Grammar;
+use lexer::{Edit, Kind, KindSplice, Scanner, Source, Tokens, Whole};
 use std::alloc::Global;
 use std::cell::Cell;
 use std::process::Abort;
@@ -71,7 +71,7 @@ impl<'a> Source for Counted<'a> {
     ghost inside = { λ s i h. h };
 }
 
-/// An edit of a text, and what is to come of it: its number, the characters that give way to a piece, how many tokens are scanned
+/// An edit of a text, and what is expected: its number, the characters that give way to a piece, how many tokens are scanned
 /// for it and how many there are after it, and the splice of kinds.
 type Step<'a> = (
     u64,
@@ -153,7 +153,7 @@ fn born_by(tokens: &Tokens, number: u64) -> usize {
     count
 }
 
-/// What comes of a step is what is to come.
+/// Checks the expected counts of a step.
 fn check_rescan(rt: &impl Abort, tokens: &Tokens, splice: &KindSplice, step: &Step<'_>) {
     let (number, _, (scanned, count), (from, to, kinds)) = *step;
     expect(rt, tokens.scanned() == scanned, "tokens scanned");
@@ -163,7 +163,7 @@ fn check_rescan(rt: &impl Abort, tokens: &Tokens, splice: &KindSplice, step: &St
     expect(rt, splice.kinds.as_slice() == kinds, "kinds put in");
 }
 
-/// Makes the edit of a step, sees what comes of it, and returns how many characters were read.
+/// Makes the edit of a step, checks the expected counts, and returns how many characters were read.
 fn check_step(
     rt: &impl Abort,
     alloc: Global,

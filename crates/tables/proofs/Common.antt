@@ -2,7 +2,7 @@
 pub use Rattle.std.specs.List.{list_any}
 pub use Rattle.std.specs.List.Sorted.{IsStrictlyIncreasing}
 pub use Rattle.std.proofs.Math.Dec.{eqb}
-pub use Rattle.std.proofs.Math.Seq.{append_snoc, drop-cons}
+pub use Rattle.std.proofs.Math.Seq.{append_snoc, drop-cons, take-length}
 pub use Rattle.std.proofs.lemmas.Bool.{cases_eq, cases_lt, eqb-true}
 pub use Rattle.std.proofs.lemmas.Bool.Decides.{Decides-eqb}
 pub use Rattle.std.proofs.lemmas.List.{append-nil, drop_all, get_or-drop, get_or-set_same, get_or_default, get_or_past, length-drop, length-set, length-take-le}
@@ -14,7 +14,7 @@ pub use Rattle.std.proofs.lemmas.Result.{IfErr-weaker, IfOk-weaker}
 pub use Rattle.definitions.proofs.Ordered.{Contains-cases, Contains-first, Contains-later, Contains-none}
 pub use Rattle.definitions.specs.Derivations.{IsLr1, first}
 pub use Rattle.definitions.specs.Items.{CallsFor, HasItem, HasMoreSetsThan, HasMove, HasNoConflict, HaveSameItems, IsConflict, IsValid, Item as LrItem, Move as LrMove, Shift as LrShift, kind_of}
-pub use Rattle.definitions.specs.Sentences.{AllProductive, FaultAt, FaultAtEnd, HasTree, IsExpected, IsSentence, IsTreeOf, IsVerdict, IsViable, Verdict}
+pub use Rattle.definitions.specs.Sentences.{AllProductive, FaultAt, FaultAtEnd, HasTree, IsExpected, IsProductive, IsSentence, IsTreeOf, IsVerdict, IsViable, Verdict}
 pub use Rattle.definitions.specs.Trees.{AreTrees, Branch, Cons, Forest, Grammar, HasDistinctProductions, HaveRoots, IsTree, Leaf, Nil, Production, Tree, yield, yields}
 pub use Rattle.definitions.specs.declared.Kind.{Kind}
 pub use Rattle.definitions.specs.declared.Kind.TheVariants.{Invalid, Rule as Token}
@@ -26,6 +26,7 @@ pub use Rattle.first_sets.proofs.SymbolNumbers.{symbol_of-number}
 pub use Rattle.first_sets.specs.Lookaheads.{lookahead_at, rank}
 pub use Rattle.first_sets.specs.Productions.{IsKnown, IsSound, Shape}
 pub use Rattle.first_sets.specs.Symbols.{number}
+pub use Rattle.grammar.specs.Grammars.{FileGrammar, IsGrammar, IsUsable}
 pub use Rattle.item_sets.proofs.AddedKernels.{no_item}
 pub use Rattle.item_sets.proofs.FirstKernel.{same_sets, start_item, start_kernel}
 pub use Rattle.item_sets.proofs.GotosGrow.{step_goes_on}

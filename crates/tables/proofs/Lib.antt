@@ -4,6 +4,7 @@ pub mod DecisionOfPrefix
 pub mod LookaheadMarks
 pub mod MovesOfState
 pub mod AllSets
+pub mod ProductionsOfFile
 pub mod Leading
 pub mod Right
 pub mod Finishing

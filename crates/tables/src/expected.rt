@@ -28,7 +28,7 @@ impl<'a> Model for Expected<'a> {
 }
 
 impl<'a> Expected<'a> {
-    /// What has a move among these, the first of which is that of rule 0, and the end where it has one.
+    /// The rules with a move in `moves`, which are indexed by rule, and then the end if `at_end`.
     pub(crate) fn new(moves: Entries<'a, Move>, at_end: bool) -> Expected<'a>
         ensures { result ≡ in_file_order (rules_with_move 0 moves.entry) at_end }
     {

@@ -24,7 +24,8 @@ use crate::expected::Expected;
 use crate::progress::{ClashAt, Progress, advance};
 use crate::rows::Gotos;
 use definitions::Kind;
-use first_sets::{AugmentedGrammar, ContextFree, ProductionNumber, Productions};
+use first_sets::{AugmentedGrammar, ProductionNumber, Productions};
+use grammar::Grammar;
 use item_sets::States;
 use std::alloc::{AllocError, Global};
 use std::marker::Model;
@@ -139,12 +140,18 @@ fn finish(grammar: AugmentedGrammar, _states: &States, made: Progress) -> Tables
     }
 }
 
-/// The grammar, with the added start production.
-fn augmented<G: ContextFree>(alloc: Global, grammar: &G) -> Result<AugmentedGrammar, AllocError>
-    ensures grammar { IfOk result (λ g. g.grammar ≡ G.grammar grammar.now) }
+/// A copy of the productions of a grammar. Refuses for memory alone.
+fn copy_productions(alloc: Global, grammar: &Grammar) -> Result<Productions, AllocError>
+    ensures grammar { IfOk result (λ p. p.grammar ≡ grammar.now.grammar) }
     ensures sound { IfOk result IsSound }
 {
-    AugmentedGrammar::of(alloc, grammar.copy_productions(alloc)?)
+    let (rules, nonterminals) = (grammar.rules(), grammar.nonterminals());
+    let mut productions = Productions::new(alloc, rules, nonterminals, grammar.start());
+    for p in 0..grammar.productions() {
+        let right = Vec::from_slice(alloc, grammar.right(p))?;
+        productions.push(grammar.left(p), right)?;
+    }
+    Ok(productions)
 }
 
 /// The tables of a grammar.
@@ -163,16 +170,17 @@ fn tables_of(alloc: Global, grammar: AugmentedGrammar) -> Result<Tables, TableFa
 impl Tables {
     /// The canonical tables of a grammar. A grammar with more than 8,192 sets is refused as `TooManySets`, one with fewer
     /// whose sets have a conflict with one of its conflicts.
-    pub fn build<G: ContextFree>(alloc: Global, grammar: &G) -> Result<Tables, TableFault>
-        ensures grammar { IfOk result (λ t. t.grammar ≡ G.grammar grammar.now) }
-        ensures free { IfOk result (λ _. HasNoConflict (G.grammar grammar.now)) }
-        ensures lr1 { IfOk result (λ _. IsLr1 (G.grammar grammar.now)) }
-        ensures one_tree { IfOk result (λ _. HasOneTreeEach (G.grammar grammar.now)) }
-        ensures few { IfOk result (λ _. HasMoreSetsThan (G.grammar grammar.now) 8192 → ⊥) }
-        ensures refused { IfErr result (IsRight (G.grammar grammar.now) 8192) }
-        ensures refuted { IfErr result (RefutesLr1 (G.grammar grammar.now)) }
+    pub fn build(alloc: Global, grammar: &Grammar) -> Result<Tables, TableFault>
+        ensures grammar { IfOk result (λ t. t.grammar ≡ grammar.now.grammar) }
+        ensures free { IfOk result (λ _. HasNoConflict grammar.now.grammar) }
+        ensures lr1 { IfOk result (λ _. IsLr1 grammar.now.grammar) }
+        ensures one_tree { IfOk result (λ _. HasOneTreeEach grammar.now.grammar) }
+        ensures few { IfOk result (λ _. HasMoreSetsThan grammar.now.grammar 8192 → ⊥) }
+        ensures refused { IfErr result (IsRight grammar.now.grammar 8192) }
+        ensures refuted { IfErr result (RefutesLr1 grammar.now.grammar) }
     {
-        let augmented = augmented(alloc, grammar)?;
+        let productions = copy_productions(alloc, grammar)?;
+        let augmented = AugmentedGrammar::of(alloc, productions)?;
         tables_of(alloc, augmented)
     }
 

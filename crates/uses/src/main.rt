@@ -12,8 +12,8 @@ mod sets;
 mod texts;
 
 use docs::Language;
-use grammar::{Grammar, Scanner};
-use lexer::{Tokens, Whole};
+use grammar::Grammar;
+use lexer::{Scanner, Tokens, Whole};
 use std::alloc::Global;
 use std::process::ExitCode;
 use tables::Tables;

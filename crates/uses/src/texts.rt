@@ -1,8 +1,8 @@
 //! Examples of texts and of their tokens.
 
 use dfa::Automaton;
-use grammar::{Grammar, Scanner};
-use lexer::{Tokens, Whole};
+use grammar::Grammar;
+use lexer::{Scanner, Tokens, Whole};
 use std::alloc::Global;
 use text::{Text, Unit};
 
@@ -21,7 +21,8 @@ pub fn use_dfa(rt: &HostRuntime, alloc: Global, grammar: &Grammar) -> Option<()>
 /// The example of `text`.
 pub fn use_text(rt: &HostRuntime, alloc: Global) -> Option<()> {
     let mut text = Text::open(alloc, "1+2").ok()?;
-    text.change(alloc, Unit::Utf16, None, "1\n2").ok()?;
+    let (from, to) = text.span(Unit::Utf16, None);
+    text.replace(alloc, from, to, "1\n2").ok()?;
     let place = text.position(Unit::Utf16, 2);
     println!(rt; "offset 2 is on line {}", place.line).ok()?;
     // offset 2 is on line 1

@@ -1,5 +1,5 @@
 use Rattle.std.proofs.Common.{arith, rules, vec_len, sym, ap, subst, ◌≡◌, ◌∙◌, ℕ, ◌≤◌, List, ◌++◌, length, take, drop, length-append, length-drop}
-use Rattle.lexer.proofs.Common.{length-take, append_assoc, Edit, plain_splice, Splice, Lexicon, Token, Fits, TokenList, change, significant_kinds, IsEdited, IsRemade, AreTokensAfter}
+use Rattle.lexer.proofs.Common.{lexicon_of, length-take, append_assoc, Edit, plain_splice, Splice, Lexicon, Token, Fits, TokenList, change, significant_kinds, IsEdited, IsRemade, AreTokensAfter}
 use Rattle.lexer.proofs.Totals.{few}
 use Rattle.lexer.proofs.Rescanned.{prefix_to, remade_fits, remade_after}
 use Rattle.lexer.proofs.tokens.Tokens.rescan.Goals.{In_ok-made, In_ok-replace}
@@ -15,11 +15,11 @@ record IsReplacement (lexicon : Lexicon) (e : Edit) (xs : List Token) (u : List 
   fits : Fits (take n xs ++ (made ++ drop to xs))
   after : (scanned : ℕ) (s : Splice) → s ≡ change xs n to (significant_kinds made) → AreTokensAfter lexicon e u s (next_of xs scanned) (next_of (take n xs ++ (made ++ drop to xs)) (length made))
 
-replacement : (g : _) (c : In_ok-made g) → IsReplacement (g.R.TokenRules.lexicon c.args.rules.now) c.args.edit c.self.inside.items (g.S.Source.text c.args.source.now) c.in_ok-made.made.items c.in_ok-made.to c.kept_prefix-kept_before.result.0
+replacement : (g : _) (c : In_ok-made g) → IsReplacement (lexicon_of c.args.grammar.now) c.args.edit c.self.inside.items (g.S.Source.text c.args.source.now) c.in_ok-made.made.items c.in_ok-made.to c.kept_prefix-kept_before.result.0
 replacement g c =
     let xs = c.self.inside.items in
     let e = c.args.edit in
-    let lexicon = g.R.TokenRules.lexicon c.args.rules.now in
+    let lexicon = lexicon_of c.args.grammar.now in
     let u = g.S.Source.text c.args.source.now in
     let made = c.in_ok-made.made.items in
     let to = c.in_ok-made.to in
@@ -61,7 +61,7 @@ returns g c =
     let at = goal.at.returns g c in
     let xs = c.self.inside.items in
     let made = c.in_ok-made.made.items in
-    let lexicon = g.R.TokenRules.lexicon c.args.rules.now in
+    let lexicon = lexicon_of c.args.grammar.now in
     let u = g.S.Source.text c.args.source.now in
     let count : vec_len c.in_ok-made.made ≡ length made = search rules in
     let splice = plain_splice c.splice_of-splice.result in

@@ -1,7 +1,7 @@
 use Rattle.std.proofs.Common.{arith}
 use Rattle.lexer.proofs.Scans.{made_more, next_few, next_one}
-use Rattle.lexer.proofs.scanner.Scan.scan_batch.Goals as goal
-use Rattle.lexer.proofs.scanner.Scan.scan_batch.Goals.{then-loop-at-test+else-len-lt-BATCH_LEN, else-loop-at-test}
+use Rattle.lexer.proofs.scan.Scan.scan_batch.Goals as goal
+use Rattle.lexer.proofs.scan.Scan.scan_batch.Goals.{then-loop-at-test+else-len-lt-BATCH_LEN, else-loop-at-test}
 
 pub loop-at-preserved : goal.loop-at-preserved
 loop-at-preserved g c =

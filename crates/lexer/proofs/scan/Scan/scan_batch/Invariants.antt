@@ -1,6 +1,6 @@
 use Rattle.std.proofs.Common.{◌-◌, length}
 use Rattle.lexer.proofs.Common.{AreNext}
-use Rattle.lexer.proofs.scanner.Scan.scan_batch.Given as goal
+use Rattle.lexer.proofs.scan.Scan.scan_batch.Given as goal
 
 abbrev pub invariant-loop-at : goal.invariant-loop-at
 invariant-loop-at g l = AreNext l.self (g.S.Source.text l.source) l.from l.made.items l.at

@@ -1,11 +1,11 @@
 use Rattle.std.proofs.Common.{drop, subst, sym}
 use Rattle.lexer.proofs.Common.{IsPiece, IsToken, IsAutomaton, Lexicon, Token, plain}
 use Rattle.lexer.proofs.Scans.{rule_fits}
-use Rattle.lexer.proofs.scanner.Scan.token_at.Goals as goal
+use Rattle.lexer.proofs.scan.Scan.token_at.Goals as goal
 
 pub of_rule-short_kind-requires : goal.of_rule-short_kind-requires
 of_rule-short_kind-requires g c =
-    let rules = (g.R.TokenRules.lexicon c.self.inside.rules.now).patterns in
+    let rules = c.self.inside.grammar.now.patterns in
     let t = drop c.args.at (g.S.Source.text c.args.source.now) in
     let found = c.longest-found.result in
     rule_fits rules t found.rule found.length c.self.invariant.1 (c.longest-found.ensures.piece rules c.self.invariant.0 c.requires.within)

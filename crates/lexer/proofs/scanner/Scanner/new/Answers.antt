@@ -1,6 +1,6 @@
 use Rattle.std.proofs.Common.{subst, sym}
-use Rattle.grammar.proofs.Common.{HasMoreStatesThan}
-use Rattle.grammar.proofs.scanner.Scanner.new.Goals as goal
+use Rattle.lexer.proofs.Common.{HasMoreStatesThan}
+use Rattle.lexer.proofs.scanner.Scanner.new.Goals as goal
 
 pub returns-in-Ok-clause-few : goal.returns-in-Ok-clause-few
 returns-in-Ok-clause-few c = λ more. c.in-Ok.ensures.few (subst (λ rules. HasMoreStatesThan rules 4096) (sym c.patterns.ensures.is) more)

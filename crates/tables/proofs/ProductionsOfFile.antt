@@ -1,7 +1,6 @@
 -- The productions of a grammar file are sound.
 use Rattle.std.proofs.Common.{◌≡◌, ℕ, length, slice_index_or, take, refl, sym, ap, ◌∙◌, arith}
-use Rattle.grammar.proofs.Common.{take-length, Token, Symbol, Terminal, Nonterminal, IsProductive, AllProductive, Leaf, Shape, IsSound, FileGrammar, IsUsable, IsGrammar}
-use Rattle.first_sets.specs.Productions.{IsKnown}
+use Rattle.tables.proofs.Common.{take-length, Token, Symbol, Terminal, Nonterminal, IsProductive, AllProductive, Leaf, Shape, IsKnown, IsSound, FileGrammar, IsUsable, IsGrammar}
 
 -- the grammar of a file with its first `n` productions
 abbrev pub first_productions : FileGrammar → ℕ → Shape

@@ -1,13 +1,13 @@
 use Rattle.std.proofs.lemmas.Grind.{common_steps}
 use Rattle.std.proofs.Common.{◌≡◌, length, sym, ◌∙◌, subst, arith, rules}
-use Rattle.grammar.proofs.Common.{IsSound}
-use Rattle.grammar.proofs.ProductionsOfFile.{all_of_them, shape_sound}
-use Rattle.grammar.proofs.context_free.GrammarContextFree.copy_productions.Goals as goal
+use Rattle.tables.proofs.Common.{IsSound}
+use Rattle.tables.proofs.ProductionsOfFile.{all_of_them, shape_sound}
+use Rattle.tables.proofs.tables.copy_productions.Goals as goal
 
 pub returns-clause-sound : goal.returns-clause-sound
 returns-clause-sound c =
-    let f = c.args.self.now in
-    let h = c.start-start.ensures.sound in
+    let f = c.args.grammar.now in
+    let h = c.start.ensures.sound in
     let end : c.loop-p.p ≡ length f.grammar.productions = (let e = c.productions-p-end.ensures in let l = c.loop-p-test.false in let m = c.loop-p.auto.p-end in omega (arith, e, l, m)) in
     subst IsSound (sym (c.loop-p.invariant ∙ all_of_them f h c.loop-p.p end)) (shape_sound f h)
 
