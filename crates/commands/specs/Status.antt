@@ -1,7 +1,7 @@
 -- The faults of the program.
 use Rattle.std.specs.Prelude.{ℕ}
-use Rattle.frames.specs.declared.fault.RunFault.{RunFault}
-use Rattle.frames.specs.declared.fault.RunFault.TheVariants as session
+use Rattle.sessions.specs.declared.fault.RunFault.{RunFault}
+use Rattle.sessions.specs.declared.fault.RunFault.TheVariants as session
 use Rattle.commands.specs.declared.fault.Fault.{Fault}
 use Rattle.commands.specs.declared.fault.Fault.TheVariants.{CommandLine, Grammar, TooManyStates, TooManySets, NotUtf8, TextNotUtf8}
 use Rattle.commands.specs.declared.fault.Fault.TheVariants.{TextTooLarge, CannotRead, Memory, Frame, Read, Write}

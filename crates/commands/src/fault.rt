@@ -6,8 +6,9 @@ ghost use Rattle.commands.specs.Texts.{text_of};
 ghost use Rattle.commands.specs.declared.fault.Fault.TheVariants.{Memory};
 
 use crate::texts::frame_code;
-use frames::{FrameFault, RunFault};
+use frames::FrameFault;
 use grammar::GrammarFault;
+use sessions::RunFault;
 use std::alloc::AllocError;
 use std::fmt;
 use thiserror::Error;

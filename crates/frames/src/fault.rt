@@ -1,9 +1,5 @@
-//! Why a stream isn't split into frames, why a device stops, and why a session over both ends.
+//! Why a stream isn't split into frames, and why a device stops.
 
-ghost use Rattle.std.specs.Prelude.{◌≡◌};
-ghost use Rattle.frames.specs.declared.fault.RunFault.TheVariants.{Memory};
-
-use std::alloc::AllocError;
 use thiserror::Error;
 
 /// What is wrong with a stream of frames (LSP 3.17, "Base Protocol").
@@ -42,28 +38,3 @@ pub enum FrameFault {
 #[derive(Clone, Copy, Debug, PartialEq, Eq, Error)]
 #[error("device fault")]
 pub struct DeviceFault;
-
-/// Why a session over two devices ended without a status.
-#[derive(Clone, Copy, Debug, PartialEq, Eq, Error)]
-pub enum RunFault {
-    /// The stream is no sequence of frames, or ends within one.
-    #[error(transparent)]
-    Frame(FrameFault),
-    /// The input failed.
-    #[error("the input failed")]
-    Read,
-    /// The output failed.
-    #[error("the output failed")]
-    Write,
-    /// Memory was refused.
-    #[error("memory was refused")]
-    Memory,
-}
-
-impl From<AllocError> for RunFault {
-    ghost from_gives = { λ _ e. e ≡ Memory };
-
-    fn from(_e: AllocError) -> RunFault {
-        RunFault::Memory
-    }
-}

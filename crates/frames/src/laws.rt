@@ -3,7 +3,6 @@
 ghost use Rattle.std.specs.Prelude.{◌≡◌, ◌↔◌, ℕ, List, Some, None, Result, take, IsTrue};
 ghost use Rattle.frames.specs.declared.fault.DeviceFault.{DeviceFault as Device};
 ghost use Rattle.frames.specs.declared.fault.FrameFault.{FrameFault as Fault};
-ghost use Rattle.frames.specs.declared.fault.RunFault.{RunFault as Ending};
 ghost use Rattle.frames.specs.Frames.{Tail, Splits, HasSplit, Continues, GoesOn};
 ghost use Rattle.frames.specs.Header.{header_size, header_length, IsWhole, IsHeaderPart, IsHeaderLength};
 
@@ -40,5 +39,4 @@ pub fn equal_faults_are_the_same()
     ensures devices { (a b : Device) →
         IsTrue (⟦<crate::DeviceFault as PartialEq>⟧.eq a b) ↔ (a ≡ b) }
     ensures frames { (a b : Fault) → IsTrue (⟦<crate::FrameFault as PartialEq>⟧.eq a b) ↔ (a ≡ b) }
-    ensures runs { (a b : Ending) → IsTrue (⟦<crate::RunFault as PartialEq>⟧.eq a b) ↔ (a ≡ b) }
 {}

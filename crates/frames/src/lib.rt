@@ -2,8 +2,7 @@
 //!
 //! `Decoder::new` comes first; then `feed` takes bytes as they come, and returns the frames that they complete. After
 //! the first fault each `feed` returns that fault again; `finish` says whether the stream may end here. `write_frame`
-//! writes a content's frame to an `Output`. `ReadInput` and `WriteOutput` make devices of std's readers and writers,
-//! and `RunFault` says why a session over two devices ended without a status.
+//! writes a content's frame to an `Output`. `ReadInput` and `WriteOutput` make devices of std's readers and writers.
 //!
 //! Words: a *frame* is a header part and a content of as many bytes as its `Content-Length` says.
 //!
@@ -29,7 +28,7 @@ mod source;
 mod write;
 
 pub use decoder::{Decoder, Frame};
-pub use fault::{DeviceFault, FrameFault, RunFault};
+pub use fault::{DeviceFault, FrameFault};
 pub use laws::{
     equal_faults_are_the_same, first_fault_decides, one_split, shortest_header_part, streams_go_on,
 };

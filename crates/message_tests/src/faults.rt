@@ -3,8 +3,9 @@
 
 use dfa::DfaFault;
 use docs::{DocFault, Language, LoadFault};
-use frames::{DeviceFault, FrameFault, RunFault};
+use frames::{DeviceFault, FrameFault};
 use rpc::{Id, RpcFault};
+use sessions::RunFault;
 use std::alloc::Global;
 use std::process::Abort;
 use tables::TableFault;

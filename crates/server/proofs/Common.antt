@@ -31,8 +31,8 @@ pub use Rattle.frames.specs.Contents.{contents}
 pub use Rattle.frames.specs.Frames.{Faulty, GoesOn, IsOpen, Open, Splits, Tail, fault_of, finish_of}
 pub use Rattle.frames.specs.Write.{frame}
 pub use Rattle.frames.specs.declared.fault.FrameFault.{FrameFault}
-pub use Rattle.frames.specs.declared.fault.RunFault.{RunFault}
-pub use Rattle.frames.specs.declared.fault.RunFault.TheVariants.{Frame, Read, Write}
+pub use Rattle.sessions.specs.declared.fault.RunFault.{RunFault}
+pub use Rattle.sessions.specs.declared.fault.RunFault.TheVariants.{Frame, Read, Write}
 pub use Rattle.readings.proofs.Results.{if_ok_both}
 pub use Rattle.readings.specs.Answers.{AlwaysAnswers}
 pub use Rattle.readings.specs.Grammars.{FileGrammar}

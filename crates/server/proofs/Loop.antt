@@ -2,7 +2,7 @@
 use Rattle.std.proofs.Common.{◌≡◌, ◌≢◌, ℕ, List, [], ◌++◌, refl, ap, sym, subst, inl, inr, ◌∙◌, append_assoc, Option, Some, None, Result, Ok, Err}
 use Rattle.server.proofs.Common.{Consumes, Keeps, IsAtEnd, FrameFault, Tail, Open, Faulty, Splits, IsOpen, GoesOn, fault_of, finish_of, FileGrammar, AlwaysAnswers, RunFault, Frame, Read, Write, State, first_state, Session, Ends, Served, ServedInPart, CanServe, IsCutShort, EndsAt, run_fault}
 use Rattle.frames.specs.declared.fault.FrameFault.TheVariants as frame
-use Rattle.frames.specs.declared.fault.RunFault.TheVariants.{Memory}
+use Rattle.sessions.specs.declared.fault.RunFault.TheVariants.{Memory}
 use Rattle.server.proofs.Runs.{served_then, served_nothing}
 use Rattle.sessions.proofs.Fits.{run_serves, first_serves}
 use Rattle.server.proofs.CutSessions.{part_nothing, part_then}

@@ -4,8 +4,8 @@ use Rattle.std.specs.Io.KnownBytes.{Appends}
 use Rattle.frames.specs.Frames.{Tail, finish_of}
 use Rattle.frames.specs.declared.fault.FrameFault.{FrameFault}
 use Rattle.frames.specs.declared.fault.FrameFault.TheVariants as frame
-use Rattle.frames.specs.declared.fault.RunFault.{RunFault}
-use Rattle.frames.specs.declared.fault.RunFault.TheVariants.{Frame, Read, Write, Memory}
+use Rattle.sessions.specs.declared.fault.RunFault.{RunFault}
+use Rattle.sessions.specs.declared.fault.RunFault.TheVariants.{Frame, Read, Write, Memory}
 use Rattle.rpc.specs.Replies.{Answer}
 use Rattle.sessions.specs.Steps.{State}
 use Rattle.sessions.specs.Runs.{Run, bytes_of}

@@ -34,7 +34,6 @@ mod state;
 mod stream;
 
 pub use docs::{Doc, DocFault, Language, LoadFault, Outcome, Unit};
-pub use frames::RunFault;
 pub use session::run;
-pub use sessions::{Out, Phase};
+pub use sessions::{Out, Phase, RunFault};
 pub use state::Server;

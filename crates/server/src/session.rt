@@ -12,8 +12,9 @@ use crate::state::Server;
 use crate::stream::serve;
 use docs::Language;
 use docs::laws::always_answers;
-use frames::{Input, Output, RunFault};
+use frames::{Input, Output};
 use rpc::each_text_is_unicode;
+use sessions::RunFault;
 use sessions::laws::{each_document_is_alone, each_text_is_its_edits, every_answer_is_fresh};
 use std::alloc::Global;
 

@@ -15,8 +15,9 @@ ghost use Rattle.server.specs.Loop.{HasServed, IsCutShort, EndsAt, run_fault};
 ghost use Rattle.server.specs.States.{state_view};
 
 use crate::state::Server;
-use frames::{Decoder, Frame, FrameFault, Input, Output, RunFault, write_frame};
+use frames::{Decoder, Frame, FrameFault, Input, Output, write_frame};
 use rpc::{Message, Reply, RpcFault, read, to_bytes};
+use sessions::RunFault;
 use std::alloc::Global;
 
 /// How many bytes are read at once: as many as a pipe of Linux holds.

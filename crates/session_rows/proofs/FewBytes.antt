@@ -9,8 +9,8 @@ use Rattle.serde_json.proofs.OnLiterals.{serde_json_on_literals}
 use Rattle.frames.specs.Frames.{Tail, Open, Faulty, Splits, finish_of}
 use Rattle.frames.specs.declared.fault.FrameFault.{FrameFault}
 use Rattle.frames.specs.declared.fault.FrameFault.TheVariants.{BadField, SecondLength, Truncated}
-use Rattle.frames.specs.declared.fault.RunFault.{RunFault}
-use Rattle.frames.specs.declared.fault.RunFault.TheVariants.{Frame, Read, Write, Memory}
+use Rattle.sessions.specs.declared.fault.RunFault.{RunFault}
+use Rattle.sessions.specs.declared.fault.RunFault.TheVariants.{Frame, Read, Write, Memory}
 use Rattle.readings.specs.Grammars.{FileGrammar}
 use Rattle.rpc.specs.Messages.{Received, unread}
 use Rattle.rpc.specs.Reading.{received_in}

@@ -25,8 +25,8 @@ use Rattle.grammar_line.specs.Statements.{statements}
 use Rattle.json.specs.Print.{escape_byte}
 use Rattle.serde_json.proofs.OnLiterals.{serde_json_on_literals}
 use Rattle.frames.specs.Frames.{Open, Splits}
-use Rattle.frames.specs.declared.fault.RunFault.{RunFault}
-use Rattle.frames.specs.declared.fault.RunFault.TheVariants.{Frame, Read, Write, Memory}
+use Rattle.sessions.specs.declared.fault.RunFault.{RunFault}
+use Rattle.sessions.specs.declared.fault.RunFault.TheVariants.{Frame, Read, Write, Memory}
 use Rattle.readings.specs.Answers.{Diagnostic}
 use Rattle.readings.specs.Diagnostics.{IsDiagnosis, looks}
 use Rattle.readings.specs.Grammars.{FileGrammar}

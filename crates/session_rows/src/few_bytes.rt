@@ -2,7 +2,7 @@
 
 ghost use Rattle.std.specs.Prelude.{Ok, Err, []};
 ghost use Rattle.frames.specs.declared.fault.FrameFault.TheVariants.{BadField, SecondLength, Truncated};
-ghost use Rattle.frames.specs.declared.fault.RunFault.TheVariants.{Frame};
+ghost use Rattle.sessions.specs.declared.fault.RunFault.TheVariants.{Frame};
 ghost use Rattle.session_rows.specs.Known.{Came};
 ghost use Rattle.session_rows.specs.Written.{parse_error};
 

@@ -5,8 +5,8 @@ ghost use Rattle.frames.specs.Frames.{Tail, Splits};
 ghost use Rattle.session_rows.specs.Known.{ComesTo};
 
 use docs::Language;
-use frames::{DeviceFault, Output, ReadInput, RunFault, one_split, streams_go_on};
-use server::run;
+use frames::{DeviceFault, Output, ReadInput, one_split, streams_go_on};
+use server::{RunFault, run};
 use std::alloc::Global;
 
 /// Bytes in memory that are written to.

@@ -8,7 +8,7 @@ use Rattle.std.specs.Fmt.{digits}
 use Rattle.std.specs.Str.{chars, is_utf8}
 use Rattle.frames.specs.Frames.{Open, Faulty}
 use Rattle.frames.specs.declared.fault.FrameFault.TheVariants.{BadField, Truncated}
-use Rattle.frames.specs.declared.fault.RunFault.TheVariants.{Frame, Read, Write}
+use Rattle.sessions.specs.declared.fault.RunFault.TheVariants.{Frame, Read, Write}
 use Rattle.definitions.specs.Text.{changed, offset, line_start, line_from, break_ends, units, greatest}
 use Rattle.json.specs.Print.{escape_byte}
 use Rattle.serde_json.proofs.OnLiterals.{serde_json_on_literals}

@@ -6,6 +6,7 @@ ghost use Rattle.readings.specs.Edits.{CountsOnce};
 ghost use Rattle.readings.specs.Grammars.{FileGrammar};
 ghost use Rattle.sessions.specs.Alone.{EachDocumentIsAlone, EachRunHasAHistory, HistoriesDecide};
 ghost use Rattle.sessions.specs.Fresh.{EveryAnswerIsFresh, EachTextIsItsEdits};
+ghost use Rattle.sessions.specs.declared.fault.RunFault.{RunFault as Ending};
 ghost use Rattle.sessions.specs.declared.phase.Phase.{Phase as Stage};
 
 /// In a session by a file that has one answer to each question, whatever was read before: there is a fresh server for each
@@ -34,6 +35,11 @@ pub fn each_document_is_alone()
     ensures histories { EachRunHasAHistory }
     ensures by_history { (file : FileGrammar) → AnswersOnce file → CountsOnce file
         → HistoriesDecide file }
+{}
+
+/// Reasons why a session ends are equal by `==` exactly where they are the same: no part of them is left out.
+pub fn equal_run_faults_are_the_same()
+    ensures { (a b : Ending) → IsTrue (⟦<crate::RunFault as PartialEq>⟧.eq a b) ↔ (a ≡ b) }
 {}
 
 /// Phases are equal by `==` exactly where they are the same, with their units.

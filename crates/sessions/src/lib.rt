@@ -3,7 +3,7 @@
 //! The definitions are `Step`, the step on one message, `Run`, the steps on the contents of frames, and `Session`, from
 //! the bytes that are read to the bytes that are written. `server` has the server that makes these steps, and the loop.
 //!
-//! Nothing here runs but the types of what `server` returns (`Out`, `Phase`): the functions of `laws` are theorems, with
+//! Nothing here runs but the types of what `server` returns (`Out`, `Phase`, `RunFault`): the functions of `laws` are theorems, with
 //! empty bodies. Call one in a proof, or in code that needs its fact. `every_answer_is_fresh` says that each answer is that
 //! of a fresh server on the text, `each_text_is_its_edits` that each text is the result of its edits, and
 //! `each_document_is_alone` that what is sent about a document depends on the messages about it, the phase at each, the
@@ -19,10 +19,11 @@
 //! ```
 #![tactic(auto)]
 
+mod fault;
 pub mod laws;
 mod out;
 mod phase;
 
-pub use frames::RunFault;
+pub use fault::RunFault;
 pub use out::Out;
 pub use phase::Phase;
