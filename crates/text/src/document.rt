@@ -101,29 +101,8 @@ impl Text {
         Ok(())
     }
 
-    /// Makes one change of a document (LSP 3.17, "TextDocumentContentChangeEvent"): puts `new` in the place of the
-    /// range, or of the whole text where there is none. The ends of a range may stand in either order.
-    ///
-    /// `TooLarge` exactly where the text would have more than [`LONGEST_TEXT`] bytes. After a refusal the text is as
-    /// before.
-    pub fn change(
-        &mut self,
-        alloc: Global,
-        unit: Unit,
-        range: Option<Range>,
-        new: &str,
-    ) -> Result<(), TextFault>
-        ensures changed { OnOk result (self.new ≡ changed unit self.old range (chars new.now)) }
-        ensures unchanged { OnErr result (self.new ≡ self.old) }
-        ensures too_large { let wanted = changed unit self.old range (chars new.now) in
-            (result ≡ Err TextFault.TooLarge) ↔ (LONGEST_TEXT < length (encode_utf8_all wanted)) }
-    {
-        let (a, b) = self.span(unit, range);
-        self.replace(alloc, a, b, new)
-    }
-
-    /// The offsets of a range in ascending order, or those of the whole text where there is none: what a change of a document
-    /// takes away.
+    /// What a change of a document takes away (LSP 3.17, "TextDocumentContentChangeEvent"): the offsets of the range in
+    /// ascending order, since its ends may stand in either order, or those of the whole text where there is none.
     pub fn span(&self, unit: Unit, range: Option<Range>) -> (usize, usize)
         ensures is { result ≡ of.span unit self.now range }
         ensures edits { (s : List ℕ) →

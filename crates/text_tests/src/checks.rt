@@ -94,8 +94,8 @@ fn change(
     piece: &str,
 ) {
     let range = Some(Range { start, end });
-    text.change(alloc, Unit::Utf16, range, piece)
-        .expect(rt, "a change");
+    let (from, to) = text.span(Unit::Utf16, range);
+    text.replace(alloc, from, to, piece).expect(rt, "a change");
 }
 
 pub fn check_steps(rt: &impl Abort, alloc: Global, text: &mut Text, steps: &[Step<'_>]) {

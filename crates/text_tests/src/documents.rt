@@ -74,7 +74,8 @@ fn put_ones(
     count: usize,
 ) -> Option<TextFault> {
     let piece = filled(rt, alloc, '1', count);
-    text.change(alloc, Unit::Utf16, range, piece.as_str()).err()
+    let (from, to) = text.span(Unit::Utf16, range);
+    text.replace(alloc, from, to, piece.as_str()).err()
 }
 
 /// Each row is a range, how many times `1` it gives way to, why that is refused, and how many bytes there are after it.
