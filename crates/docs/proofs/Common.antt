@@ -6,7 +6,7 @@ pub use Rattle.std.specs.Result.{result_and}
 pub use Rattle.std.specs.Str.{IsUtf8, chars}
 pub use Rattle.std.proofs.Math.Nat.{le-max_left, le-max_right, max-le, min-eq_left, min-eq_right, min-le_left, min-le_right}
 pub use Rattle.std.proofs.lemmas.Bool.{cases_lt, eq-eqb, eqb-true}
-pub use Rattle.std.proofs.lemmas.List.{append_assoc, drop-drop, drop-take, length-append, length-drop, length-map, length-take, map-append, take-append-drop, take-take, take_all, take_at, take_more}
+pub use Rattle.std.proofs.lemmas.List.{append-nil, append_assoc, drop-drop, drop-take, length-append, length-drop, length-map, length-take, map-append, take-append-drop, take-take, take_all, take_at, take_more}
 pub use Rattle.std.proofs.lemmas.List.Elements.{All-append, All-drop, All-take, All-weaker, recursion_from_All}
 pub use Rattle.std.proofs.lemmas.List.Folds.{drop_split}
 pub use Rattle.std.proofs.lemmas.Result.{IfOk-weaker, err_from_is_err_and}
@@ -33,7 +33,8 @@ pub use Rattle.docs.specs.Changes.{IsChanged}
 pub use Rattle.docs.specs.Docs.{IsCurrent, last_edit, open_document}
 pub use Rattle.docs.specs.Faults.{doc_fault}
 pub use Rattle.docs.specs.Outcomes.{IsOutcome}
-pub use Rattle.docs.specs.Pending.{LeadsTo, number_or}
+pub use Rattle.docs.specs.Pending.{number_or}
+pub use Rattle.docs.specs.Settling.{IsSettled, LeadsTo, with_text}
 pub use Rattle.docs.specs.Stamps.{AreStamped, splice_between}
 pub use Rattle.docs.specs.declared.doc.Doc.{Doc}
 pub use Rattle.docs.specs.declared.doc.DocFault.{DocFault}

@@ -1,6 +1,7 @@
 -- Edits that follow each other, as one edit.
-use Rattle.std.proofs.Common.{◌≡◌, ◌≤◌, ◌+◌, ◌-◌, ℕ, List, ◌++◌, length, take, drop, sym, ap, ◌∙◌, arith}
-use Rattle.docs.proofs.Common.{append_assoc, drop-drop, drop-take, length-append, length-drop, length-take, take_at, take-append-drop, take-take, Edit, edit, drop-edit, length-edit, LeadsTo}
+use Rattle.std.proofs.Common.{◌≡◌, ◌≤◌, ◌+◌, ◌-◌, ℕ, List, [], ◌++◌, length, take, drop, sym, ap, ◌∙◌, arith, Option, Some, None, MatchOption}
+use Rattle.std.specs.Prelude.{unwrap_or}
+use Rattle.docs.proofs.Common.{append-nil, append_assoc, drop-drop, drop-take, length-append, length-drop, length-take, take_at, take-append-drop, take-take, Edit, edit, drop-edit, length-edit, LeadsTo}
 
 -- what an edit inserts lies within the text after it
 pub inserted_within : (was now : List ℕ) (e : Edit) → LeadsTo was e now → e.at + e.inserted ≤ length now
@@ -61,3 +62,13 @@ module _ (was now s : List ℕ) (first both : Edit) (from to end : ℕ) (leads :
     pub leads_by_both : LeadsTo was both (edit now from to s)
     leads_by_both =
         (piece, fits, measured, ap (λ l. l ++ s ++ drop to now) start ∙ (ap (λ l. take both.at was ++ take (from - both.at) (drop both.at now) ++ s ++ l) finish ∙ assoc_all (take both.at was) (take (from - both.at) (drop both.at now)) (take (end - to) (drop to now)) (drop (both.at + both.removed) was)))
+
+-- where nothing is pending, an edit that changes nothing leads to the text
+pub leads_first : (o : Option Edit) (was now : List ℕ) (nothing : Edit) → nothing.at ≤ length now → nothing.removed ≡ 0 → nothing.inserted ≡ 0 → MatchOption o (now ≡ was) (λ e. LeadsTo was e now)
+    → LeadsTo was (unwrap_or o nothing) now
+leads_first None was now nothing within none no_piece same =
+    let end : nothing.at + nothing.removed ≡ nothing.at = omega (arith, none) in
+    let whole = take-append-drop nothing.at was in
+    let start = ap (λ l. l ++ drop (nothing.at + nothing.removed) was) (sym (append-nil (take nothing.at was))) in
+    ([], omega (arith, within, end, ap length same), no_piece, same ∙ (sym whole ∙ (ap (λ n. take nothing.at was ++ drop n was) (sym end) ∙ start)))
+leads_first (Some e) was now nothing within none no_piece leads = leads

@@ -1,5 +1,6 @@
 pub mod Languages
 pub mod Pending
+pub mod Settling
 pub mod Faults
 pub mod Docs
 pub mod Outcomes

@@ -1,22 +1,16 @@
 -- A document with pending changes: its text is ahead of its tokens and of its parse.
-use Rattle.std.specs.Prelude.{◌≡◌, ℕ, ℤ, ◌+◌, ◌≤◌, List, length, Option, Some, None, MatchOption}
+use Rattle.std.specs.Prelude.{◌≡◌, ◌⊎◌, ℕ, ℤ, ◌≤◌, List, length, Option, Some, None, MatchOption}
 use Rattle.definitions.specs.declared.Edit.{Edit}
 use Rattle.definitions.specs.declared.Unit.{Unit as Encoding}
-use Rattle.definitions.specs.Text.{edit}
 use Rattle.docs.specs.Docs.{IsCurrent}
 use Rattle.docs.specs.Languages.{LanguageData}
+use Rattle.docs.specs.Settling.{LeadsTo, IsSettled, with_text}
 use Rattle.docs.specs.declared.doc.Doc.{Doc}
 use Rattle.docs.specs.declared.pending.Pending.{Pending}
 
--- `LeadsTo was e now`: the edit `e` of the text `was` makes the text `now`
-abbrev pub LeadsTo : List ℕ → Edit → List ℕ → Type 0
-LeadsTo was e now = (piece : List ℕ) × (e.at + e.removed ≤ length was) × (e.inserted ≡ length piece)
-    × (now ≡ edit was e.at (e.at + e.removed) piece)
-
--- the document with this text in place of its own
-abbrev pub with_text : Doc → List ℕ → Doc
-with_text d text =
-    record { unit = d.unit; version = d.version; text = text; tokens = d.tokens; store = d.store; parse = d.parse }
+-- the document, whose tokens and parse are those before the pending changes
+abbrev pub pending_document : Pending → Doc
+pending_document p = p.doc
 
 -- the text after all changes
 abbrev pub pending_text : Pending → List ℕ
@@ -50,3 +44,14 @@ pub record IsPending (language : LanguageData) (p : Pending) : Type 0 where
   pub current : IsCurrent language (with_text p.doc was)
   pub leads : MatchOption p.edit (p.doc.text ≡ was)
       (λ e. LeadsTo was e p.doc.text × (p.doc.parse.number ≤ e.number) × (1 ≤ e.number))
+
+-- `IsSettledAs language p d`: `d` is the document of `p` where nothing is pending; else its tokens and its parse are those after the
+-- pending changes, as one edit
+abbrev pub IsSettledAs : LanguageData → Pending → Doc → Type 0
+IsSettledAs language p d = MatchOption p.edit (d ≡ p.doc) (λ e. IsSettled language e p.doc d)
+
+-- `Waits language old new`: the tokens and the parse stay as they are in what was made of `old`; or they are brought up to its pending
+-- changes first
+abbrev pub Waits : LanguageData → Pending → Pending → Type 0
+Waits language old new =
+    (with_text new.doc old.doc.text ≡ old.doc) ⊎ IsSettledAs language old (with_text new.doc old.doc.text)

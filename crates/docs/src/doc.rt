@@ -14,6 +14,7 @@ ghost use Rattle.readings.specs.Diagnostics.{IsDiagnosis};
 ghost use Rattle.readings.specs.Answers.{AreSelections, IsReported, Reads, rows, written_tree};
 ghost use Rattle.docs.specs.Changes.{IsChanged};
 ghost use Rattle.docs.specs.Docs.{last_edit, open_document, IsCurrent};
+ghost use Rattle.docs.specs.Settling.{with_text, IsAhead, IsSettled};
 ghost use Rattle.readings.specs.Edits.{AreStats};
 ghost use Rattle.docs.specs.Languages.{LanguageData};
 ghost use Rattle.docs.specs.Outcomes.{IsOutcome};
@@ -22,7 +23,7 @@ ghost use Rattle.docs.specs.declared.doc.DocFault.TheVariants.{Memory};
 ghost use Rattle.docs.specs.Faults.{doc_fault};
 
 use crate::language::Language;
-use crate::parses::{parse, reparse};
+use crate::significant::Significant;
 use definitions::{Diagnostic, Edit, Position, Range, Stats, Unit};
 use lexer::Tokens;
 use parser::laws::stack_has_the_nodes_of_the_document;
@@ -103,7 +104,22 @@ impl Doc {
         ensures too_large { (result ≡ Err DocFault.TooLarge) ↔ (fits (chars text.now) ≡ false) }
     {
         let made = Text::open(alloc, text)?;
-        Ok(Doc::of(alloc, language, unit, version, made, text)?)
+        // The read opens what a language says of its tables.
+        let _tables = language.tables();
+        let tokens = language.scan(alloc, &made, text)?;
+        // With this room a store of few nodes for each token doesn't grow, and isn't copied, while it is filled. A sum has one node
+        // more than tokens.
+        let mut store = Store::with_capacity(alloc, tokens.significant().saturating_add(1))?;
+        let kinds = Significant(&tokens);
+        let parse = Parse::whole(alloc, language.tables(), &mut store, &kinds)?;
+        Ok(Doc {
+            unit,
+            version,
+            text: made,
+            tokens,
+            store,
+            parse,
+        })
     }
 
     /// The document after a change (LSP 3.17, "TextDocumentContentChangeEvent"): `new` stands in the place of the range, or of
@@ -122,23 +138,6 @@ impl Doc {
         ensures too_large { let text = changed self.unit self.text range (chars new.now) in
             (result ≡ Err DocFault.TooLarge) ↔ (fits text ≡ false) }
     {
-        self.edit(alloc, language, range, new).and(Ok(self))
-    }
-
-    /// Makes the change in place. Where it is refused, the parts of the document don't belong together any more.
-    fn edit(
-        &mut self,
-        alloc: Global,
-        language: &Language,
-        range: Option<Range>,
-        new: &str,
-    ) -> Result<(), DocFault>
-        requires { IsCurrent language.now self.old }
-        ensures changed { OnOk result
-            (IsChanged language.now range (chars new.now) self.old self.new) }
-        ensures too_large { let text = changed self.old.unit self.old.text range (chars new.now) in
-            (result ≡ Err DocFault.TooLarge) ↔ (fits text ≡ false) }
-    {
         let before = self.text.len();
         let (from, to) = self.text.span(self.unit, range);
         self.text.replace(alloc, from, to, new)?;
@@ -148,49 +147,29 @@ impl Doc {
             inserted: self.text.len() - (before - (to - from)),
             number: self.parse.number().saturating_add(1),
         };
-        let splice = language.rescan(alloc, &mut self.tokens, &self.text, edit)?;
-        reparse(
-            alloc,
-            language,
-            &mut self.parse,
-            &mut self.store,
-            &self.tokens,
-            splice,
-            edit.number,
-        )?;
-        Ok(())
+        self.settle(alloc, language, edit)?;
+        Ok(self)
     }
 
-    /// Scans and parses a text, of which this is the UTF-8. Refuses for memory alone.
-    fn of(
+    /// Scans and parses the text after an edit that it has already. Refuses for memory alone; the parts of the document don't
+    /// belong together any more then.
+    pub(crate) fn settle(
+        &mut self,
         alloc: Global,
         language: &Language,
-        unit: Unit,
-        version: i32,
-        text: Text,
-        utf8: &str,
-    ) -> Result<Doc, AllocError>
-        requires { text ≡ chars utf8.now }
-        ensures is { IfOk result (λ d.
-            open_document d
-            ≡ record { unit = unit; version = version; text = text; last = None }) }
-        ensures current { IfOk result (IsCurrent language.now) }
+        edit: Edit,
+    ) -> Result<(), AllocError>
+        requires { IsAhead language.now edit self.old }
+        ensures same { OnOk result ((self.new.unit ≡ self.old.unit)
+            × (self.new.version ≡ self.old.version) × (self.new.text ≡ self.old.text)) }
+        ensures settled { OnOk result (IsSettled language.now edit self.old self.new) }
     {
-        // The read opens what a language says of its tables.
-        let _tables = language.tables();
-        let tokens = language.scan(alloc, &text, utf8)?;
-        // With this room a store of few nodes for each token doesn't grow, and isn't copied, while it is filled. A sum has one node
-        // more than tokens.
-        let mut store = Store::with_capacity(alloc, tokens.significant().saturating_add(1))?;
-        let parse = parse(alloc, language, &mut store, &tokens)?;
-        Ok(Doc {
-            unit,
-            version,
-            text,
-            tokens,
-            store,
-            parse,
-        })
+        let splice = language.rescan(alloc, &mut self.tokens, &self.text, edit)?;
+        let kinds = Significant(&self.tokens);
+        let (tables, store) = (language.tables(), &mut self.store);
+        self.parse
+            .change(alloc, tables, store, &kinds, splice, edit.number)?;
+        Ok(())
     }
 
     /// The version that the document has.

@@ -28,7 +28,6 @@
 mod doc;
 mod language;
 pub mod laws;
-mod parses;
 mod pending;
 mod significant;
 

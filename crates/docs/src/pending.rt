@@ -4,15 +4,15 @@ ghost use Rattle.std.specs.Prelude.{◌≡◌, ◌+◌, ◌<◌, ◌≤◌, ◌^
 ghost use Rattle.std.specs.Str.{chars};
 ghost use Rattle.definitions.specs.Text.{changed, edit};
 ghost use Rattle.docs.specs.Docs.{last_edit, IsCurrent};
+ghost use Rattle.docs.specs.Settling.{LeadsTo};
 ghost use Rattle.readings.specs.Edits.{number_of};
 ghost use Rattle.docs.specs.Languages.{LanguageData};
-ghost use Rattle.docs.specs.Pending.{HasNone, IsPending, LeadsTo, pending_number, pending_text, pending_unit, pending_version};
+ghost use Rattle.docs.specs.Pending.{HasNone, IsPending, IsSettledAs, Waits, pending_document, pending_number, pending_text, pending_unit, pending_version};
 ghost use Rattle.readings.specs.Texts.{fits};
 ghost use Rattle.docs.specs.declared.doc.DocFault.TheVariants.{Memory};
 
 use crate::doc::{Doc, DocFault};
 use crate::language::Language;
-use crate::parses::reparse;
 use definitions::{Edit, Range};
 use std::alloc::{AllocError, Global};
 
@@ -57,6 +57,7 @@ impl Pending {
         ensures version { pending_version result ≡ doc.version }
         ensures number { pending_number result ≡ number_of (last_edit doc) }
         ensures none { HasNone result }
+        ensures document { pending_document result ≡ doc }
         ensures fits { fits doc.text ≡ true }
         ensures pending { (language : LanguageData)
             → IsCurrent language doc → IsPending language result }
@@ -102,25 +103,16 @@ impl Pending {
         ensures version { OnOk result (pending_version self.new ≡ pending_version self.old) }
         ensures number { OnOk result (pending_number self.new ≡ pending_number self.old) }
         ensures none { OnOk result (HasNone self.new) }
+        ensures settled { OnOk result (IsSettledAs language.now self.old self.new.doc) }
         ensures pending { OnOk result (IsPending language.now self.new) }
         ensures refused { OnErr result (¬ HasNone self.old) }
     {
         let Some(edit) = self.edit else {
             return Ok(());
         };
-        let doc = &mut self.doc;
         // The read opens the invariant of the text.
-        let _length = doc.text.len();
-        let splice = language.rescan(alloc, &mut doc.tokens, &doc.text, edit)?;
-        reparse(
-            alloc,
-            language,
-            &mut doc.parse,
-            &mut doc.store,
-            &doc.tokens,
-            splice,
-            edit.number,
-        )?;
+        let _length = self.doc.text.len();
+        self.doc.settle(alloc, language, edit)?;
         self.edit = None;
         self.places = self.places.saturating_add(1);
         Ok(())
@@ -139,6 +131,7 @@ impl Pending {
         ensures unit { OnOk result (pending_unit self.new ≡ pending_unit self.old) }
         ensures version { OnOk result (pending_version self.new ≡ pending_version self.old) }
         ensures number { OnOk result (pending_number self.new ≡ pending_number self.old) }
+        ensures waits { OnOk result (Waits language.now self.old self.new) }
         ensures pending { OnOk result (IsPending language.now self.new) }
         ensures refused { OnErr result (¬ HasNone self.old) }
     {
@@ -146,37 +139,6 @@ impl Pending {
             return self.settle(alloc, language);
         }
         Ok(())
-    }
-
-    /// The number of the next change.
-    fn next_number(&self) -> u64
-        ensures is { result ≡ min (pending_number self.now + 1) 18446744073709551615 }
-        ensures later { pending_number self.now ≤ result }
-        ensures positive { 1 ≤ result }
-    {
-        self.number().saturating_add(1)
-    }
-
-    /// The pending changes, and after them one that puts so many characters in the place of those from `from` up to `to`, as
-    /// one edit of this number.
-    fn edit_with(&self, from: usize, to: usize, inserted: usize, number: u64) -> Edit
-        requires ordered { from ≤ to }
-        requires small { (e : Edit) → self.now.edit ≡ Some e
-            → e.at + e.removed + e.inserted + to + inserted < 2 ^ 63 }
-        ensures number { result.number ≡ number }
-        ensures leads { (was now s : List ℕ) → to ≤ length now → inserted ≡ length s
-            → MatchOption self.now.edit (now ≡ was) (λ e. LeadsTo was e now)
-            → LeadsTo was result (edit now from to s) }
-    {
-        match self.edit {
-            Some(edit) => as_one_edit(edit, from, to, inserted, number),
-            None => Edit {
-                at: from,
-                removed: to - from,
-                inserted,
-                number,
-            },
-        }
     }
 
     /// Makes one change, as `Doc::change` does. Memory may be refused for the pending changes too.
@@ -195,6 +157,7 @@ impl Pending {
         ensures version { OnOk result (pending_version self.new ≡ pending_version self.old) }
         ensures number { OnOk result
             (pending_number self.new ≡ min (pending_number self.old + 1) 18446744073709551615) }
+        ensures waits { OnOk result (Waits language.now self.old self.new) }
         ensures pending { OnOk result (IsPending language.now self.new) }
         ensures too_large { let old = self.old in
             let text = changed (pending_unit old) (pending_text old) range (chars new.now) in
@@ -208,8 +171,15 @@ impl Pending {
         let before = self.doc.text.len();
         self.doc.text.replace(alloc, from, to, new)?;
         let inserted = self.doc.text.len() - (before - (to - from));
-        let number = self.next_number();
-        self.edit = Some(self.edit_with(from, to, inserted, number));
+        let number = self.number().saturating_add(1);
+        // Where nothing is pending, nothing was changed at this place.
+        let first = self.edit.unwrap_or(Edit {
+            at: from,
+            removed: 0,
+            inserted: 0,
+            number,
+        });
+        self.edit = Some(as_one_edit(first, from, to, inserted, number));
         Ok(())
     }
 
@@ -220,6 +190,7 @@ impl Pending {
         ensures unit { IfOk result (λ d. d.unit ≡ pending_unit self) }
         ensures version { IfOk result (λ d. d.version ≡ pending_version self) }
         ensures number { IfOk result (λ d. number_of (last_edit d) ≡ pending_number self) }
+        ensures settled { IfOk result (IsSettledAs language.now self) }
         ensures current { IfOk result (IsCurrent language.now) }
         ensures refused { IfErr result (λ _. ¬ HasNone self) }
     {

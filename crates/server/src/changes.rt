@@ -100,7 +100,7 @@ pub fn apply_changes(
     // Where the numbers of edits end, they share the last one, and what each makes is counted by what the one before it made.
     let numbers_left = u64::MAX - doc.stats().edit;
     let count = changes.len();
-    if count == 0 || count as u64 > numbers_left {
+    if count <= 1 || count as u64 > numbers_left {
         return apply_each(alloc, language, doc, version, changes);
     }
     let (others, last) = changes.split_at(count - 1);

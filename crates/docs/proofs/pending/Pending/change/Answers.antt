@@ -1,7 +1,8 @@
 use Rattle.std.proofs.lemmas.Grind.{common_steps}
-use Rattle.std.proofs.Common.{◌≡◌, ◌≤◌, ◌-◌, ◌∙◌, ℕ, length, sym, ap, subst, arith, Option, Some, None, Err, MatchOption}
+use Rattle.std.proofs.Common.{◌≡◌, ◌≤◌, ◌-◌, ◌∙◌, ℕ, length, refl, sym, ap, subst, arith, Option, Some, None, Err, MatchOption}
 use Rattle.docs.proofs.Common.{chars, Edit, IsText, edit, length-edit, TooLarge, Memory, LeadsTo, number_or}
-use Rattle.docs.proofs.JoinedEdits.{small_edit}
+use Rattle.docs.proofs.Edits.{next_later, next_positive}
+use Rattle.docs.proofs.JoinedEdits.{leads_first, small_edit}
 use Rattle.docs.proofs.Refusals.{IsText-changed, large_edit, passed_on, text_made, unless}
 use Rattle.docs.proofs.pending.Pending.change.Goals as goal
 
@@ -14,12 +15,14 @@ later_number : (n : ℕ) (o : Option Edit) (none : Type 0) (leads positive : Edi
 later_number n None none leads positive h = omega arith
 later_number n (Some e) none leads positive h = h.1
 
-pub edit_with-requires-clause-small : goal.edit_with-requires-clause-small
-edit_with-requires-clause-small c e is =
+pub as_one_edit-requires-clause-small : goal.as_one_edit-requires-clause-small
+as_one_edit-requires-clause-small c =
     let p = c.in_ok-settle_apart.ensures.pending in
-    let mid = c.settle_apart.new.self.doc.text in
-    let leads = subst (λ (o : Option Edit). MatchOption o (mid ≡ p.was) (λ x. LeadsTo p.was x mid)) is (leads_alone c.settle_apart.new.self.edit _ _ _ _ p.leads) in
-    let small = small_edit p.was mid e leads p.short (omega (arith, c.len-before.ensures.count, c.len-before.ensures.few)) in
+    let mid = c.settle_apart.new.self in
+    let within : c.span-from.result.0 ≤ length mid.doc.text = omega (arith, c.span-from.ensures.ordered, c.span-from.ensures.in_range, ap length c.in_ok-settle_apart.ensures.text) in
+    let first = leads_first mid.edit p.was mid.doc.text _ within refl refl (leads_alone mid.edit _ _ _ _ p.leads) in
+    let leads = subst (λ (e : Edit). LeadsTo p.was e mid.doc.text) (sym c.unwrap_or-first.ensures) first in
+    let small = small_edit p.was mid.doc.text c.unwrap_or-first.result leads p.short (omega (arith, c.len-before.ensures.count, c.len-before.ensures.few)) in
     omega (arith, small, c.len.ensures.few, c.span-from.ensures.in_range, ap length c.in_ok-settle_apart.ensures.text, c.len-before.ensures.count, c.len-before.ensures.few)
 
 pub returns-in_err-replace-clause-memory : goal.returns-in_err-replace-clause-memory
@@ -49,13 +52,18 @@ returns-clause-pending c =
     let within : b ≤ length mid.doc.text = omega (arith, c.span-from.ensures.in_range, ap length c.in_ok-settle_apart.ensures.text) in
     let long = length-edit mid.doc.text s a b c.span-from.ensures.ordered within in
     let inserted : c.len.result - (c.len-before.result - (b - a)) ≡ length s = omega (arith, long, c.len.ensures.count, ap length c.in_ok-replace.ensures.edited, c.len-before.ensures.count, c.span-from.ensures.ordered, within) in
-    let leads = c.edit_with.ensures.leads p.was mid.doc.text s within inserted (leads_alone mid.edit _ _ _ _ p.leads) in
+    let start : a ≤ length mid.doc.text = omega (arith, c.span-from.ensures.ordered, within) in
+    let first = leads_first mid.edit p.was mid.doc.text _ start refl refl (leads_alone mid.edit _ _ _ _ p.leads) in
+    let leads = c.as_one_edit.ensures.leads p.was mid.doc.text s within inserted (subst (λ (e : Edit). LeadsTo p.was e mid.doc.text) (sym c.unwrap_or-first.ensures) first) in
     let later = later_number mid.doc.parse.number mid.edit _ _ _ p.leads in
+    let number = c.number.result in
+    let next = next_later number c.saturating_add-number.result c.saturating_add-number.ensures (omega (arith, c.number.type_inv)) in
+    let positive = next_positive number c.saturating_add-number.result c.saturating_add-number.ensures in
     record {
       was = p.was;
       short = p.short;
       current = p.current;
-      leads = (subst (LeadsTo p.was c.edit_with.result) (sym c.in_ok-replace.ensures.edited) leads, omega (arith, later, c.next_number-number.ensures.later, c.edit_with.ensures.number), omega (arith, c.next_number-number.ensures.positive, c.edit_with.ensures.number));
+      leads = (subst (LeadsTo p.was c.as_one_edit.result) (sym c.in_ok-replace.ensures.edited) leads, omega (arith, later, next, c.number.ensures, c.as_one_edit.ensures.number), omega (arith, positive, c.as_one_edit.ensures.number));
     }
 
 pub overflow_sub-inserted-3 : goal.overflow_sub-inserted-3

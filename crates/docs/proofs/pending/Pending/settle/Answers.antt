@@ -1,27 +1,33 @@
-use Rattle.std.proofs.Common.{◌≡◌, ◌≤◌, arith, refl, sym, subst, rules, Option, MatchOption, All}
-use Rattle.docs.proofs.Common.{Edit, LeadsTo}
-use Rattle.docs.proofs.Stamps.{born_on}
+use Rattle.std.proofs.Common.{◌≡◌, ◌≤◌, arith, ap, refl, length, sym, subst, rules, Option, MatchOption}
+use Rattle.docs.proofs.Common.{Edit, IsSettled, LeadsTo}
 use Rattle.docs.proofs.pending.Pending.settle.Goals as goal
+
+pub settle-requires : goal.settle-requires
+settle-requires c =
+    let doc = c.args.self.now.doc in
+    let was = c.requires.was in
+    let leads = subst (λ (o : Option Edit). MatchOption o (doc.text ≡ was) (λ e. LeadsTo was e doc.text × (doc.parse.number ≤ e.number) × (1 ≤ e.number))) c.in-Some.is c.requires.leads in
+    record {
+      was = was;
+      current = c.requires.current;
+      leads = leads.0;
+      later = leads.1;
+      numbered = leads.2;
+    }
+
+pub returns-clause-settled : goal.returns-clause-settled
+returns-clause-settled c =
+    let old = c.args.self.now.doc in
+    let new = c.settle.new.self in
+    subst (λ (o : Option Edit). MatchOption o (new ≡ old) (λ e. IsSettled c.args.language.now e old new)) (sym c.in-Some.is) c.in_ok-settle.ensures.settled
 
 pub returns-clause-pending : goal.returns-clause-pending
 returns-clause-pending c =
-    let doc = c.args.self.now.doc in
-    let old = c.requires.current in
-    let changed = c.in_ok-reparse.ensures.changed in
-    let leads = subst (λ (o : Option Edit). MatchOption o (doc.text ≡ c.requires.was) (λ e. LeadsTo c.requires.was e doc.text × (doc.parse.number ≤ e.number) × (1 ≤ e.number))) c.in-Some.is c.requires.leads in
-    let born = born_on c.in-Some.edit doc.tokens.items c.rescan.new.tokens.items doc.parse.number c.in_ok-splice.ensures.after.kept leads.1 old.born in
+    let new = c.settle.new.self in
     record {
-      was = doc.text;
-      short = omega (arith, c.len-length.ensures.count, c.len-length.ensures.few);
-      current = record {
-        tokens = c.in_ok-splice.ensures.after.tokens;
-        parse = changed.parse;
-        grammar = old.grammar;
-        born = subst (λ n. All (λ x. x.born ≤ n) c.rescan.new.tokens.items) (sym changed.number) born;
-        scanned = λ none. absurd (omega (arith, changed.number, leads.2, none));
-        built = λ none. absurd (omega (arith, changed.number, leads.2, none));
-        bounded = changed.bounded;
-      };
+      was = new.text;
+      short = omega (arith, c.len-length.ensures.count, c.len-length.ensures.few, ap length c.in_ok-settle.ensures.same.2);
+      current = c.in_ok-settle.ensures.settled.current;
       leads = refl;
     }
 
