@@ -1,7 +1,7 @@
 //! Frames out of a stream that comes in pieces (LSP 3.17, "Base Protocol").
 
 ghost use Rattle.std.specs.Prelude.{◌≡◌, ◌≢◌, ◌↔◌, [], ◌++◌, ◌+◌, ◌<◌, ◌≤◌, length, take, drop, IfSome, IfNone, IfOk, IfErr, IsErrOf, Some, None, ℕ, List};
-ghost use Rattle.frames.specs.Frames.{Tail, Open, Faulty, tail_of, Splits, IsReached, GoesOn, Continues, IsOpen, IsCut, IsStreamFault, fault_of, finish_of};
+ghost use Rattle.frames.specs.Frames.{Tail, Open, Faulty, tail_of, Splits, IsReached, GoesOn, IsOpen, IsCut, IsStreamFault, fault_of, finish_of};
 ghost use Rattle.frames.specs.Contents.{contents};
 ghost use Rattle.frames.specs.Kept.{Awaits, HoldsNone, IsDecoder};
 
@@ -90,7 +90,7 @@ fn split(alloc: Global, bytes: &[u8]) -> Result<Found, AllocError>
     }
 }
 
-/// What stands at the start of some bytes, of a prefix of which `awaited` and `searched` were kept.
+/// Splits `bytes` into frames; `awaited` and `searched` say what is known of a prefix of them.
 fn found_in(
     alloc: Global,
     bytes: &[u8],
@@ -220,8 +220,8 @@ impl Decoder {
 
     /// Takes the next piece of the stream, and returns the frames that are whole now, in order.
     ///
-    /// A fault after them is answered by the next call, and where there are none by this one; then by every call, and no
-    /// piece is taken any more. `Memory` says that memory was refused: the piece isn't taken, and may be fed again.
+    /// If a fault follows these frames, the next call returns it; with no frames, this call does. From then on every call
+    /// returns it and takes no bytes. `Memory` says that memory was refused: the piece isn't taken, and may be fed again.
     pub fn feed(&mut self, alloc: Global, piece: &[u8]) -> Result<Vec<Frame>, FrameFault>
         ensures ok { IfOk result (λ frames.
             GoesOn self.old piece.now (contents frames.items) self.new) }
@@ -240,22 +240,6 @@ impl Decoder {
         // There are streams with these tails, so the promises above are never empty.
         ensures reached { IsReached self.old × IsReached self.new }
         ensures stream_fault { IfSome (fault_of self.new) IsStreamFault }
-    {
-        self.take_bytes(alloc, piece)
-    }
-
-    /// `feed`, by what is left of the stream.
-    fn take_bytes(&mut self, alloc: Global, piece: &[u8]) -> Result<Vec<Frame>, FrameFault>
-        ensures ok { IfOk result (λ frames.
-            Continues self.old piece.now (contents frames.items) self.new) }
-        ensures none { IfOk result (λ frames. frames.items ≡ [] → IsOpen self.new) }
-        ensures fault { IfErr result (λ fault. fault ≢ FrameFault.Memory →
-            Continues self.old piece.now [] self.new × (self.new ≡ Faulty fault)) }
-        ensures memory { IsErrOf result FrameFault.Memory → self.new ≡ self.old }
-        ensures kind { IfErr result (λ fault. fault ≢ FrameFault.Truncated) }
-        ensures ended { IfSome (fault_of self.old) (λ fault.
-            IsErrOf result fault × (self.new ≡ self.old)) }
-        ensures reached { IsReached self.old × IsReached self.new }
     {
         if let Some(fault) = self.met {
             return Err(fault);
