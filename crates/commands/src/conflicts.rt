@@ -10,7 +10,7 @@ use grammar::Grammar;
 use std::alloc::{AllocError, Global};
 use tables::{Conflict, Item};
 
-/// The name of a symbol. One that the grammar doesn't have has none.
+/// The name of a symbol, empty if the grammar has no such symbol.
 fn name_of(grammar: &Grammar, symbol: Symbol) -> &str
     ensures { result.now ≡ name_bytes grammar.now symbol }
 {

@@ -8,6 +8,7 @@ use Rattle.dfa.specs.Alphabet.{all_cuts, representative}
 use Rattle.dfa.specs.Marks.{mark, all_holders}
 use Rattle.dfa.specs.Sets.{IsSetOf}
 use Rattle.dfa.specs.Table.{part, IsAscending, IsFirst}
+use Rattle.dfa.specs.declared.states.States.{States}
 use Rattle.dfa.specs.declared.tree.Tree.{Tree}
 use Rattle.dfa.specs.Trees.{AreTreesOf}
 
@@ -90,3 +91,7 @@ pub record AreEntries (old new : List ℕ) (sets : List (List ℕ)) (marks : Lis
   pub many : length new ≡ length old + n
   pub same : (i : ℕ) → i < length old → slice_index_or new i 0 ≡ slice_index_or old i 0
   pub each : (k : ℕ) → k < n → IsNumber sets (slice_index_or new (length old + k) 0) (kept marks (slice_index_or parts k []))
+
+-- the rows of these states are those of the rules, where the parts of the alphabet begin so
+abbrev pub HasRows : List Expression → List ℕ → States → Type 0
+HasRows rules starts s = AreRows rules starts (members s.sets.keys) s.next.items s.accepts.items

@@ -2,7 +2,7 @@
 ghost use Rattle.std.specs.Prelude.{◌≡◌, ℕ, ◌<◌, ◌≤◌, ◌^◌, length, slice_index_or, All, Contains, IfOk, IfErr};
 ghost use Rattle.definitions.specs.Text.{IsCharacter};
 ghost use Rattle.dfa.specs.Alphabet.{all_cuts};
-ghost use Rattle.dfa.specs.Built.{AreRows, members};
+ghost use Rattle.dfa.specs.Built.{HasRows, members};
 ghost use Rattle.dfa.specs.Positions.{HasMoreStatesThan};
 ghost use Rattle.dfa.specs.Sets.{AllMade};
 ghost use Rattle.dfa.specs.Table.{IsAscending, IsAutomaton, part};
@@ -93,8 +93,7 @@ fn states_of(alloc: Global, patterns: &[Pattern], starts: &[char]) -> Result<Sta
     requires cuts { (x : ℕ) → Contains (all_cuts patterns.now) x → Contains starts.now x }
     requires characters { All IsCharacter starts.now }
     ensures made { IfOk result (λ _. AllMade patterns.now) }
-    ensures rows { IfOk result (λ s.
-        AreRows patterns.now starts.now (members s.sets.keys) s.next.items s.accepts.items) }
+    ensures rows { IfOk result (HasRows patterns.now starts.now) }
     ensures all { IfOk result (λ s. length (members s.sets.keys) ≤ length s.accepts.items) }
     ensures many { IfErr result (λ e. e ≡ TooManyStates → HasMoreStatesThan patterns.now 4096) }
 {

@@ -2,7 +2,7 @@
 ghost use Rattle.std.specs.Prelude.{◌≡◌, ℕ, ◌+◌, ◌<◌, ◌≤◌, ◌^◌, [], false, true, length, List, slice_index_or, All, IfOk, IfErr};
 ghost use Rattle.definitions.specs.declared.expression.Expression.{Expression};
 ghost use Rattle.dfa.specs.Alphabet.{representative};
-ghost use Rattle.dfa.specs.Built.{AreEntries, AreRows, AreRules, AreStates, Grows, IsNumber, IsReached, Placed, kept, members};
+ghost use Rattle.dfa.specs.Built.{AreEntries, AreRules, AreStates, Grows, HasRows, IsNumber, IsReached, Placed, kept, members};
 ghost use Rattle.dfa.specs.Marks.{all_holders, all_positions, marks_of};
 ghost use Rattle.dfa.specs.Positions.{HasMoreStatesThan};
 ghost use Rattle.dfa.specs.Sets.{AreBlank, AreMarksOf, Rises};
@@ -288,10 +288,7 @@ impl States {
             → AreStates rules (members self.new.sets.keys) }
         ensures rows { IfOk result (λ _. (rules : List Expression) (starts : List ℕ)
             → AreRules rules starts trees.now parts.now
-            → AreRows rules starts (members self.old.sets.keys) self.old.next.items
-            self.old.accepts.items
-            → AreRows rules starts (members self.new.sets.keys) self.new.next.items
-            self.new.accepts.items) }
+            → HasRows rules starts self.old → HasRows rules starts self.new) }
         ensures count { IfOk result
             (λ _. length self.new.accepts.items ≡ length self.old.accepts.items + 1) }
         ensures many { IfErr result (λ e. e ≡ TooManyStates
@@ -320,23 +317,18 @@ impl States {
     ) -> Result<(), DfaFault>
         requires rules { (rules : List Expression) × (starts : List ℕ)
             × AreRules rules starts trees.now parts.now
-            × AreRows rules starts (members self.old.sets.keys) self.old.next.items
-            self.old.accepts.items }
+            × HasRows rules starts self.old }
         requires blank { AreBlank marks.old.items }
         requires all { length marks.old.items ≡ all_counts trees.now }
         ensures rows { IfOk result (λ _. (rules : List Expression) (starts : List ℕ)
             → AreRules rules starts trees.now parts.now
-            → AreRows rules starts (members self.old.sets.keys) self.old.next.items
-            self.old.accepts.items
-            → AreRows rules starts (members self.new.sets.keys) self.new.next.items
-            self.new.accepts.items) }
+            → HasRows rules starts self.old → HasRows rules starts self.new) }
         ensures all { IfOk result
             (λ _. length (members self.new.sets.keys) ≤ length self.new.accepts.items) }
         ensures many { IfErr result (λ e. e ≡ TooManyStates
             → (rules : List Expression) (starts : List ℕ)
             → AreRules rules starts trees.now parts.now
-            → AreRows rules starts (members self.old.sets.keys) self.old.next.items
-            self.old.accepts.items
+            → HasRows rules starts self.old
             → HasMoreStatesThan rules 4096) }
     {
         'rows: while self.accepts.len() < self.sets.len() {

@@ -216,9 +216,9 @@ fn repeat(alloc: Global, tree: &mut Tree) -> Result<(), AllocError>
     Ok(())
 }
 
-/// Makes it the tree of the same part once or not at all.
+/// Makes the part optional.
 #[inline(never)]
-fn excuse(alloc: Global, tree: &mut Tree) -> Result<(), AllocError>
+fn make_optional(alloc: Global, tree: &mut Tree) -> Result<(), AllocError>
     ensures { IfOk result (λ _. IsOptional tree.old tree.new) }
 {
     let part = mem::replace(tree, Tree::Position);
@@ -265,7 +265,7 @@ fn put(alloc: Global, e: &Expression, tree: &mut Tree) -> Result<(), AllocError>
         Expression::Star(a) => {
             put(alloc, a, tree)?;
             repeat(alloc, tree)?;
-            excuse(alloc, tree)
+            make_optional(alloc, tree)
         }
         Expression::Plus(a) => {
             put(alloc, a, tree)?;
@@ -273,7 +273,7 @@ fn put(alloc: Global, e: &Expression, tree: &mut Tree) -> Result<(), AllocError>
         }
         Expression::Optional(a) => {
             put(alloc, a, tree)?;
-            excuse(alloc, tree)
+            make_optional(alloc, tree)
         }
     }
 }

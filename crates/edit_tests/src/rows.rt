@@ -22,7 +22,7 @@ struct Outcome {
     ending: Ending,
 }
 
-/// The number of an edit, the edit, and what is to come of it: the counts of tokens, of those scanned, of branches and of those
+/// The number of an edit, the edit, and what is expected: the counts of tokens, of those scanned, of branches and of those
 /// built, and what is reported.
 type Row<'a> = (
     u64,
@@ -42,7 +42,7 @@ fn outcome_of(document: &Document) -> Outcome {
     }
 }
 
-/// Makes the edit of a row, and sees that what comes of it is what is to come.
+/// Makes the edit of a row, and checks the expected counts.
 fn check_row(
     rt: &impl Abort,
     alloc: Global,

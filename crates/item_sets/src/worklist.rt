@@ -1,4 +1,4 @@
-//! What the closure of a set of items wants: nonterminals, each with a lookahead that may follow it.
+//! The worklist of a closure: nonterminals, each with a lookahead that may follow it.
 ghost use Rattle.std.specs.Prelude.{◌≡◌, ◌↔◌, ◌<◌, ◌+◌, ℕ, false, IsTrue, length, slice_index_or, IfOk, OnOk};
 ghost use Rattle.first_sets.specs.Productions.{IsSound};
 ghost use Rattle.item_sets.specs.Worklist.{marked, AreEntries, IsGrownBy};

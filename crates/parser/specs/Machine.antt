@@ -8,6 +8,7 @@ use Rattle.trees.specs.declared.store.Child.{Child}
 use Rattle.trees.specs.declared.store.Child.TheVariants.{Node}
 use Rattle.trees.specs.Cells.{Cell, IsGrown, all_trees}
 use Rattle.tables.specs.Tables.{Sets, IsStateOf}
+use Rattle.parser.specs.declared.machine.Machine.{Machine}
 
 -- the trees of children, without their stamps
 abbrev pub plain_of : List Cell → List Child → List Tree
@@ -19,6 +20,10 @@ pub record HasStates (t : Sets) (stack : List Tree) (states : List ℕ) : Type 0
   pub roots : HaveRoots t.grammar stack symbols
   pub long : length states ≡ length symbols + 1
   pub each : (i : ℕ) → i < length states → IsStateOf t (take i symbols) (slice_index_or states i 0)
+
+-- the machine's states are those of its stack
+abbrev pub StandsOn : Sets → List Cell → Machine → Type 0
+StandsOn t cells m = HasStates t (plain_of cells m.stack.items) m.states.items
 
 abbrev mutual
   -- `IsMadeBy number t`: every branch of a stamped tree carries this stamp

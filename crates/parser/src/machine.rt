@@ -12,7 +12,7 @@ ghost use Rattle.trees.specs.Cells.{AreBelow, all_trees, tree};
 ghost use Rattle.theory.specs.Machine.{Reduces};
 ghost use Rattle.theory.specs.Reuse.{CanReuse};
 ghost use Rattle.tables.specs.Tables.{IsAccepted, IsStateOf};
-ghost use Rattle.parser.specs.Machine.{plain_of, HasStates, HasMade};
+ghost use Rattle.parser.specs.Machine.{plain_of, HasMade, StandsOn};
 ghost use Rattle.parser.specs.Input.{input_of, IsFull, IsInput, IsOpened};
 ghost use Rattle.parser.specs.FirstInput.{Offers, IsReusable, IsOffer};
 ghost use Rattle.parser.specs.Run.{CameFrom, ComeFrom, IsEdge, SoFar};
@@ -140,8 +140,7 @@ impl Machine {
         input: &Input,
         id: NodeId,
     ) -> Option<usize>
-        requires states { HasStates tables.now (plain_of store.now self.now.stack.items)
-            self.now.states.items }
+        requires states { StandsOn tables.now store.now self.now }
         requires first { (rest : List Child) × (input.now ≡ Child.Node id ∷ rest) }
         requires input { IsInput tables.now.grammar store.now input.now kinds.old self.now.read }
         requires root { let meant = plain (tree store.now (Child.Node id)) in
@@ -176,8 +175,7 @@ impl Machine {
         kinds: &mut Reader<'_, K>,
         input: &mut Input,
     ) -> Result<FirstInput, AllocError>
-        requires states { HasStates tables.now (plain_of store.now self.now.stack.items)
-            self.now.states.items }
+        requires states { StandsOn tables.now store.now self.now }
         requires input { IsInput tables.now.grammar store.now input.old kinds.old
             self.now.read }
         requires full { IsFull store.now input.old }
@@ -224,8 +222,7 @@ impl Machine {
         kinds: &mut Reader<'_, K>,
         input: &mut Input,
     ) -> Result<Edge, AllocError>
-        requires states { HasStates tables.now (plain_of store.now self.now.stack.items)
-            self.now.states.items }
+        requires states { StandsOn tables.now store.now self.now }
         requires input { IsInput tables.now.grammar store.now input.old kinds.old self.now.read }
         ensures edge { let stack = plain_of store.now self.now.stack.items in IfOk result
             (IsEdge tables.now store.now stack kinds.old self.now.read input.old input.new) }
@@ -254,8 +251,7 @@ impl Machine {
         production: usize,
         number: u64,
     ) -> Result<(), AllocError>
-        requires states { HasStates tables.now (plain_of store.old self.old.stack.items)
-            self.old.states.items }
+        requires states { StandsOn tables.now store.old self.old }
         requires below { AreBelow (length store.old) self.old.stack.items }
         requires called { (look : Option TokenKind) × (symbols : List Symbol)
             × HaveRoots tables.now.grammar (plain_of store.old self.old.stack.items) symbols
@@ -266,9 +262,7 @@ impl Machine {
             → HasMove tables.now.grammar symbols look (ReduceMove production)
             → IfOk result (λ _. Reduces tables.now.grammar stack look
             (plain_of store.new self.new.stack.items)) }
-        ensures states { IfOk result
-            (λ _. HasStates tables.now (plain_of store.new self.new.stack.items)
-            self.new.states.items) }
+        ensures states { IfOk result (λ _. StandsOn tables.now store.new self.new) }
         ensures read { self.new.read ≡ self.old.read }
         ensures grown { take (length store.old) store.new ≡ store.old }
         ensures room { IfOk result (λ _. length store.old < 2 ^ 64) }

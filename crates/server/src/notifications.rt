@@ -29,7 +29,7 @@ fn exit_status(phase: Phase) -> u8
 }
 
 impl Server {
-    /// What is sent of a document that comes to stand so: the diagnostics of an open one, or that it is lost.
+    /// Publishes an entry: its diagnostics if it is open, else empty ones, and the log message of the loss.
     fn announce(&self, alloc: Global, uri: &str, entry: &Entry) -> Result<Out, AllocError>
         requires { IsEntryOf self.now.documents.language entry.now }
         ensures { let old = state_view self.now in
@@ -163,7 +163,7 @@ impl Server {
         }
     }
 
-    /// A notification that fits its method, or one that doesn't.
+    /// Makes the step on a notification, whether or not it fits its method.
     pub(crate) fn on_notification(&mut self, alloc: Global, note: Note) -> Result<Out, AllocError>
         ensures { IfOk result (λ out.
             OnNotification self.old.phase (state_view self.old) (note_view note) (sent out)
