@@ -63,11 +63,8 @@ fn serve_content<W: Output>(
 ) -> Result<Option<u8>, RunFault>
     requires output { W.failures output.old ≡ 0 }
     requires server { CanServe (state_view server.old) }
-    ensures { let old = W.contents output.old in
-        let new = W.contents output.new in
-        let after = state_view server.new in
-        HasServed old new (W.failures output.new) (state_view server.old) (content.items ∷ [])
-        result after }
+    ensures { HasServed (W.contents output.old) (W.contents output.new) (W.failures output.new)
+        (state_view server.old) (content.items ∷ []) result (state_view server.new) }
 {
     let message = message_of(alloc, content);
     let out = server.handle(alloc, message)?;
@@ -84,11 +81,8 @@ fn serve_all<W: Output>(
 ) -> Result<Option<u8>, RunFault>
     requires output { W.failures output.old ≡ 0 }
     requires server { CanServe (state_view server.old) }
-    ensures { let old = W.contents output.old in
-        let new = W.contents output.new in
-        let after = state_view server.new in
-        HasServed old new (W.failures output.new) (state_view server.old) (contents frames.items)
-        result after }
+    ensures { HasServed (W.contents output.old) (W.contents output.new) (W.failures output.new)
+        (state_view server.old) (contents frames.items) result (state_view server.new) }
 {
     for frame in frames {
         if let Some(status) = serve_content(alloc, server, output, frame.content)? {
