@@ -1,8 +1,8 @@
 -- What a request is answered with, as a JSON value.
 use Rattle.std.specs.Prelude.{map}
 use Rattle.serde_json.specs.Data.{Data, null, string}
-use Rattle.replies.specs.declared.sending.Outcome.{Outcome}
-use Rattle.replies.specs.declared.sending.Outcome.TheVariants.{Null, Capabilities, Document, Rows, Tree, Stats, Folds, Selections}
+use Rattle.replies.specs.declared.results.Outcome.{Outcome}
+use Rattle.replies.specs.declared.results.Outcome.TheVariants.{Null, Capabilities, Document, Rows, Tree, Stats, Folds, Selections}
 use Rattle.replies.specs.Replies.{capabilities, document_data, row_view, rows_data, stats_data, folds_data, selections_data}
 
 -- `outcome_data outcome`: the JSON value of the result of a reply

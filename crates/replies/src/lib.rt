@@ -19,7 +19,10 @@
 
 mod id;
 pub mod laws;
+mod notifications;
+mod parts;
 mod reply;
+mod results;
 mod sending;
 
 pub use definitions::{Diagnostic, Position, Range, Stats, Unit};

@@ -1,9 +1,0 @@
-use Rattle.std.proofs.Common.{map, drop}
-use Rattle.replies.proofs.Common.{Log, SendsItems, items_of, selection_data}
-use Rattle.replies.proofs.sending.send_selections.Given as goal
-
--- whatever sends what is left sends all
-abbrev pub invariant-loop-ranges : goal.invariant-loop-ranges
-invariant-loop-ranges g l =
-    (end : Log) → SendsItems (items_of (map selection_data (map (λ s. s.items) (drop l.ranges-index l.selections)))) (g.S.Serializer.written l.out) end
-    → SendsItems (items_of (map selection_data (map (λ s. s.items) (l.selections)))) (g.S.Serializer.written l.initial.out) end
