@@ -17,7 +17,7 @@ pub use Rattle.std.proofs.lemmas.List.Sorted.{All-permutation, Contains-permutat
 pub use Rattle.std.proofs.lemmas.List.Sums.{prefix_len-le-length, prefix_len_is, prefix_len_passes, prefix_len_stops}
 pub use Rattle.std.proofs.lemmas.Map.Keys.{IsStrictlyIncreasing-dedup}
 pub use Rattle.std.proofs.lemmas.Nat.{mul-add-lt}
-pub use Rattle.std.proofs.lemmas.Result.{IfOk-weaker}
+pub use Rattle.std.proofs.lemmas.Result.{IfErr-weaker, IfOk-weaker}
 pub use Rattle.std.proofs.lemmas.Slice.Eq.{bytes_eq-Decides}
 pub use Rattle.definitions.proofs.TextLaws.{IsCharacter-from_scalar}
 pub use Rattle.definitions.proofs.TokensLocal.{IsRulePrefix-take}
@@ -44,5 +44,6 @@ pub use Rattle.dfa.specs.declared.automaton.Match.{Match}
 pub use Rattle.dfa.specs.declared.automaton.State.{State}
 pub use Rattle.dfa.specs.declared.tree.Tree.{Tree}
 pub use Rattle.dfa.specs.declared.tree.Tree.TheVariants.{Pair', Position}
+pub use Rattle.dfa.specs.declared.build.DfaFault.TheVariants.{TooManyStates}
 pub use Rattle.indexmap.proofs.IndexTableLemmas.Probe.{Into, OneToOne, pigeonhole}
 pub use Rattle.indexmap.specs.IndexSet.{insert_key}

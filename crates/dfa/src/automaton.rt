@@ -98,7 +98,8 @@ impl<'a> Model for Row<'a> {
 
     ghost view = { λ r. record { ascii = r.ascii.now; entries = r.entries.now } };
 
-    ghost invariant = { λ r. IsAsciiRow (record { ascii = r.ascii.now; entries = r.entries.now }) };
+    ghost invariant = { λ r.
+        IsAsciiRow (record { ascii = r.ascii.now; entries = r.entries.now }) };
 }
 
 impl<'a> Row<'a> {

@@ -119,9 +119,7 @@ impl Automaton {
     {
         let starts = starts(alloc, patterns)?;
         let ascii = ascii_parts(alloc, &starts)?;
-        match states_of(alloc, patterns, &starts) {
-            Ok(states) => Ok(Automaton::new(starts, ascii, states.next, states.accepts)),
-            Err(e) => Err(e),
-        }
+        let states = states_of(alloc, patterns, &starts)?;
+        Ok(Automaton::new(starts, ascii, states.next, states.accepts))
     }
 }

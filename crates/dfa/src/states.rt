@@ -257,10 +257,7 @@ impl States {
     {
         for holders in parts {
             let set = kept(alloc, marks, followers, holders)?;
-            let to = match number(&mut self.sets, set) {
-                Ok(to) => to,
-                Err(e) => return Err(e),
-            };
+            let to = number(&mut self.sets, set)?;
             self.next.push(to)?;
         }
         Ok(())
@@ -332,10 +329,7 @@ impl States {
             → HasMoreStatesThan rules 4096) }
     {
         'rows: while self.accepts.len() < self.sets.len() {
-            match self.add_row(alloc, trees, parts, marks) {
-                Ok(()) => {}
-                Err(e) => return Err(e),
-            }
+            self.add_row(alloc, trees, parts, marks)?;
         }
         Ok(())
     }

@@ -27,7 +27,8 @@ impl<'a, K: Kinds> Model for Reader<'a, K> {
 
     ghost view = { λ r. K.kinds r.kinds.now };
 
-    ghost invariant = { λ r. K.is_before r.kinds.now (r.number + 1) r.ahead × (r.kind ≡ slice_get (K.kinds r.kinds.now) r.number) };
+    ghost invariant = { λ r. K.is_before r.kinds.now (r.number + 1) r.ahead
+        × (r.kind ≡ slice_get (K.kinds r.kinds.now) r.number) };
 }
 
 impl<'a, K: Kinds> Reader<'a, K> {

@@ -36,13 +36,15 @@ impl<T: Measured> Model for Node<T> {
 
     ghost view = { λ a. (items_of a.left ++ a.item ∷ items_of a.right, a.tall) };
 
-    ghost invariant = { λ a. IsNode T.Sum.empty T.Sum.op T.measure a.left a.right a.item a.len a.tall a.all };
+    ghost invariant = { λ a.
+        IsNode T.Sum.empty T.Sum.op T.measure a.left a.right a.item a.len a.tall a.all };
 
     ghost size = { λ d. length d.0 };
 
     ghost use Rattle.seqtree.specs.Falls.{depth_le-length};
 
-    ghost size_decreases = { λ a h. depth_le-length T T.Sum T.Measured T.Sum.Monoid a.left a.right a.item a.len a.tall a.all };
+    ghost size_decreases = { λ a h. depth_le-length T T.Sum T.Measured T.Sum.Monoid
+        a.left a.right a.item a.len a.tall a.all };
 }
 
 /// How many items a tree has.

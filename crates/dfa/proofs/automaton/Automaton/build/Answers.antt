@@ -19,30 +19,30 @@ pub new-requires : goal.new-requires
 new-requires c =
     let made = c.in_ok-ascii.ensures in
     let starts = c.in_ok-starts.starts.items in
-    let sets = members c.in-Ok.states.sets.keys in
-    let next = c.in-Ok.states.next.items in
-    let accepts = c.in-Ok.states.accepts.items in
-    let all_rows = subst (λ (l : List ℕ). AreRows c.args.patterns.now l sets next accepts) c.deref-2.ensures.value c.in-Ok.ensures.rows in
+    let sets = members c.in_ok-states.states.sets.keys in
+    let next = c.in_ok-states.states.next.items in
+    let accepts = c.in_ok-states.states.accepts.items in
+    let all_rows = subst (λ (l : List ℕ). AreRows c.args.patterns.now l sets next accepts) c.deref-2.ensures.value c.in_ok-states.ensures.rows in
     record {
-      table = table_of_rows c.args.patterns.now starts sets next accepts c.in_ok-starts.ensures.ascending all_rows c.in-Ok.ensures.all;
+      table = table_of_rows c.args.patterns.now starts sets next accepts c.in_ok-starts.ensures.ascending all_rows c.in_ok-states.ensures.all;
       full = made.0;
       parts = λ i lt. made.1 i lt ∙ ap (λ s. part s i) c.deref.ensures.value;
     }
 
-pub returns-in-Ok-clause-automaton : goal.returns-in-Ok-clause-automaton
-returns-in-Ok-clause-automaton c =
+pub returns-clause-automaton : goal.returns-clause-automaton
+returns-clause-automaton c =
     let starts = c.in_ok-starts.starts.items in
-    let sets = members c.in-Ok.states.sets.keys in
-    let next = c.in-Ok.states.next.items in
-    let accepts = c.in-Ok.states.accepts.items in
-    let all_rows = subst (λ (l : List ℕ). AreRows c.args.patterns.now l sets next accepts) c.deref-2.ensures.value c.in-Ok.ensures.rows in
-    subst (IsAutomaton c.args.patterns.now) (sym c.new.ensures) (automaton c.args.patterns.now starts sets next accepts c.in-Ok.ensures.made all_rows c.in-Ok.ensures.all)
+    let sets = members c.in_ok-states.states.sets.keys in
+    let next = c.in_ok-states.states.next.items in
+    let accepts = c.in_ok-states.states.accepts.items in
+    let all_rows = subst (λ (l : List ℕ). AreRows c.args.patterns.now l sets next accepts) c.deref-2.ensures.value c.in_ok-states.ensures.rows in
+    subst (IsAutomaton c.args.patterns.now) (sym c.new.ensures) (automaton c.args.patterns.now starts sets next accepts c.in_ok-states.ensures.made all_rows c.in_ok-states.ensures.all)
 
-pub returns-in-Ok-clause-few : goal.returns-in-Ok-clause-few
-returns-in-Ok-clause-few c =
+pub returns-clause-few : goal.returns-clause-few
+returns-clause-few c =
     let starts = c.in_ok-starts.starts.items in
-    let sets = members c.in-Ok.states.sets.keys in
-    let next = c.in-Ok.states.next.items in
-    let accepts = c.in-Ok.states.accepts.items in
-    let all_rows = subst (λ (l : List ℕ). AreRows c.args.patterns.now l sets next accepts) c.deref-2.ensures.value c.in-Ok.ensures.rows in
-    few c.args.patterns.now starts sets next accepts c.in-Ok.ensures.made all_rows c.in-Ok.ensures.all
+    let sets = members c.in_ok-states.states.sets.keys in
+    let next = c.in_ok-states.states.next.items in
+    let accepts = c.in_ok-states.states.accepts.items in
+    let all_rows = subst (λ (l : List ℕ). AreRows c.args.patterns.now l sets next accepts) c.deref-2.ensures.value c.in_ok-states.ensures.rows in
+    few c.args.patterns.now starts sets next accepts c.in_ok-states.ensures.made all_rows c.in_ok-states.ensures.all

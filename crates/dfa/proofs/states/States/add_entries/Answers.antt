@@ -17,13 +17,13 @@ kept-requires-clause-within c =
     let at : c.holders-item.result ≡ slice_index_or parts i [] = c.holders-item.is ∙ get_or_default parts i c.holders-item.result [] c.loop-holders-test.true in
     subst (λ (x : List ℕ). (k : ℕ) → k < length x → slice_index_or x k 0 < length c.args.marks.now) (sym at) (λ k l. c.requires.within i k c.loop-holders-test.true l)
 
-pub returns-in-Err-clause-states : goal.returns-in-Err-clause-states
-returns-in-Err-clause-states c =
+pub returns-in_err-to-clause-states : goal.returns-in_err-to-clause-states
+returns-in_err-to-clause-states c =
     let parts = c.args.parts.now in
     let i = c.loop-holders.holders-index in
     let at : c.holders-item.result ≡ slice_index_or parts i [] = c.holders-item.is ∙ get_or_default parts i c.holders-item.result [] c.loop-holders-test.true in
     let set : c.in_ok-set.set.items ≡ kept (marks_of c.args.followers.now) (slice_index_or parts i []) = c.in_ok-set.ensures ∙ ap (kept (marks_of c.args.followers.now)) at in
-    λ rules s r. placed_states rules (members c.loop-holders.self.sets.keys) (members c.number.new.sets.keys) c.in_ok-set.set.items (c.loop-holders.invariant.states rules s r) (subst (IsReached rules) (sym set) (r i c.loop-holders-test.true)) c.in-Err.ensures.placed
+    λ rules s r. placed_states rules (members c.loop-holders.self.sets.keys) (members c.number.new.sets.keys) c.in_ok-set.set.items (c.loop-holders.invariant.states rules s r) (subst (IsReached rules) (sym set) (r i c.loop-holders-test.true)) c.in_err-to.ensures.placed
 
 pub returns-in_err-push-clause-states : goal.returns-in_err-push-clause-states
 returns-in_err-push-clause-states c =
@@ -31,7 +31,7 @@ returns-in_err-push-clause-states c =
     let i = c.loop-holders.holders-index in
     let at : c.holders-item.result ≡ slice_index_or parts i [] = c.holders-item.is ∙ get_or_default parts i c.holders-item.result [] c.loop-holders-test.true in
     let set : c.in_ok-set.set.items ≡ kept (marks_of c.args.followers.now) (slice_index_or parts i []) = c.in_ok-set.ensures ∙ ap (kept (marks_of c.args.followers.now)) at in
-    λ rules s r. placed_states rules (members c.loop-holders.self.sets.keys) (members c.number.new.sets.keys) c.in_ok-set.set.items (c.loop-holders.invariant.states rules s r) (subst (IsReached rules) (sym set) (r i c.loop-holders-test.true)) c.in-Ok.ensures.placed
+    λ rules s r. placed_states rules (members c.loop-holders.self.sets.keys) (members c.number.new.sets.keys) c.in_ok-set.set.items (c.loop-holders.invariant.states rules s r) (subst (IsReached rules) (sym set) (r i c.loop-holders-test.true)) c.in_ok-to.ensures.placed
 
 pub loop-holders-preserved : goal.loop-holders-preserved
 loop-holders-preserved c =
@@ -42,14 +42,14 @@ loop-holders-preserved c =
     let new = members c.number.new.sets.keys in
     let at : c.holders-item.result ≡ slice_index_or parts i [] = c.holders-item.is ∙ get_or_default parts i c.holders-item.result [] c.loop-holders-test.true in
     let set : c.in_ok-set.set.items ≡ kept (marks_of c.args.followers.now) (slice_index_or parts i []) = c.in_ok-set.ensures ∙ ap (kept (marks_of c.args.followers.now)) at in
-    let g = placed_grows sets new c.in_ok-set.set.items c.in-Ok.ensures.placed in
-    let n : IsNumber new c.in-Ok.to (kept (marks_of c.args.followers.now) (slice_index_or parts i [])) = subst (IsNumber new c.in-Ok.to) set c.in-Ok.ensures.number.0 in
+    let g = placed_grows sets new c.in_ok-set.set.items c.in_ok-to.ensures.placed in
+    let n : IsNumber new c.in_ok-to.to (kept (marks_of c.args.followers.now) (slice_index_or parts i [])) = subst (IsNumber new c.in_ok-to.to) set c.in_ok-to.ensures.number.0 in
     record {
       accepts = old.accepts;
-      states = λ rules s r. placed_states rules sets new c.in_ok-set.set.items (old.states rules s r) (subst (IsReached rules) (sym set) (r i c.loop-holders-test.true)) c.in-Ok.ensures.placed;
+      states = λ rules s r. placed_states rules sets new c.in_ok-set.set.items (old.states rules s r) (subst (IsReached rules) (sym set) (r i c.loop-holders-test.true)) c.in_ok-to.ensures.placed;
       grows = grows_more (members c.args.self.now.sets.keys) sets new old.grows g;
-      bound = λ le. c.in-Ok.ensures.bound (old.bound le);
-      entries = entries_more c.args.self.now.next.items c.loop-holders.self.next.items c.push.new.self.items sets new (marks_of c.args.followers.now) parts i c.in-Ok.to old.entries g c.in_ok-push.ensures.items n;
+      bound = λ le. c.in_ok-to.ensures.bound (old.bound le);
+      entries = entries_more c.args.self.now.next.items c.loop-holders.self.next.items c.push.new.self.items sets new (marks_of c.args.followers.now) parts i c.in_ok-to.to old.entries g c.in_ok-push.ensures.items n;
     }
 
 pub loop-holders-init : goal.loop-holders-init
@@ -78,14 +78,14 @@ returns-in_err-set-clause-states c = c.loop-holders.invariant.states
 pub returns-in_err-set-clause-grows : goal.returns-in_err-set-clause-grows
 returns-in_err-set-clause-grows c = c.loop-holders.invariant.grows
 
-pub returns-in-Err-clause-grows : goal.returns-in-Err-clause-grows
-returns-in-Err-clause-grows c =
+pub returns-in_err-to-clause-grows : goal.returns-in_err-to-clause-grows
+returns-in_err-to-clause-grows c =
     let mid = members c.loop-holders.self.sets.keys in
     let new = members c.number.new.sets.keys in
-    grows_more (members c.args.self.now.sets.keys) mid new c.loop-holders.invariant.grows (placed_grows mid new c.in_ok-set.set.items c.in-Err.ensures.placed)
+    grows_more (members c.args.self.now.sets.keys) mid new c.loop-holders.invariant.grows (placed_grows mid new c.in_ok-set.set.items c.in_err-to.ensures.placed)
 
 pub returns-in_err-push-clause-grows : goal.returns-in_err-push-clause-grows
 returns-in_err-push-clause-grows c =
     let mid = members c.loop-holders.self.sets.keys in
     let new = members c.number.new.sets.keys in
-    grows_more (members c.args.self.now.sets.keys) mid new c.loop-holders.invariant.grows (placed_grows mid new c.in_ok-set.set.items c.in-Ok.ensures.placed)
+    grows_more (members c.args.self.now.sets.keys) mid new c.loop-holders.invariant.grows (placed_grows mid new c.in_ok-set.set.items c.in_ok-to.ensures.placed)

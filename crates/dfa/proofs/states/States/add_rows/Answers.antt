@@ -1,10 +1,13 @@
-use Rattle.std.proofs.Common.{ℕ, ◌-◌, ◌<◌, ◌∙◌, Vec, Global, length, arith}
-use Rattle.dfa.proofs.Common.{length-map, members}
+use Rattle.std.proofs.Common.{◌≡◌, ℕ, ◌-◌, ◌<◌, ◌∙◌, Vec, Global, IfErr, length, arith, rules}
+use Rattle.dfa.proofs.Common.{IfErr-weaker, TooManyStates, length-map, members}
 use Rattle.dfa.proofs.StateCount.{many_states}
 use Rattle.dfa.proofs.states.States.add_rows.Goals as goal
 
-pub returns-in-Err-clause-many : goal.returns-in-Err-clause-many
-returns-in-Err-clause-many c = λ e rules starts a r. many_states rules (members c.add_row.new.self.sets.keys) (c.in-Err.ensures.states rules starts a (c.rows.invariant.rows rules starts a r).states) (c.in-Err.ensures.many e)
+pub returns-in_err-add_row-clause-many : goal.returns-in_err-add_row-clause-many
+returns-in_err-add_row-clause-many c =
+    let sets = members c.add_row.new.self.sets.keys in
+    let many : IfErr c.from_residual.result (λ e. e ≡ TooManyStates → 4096 < length sets) = search rules in
+    IfErr-weaker c.from_residual.result _ _ (λ fault more e rules starts a r. many_states rules sets (c.in_err-add_row.ensures.states rules starts a (c.rows.invariant.rows rules starts a r).states) (more e)) many
 
 pub add_row-requires-clause-rules : goal.add_row-requires-clause-rules
 add_row-requires-clause-rules c =
@@ -18,14 +21,14 @@ rows-smaller c =
     let sets = c.rows.self.sets.keys in
     let old = length c.rows.self.accepts.items in
     let more : old < length (members sets) = omega (arith, c.len-in-rows.ensures.len, length-map sets (λ (v : Vec ℕ Global). v.items)) in
-    let smaller : 4096 - length c.add_row.new.self.accepts.items < 4096 - old = omega (arith, rows.bound, c.in-Ok.ensures.count, more) in
+    let smaller : 4096 - length c.add_row.new.self.accepts.items < 4096 - old = omega (arith, rows.bound, c.in_ok-add_row.ensures.count, more) in
     smaller
 
 pub rows-preserved : goal.rows-preserved
 rows-preserved c = record {
-  rows = λ rules starts a r. c.in-Ok.ensures.rows rules starts a (c.rows.invariant.rows rules starts a r);
-  blank = c.in-Ok.ensures.blank;
-  all = c.in-Ok.ensures.all ∙ c.rows.invariant.all;
+  rows = λ rules starts a r. c.in_ok-add_row.ensures.rows rules starts a (c.rows.invariant.rows rules starts a r);
+  blank = c.in_ok-add_row.ensures.blank;
+  all = c.in_ok-add_row.ensures.all ∙ c.rows.invariant.all;
 }
 
 pub returns-clause-rows : goal.returns-clause-rows
