@@ -19,10 +19,10 @@ pub use Rattle.definitions.specs.Text.{IsCharacter, IsText}
 pub use Rattle.definitions.specs.declared.expression.Expression.{Expression}
 pub use Rattle.definitions.specs.declared.expression.Expression.TheVariants.{Choice', Class, Literal, Optional', Plus', Sequence', Star'}
 pub use Rattle.definitions.specs.declared.expression.Interval.{Interval}
-pub use Rattle.definitions.specs.declared.expression.PatternCause.TheVariants.{MatchesEmpty, Syntax}
+pub use Rattle.definitions.specs.declared.expression.PatternCause.TheVariants.{EmptyClass, MatchesEmpty, Syntax}
 pub use Rattle.definitions.specs.declared.expression.PatternFault.{PatternFault}
 pub use Rattle.patterns.specs.Empty.{is_empty, matches_empty}
-pub use Rattle.patterns.specs.Reading.{Begins, HasNoBlank, HasNoClassChar, HasNoLiteralChar, IsAtEnd, IsBlankAt, IsBlanks, IsClassBody, IsClassPrefix, IsClosed, IsItemPrefix, IsLiteralPrefix, IsPart, IsRead, IsRepeated, Reports, fault_at, place, place_of, stops, writing, written_as}
+pub use Rattle.patterns.specs.Reading.{Begins, HasNoBlank, HasNoClassChar, HasNoLiteralChar, IsAtEnd, IsBlankAt, IsBlanks, IsCaret, IsClassBody, IsClassPrefix, IsItemPrefix, IsLiteralPrefix, IsPart, IsRead, IsRepeated, Reports, fault_at, place, place_of, stops, writing, written_as}
 pub use Rattle.patterns.specs.Sound.{is_range, is_sound}
 pub use Rattle.patterns.specs.declared.characters.Character.{Character}
 pub use Rattle.patterns.specs.declared.refusals.Refusal.{Refusal}

@@ -1,6 +1,6 @@
 -- Literals and classes that are read so far.
 use Rattle.std.proofs.Common.{◌≡◌, ◌≢◌, ◌⊎◌, inl, inr, ℕ, ◌==◌, Bool, true, false, List, [], ◌∷◌, ◌++◌, Some, refl, sym, ◌∙◌, ap, subst, append_assoc, arith}
-use Rattle.patterns.proofs.Common.{list_all, append-nil, list_all-append, nat_tests, Interval, Syntax, Written, Plain, Escaped, BadEscape, InLiteral, InClass, Items, First, Dash, Opened, fault_from, or_later, char_in_class, IsSign, IsLiteralChar, IsLiteralRest, IsClassChar, IsClassRest, IsLiteralPrefix, IsClassPrefix, IsItemPrefix, Begins, HasNoClassChar, place, place_of, HasNoLiteralChar, is_empty}
+use Rattle.patterns.proofs.Common.{list_all, append-nil, list_all-append, nat_tests, Interval, Syntax, Written, Plain, Escaped, BadEscape, InLiteral, InClass, Items, First, Dash, Opened, fault_from, or_later, char_in_class, IsSign, IsLiteralChar, IsLiteralRest, IsClassChar, IsClassRest, IsLiteralPrefix, IsClassPrefix, IsItemPrefix, Begins, HasNoClassChar, place, place_of, HasNoLiteralChar, is_empty, IsCaret, IsClassBody, is_nothing, closed, EmptyClass, Outside, AnAtom}
 
 -- what holds of a sign that is written as itself holds of each word that is that sign
 pub by_plain : (P : Written → Type 0) (c : ℕ) (w : Written) → ((o : ℕ) → P (Plain o c)) → IsSign c w → P w
@@ -12,7 +12,8 @@ by_plain P c (BadEscape o) p h = absurd h
 abbrev pub GoesOn : {A : Type 0} → (P Q : List A → List Written → Type 0) → List A → List Written → Type 0
 GoesOn {A = A} P Q v us = (more : List A) (then : List Written) → P more then → Q (v ++ more) (us ++ then)
 
-pub one_more : {A : Type 0} (P Q : List A → List Written → Type 0) (v : List A) (c : A) (us ws : List Written) → GoesOn P Q v us → ((more : List A) (then : List Written) → P more then → P (c ∷ more) (ws ++ then)) → GoesOn P Q (v ++ c ∷ []) (us ++ ws)
+pub one_more : {A : Type 0} (P Q : List A → List Written → Type 0) (v : List A) (c : A) (us ws : List Written) → GoesOn P Q v us
+    → ((more : List A) (then : List Written) → P more then → P (c ∷ more) (ws ++ then)) → GoesOn P Q (v ++ c ∷ []) (us ++ ws)
 one_more {A = A} P Q v c us ws goes longer more then h =
     let R : List A → Type 0 = λ x. Q x ((us ++ ws) ++ then) in
     let S : List Written → Type 0 = λ x. Q (v ++ c ∷ more) x in
@@ -109,6 +110,24 @@ no_caret n d b (Plain o x ∷ ws) h =
     let P : ℕ → Type 0 = λ y. (94 ≡ y → ⊥) → fault_from n (InClass d b false [] Opened) (Plain o y ∷ ws) ≡ fault_from n (InClass d b false [] Items) (Plain o y ∷ ws) in
     by_sign P x (λ g. refl) (λ g. refl) (λ g. absurd (g refl)) (λ p q r g. rw (not_equal x 93 p, not_equal x 45 q, not_equal x 94 r) refl) h
 no_caret n d b (w ∷ ws) h = refl
+
+-- a class, after its bracket and the `^` that may follow
+pub caret_step : (n d b : ℕ) (negated : Bool) (ws vs : List Written) → IsCaret negated ws vs → fault_from n (InClass d b false [] Opened) ws ≡ fault_from n (InClass d b negated [] Items) vs
+caret_step n d b false ws vs (e, none) = no_caret n d b ws none ∙ ap (fault_from n (InClass d b false [] Items)) e
+caret_step n d b true ws vs (o, e) = ap (fault_from n (InClass d b false [] Opened)) e
+
+pub caret_body : (negated : Bool) (is : List Interval) (ws vs rest : List Written) → IsCaret negated ws vs → IsClassPrefix is vs rest → IsClassBody negated is ws rest
+caret_body false is ws vs rest (e, none) h = rw e h
+caret_body true is ws vs rest (o, e) h = (Plain o 94, vs, e, refl, h)
+
+-- a class, after its closing bracket
+pub no_member : (n d b : ℕ) (negated : Bool) (is : List Interval) (rest : List Written) → is_nothing negated is ≡ true
+    → or_later (λ s. fault_from n s rest) (closed d b negated is) ≡ Some (record { at = b; cause = EmptyClass })
+no_member n d b negated is rest h = rw h refl
+
+pub some_member : (n d b : ℕ) (negated : Bool) (is : List Interval) (rest : List Written) → is_nothing negated is ≡ false
+    → or_later (λ s. fault_from n s rest) (closed d b negated is) ≡ fault_from n (Outside d AnAtom) rest
+some_member n d b negated is rest h = rw h refl
 
 pub one_more_item : (is : List Interval) (i : Interval) (ws vs rest : List Written) → IsClassSoFar is ws vs → IsItemPrefix i vs rest → IsClassSoFar (is ++ i ∷ []) ws rest
 one_more_item is i ws vs rest (us, e, goes) (item, f, h) =

@@ -1,6 +1,6 @@
 -- An atom with its sign of repetition, and what goes on after it.
-use Rattle.std.proofs.Common.{◌≡◌, ℕ, zero, suc, ◌+◌, ◌-◌, ◌<◌, ◌==◌, ◌&&◌, ◌||◌, nat_lt, Bool, true, false, List, [], ◌∷◌, ◌++◌, length, refl, sym, ◌∙◌, ap, subst, append_assoc, add-one, arith, None, Vec, Result, Ok, Err}
-use Rattle.patterns.proofs.Common.{IsErr, IsErrAnd, IfErr, nat_tests, Expression, Literal, Class, Interval, PatternFault, Global, Refusal, Fault, Memory, Written, Plain, Before, Outside, Nothing, AnAtom, ARepetition, fault_from, Level, Alt, Rep, Atom, SpellsAt, literal, class, group, writing, Begins, HasNoBlank, IsPart, IsRead, IsRepeated, IsAtEnd, IsLiteralPrefix, IsClassBody, IsClosed, Reports, stops, append-nil, Character, is_sound}
+use Rattle.std.proofs.Common.{◌≡◌, ℕ, zero, suc, ◌+◌, ◌-◌, ◌<◌, ◌==◌, ◌&&◌, ◌||◌, nat_lt, Bool, true, false, List, [], ◌∷◌, ◌++◌, length, refl, sym, ◌∙◌, ap, subst, append_assoc, add-one, arith, Some, None, Vec, Result, Ok, Err}
+use Rattle.patterns.proofs.Common.{IsErr, IsErrAnd, IfErr, nat_tests, Expression, Literal, Class, Interval, PatternFault, Global, Refusal, Fault, Memory, Written, Plain, Before, Outside, Nothing, AnAtom, ARepetition, fault_from, Level, Alt, Rep, Atom, SpellsAt, literal, class, group, writing, Begins, HasNoBlank, IsPart, IsRead, IsRepeated, IsAtEnd, IsLiteralPrefix, IsClassBody, Syntax, Reports, stops, append-nil, Character, is_sound}
 use Rattle.patterns.proofs.Blanks.{Skips, blanks_after_part, blanks_skipped}
 use Rattle.patterns.proofs.Literals.{not_equal}
 
@@ -88,8 +88,8 @@ group_opens n d o words inside f small =
     let e : nat_lt d 64 ≡ true = grind (arith, nat_tests) in
     ap (fault_from n (Outside d Nothing)) f ∙ rw e refl
 
-pub as_group : {d n : ℕ} {words rest left : List Character} {e : Expression} (o : ℕ) (inside : List Character) → Strips o 40 words inside → d < 64 → IsRead Alt (d + 1) ARepetition n inside rest e → IsClosed (writing rest) (writing left) → length left < length rest → IsRead Atom d AnAtom n words left e
-as_group {d = d} {n = n} {left = left} {e = e} o inside strips small h (p, closed) shorter =
+pub as_group : {d n : ℕ} {words rest left : List Character} {e : Expression} (o p : ℕ) (inside : List Character) → Strips o 40 words inside → d < 64 → IsRead Alt (d + 1) ARepetition n inside rest e → Strips p 41 rest left → IsRead Atom d AnAtom n words left e
+as_group {d = d} {n = n} {left = left} {e = e} o p inside strips small h (closed, shorter) =
     let (us, f, s) = h.spelled in
     let P : ℕ → Type 0 = λ k. SpellsAt Alt k e us in
     let ws = Plain o 40 ∷ us ++ Plain p 41 ∷ [] in
@@ -100,6 +100,10 @@ as_group {d = d} {n = n} {left = left} {e = e} o inside strips small h (p, close
 at_end : (ws : List Written) → IsAtEnd ws → (Begins 41 ws → ⊥) → ws ≡ []
 at_end [] h g = refl
 at_end (w ∷ ws) h g = absurd (g h)
+
+-- where a closing parenthesis is missing
+pub unclosed : (n d : ℕ) (ws : List Written) → IsAtEnd ws → (Begins 41 ws → ⊥) → fault_from n (Outside (d + 1) ARepetition) ws ≡ Some (record { at = n; cause = Syntax })
+unclosed n d ws end none = ap (fault_from n (Outside (d + 1) ARepetition)) (at_end ws end none) ∙ ap (λ k. fault_from n (Outside k ARepetition) []) (add-one d)
 
 -- the whole of a text
 pub read_whole : {n : ℕ} {e : Expression} {words rest : List Character} → IsRead Alt 0 ARepetition n words rest e → IsAtEnd (writing rest) → (Begins 41 (writing rest) → ⊥) → SpellsAt Alt 0 e (writing words) × (fault_from n (Outside 0 Nothing) (writing words) ≡ None)

@@ -4,7 +4,7 @@ use Rattle.patterns.proofs.Common.{PatternFault, append-nil, nat_tests, list_all
 use Rattle.patterns.proofs.Blanks.{blank_step}
 use Rattle.patterns.proofs.WellMade.{and_both, or_case, or_left, or_right, le_tested}
 use Rattle.patterns.proofs.Unique.{one_meaning}
-use Rattle.patterns.proofs.Literals.{by_plain, eq_or_not, not_equal, literal_step, first_step, last_step, one_ends, no_caret}
+use Rattle.patterns.proofs.Literals.{by_plain, eq_or_not, not_equal, literal_step, first_step, last_step, one_ends, no_caret, some_member}
 
 -- what stands after a part of this level
 abbrev Ends : Level → Before → Type 0
@@ -164,9 +164,6 @@ bracket_step n d b w ws h = by_plain (λ x. fault_from n (Outside d b) (x ∷ ws
 caret_step : (n d b : ℕ) (w : Written) (ws : List Written) → IsSign 94 w → fault_from n (InClass d b false [] Opened) (w ∷ ws) ≡ fault_from n (InClass d b true [] Items) ws
 caret_step n d b w ws h = by_plain (λ x. fault_from n (InClass d b false [] Opened) (x ∷ ws) ≡ fault_from n (InClass d b true [] Items) ws) 94 w (λ o. refl) h
 
-class_closed : (n d b : ℕ) (negated : Bool) (is : List Interval) (rest : List Written) → is_nothing negated is ≡ false → or_later (λ s. fault_from n s rest) (closed d b negated is) ≡ fault_from n (Outside d AnAtom) rest
-class_closed n d b negated is rest h = rw h refl
-
 class_runs : (d : ℕ) (negated : Bool) (is : List Interval) (ws : List Written) → IsClass negated is ws → AllByRecursion (λ i. i.first ≤ i.last) is → is_nothing negated is ≡ false → Runs Atom d ws
 class_runs d negated is [] h order some n b rest = absurd h
 class_runs d false is (w ∷ ws) h order some n b rest = (
@@ -175,7 +172,7 @@ class_runs d false is (w ∷ ws) h order some n b rest = (
   bracket_step n d b w (ws ++ rest) h.0
       ∙ no_caret n d (place w) (ws ++ rest) (class_prefix is ws rest h.1).1
       ∙ items_run n d (place w) false [] is ws rest h.1 order
-      ∙ class_closed n d (place w) false is rest some,
+      ∙ some_member n d (place w) false is rest some,
 )
 class_runs d true is (w ∷ []) h order some n b rest = absurd h
 class_runs d true is (w ∷ x ∷ ws) h order some n b rest = (
@@ -184,7 +181,7 @@ class_runs d true is (w ∷ x ∷ ws) h order some n b rest = (
   bracket_step n d b w (x ∷ ws ++ rest) h.0
       ∙ caret_step n d (place w) x (ws ++ rest) h.1
       ∙ items_run n d (place w) true [] is ws rest h.2 order
-      ∙ class_closed n d (place w) true is rest some,
+      ∙ some_member n d (place w) true is rest some,
 )
 
 -- one of the intervals holds c, passes the test, and holds nothing that the others do not

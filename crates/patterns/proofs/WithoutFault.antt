@@ -137,7 +137,8 @@ blank_stands d ARepetition ws w blank (us, vs, e, takes, m) =
     (us, vs ++ w ∷ [], ap (λ x. x ++ w ∷ []) e ∙ append_assoc us vs (w ∷ []), takes, blank_on w blank m)
 
 -- one character more outside literals and classes, after which this stands before the place
-goes_outside : (d : ℕ) (b r : Before) (ws : List Written) (w : Written) → ((vs : List Written) → Stands d b vs → Stands d r (vs ++ w ∷ [])) → Reached (Outside d b) ws → Reached (Outside d r) (ws ++ w ∷ [])
+goes_outside : (d : ℕ) (b r : Before) (ws : List Written) (w : Written) → ((vs : List Written) → Stands d b vs → Stands d r (vs ++ w ∷ [])) → Reached (Outside d b) ws
+    → Reached (Outside d r) (ws ++ w ∷ [])
 goes_outside d b r ws w stands (us, vs, e, opens, h) = (us, vs ++ w ∷ [], ap (λ x. x ++ w ∷ []) e ∙ append_assoc us vs (w ∷ []), opens, stands vs h)
 
 bar_stands : (d : ℕ) (b : Before) (ws : List Written) (w : Written) → is_something b ≡ true → IsSign 124 w → Stands d b ws → TakesSequence d (ws ++ w ∷ [])
@@ -146,7 +147,8 @@ bar_stands d b ws w something sign h rest q =
     let (c, t, k) = as_alt q in
     (Choice' nowhere a nowhere c, choice d ws rest ((ws ++ w ∷ []) ++ rest) w (append_assoc ws (w ∷ []) rest) sign s t, (m, k))
 
-sign_stands : (d : ℕ) (b : Before) (ws : List Written) (w : Written) → ((vs : List Written) → Makes Atom d vs → Makes Rep d (vs ++ w ∷ [])) → is_atom b ≡ true → Stands d b ws → EndsWith Rep d (ws ++ w ∷ [])
+sign_stands : (d : ℕ) (b : Before) (ws : List Written) (w : Written) → ((vs : List Written) → Makes Atom d vs → Makes Rep d (vs ++ w ∷ [])) → is_atom b ≡ true
+    → Stands d b ws → EndsWith Rep d (ws ++ w ∷ [])
 sign_stands d Nothing ws w signed h m = cc
 sign_stands d AnAtom ws w signed h (us, vs, e, takes, m) = (us, vs ++ w ∷ [], ap (λ x. x ++ w ∷ []) e ∙ append_assoc us vs (w ∷ []), takes, signed vs m)
 sign_stands d ARepetition ws w signed h m = cc
@@ -165,7 +167,8 @@ group_opens d b ws w sign small (us, vs, e, opens, h) =
     subst P (sym (add-one d))
     (ws ++ w ∷ [], [], sym (append-nil (ws ++ w ∷ [])), (us, vs, w, ap (λ x. x ++ w ∷ []) e ∙ append_assoc us vs (w ∷ []), sign, small, opens, takes_sequence d b vs h), (λ rest q. as_alt q))
 
-group_closes : (d : ℕ) (b : Before) (ws : List Written) (x : Written) → IsSign 41 x → is_something b ≡ true → nat_lt 0 d ≡ true → Reached (Outside d b) ws → Reached (Outside (d - 1) AnAtom) (ws ++ x ∷ [])
+group_closes : (d : ℕ) (b : Before) (ws : List Written) (x : Written) → IsSign 41 x → is_something b ≡ true → nat_lt 0 d ≡ true → Reached (Outside d b) ws
+    → Reached (Outside (d - 1) AnAtom) (ws ++ x ∷ [])
 group_closes zero b ws x sign something h r = cc
 group_closes (suc d) b ws x sign something h (us, vs, e, (before, prefix, w, f, opening, small, opens, takes), stands) =
     let (a, s, m) = alternatives (suc d) b vs something stands in
@@ -212,7 +215,8 @@ few_characters : (v : List ℕ) (ws : List Written) → IsLiteral v ws → lengt
 few_characters v [] h = absurd h
 few_characters v (w ∷ ws) h = omega (arith, longer_literal v ws h.1)
 
-literal_ends : {d : ℕ} {ws ls : List Written} (v : List ℕ) (w : Written) → Begun d ws ls → is_empty v ≡ false → GoesOn IsLiteralRest IsLiteral v ls → IsSign 34 w → length (ws ++ w ∷ []) < 2 ^ 63 → Reached (Outside d AnAtom) (ws ++ w ∷ [])
+literal_ends : {d : ℕ} {ws ls : List Written} (v : List ℕ) (w : Written) → Begun d ws ls → is_empty v ≡ false → GoesOn IsLiteralRest IsLiteral v ls → IsSign 34 w
+    → length (ws ++ w ∷ []) < 2 ^ 63 → Reached (Outside d AnAtom) (ws ++ w ∷ [])
 literal_ends {d = d} {ls = ls} v w begun some goes sign small =
     let P : List ℕ → Type 0 = λ x. IsLiteral x (ls ++ w ∷ []) in
     let all : IsLiteral v (ls ++ w ∷ []) = subst P (append-nil v) (goes [] (w ∷ []) (sign, refl)) in
@@ -235,7 +239,8 @@ few_items false is (w ∷ ws) h = omega (arith, longer_class is ws h.1)
 few_items true is (w ∷ []) h = absurd h
 few_items true is (w ∷ x ∷ ws) h = omega (arith, longer_class is ws h.2)
 
-class_ends : {d : ℕ} {ws cs : List Written} (bracket : ℕ) (negated : Bool) (is : List Interval) (w : Written) → Begun d ws cs → list_all is_range is ≡ true → GoesOn IsClassRest (IsClass negated) is cs → IsSign 93 w → length (ws ++ w ∷ []) < 2 ^ 63 → Goes (ws ++ w ∷ []) (closed d bracket negated is)
+class_ends : {d : ℕ} {ws cs : List Written} (bracket : ℕ) (negated : Bool) (is : List Interval) (w : Written) → Begun d ws cs → list_all is_range is ≡ true
+    → GoesOn IsClassRest (IsClass negated) is cs → IsSign 93 w → length (ws ++ w ∷ []) < 2 ^ 63 → Goes (ws ++ w ∷ []) (closed d bracket negated is)
 class_ends {d = d} {ws = ws} {cs = cs} bracket negated is w begun ordered goes sign small =
     let P : List Interval → Type 0 = λ x. IsClass negated x (cs ++ w ∷ []) in
     let all : IsClass negated is (cs ++ w ∷ []) = subst P (append-nil is) (goes [] (w ∷ []) (w, refl, sign)) in
@@ -250,16 +255,19 @@ range a b = record { first = a; last = b }
 is_ordered : (a b : ℕ) → is_scalar a ≡ true → is_scalar b ≡ true → a ≤ b → is_range (range a b) ≡ true
 is_ordered a b h g k = let l : nat_le a b ≡ true = grind (arith, nat_tests) in rw (h, g, l) refl
 
-item_ends : (negated : Bool) (items : List Interval) (bs : List Written) (i : Interval) (item : List Written) → IsItem i item → GoesOn IsClassRest (IsClass negated) items bs → GoesOn IsClassRest (IsClass negated) (items ++ i ∷ []) (bs ++ item)
+item_ends : (negated : Bool) (items : List Interval) (bs : List Written) (i : Interval) (item : List Written) → IsItem i item
+    → GoesOn IsClassRest (IsClass negated) items bs → GoesOn IsClassRest (IsClass negated) (items ++ i ∷ []) (bs ++ item)
 item_ends negated items bs i item h goes = one_more IsClassRest (IsClass negated) items i bs item goes (λ others left g. (item, left, refl, h, g))
 
 -- the items of a class where an item's first character ends it
-first_ends : (negated : Bool) (items : List Interval) (cs : List Written) (p a : ℕ) → list_all is_range items ≡ true → IsSoFar negated items (First p a) cs → (list_all is_range (items ++ range a a ∷ []) ≡ true) × GoesOn IsClassRest (IsClass negated) (items ++ range a a ∷ []) cs
+first_ends : (negated : Bool) (items : List Interval) (cs : List Written) (p a : ℕ) → list_all is_range items ≡ true → IsSoFar negated items (First p a) cs
+    → (list_all is_range (items ++ range a a ∷ []) ≡ true) × GoesOn IsClassRest (IsClass negated) (items ++ range a a ∷ []) cs
 first_ends negated items cs p a ordered (bs, x, e, char, scalar, goes) =
     let P : List Written → Type 0 = GoesOn IsClassRest (IsClass negated) (items ++ range a a ∷ []) in
     (all_and_one is_range items (range a a) ordered (is_ordered a a scalar scalar (le_refl a)), subst P (sym e) (item_ends negated items bs (range a a) (x ∷ []) (char, refl) goes))
 
-closing_goes : (d bracket : ℕ) (negated : Bool) (items : List Interval) (at : InItem) (w : Written) (o : ℕ) (ws : List Written) → IsSign 93 w → length (ws ++ w ∷ []) < 2 ^ 63 → Reached (InClass d bracket negated items at) ws → Goes (ws ++ w ∷ []) (close d bracket negated items at o)
+closing_goes : (d bracket : ℕ) (negated : Bool) (items : List Interval) (at : InItem) (w : Written) (o : ℕ) (ws : List Written) → IsSign 93 w
+    → length (ws ++ w ∷ []) < 2 ^ 63 → Reached (InClass d bracket negated items at) ws → Goes (ws ++ w ∷ []) (close d bracket negated items at o)
 closing_goes d bracket negated items Opened w o ws sign small (cs, begun, ordered, so) = class_ends bracket negated items w begun ordered so.0 sign small
 closing_goes d bracket negated items Items w o ws sign small (cs, begun, ordered, so) = class_ends bracket negated items w begun ordered so sign small
 closing_goes d bracket negated items (First p a) w o ws sign small (cs, begun, ordered, so) =
@@ -267,20 +275,23 @@ closing_goes d bracket negated items (First p a) w o ws sign small (cs, begun, o
     class_ends bracket negated (items ++ range a a ∷ []) w begun ended.0 ended.1 sign small
 closing_goes d bracket negated items (Dash p a) w o ws sign small r = tt
 
-dash_goes : (d bracket : ℕ) (negated : Bool) (items : List Interval) (at : InItem) (w : Written) (o : ℕ) (ws : List Written) → IsSign 45 w → Reached (InClass d bracket negated items at) ws → Goes (ws ++ w ∷ []) (dash d bracket negated items at o)
+dash_goes : (d bracket : ℕ) (negated : Bool) (items : List Interval) (at : InItem) (w : Written) (o : ℕ) (ws : List Written) → IsSign 45 w
+    → Reached (InClass d bracket negated items at) ws → Goes (ws ++ w ∷ []) (dash d bracket negated items at o)
 dash_goes d bracket negated items Opened w o ws sign r = tt
 dash_goes d bracket negated items Items w o ws sign r = tt
 dash_goes d bracket negated items (First p a) w o ws sign (cs, begun, ordered, (bs, x, e, char, scalar, goes)) =
     (cs ++ w ∷ [], goes_on w begun, ordered, (bs, x, w, ap (λ y. y ++ w ∷ []) e ∙ append_assoc bs (x ∷ []) (w ∷ []), char, sign, scalar, goes))
 dash_goes d bracket negated items (Dash p a) w o ws sign r = tt
 
-caret_goes : (d bracket : ℕ) (negated : Bool) (items : List Interval) (at : InItem) (w : Written) (o : ℕ) (ws : List Written) → IsSign 94 w → Reached (InClass d bracket negated items at) ws → Goes (ws ++ w ∷ []) (caret d bracket negated items at o)
+caret_goes : (d bracket : ℕ) (negated : Bool) (items : List Interval) (at : InItem) (w : Written) (o : ℕ) (ws : List Written) → IsSign 94 w
+    → Reached (InClass d bracket negated items at) ws → Goes (ws ++ w ∷ []) (caret d bracket negated items at o)
 caret_goes d bracket negated items Opened w o ws sign (cs, begun, ordered, so) = (cs ++ w ∷ [], goes_on w begun, ordered, so.1 w sign)
 caret_goes d bracket negated items Items w o ws sign r = tt
 caret_goes d bracket negated items (First p a) w o ws sign r = tt
 caret_goes d bracket negated items (Dash p a) w o ws sign r = tt
 
-char_goes : (d bracket : ℕ) (negated : Bool) (items : List Interval) (at : InItem) (c : ℕ) (w : Written) (o : ℕ) (ws : List Written) → IsClassChar c w → is_scalar c ≡ true → Reached (InClass d bracket negated items at) ws → Goes (ws ++ w ∷ []) (char_in_class d bracket negated items at o c)
+char_goes : (d bracket : ℕ) (negated : Bool) (items : List Interval) (at : InItem) (c : ℕ) (w : Written) (o : ℕ) (ws : List Written) → IsClassChar c w
+    → is_scalar c ≡ true → Reached (InClass d bracket negated items at) ws → Goes (ws ++ w ∷ []) (char_in_class d bracket negated items at o c)
 char_goes d bracket negated items Opened c w o ws char scalar (cs, begun, ordered, so) =
     (cs ++ w ∷ [], goes_on w begun, ordered, (cs, w, refl, char, scalar, so.0))
 char_goes d bracket negated items Items c w o ws char scalar (cs, begun, ordered, so) =
@@ -292,7 +303,12 @@ char_goes d bracket negated items (Dash p a) c w o ws char scalar (cs, begun, or
     let i = range a c in
     let P : List Written → Type 0 = GoesOn IsClassRest (IsClass negated) (items ++ i ∷ []) in
     by_test (Goes (ws ++ w ∷ [])) (nat_lt c a) (λ _. tt)
-    (λ h. (cs ++ w ∷ [], goes_on w begun, all_and_one is_range items i ordered (is_ordered a c low scalar (not_below c a h)), subst P (sym (ap (λ z. z ++ w ∷ []) e ∙ append_assoc bs (x ∷ y ∷ []) (w ∷ []))) (item_ends negated items bs i (x ∷ y ∷ w ∷ []) (first, sign, char) goes)))
+    (λ h. (
+      cs ++ w ∷ [],
+      goes_on w begun,
+      all_and_one is_range items i ordered (is_ordered a c low scalar (not_below c a h)),
+      subst P (sym (ap (λ z. z ++ w ∷ []) e ∙ append_assoc bs (x ∷ y ∷ []) (w ∷ []))) (item_ends negated items bs i (x ∷ y ∷ w ∷ []) (first, sign, char) goes),
+    ))
 
 -- the character that is written, if there is one, is a scalar value
 abbrev IsGood : Written → Type 0
@@ -327,7 +343,8 @@ at_end n (Outside (suc d) b) ws r h = cc
 at_end n (InLiteral d q empty) ws r h = cc
 at_end n (InClass d b negated items at) ws r h = cc
 
-after_step : (n : ℕ) (ws us : List Written) (next : Next) → Goes ws next → or_later (λ s. fault_from n s us) next ≡ None → ((s : State) → Reached s ws → fault_from n s us ≡ None → Makes Alt 0 (ws ++ us)) → Makes Alt 0 (ws ++ us)
+after_step : (n : ℕ) (ws us : List Written) (next : Next) → Goes ws next → or_later (λ s. fault_from n s us) next ≡ None
+    → ((s : State) → Reached s ws → fault_from n s us ≡ None → Makes Alt 0 (ws ++ us)) → Makes Alt 0 (ws ++ us)
 after_step n ws us (Ok s) r h later = later s r h
 after_step n ws us (Err f) r h later = cc
 
@@ -377,7 +394,9 @@ mutual
   digits_good o n value (c ∷ t) h =
       let P : List Written → Type 0 = AreGood (suc (suc (length t))) in
       by_test P (c == 125 && (nat_lt 0 n && is_scalar value))
-      (λ g. one_good (Escaped o value) (written (o + n + 4) t) (and_both (nat_lt 0 n) (is_scalar value) (and_both (c == 125) (nat_lt 0 n && is_scalar value) g).1).1 (omega arith) (written_good (o + n + 4) t h.1))
+      (λ g.
+      let named = (and_both (nat_lt 0 n) (is_scalar value) (and_both (c == 125) (nat_lt 0 n && is_scalar value) g).1).1 in
+      one_good (Escaped o value) (written (o + n + 4) t) named (omega arith) (written_good (o + n + 4) t h.1))
       (λ _. by_test P (nat_lt (digit_value c) 16 && nat_lt n 6) (λ _. let g = digits_good o (n + 1) (16 * value + digit_value c) t h.1 in (g.0, omega (arith, g.1))) (λ _. ((tt, tt), omega arith)))
 
 -- a text without a fault spells a well made expression

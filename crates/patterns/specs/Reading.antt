@@ -12,6 +12,7 @@ use Rattle.definitions.specs.Spelling.{Level, Rep, Atom, SpellsAt, Address, IsBl
 use Rattle.definitions.specs.Spelling.{IsItem, IsClassRest}
 use Rattle.patterns.specs.declared.characters.Character.{Character}
 use Rattle.patterns.specs.declared.characters.Character.TheVariants.{Sign, Escape, Broken}
+use Rattle.patterns.specs.declared.classes.Reader.{Reader}
 use Rattle.patterns.specs.declared.refusals.Refusal.{Refusal}
 use Rattle.patterns.specs.declared.refusals.Refusal.TheVariants.{Fault, Memory}
 use Rattle.patterns.specs.Sound.{is_sound}
@@ -69,9 +70,6 @@ abbrev pub IsAtEnd : List Written → Type 0
 IsAtEnd [] = Unit {0}
 IsAtEnd (w ∷ ws) = IsSign 41 w
 
-abbrev pub IsClosed : List Written → List Written → Type 0
-IsClosed ws vs = (o : ℕ) × (ws ≡ Plain o 41 ∷ vs)
-
 -- ws begins with a part of this level inside so many parentheses, and vs is left
 abbrev pub IsPart : Level → ℕ → Expression → List Written → List Written → Type 0
 IsPart l d e ws vs = (us : List Written) × (ws ≡ us ++ vs) × SpellsAt l d e us
@@ -94,6 +92,14 @@ pub record IsRepeated (a e : Expression) (words rest : List Character) : Type 0 
 -- `ReportsFirst depth n words r`: if `r` is a fault, it is the first one from the start of `words` on, inside so many parentheses
 abbrev pub ReportsFirst : ℕ → ℕ → List Character → Refusal → Type 0
 ReportsFirst depth n words r = Reports r (λ f. fault_from n (Outside depth Nothing) (writing words) ≡ Some f)
+
+-- `IsRead` of what this reader reads
+abbrev pub Reads : Reader → Level → Before → List Character → List Character → Expression → Type 0
+Reads reader level after words rest e = IsRead level reader.depth after reader.end words rest e
+
+-- `ReportsFirst` of what this reader reads
+abbrev pub Refuses : Reader → List Character → Refusal → Type 0
+Refuses reader words r = ReportsFirst reader.depth reader.end words r
 
 abbrev pub IsSequence : Expression → Expression → Expression → Type 0
 IsSequence a b e = (p q : Address) × (e ≡ Sequence' p a q b)
@@ -118,6 +124,11 @@ IsItemPrefix i ws vs = (us : List Written) × (ws ≡ us ++ vs) × IsItem i us
 
 abbrev pub IsClassPrefix : List Interval → List Written → List Written → Type 0
 IsClassPrefix is ws vs = (us : List Written) × (ws ≡ us ++ vs) × IsClassRest is us
+
+-- `IsCaret negated ws vs`: `vs` is left of `ws` after the `^` of a negated class; where it isn't negated there is none
+abbrev pub IsCaret : Bool → List Written → List Written → Type 0
+IsCaret false ws vs = (ws ≡ vs) × (Begins 94 ws → ⊥)
+IsCaret true ws vs = (o : ℕ) × (ws ≡ Plain o 94 ∷ vs)
 
 -- `IsClassBody negated is ws vs`: after the opening bracket, `ws` begins with the rest of a class with the intervals `is`, and `vs` is left
 abbrev pub IsClassBody : Bool → List Interval → List Written → List Written → Type 0

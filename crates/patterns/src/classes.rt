@@ -1,20 +1,21 @@
 //! Literals and classes.
 
-ghost use Rattle.std.specs.Prelude.{◌≡◌, ◌≢◌, ◌<◌, ◌≤◌, ◌==◌, ◌||◌, ℕ, [], ◌∷◌, ◌++◌, length, IfOk, IfErr, OnOk, MatchOption, Bool, true, false, List};
+ghost use Rattle.std.specs.Prelude.{◌≡◌, ◌≢◌, ◌<◌, ◌≤◌, ◌==◌, ◌||◌, ℕ, [], ◌∷◌, ◌++◌, length, IfOk, IfErr, MatchOption, Bool, true, false, List};
 ghost use Rattle.std.specs.List.{list_all};
 ghost use Rattle.std.specs.Bool.{MatchBool};
 ghost use Rattle.definitions.specs.Patterns.{is_member};
 ghost use Rattle.definitions.specs.PatternText.{Plain};
 ghost use Rattle.definitions.specs.PatternFaults.{code_after, is_everything, is_nothing, InLiteral, InClass, Outside, AnAtom, Opened, Items, fault_from, or_later, closed};
 ghost use Rattle.definitions.specs.declared.expression.Interval.{Interval};
+ghost use Rattle.definitions.specs.declared.expression.PatternCause.TheVariants.{Syntax};
 ghost use Rattle.patterns.specs.Empty.{is_empty};
 ghost use Rattle.patterns.specs.Sound.{is_range};
-ghost use Rattle.patterns.specs.Reading.{writing, Begins, place_of, Reports, IsLiteralPrefix, IsClassPrefix, IsClassBody, IsItemPrefix, HasNoClassChar, IsClassCharAt, HasNoLiteralChar, IsLiteralCharAt};
+ghost use Rattle.patterns.specs.Reading.{writing, Begins, place_of, fault_at, Reports, IsCaret, IsLiteralPrefix, IsClassPrefix, IsClassBody, IsItemPrefix, HasNoClassChar, IsClassCharAt, HasNoLiteralChar, IsLiteralCharAt};
 
 use crate::characters::Character;
-use crate::refusals::{Refusal, fault};
-use definitions::{Expression, Interval, PatternCause};
-use std::alloc::{AllocError, Global};
+use crate::refusals::{Read, Refusal, fault};
+use definitions::{Interval, PatternCause};
+use std::alloc::Global;
 
 /// The place of the first of these characters, and the others, if it is this one, written as itself.
 pub fn strip<'a>(words: &'a [Character], sign: char) -> Option<(usize, &'a [Character])>
@@ -29,53 +30,153 @@ pub fn strip<'a>(words: &'a [Character], sign: char) -> Option<(usize, &'a [Char
     }
 }
 
-/// The place of the first of these characters, or the end where there is none.
-pub fn place_of(words: &[Character], end: usize) -> usize
-    ensures { result ≡ place_of end (writing words.now) }
-{
-    match words.first() {
-        Some(
-            Character::Sign { place, .. }
-            | Character::Escape { place, .. }
-            | Character::Broken { place },
-        ) => *place,
-        None => end,
-    }
+/// Reads the parts of a pattern from the characters that are left of its text.
+#[derive(Clone, Copy)]
+pub struct Reader {
+    pub alloc: Global,
+    /// How many parentheses are open.
+    pub depth: usize,
+    /// The place after the text.
+    pub end: usize,
 }
 
-/// The literal whose opening quote is at `quote` and has these characters after it, and the rest after the literal.
-pub fn literal<'a>(
-    alloc: Global,
-    words: &'a [Character],
-    quote: usize,
-    end: usize,
-) -> Result<(Vec<char>, &'a [Character]), Refusal>
-    ensures spelled { IfOk result (λ r.
-        IsLiteralPrefix r.0.items (writing words.now) (writing r.1.now)) }
-    ensures not_empty { IfOk result (λ r. is_empty r.0.items ≡ false) }
-    ensures shorter { IfOk result (λ r. length r.1.now < length words.now) }
-    ensures goes_on { IfOk result (λ r.
-        (depth : ℕ) →
-        fault_from end (InLiteral depth quote true) (writing words.now)
-        ≡ fault_from end (Outside depth AnAtom) (writing r.1.now)) }
-    ensures fault { IfErr result (λ r.
-        Reports r (λ f.
-        (depth : ℕ) → fault_from end (InLiteral depth quote true) (writing words.now) ≡ Some f)) }
-{
-    let mut characters = Vec::new(alloc);
-    let mut left = words;
-    loop {
-        if let Some((_, rest)) = strip(left, '"') {
-            if characters.is_empty() {
-                return Err(fault(quote, PatternCause::EmptyLiteral));
-            }
-            return Ok((characters, rest));
-        }
-        let Some((character, rest)) = literal_char(left) else {
-            return Err(fault(place_of(left, end), PatternCause::Syntax));
+impl Reader {
+    /// The fault that no pattern goes on with the first of these characters, or ends where there is none.
+    pub fn syntax(self, words: &[Character]) -> Refusal
+        ensures { result ≡ fault_at (place_of self.end (writing words.now)) Syntax }
+    {
+        let at = match words.first() {
+            Some(
+                Character::Sign { place, .. }
+                | Character::Escape { place, .. }
+                | Character::Broken { place },
+            ) => *place,
+            None => self.end,
         };
-        append(&mut characters, character)?;
-        left = rest;
+        fault(at, PatternCause::Syntax)
+    }
+
+    /// The literal whose opening quote is at `quote` and has these characters after it, and the rest after the literal.
+    pub fn literal<'a>(self, words: &'a [Character], quote: usize) -> Read<'a, Vec<char>>
+        ensures spelled { IfOk result (λ r.
+            IsLiteralPrefix r.0.items (writing words.now) (writing r.1.now)) }
+        ensures not_empty { IfOk result (λ r. is_empty r.0.items ≡ false) }
+        ensures shorter { IfOk result (λ r. length r.1.now < length words.now) }
+        ensures goes_on { IfOk result (λ r.
+            (depth : ℕ) →
+            fault_from self.end (InLiteral depth quote true) (writing words.now)
+            ≡ fault_from self.end (Outside depth AnAtom) (writing r.1.now)) }
+        ensures fault { IfErr result (λ r.
+            Reports r (λ f.
+            (depth : ℕ) →
+            fault_from self.end (InLiteral depth quote true) (writing words.now) ≡ Some f)) }
+    {
+        let mut characters = Vec::new(self.alloc);
+        let mut left = words;
+        loop {
+            if let Some((_, rest)) = strip(left, '"') {
+                if characters.is_empty() {
+                    return Err(fault(quote, PatternCause::EmptyLiteral));
+                }
+                return Ok((characters, rest));
+            }
+            let Some((character, rest)) = literal_char(left) else {
+                return Err(self.syntax(left));
+            };
+            characters.push(character)?;
+            left = rest;
+        }
+    }
+
+    /// The class whose bracket is at `bracket` and has these characters after it, and the rest after the class.
+    pub fn class<'a>(
+        self,
+        words: &'a [Character],
+        bracket: usize,
+    ) -> Read<'a, (bool, Vec<Interval>)>
+        ensures spelled { IfOk result (λ r.
+            IsClassBody r.0.0 r.0.1.items (writing words.now) (writing r.1.now)) }
+        ensures ordered { IfOk result (λ r. list_all is_range r.0.1.items ≡ true) }
+        ensures not_empty { IfOk result (λ r. is_nothing r.0.0 r.0.1.items ≡ false) }
+        ensures shorter { IfOk result (λ r. length r.1.now < length words.now) }
+        ensures goes_on { IfOk result (λ r.
+            (depth : ℕ) →
+            fault_from self.end (InClass depth bracket false [] Opened) (writing words.now)
+            ≡ fault_from self.end (Outside depth AnAtom) (writing r.1.now)) }
+        ensures fault { IfErr result (λ r.
+            Reports r (λ f.
+            (depth : ℕ) →
+            fault_from self.end (InClass depth bracket false [] Opened) (writing words.now)
+            ≡ Some f)) }
+    {
+        let (negated, inside) = strip_caret(words);
+        let (intervals, rest) = self.items(inside)?;
+        if is_nothing(negated, &intervals) {
+            return Err(fault(bracket, PatternCause::EmptyClass));
+        }
+        Ok(((negated, intervals), rest))
+    }
+
+    /// The items up to the closing bracket, and the rest after it.
+    fn items<'a>(self, words: &'a [Character]) -> Read<'a, Vec<Interval>>
+        ensures spelled { IfOk result (λ r.
+            IsClassPrefix r.0.items (writing words.now) (writing r.1.now)) }
+        ensures ordered { IfOk result (λ r. list_all is_range r.0.items ≡ true) }
+        ensures shorter { IfOk result (λ r. length r.1.now < length words.now) }
+        ensures goes_on { IfOk result (λ r.
+            (depth bracket : ℕ) (negated : Bool) →
+            fault_from self.end (InClass depth bracket negated [] Items) (writing words.now)
+            ≡ or_later (λ s. fault_from self.end s (writing r.1.now))
+            (closed depth bracket negated r.0.items)) }
+        ensures fault { IfErr result (λ r.
+            Reports r (λ f.
+            (depth bracket : ℕ) (negated : Bool) →
+            fault_from self.end (InClass depth bracket negated [] Items) (writing words.now)
+            ≡ Some f)) }
+    {
+        let mut intervals = Vec::new(self.alloc);
+        let mut left = words;
+        loop {
+            if let Some((_, rest)) = strip(left, ']') {
+                return Ok((intervals, rest));
+            }
+            let (interval, rest) = self.item(left)?;
+            intervals.push(interval)?;
+            left = rest;
+        }
+    }
+
+    /// The first item, and the rest after it.
+    fn item<'a>(self, words: &'a [Character]) -> Read<'a, Interval>
+        requires { Begins 93 (writing words.now) → ⊥ }
+        ensures spelled { IfOk result (λ r.
+            IsItemPrefix r.0 (writing words.now) (writing r.1.now)) }
+        ensures ordered { IfOk result (λ r. is_range r.0 ≡ true) }
+        ensures shorter { IfOk result (λ r. length r.1.now < length words.now) }
+        ensures goes_on { IfOk result (λ r.
+            (depth bracket : ℕ) (negated : Bool) (before : List Interval) →
+            fault_from self.end (InClass depth bracket negated before Items) (writing words.now)
+            ≡ fault_from self.end (InClass depth bracket negated (before ++ r.0 ∷ []) Items)
+            (writing r.1.now)) }
+        ensures fault { IfErr result (λ r.
+            Reports r (λ f.
+            (depth bracket : ℕ) (negated : Bool) (before : List Interval) →
+            fault_from self.end (InClass depth bracket negated before Items) (writing words.now)
+            ≡ Some f)) }
+    {
+        let Some((place, first, rest)) = class_char(words) else {
+            return Err(self.syntax(words));
+        };
+        let Some((_, after)) = strip(rest, '-') else {
+            return Ok((range(first, first), rest));
+        };
+        let Some((_, last, rest)) = class_char(after) else {
+            return Err(self.syntax(after));
+        };
+        if last < first {
+            return Err(fault(place, PatternCause::ReversedRange));
+        }
+        Ok((range(first, last), rest))
     }
 }
 
@@ -93,143 +194,15 @@ fn literal_char<'a>(words: &'a [Character]) -> Option<(char, &'a [Character])>
     }
 }
 
-fn append(characters: &mut Vec<char>, character: char) -> Result<(), AllocError>
-    ensures { OnOk result (characters.new.items ≡ characters.old.items ++ character ∷ []) }
-{
-    characters.push(character)?;
-    Ok(())
-}
-
-fn append_interval(intervals: &mut Vec<Interval>, interval: Interval) -> Result<(), AllocError>
-    ensures { OnOk result (intervals.new.items ≡ intervals.old.items ++ interval ∷ []) }
-{
-    intervals.push(interval)?;
-    Ok(())
-}
-
-/// The class whose bracket is at `bracket` and has these characters after it, and the rest after the class.
-pub fn class<'a>(
-    alloc: Global,
-    words: &'a [Character],
-    bracket: usize,
-    end: usize,
-) -> Result<(bool, Vec<Interval>, &'a [Character]), Refusal>
-    ensures spelled { IfOk result (λ r.
-        IsClassBody r.0 r.1.items (writing words.now) (writing r.2.now)) }
-    ensures ordered { IfOk result (λ r. list_all is_range r.1.items ≡ true) }
-    ensures not_empty { IfOk result (λ r. is_nothing r.0 r.1.items ≡ false) }
-    ensures shorter { IfOk result (λ r. length r.2.now < length words.now) }
-    ensures goes_on { IfOk result (λ r.
-        (depth : ℕ) →
-        fault_from end (InClass depth bracket false [] Opened) (writing words.now)
-        ≡ fault_from end (Outside depth AnAtom) (writing r.2.now)) }
-    ensures fault { IfErr result (λ r.
-        Reports r (λ f.
-        (depth : ℕ) →
-        fault_from end (InClass depth bracket false [] Opened) (writing words.now) ≡ Some f)) }
+/// Whether a `^` stands at the start, and the characters after it.
+fn strip_caret(words: &[Character]) -> (bool, &[Character])
+    ensures caret { IsCaret result.0 (writing words.now) (writing result.1.now) }
+    ensures no_longer { length result.1.now ≤ length words.now }
 {
     match strip(words, '^') {
-        Some((_, inside)) => {
-            let (intervals, rest) = members(alloc, inside, true, bracket, end)?;
-            Ok((true, intervals, rest))
-        }
-        None => {
-            let (intervals, rest) = members(alloc, words, false, bracket, end)?;
-            Ok((false, intervals, rest))
-        }
+        Some((_, inside)) => (true, inside),
+        None => (false, words),
     }
-}
-
-/// The items of a class that has members, and the rest after the class.
-fn members<'a>(
-    alloc: Global,
-    words: &'a [Character],
-    negated: bool,
-    bracket: usize,
-    end: usize,
-) -> Result<(Vec<Interval>, &'a [Character]), Refusal>
-    ensures spelled { IfOk result (λ r.
-        IsClassPrefix r.0.items (writing words.now) (writing r.1.now)) }
-    ensures ordered { IfOk result (λ r. list_all is_range r.0.items ≡ true) }
-    ensures not_empty { IfOk result (λ r. is_nothing negated r.0.items ≡ false) }
-    ensures shorter { IfOk result (λ r. length r.1.now < length words.now) }
-    ensures goes_on { IfOk result (λ r.
-        (depth : ℕ) →
-        fault_from end (InClass depth bracket negated [] Items) (writing words.now)
-        ≡ fault_from end (Outside depth AnAtom) (writing r.1.now)) }
-    ensures fault { IfErr result (λ r.
-        Reports r (λ f.
-        (depth : ℕ) →
-        fault_from end (InClass depth bracket negated [] Items) (writing words.now) ≡ Some f)) }
-{
-    let (intervals, rest) = items(alloc, words, end)?;
-    if is_nothing(negated, &intervals) {
-        return Err(fault(bracket, PatternCause::EmptyClass));
-    }
-    Ok((intervals, rest))
-}
-
-/// The items up to the closing bracket, and the rest after it.
-fn items<'a>(
-    alloc: Global,
-    words: &'a [Character],
-    end: usize,
-) -> Result<(Vec<Interval>, &'a [Character]), Refusal>
-    ensures spelled { IfOk result (λ r.
-        IsClassPrefix r.0.items (writing words.now) (writing r.1.now)) }
-    ensures ordered { IfOk result (λ r. list_all is_range r.0.items ≡ true) }
-    ensures shorter { IfOk result (λ r. length r.1.now < length words.now) }
-    ensures goes_on { IfOk result (λ r.
-        (depth bracket : ℕ) (negated : Bool) →
-        fault_from end (InClass depth bracket negated [] Items) (writing words.now)
-        ≡ or_later (λ s. fault_from end s (writing r.1.now))
-        (closed depth bracket negated r.0.items)) }
-    ensures fault { IfErr result (λ r.
-        Reports r (λ f.
-        (depth bracket : ℕ) (negated : Bool) →
-        fault_from end (InClass depth bracket negated [] Items) (writing words.now) ≡ Some f)) }
-{
-    let mut intervals = Vec::new(alloc);
-    let mut left = words;
-    loop {
-        if let Some((_, rest)) = strip(left, ']') {
-            return Ok((intervals, rest));
-        }
-        let (interval, rest) = item(left, end)?;
-        append_interval(&mut intervals, interval)?;
-        left = rest;
-    }
-}
-
-/// The first item, and the rest after it.
-fn item<'a>(words: &'a [Character], end: usize) -> Result<(Interval, &'a [Character]), Refusal>
-    requires { Begins 93 (writing words.now) → ⊥ }
-    ensures spelled { IfOk result (λ r. IsItemPrefix r.0 (writing words.now) (writing r.1.now)) }
-    ensures ordered { IfOk result (λ r. is_range r.0 ≡ true) }
-    ensures shorter { IfOk result (λ r. length r.1.now < length words.now) }
-    ensures goes_on { IfOk result (λ r.
-        (depth bracket : ℕ) (negated : Bool) (before : List Interval) →
-        fault_from end (InClass depth bracket negated before Items) (writing words.now)
-        ≡ fault_from end (InClass depth bracket negated (before ++ r.0 ∷ []) Items)
-        (writing r.1.now)) }
-    ensures fault { IfErr result (λ r.
-        Reports r (λ f.
-        (depth bracket : ℕ) (negated : Bool) (before : List Interval) →
-        fault_from end (InClass depth bracket negated before Items) (writing words.now) ≡ Some f)) }
-{
-    let Some((place, first, rest)) = class_char(words) else {
-        return Err(fault(place_of(words, end), PatternCause::Syntax));
-    };
-    let Some((_, after)) = strip(rest, '-') else {
-        return Ok((range(first, first), rest));
-    };
-    let Some((_, last, rest)) = class_char(after) else {
-        return Err(fault(place_of(after, end), PatternCause::Syntax));
-    };
-    if last < first {
-        return Err(fault(place, PatternCause::ReversedRange));
-    }
-    Ok((range(first, last), rest))
 }
 
 fn range(first: char, last: char) -> Interval

@@ -1,14 +1,14 @@
 //! The parts of a pattern outside literals and classes.
 
-ghost use Rattle.std.specs.Prelude.{◌≡◌, ◌+◌, ◌<◌, ◌≤◌, ℕ, length, IfOk, IfErr, MatchOption, None, true};
+ghost use Rattle.std.specs.Prelude.{◌≡◌, ◌<◌, ◌≤◌, length, IfOk, IfErr, MatchOption, None, true};
 ghost use Rattle.definitions.specs.PatternFaults.{Outside, Nothing, AnAtom, ARepetition, fault_from};
 ghost use Rattle.definitions.specs.Spelling.{Alt, Seq, Rep, Atom, SpellsAt};
 ghost use Rattle.patterns.specs.Sound.{is_sound};
-ghost use Rattle.patterns.specs.Reading.{writing, HasNoBlank, IsRead, IsBlanks, IsChoice, IsSequence, IsRepeated, IsStar, IsPlus, IsOptional, IsBlankAt, IsAtEnd, IsClosed, stops, Reports, ReportsFirst};
+ghost use Rattle.patterns.specs.Reading.{writing, HasNoBlank, Reads, Refuses, IsBlanks, IsChoice, IsSequence, IsRepeated, IsStar, IsPlus, IsOptional, IsBlankAt, IsAtEnd, stops, ReportsFirst};
 
 use crate::characters::Character;
-use crate::classes::{class, literal, place_of, strip};
-use crate::refusals::{Refusal, fault};
+use crate::classes::{Reader, strip};
+use crate::refusals::{Read, Refusal, fault};
 use definitions::{Expression, PatternCause};
 use std::alloc::{AllocError, Global};
 
@@ -20,136 +20,108 @@ pub fn whole(alloc: Global, words: &[Character], end: usize) -> Result<Expressio
         fault_from end (Outside 0 Nothing) (writing words.now) ≡ None) }
     ensures fault { IfErr result (λ r. ReportsFirst 0 end words.now r) }
 {
-    let (expression, rest) = alternatives(alloc, words, 0, end)?;
+    let reader = Reader {
+        alloc,
+        depth: 0,
+        end,
+    };
+    let (expression, rest) = reader.alternatives(words)?;
     if let Some((place, _)) = strip(rest, ')') {
         return Err(fault(place, PatternCause::Syntax));
     }
     Ok(expression)
 }
 
-/// The alternatives at the start, and the rest, which is empty or begins with a closing parenthesis.
-#[cycle(parts)]
-fn alternatives<'a>(
-    alloc: Global,
-    words: &'a [Character],
-    depth: usize,
-    end: usize,
-) -> Result<(Expression, &'a [Character]), Refusal>
-    requires { depth ≤ 64 }
-    ensures read { IfOk result (λ r. IsRead Alt depth ARepetition end words.now r.1.now r.0) }
-    ensures stops { IfOk result (λ r. IsAtEnd (writing r.1.now)) }
-    ensures fault { IfErr result (λ r. ReportsFirst depth end words.now r) }
-{
-    let (mut choice, mut rest) = sequence(alloc, words, depth, end)?;
-    while let Some((_, after)) = strip(rest, '|') {
-        let (next, left) = sequence(alloc, after, depth, end)?;
-        choice = either(alloc, choice, next)?;
-        rest = left;
-    }
-    Ok((choice, rest))
-}
-
-/// The sequence at the start, and the rest, which is empty or begins with a `|` or a closing parenthesis.
-#[cycle(parts)]
-fn sequence<'a>(
-    alloc: Global,
-    words: &'a [Character],
-    depth: usize,
-    end: usize,
-) -> Result<(Expression, &'a [Character]), Refusal>
-    requires { depth ≤ 64 }
-    ensures read { IfOk result (λ r. IsRead Seq depth ARepetition end words.now r.1.now r.0) }
-    ensures stops { IfOk result (λ r. stops (writing r.1.now) ≡ true) }
-    ensures fault { IfErr result (λ r. ReportsFirst depth end words.now r) }
-{
-    let (mut sequence, mut rest) = repetition(alloc, words, depth, end)?;
-    while !stops(rest) {
-        let (next, left) = repetition(alloc, rest, depth, end)?;
-        sequence = both(alloc, sequence, next)?;
-        rest = left;
-    }
-    Ok((sequence, rest))
-}
-
-/// The atom at the start with its sign of repetition, if it has one, and the rest, which begins with no blank.
-#[cycle(parts)]
-fn repetition<'a>(
-    alloc: Global,
-    words: &'a [Character],
-    depth: usize,
-    end: usize,
-) -> Result<(Expression, &'a [Character]), Refusal>
-    requires { depth ≤ 64 }
-    ensures read { IfOk result (λ r. IsRead Rep depth ARepetition end words.now r.1.now r.0) }
-    ensures no_blank { IfOk result (λ r. HasNoBlank (writing r.1.now)) }
-    ensures fault { IfErr result (λ r. ReportsFirst depth end words.now r) }
-{
-    let (part, rest) = atom(alloc, words, depth, end)?;
-    let (expression, rest) = with_repetition(alloc, part, rest)?;
-    Ok((expression, rest))
-}
-
-/// The atom at the start, with the blanks about it, and the rest, which begins with no blank.
-#[cycle(parts)]
-fn atom<'a>(
-    alloc: Global,
-    words: &'a [Character],
-    depth: usize,
-    end: usize,
-) -> Result<(Expression, &'a [Character]), Refusal>
-    requires { depth ≤ 64 }
-    ensures read { IfOk result (λ r. IsRead Atom depth AnAtom end words.now r.1.now r.0) }
-    ensures no_blank { IfOk result (λ r. HasNoBlank (writing r.1.now)) }
-    ensures fault { IfErr result (λ r. ReportsFirst depth end words.now r) }
-{
-    let (part, rest) = bare_atom(alloc, skip_blanks(words), depth, end)?;
-    Ok((part, skip_blanks(rest)))
-}
-
-/// The atom at the very start, and the rest.
-#[cycle(parts)]
-fn bare_atom<'a>(
-    alloc: Global,
-    words: &'a [Character],
-    depth: usize,
-    end: usize,
-) -> Result<(Expression, &'a [Character]), Refusal>
-    requires depth { depth ≤ 64 }
-    requires no_blank { HasNoBlank (writing words.now) }
-    ensures read { IfOk result (λ r. IsRead Atom depth AnAtom end words.now r.1.now r.0) }
-    ensures fault { IfErr result (λ r. ReportsFirst depth end words.now r) }
-{
-    if let Some((quote, inside)) = strip(words, '"') {
-        let (characters, rest) = literal(alloc, inside, quote, end)?;
-        return Ok((Expression::Literal(characters), rest));
-    }
-    if let Some((bracket, inside)) = strip(words, '[') {
-        let (negated, intervals, rest) = class(alloc, inside, bracket, end)?;
-        return Ok((Expression::Class { negated, intervals }, rest));
-    }
-    if depth < 64
-        && let Some((_, inside)) = strip(words, '(')
+impl Reader {
+    /// The alternatives at the start, and the rest, which is empty or begins with a closing parenthesis.
+    #[cycle(parts)]
+    fn alternatives<'a>(self, words: &'a [Character]) -> Read<'a, Expression>
+        requires { self.depth ≤ 64 }
+        ensures read { IfOk result (λ r. Reads self Alt ARepetition words.now r.1.now r.0) }
+        ensures stops { IfOk result (λ r. IsAtEnd (writing r.1.now)) }
+        ensures fault { IfErr result (λ r. Refuses self words.now r) }
     {
-        let (part, rest) = alternatives(alloc, inside, depth + 1, end)?;
-        let after = close(rest, end)?;
-        return Ok((part, after));
+        let (mut choice, mut rest) = self.sequence(words)?;
+        while let Some((_, after)) = strip(rest, '|') {
+            let (next, left) = self.sequence(after)?;
+            choice = either(self.alloc, choice, next)?;
+            rest = left;
+        }
+        Ok((choice, rest))
     }
-    Err(fault(place_of(words, end), PatternCause::Syntax))
-}
 
-/// The rest after a closing parenthesis, or the fault that it is missing, which is at the end.
-fn close<'a>(words: &'a [Character], end: usize) -> Result<&'a [Character], Refusal>
-    requires { IsAtEnd (writing words.now) }
-    ensures shorter { IfOk result (λ r. length r.now < length words.now) }
-    ensures closed { IfOk result (λ r. IsClosed (writing words.now) (writing r.now)) }
-    ensures fault { IfErr result (λ r.
-        Reports r (λ f.
-        (depth : ℕ) →
-        fault_from end (Outside (depth + 1) ARepetition) (writing words.now) ≡ Some f)) }
-{
-    match strip(words, ')') {
-        Some((_, after)) => Ok(after),
-        None => Err(fault(end, PatternCause::Syntax)),
+    /// The sequence at the start, and the rest, which is empty or begins with a `|` or a closing parenthesis.
+    #[cycle(parts)]
+    fn sequence<'a>(self, words: &'a [Character]) -> Read<'a, Expression>
+        requires { self.depth ≤ 64 }
+        ensures read { IfOk result (λ r. Reads self Seq ARepetition words.now r.1.now r.0) }
+        ensures stops { IfOk result (λ r. stops (writing r.1.now) ≡ true) }
+        ensures fault { IfErr result (λ r. Refuses self words.now r) }
+    {
+        let (mut sequence, mut rest) = self.repetition(words)?;
+        while !stops(rest) {
+            let (next, left) = self.repetition(rest)?;
+            sequence = both(self.alloc, sequence, next)?;
+            rest = left;
+        }
+        Ok((sequence, rest))
+    }
+
+    /// The atom at the start with its sign of repetition, if it has one, and the rest, which begins with no blank.
+    #[cycle(parts)]
+    fn repetition<'a>(self, words: &'a [Character]) -> Read<'a, Expression>
+        requires { self.depth ≤ 64 }
+        ensures read { IfOk result (λ r. Reads self Rep ARepetition words.now r.1.now r.0) }
+        ensures no_blank { IfOk result (λ r. HasNoBlank (writing r.1.now)) }
+        ensures fault { IfErr result (λ r. Refuses self words.now r) }
+    {
+        let (part, rest) = self.atom(words)?;
+        let (expression, rest) = with_repetition(self.alloc, part, rest)?;
+        Ok((expression, rest))
+    }
+
+    /// The atom at the start, with the blanks about it, and the rest, which begins with no blank.
+    #[cycle(parts)]
+    fn atom<'a>(self, words: &'a [Character]) -> Read<'a, Expression>
+        requires { self.depth ≤ 64 }
+        ensures read { IfOk result (λ r. Reads self Atom AnAtom words.now r.1.now r.0) }
+        ensures no_blank { IfOk result (λ r. HasNoBlank (writing r.1.now)) }
+        ensures fault { IfErr result (λ r. Refuses self words.now r) }
+    {
+        let (part, rest) = self.bare_atom(skip_blanks(words))?;
+        Ok((part, skip_blanks(rest)))
+    }
+
+    /// The atom at the very start, and the rest.
+    #[cycle(parts)]
+    fn bare_atom<'a>(self, words: &'a [Character]) -> Read<'a, Expression>
+        requires depth { self.depth ≤ 64 }
+        requires no_blank { HasNoBlank (writing words.now) }
+        ensures read { IfOk result (λ r. Reads self Atom AnAtom words.now r.1.now r.0) }
+        ensures fault { IfErr result (λ r. Refuses self words.now r) }
+    {
+        if let Some((quote, inside)) = strip(words, '"') {
+            let (characters, rest) = self.literal(inside, quote)?;
+            return Ok((Expression::Literal(characters), rest));
+        }
+        if let Some((bracket, inside)) = strip(words, '[') {
+            let ((negated, intervals), rest) = self.class(inside, bracket)?;
+            return Ok((Expression::Class { negated, intervals }, rest));
+        }
+        if self.depth < 64
+            && let Some((_, inside)) = strip(words, '(')
+        {
+            let inner = Reader {
+                depth: self.depth + 1,
+                ..self
+            };
+            let (part, rest) = inner.alternatives(inside)?;
+            let Some((_, after)) = strip(rest, ')') else {
+                return Err(fault(self.end, PatternCause::Syntax));
+            };
+            return Ok((part, after));
+        }
+        Err(self.syntax(words))
     }
 }
 

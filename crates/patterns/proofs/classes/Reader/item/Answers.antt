@@ -2,11 +2,11 @@ use Rattle.std.proofs.lemmas.Grind.{common_steps}
 use Rattle.std.proofs.Common.{ℕ, [], ◌∷◌, refl, sym, ◌∙◌, ap, subst, arith}
 use Rattle.patterns.proofs.Common.{Plain, InClass, Items, fault_from, IsClassChar, writing, place}
 use Rattle.patterns.proofs.Literals.{no_item, no_last, first_step}
-use Rattle.patterns.proofs.classes.item.Goals as goal
+use Rattle.patterns.proofs.classes.Reader.item.Goals as goal
 
 pub returns-in_default-clause-fault : goal.returns-in_default-clause-fault
 returns-in_default-clause-fault c =
-    rw (c.fault.ensures, c.place_of.ensures) (no_item c.args.end (writing c.args.words.now) c.in_default.ensures c.requires)
+    rw c.syntax.ensures (no_item c.args.self.end (writing c.args.words.now) c.in_default.ensures c.requires)
 
 pub returns-in_default-strip-clause-spelled : goal.returns-in_default-strip-clause-spelled
 returns-in_default-strip-clause-spelled c =
@@ -18,8 +18,8 @@ pub returns-in_default-class_char-clause-fault : goal.returns-in_default-class_c
 returns-in_default-class_char-clause-fault c =
     let h = c.in-Some.ensures in
     let g = c.in-Some-strip.ensures in
-    rw (c.fault-in_default-class_char.ensures, c.place_of-in_default-class_char.ensures) (λ d b negated before.
-    let n = c.args.end in
+    rw c.syntax-in_default-class_char.ensures (λ d b negated before.
+    let n = c.args.self.end in
     ap (fault_from n (InClass d b negated before Items)) (h.0.1 ∙ ap (λ x. h.0.0 ∷ x) g.0)
     ∙ first_step n d b negated before c.in-Some.first h.0.0 (Plain c.in-Some-strip.field-0-0 45 ∷ writing c.in-Some-strip.after.now) h.0.3
     ∙ no_last n (writing c.in-Some-strip.after.now) c.in_default-class_char.ensures d b negated before (place h.0.0) c.in-Some.first)
