@@ -1,4 +1,5 @@
-//! What `check` prints of grammar files, once of each kind. `tests/program` has a row for each fault.
+//! What `check` prints of grammar files, once of each kind. `tests/program` has a row for each
+//! fault.
 
 use commands::{Printed, check, load};
 use server::Language;
@@ -54,7 +55,8 @@ fn refusals_are_printed(rt: HostRuntime) {
     prints(&rt, rt.alloc(), "", "", "lrls: line 1: G1 first line\n", 2);
 }
 
-/// Which way leads to a conflict is open, and so is the terminal of the item that shifts. `tests/program` walks the ways.
+/// Which way leads to a conflict is open, and so is the terminal of the item that shifts.
+/// `tests/program` walks the ways.
 #[test]
 fn conflicts_are_printed(rt: HostRuntime) {
     let printed = checked(&rt, rt.alloc(), CHOICES);

@@ -1,5 +1,5 @@
-//! Tests of the program's commands: command lines, texts of faults, and what `check` and `parse` print. The crate has nothing
-//! else.
+//! Tests of the program's commands: command lines, texts of faults, and what `check` and `parse`
+//! print. The crate has nothing else.
 #![tactic(auto)]
 
 #[cfg(test)]

@@ -1,4 +1,5 @@
-//! What `parse` prints of texts: a tree and faults. `tests/program` has the texts that are refused.
+//! What `parse` prints of texts: a tree and faults. `tests/program` has the texts that are
+//! refused.
 
 use crate::grammar_checks::{assert_printed, sums};
 use commands::{Printed, parse};

@@ -30,27 +30,29 @@ pub fn characters_are_scalars()
     ensures { (c : ℕ) → IsCharacter c ↔ IsScalar c }
 {}
 
-/// The offset of a position lies in its line, and is the greatest one before which the line has no more units than the
-/// position counts.
+/// The offset of a position lies in its line, and is the greatest one before which the line has no
+/// more units than the position counts.
 pub fn offset_is_greatest()
     ensures { (encoding : Encoding) (t : List ℕ) (p : Position) →
         IsOffsetOf encoding t p (offset encoding t p) }
 {}
 
-/// The offset of the position of an offset is that offset, for each offset of the text that isn't between a `\r` and
-/// its `\n`.
+/// The offset of the position of an offset is that offset, for each offset of the text that isn't
+/// between a `\r` and its `\n`.
 pub fn offset_of_position()
     ensures { (encoding : Encoding) (t : List ℕ) (o : ℕ) → IsInLine t o →
         offset encoding t (position encoding t o) ≡ o }
 {}
 
-/// The position of the offset of a position that counts whole characters of a line is that position.
+/// The position of the offset of a position that counts whole characters of a line is that
+/// position.
 pub fn position_of_offset()
     ensures { (encoding : Encoding) (t : List ℕ) (p : Position) → IsPlace encoding t p →
         position encoding t (offset encoding t p) ≡ p }
 {}
 
-/// The test for a class with no member is right, where its intervals are of characters and none is reversed.
+/// The test for a class with no member is right, where its intervals are of characters and none is
+/// reversed.
 pub fn empty_class_is_reported()
     ensures { (negated : Bool) (intervals : List Interval) → AreWell intervals →
         IsTrue (is_nothing negated intervals)
@@ -69,7 +71,8 @@ pub fn token_is_local()
         take x.reach t ≡ take x.reach u → IsToken rules u x }
 {}
 
-/// The tokens that an edit keeps, before it and from the place of rejoining on, are tokens of both texts.
+/// The tokens that an edit keeps, before it and from the place of rejoining on, are tokens of both
+/// texts.
 pub fn kept_tokens_stay()
     ensures kept_before { (rules : List Expression) (t : List ℕ) (s : List ℕ) (e : Edit)
         (old : List Token) (new : List Token) → IsTokenEdit rules t s e old new →
@@ -102,8 +105,8 @@ pub fn selection_unique()
         IsSelection t tokens (IsNodeOf g trees) o two → one ≡ two }
 {}
 
-/// Plain data (positions, ranges, units, kinds, splices, counts, edits, symbols, intervals, faults of patterns) is
-/// equal by `==` exactly where it is the same: no part of it is left out.
+/// Plain data (positions, ranges, units, kinds, splices, counts, edits, symbols, intervals, faults
+/// of patterns) is equal by `==` exactly where it is the same: no part of it is left out.
 pub fn equal_data_is_the_same()
     ensures positions { (a b : Position) →
         IsTrue (⟦<crate::Position as PartialEq>⟧.eq a b) ↔ (a ≡ b) }

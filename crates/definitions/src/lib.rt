@@ -1,12 +1,13 @@
-//! The plain data that code and definitions share: positions and ranges, kinds and symbols, edits and splices,
-//! diagnostics, counts, and expressions of patterns. `specs/` defines what they mean, and docs/DEFINITIONS.md says it
-//! in plain words.
+//! The plain data that code and definitions share: positions and ranges, kinds and symbols, edits
+//! and splices, diagnostics, counts, and expressions of patterns. `specs/` defines what they mean,
+//! and docs/DEFINITIONS.md says it in plain words.
 //!
-//! There is no call that computes. Other crates hand these types on, so you rarely name this one. The functions of
-//! `laws` do nothing: their contracts are the laws of the definitions, to be cited in proofs.
+//! There is no call that computes. Other crates hand these types on, so you rarely name this one.
+//! The functions of `laws` do nothing: their contracts are the laws of the definitions, to be
+//! cited in proofs.
 //!
-//! Words: a *kind* is the rule of a token, or invalid; a *symbol* is a rule or a nonterminal, by its number; a *unit*
-//! is what a position counts: bytes of UTF-8, units of UTF-16, or characters.
+//! Words: a *kind* is the rule of a token, or invalid; a *symbol* is a rule or a nonterminal, by
+//! its number; a *unit* is what a position counts: bytes of UTF-8, units of UTF-16, or characters.
 //!
 //! Limits: lines and units have 32 bits. Nothing costs anything at run time.
 //!
@@ -55,7 +56,8 @@ pub enum Kind {
     Invalid,
 }
 
-/// The edit of this number: `inserted` characters in place of the `removed` ones from offset `at` on.
+/// The edit of this number: `inserted` characters in place of the `removed` ones from offset `at`
+/// on.
 #[derive(Clone, Copy, Debug, PartialEq, Eq)]
 pub struct Edit {
     pub at: usize,
@@ -86,7 +88,8 @@ pub struct Diagnostic {
     pub message: String,
 }
 
-/// How much there is of a document, and how much its last edit has made. Opening makes all there is, as edit 0.
+/// How much there is of a document, and how much its last edit has made. Opening makes all there
+/// is, as edit 0.
 #[derive(Clone, Copy, Debug, PartialEq, Eq)]
 pub struct Stats {
     /// The number of the last edit.

@@ -8,7 +8,8 @@ use definitions::{Expression, Interval};
 use patterns::Pattern;
 use std::alloc::{AllocError, Global};
 
-/// Adds where an interval cuts the alphabet: at its first character, and at the one after its last, if there is one.
+/// Adds where an interval cuts the alphabet: at its first character, and at the one after its
+/// last, if there is one.
 fn cut(first: char, last: char, out: &mut Vec<char>) -> Result<(), AllocError>
     ensures cuts { IfOk result (λ _. out.new.items ≡ out.old.items ++ cut first last) }
     ensures characters { IfOk result (λ _. All IsCharacter out.old.items
@@ -77,7 +78,8 @@ fn all_cuts(alloc: Global, patterns: &[Pattern]) -> Result<Vec<char>, AllocError
     Ok(out)
 }
 
-/// The first characters of the parts, but for the first part: within a part no rule tells characters apart.
+/// The first characters of the parts, but for the first part: within a part no rule tells
+/// characters apart.
 pub fn starts(alloc: Global, patterns: &[Pattern]) -> Result<Vec<char>, AllocError>
     ensures ascending { IfOk result (λ starts. IsAscending starts.items) }
     ensures cuts { IfOk result (λ starts. (x : ℕ) → Contains (all_cuts patterns.now) x

@@ -11,8 +11,8 @@ use crate::Source;
 use crate::alphabet::part_of;
 use std::marker::Model;
 
-/// After so many characters a token is long: its source passes over those that keep the state. Most tokens are shorter, and a call
-/// would cost them more than it saves.
+/// After so many characters a token is long: its source passes over those that keep the state.
+/// Most tokens are shorter, and a call would cost them more than it saves.
 const LONG: usize = 16;
 
 /// An automaton that finds the longest match of a list of rules.
@@ -56,13 +56,14 @@ pub struct Match {
     pub rule: Option<usize>,
     /// How many characters it has.
     pub length: usize,
-    /// The fewest characters from the offset on that begin no text of any rule, or, where there are none, one more than are
-    /// left. No character after them affects the token.
+    /// The fewest characters from the offset on that begin no text of any rule, or, where there
+    /// are none, one more than are left. No character after them affects the token.
     pub reach: usize,
 }
 
 impl Match {
-    /// The longer match after `read` characters, to which this rule belongs, or this one where none does.
+    /// The longer match after `read` characters, to which this rule belongs, or this one where
+    /// none does.
     fn or_longer(self, rule: Option<usize>, read: usize) -> Match
         ensures best { (rules : List Expression) (t : List ℕ)
             → IsNoted rules t read rule self.rule self.length
@@ -192,7 +193,8 @@ impl Automaton {
         }
     }
 
-    /// How many characters from an offset on keep the state, as far as the source passes over them. The place moves on with them.
+    /// How many characters from an offset on keep the state, as far as the source passes over
+    /// them. The place moves on with them.
     #[cold]
     #[inline(never)]
     fn stay<S: Source>(&self, source: &S, ahead: &mut S::Ahead, at: usize, state: State) -> usize
@@ -212,8 +214,8 @@ impl Automaton {
         source.pass(ahead, at, |c| row.leads_to(state.number, c))
     }
 
-    /// The token that starts at the offset `from`: the longest match, of equal lengths the earlier rule. Where nothing
-    /// matches it is one character, or none at the end.
+    /// The token that starts at the offset `from`: the longest match, of equal lengths the earlier
+    /// rule. Where nothing matches it is one character, or none at the end.
     ///
     /// It takes no memory, and asks the source for no character outside the token's reach.
     pub fn longest<S: Source>(&self, source: &S, from: usize) -> Match

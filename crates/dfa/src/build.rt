@@ -87,7 +87,8 @@ fn trees_of(alloc: Global, patterns: &[Pattern]) -> Result<Vec<Tree>, AllocError
     Ok(trees)
 }
 
-/// The states of the automaton, each with its row, where the parts of the alphabet begin at `starts`.
+/// The states of the automaton, each with its row, where the parts of the alphabet begin at
+/// `starts`.
 fn states_of(alloc: Global, patterns: &[Pattern], starts: &[char]) -> Result<States, DfaFault>
     requires ascending { IsAscending starts.now }
     requires cuts { (x : ℕ) → Contains (all_cuts patterns.now) x → Contains starts.now x }
@@ -110,8 +111,9 @@ fn states_of(alloc: Global, patterns: &[Pattern], starts: &[char]) -> Result<Sta
 impl Automaton {
     /// The automaton of the rules that these patterns are, numbered from 0.
     ///
-    /// Its states are the start and the different nonempty sets of positions. Refuses rules for which these are more than
-    /// 4,096 with `TooManyStates`. `Memory` says that memory was refused.
+    /// Its states are the start and the different nonempty sets of positions. Refuses rules for
+    /// which these are more than 4,096 with `TooManyStates`. `Memory` says that memory was
+    /// refused.
     pub fn build(alloc: Global, patterns: &[Pattern]) -> Result<Automaton, DfaFault>
         ensures automaton { IfOk result (λ a. IsAutomaton patterns.now a) }
         ensures few { IfOk result (λ a. HasMoreStatesThan patterns.now 4096 → ⊥) }

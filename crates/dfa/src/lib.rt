@@ -1,13 +1,17 @@
-//! The longest match of a list of token rules, by an automaton whose states are sets of positions (Glushkov).
+//! The longest match of a list of token rules, by an automaton whose states are sets of positions
+//! (Glushkov).
 //!
-//! `Automaton::build` makes the automaton of a list of patterns, which are numbered from 0; `longest` returns the
-//! longest match at an offset of a `Source`: characters by their offset, with a cursor that reads them one after
-//! another. Of two rules that match equally far the earlier one wins; if none matches, `rule` is `None`.
+//! `Automaton::build` makes the automaton of a list of patterns, which are numbered from 0;
+//! `longest` returns the longest match at an offset of a `Source`: characters by their offset,
+//! with a cursor that reads them one after another. Of two rules that match equally far the
+//! earlier one wins; if none matches, `rule` is `None`.
 //!
-//! Words: the *reach* of a match is how many characters had to be looked at, the end of the text counting as one.
+//! Words: the *reach* of a match is how many characters had to be looked at, the end of the text
+//! counting as one.
 //!
-//! Limits: an automaton of more than 4,096 states is refused (`DfaFault`). `longest` takes no memory, and costs one
-//! step for each character of the reach. In the example `grammar` is read from the grammar file in README.md.
+//! Limits: an automaton of more than 4,096 states is refused (`DfaFault`). `longest` takes no
+//! memory, and costs one step for each character of the reach. In the example `grammar` is read
+//! from the grammar file in README.md.
 //!
 //! ```
 //! let Ok(automaton) = Automaton::build(alloc, grammar.patterns()) else {
@@ -63,15 +67,17 @@ pub trait Source {
         requires { i ≤ length (text self.now) }
         ensures { is_before self.now i result };
 
-    /// The character at an offset in the window, before which the place is. The place moves on to the next character.
+    /// The character at an offset in the window, before which the place is. The place moves on to
+    /// the next character.
     fn next(&self, ahead: &mut Self::Ahead, i: usize) -> char
         requires window { in_window self.now i }
         requires before { is_before self.now i ahead.old }
         ensures is { result ≡ slice_index_or (text self.now) i 0 }
         ensures moved { is_before self.now (i + 1) ahead.new };
 
-    /// Moves the place, which is before the character at an offset, on over characters that pass the test, and returns how
-    /// many they are. It asks for them one after another, each only if all before it pass, and may stop at any of them.
+    /// Moves the place, which is before the character at an offset, on over characters that pass
+    /// the test, and returns how many they are. It asks for them one after another, each only if
+    /// all before it pass, and may stop at any of them.
     fn pass<F: Fn(char) -> bool>(&self, ahead: &mut Self::Ahead, i: usize, test: F) -> usize
         requires callable { F.IsAlwaysCallable test }
         requires within { i ≤ length (text self.now) }

@@ -42,7 +42,8 @@ fn is_member(intervals: &[Interval], c: char) -> bool
     intervals.iter().any(|i| i.first <= c && c <= i.last)
 }
 
-/// Adds the positions that hold the character, where those of the expression begin at `at`, which goes past them.
+/// Adds the positions that hold the character, where those of the expression begin at `at`, which
+/// goes past them.
 pub fn holders(
     e: &Expression,
     c: char,

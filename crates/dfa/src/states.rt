@@ -67,8 +67,8 @@ pub fn part_holders(
     Ok(parts)
 }
 
-/// The positions at which one more character can stand, whatever that character is, in ascending order. The marks are those
-/// of the set.
+/// The positions at which one more character can stand, whatever that character is, in ascending
+/// order. The marks are those of the set.
 fn followers(
     alloc: Global,
     trees: &[Tree],
@@ -80,8 +80,7 @@ fn followers(
     requires marks { AreMarksOf set.now marks.now }
     requires counted { All IsCounted trees.now }
     requires all { length marks.now ≡ all_counts trees.now }
-    ensures { IfOk result
-        (λ all. all.items ≡ all_tree_next (marks_of set.now) 0 start trees.now) }
+    ensures { IfOk result (λ all. all.items ≡ all_tree_next (marks_of set.now) 0 start trees.now) }
 {
     let mut out = Vec::with_capacity(alloc, 16)?;
     let mut at = 0;
@@ -139,8 +138,8 @@ fn marked(alloc: Global, marks: &[bool], holders: &[usize]) -> Result<Vec<usize>
     Ok(set)
 }
 
-/// The followers among the holders. The marks are those of the followers. Of many holders only those are read with which a
-/// follower is compared.
+/// The followers among the holders. The marks are those of the followers. Of many holders only
+/// those are read with which a follower is compared.
 #[tactic(auto, using(crate::proofs::MarkedSets::kept_both, crate::proofs::MarkedSets::kept_marks))]
 fn kept(
     alloc: Global,
@@ -162,7 +161,8 @@ fn kept(
     }
 }
 
-/// Writes the value at each of the positions: so blank marks become those of the positions, or blank again.
+/// Writes the value at each of the positions: so blank marks become those of the positions, or
+/// blank again.
 fn write(marks: &mut Vec<bool>, positions: &[usize], value: bool)
     requires within { (k : ℕ) → k < length positions.now
         → slice_index_or positions.now k 0 < length marks.old.items }
@@ -227,7 +227,8 @@ impl States {
         })
     }
 
-    /// Adds an entry for each part: the number of the set of its holders that are followers. The marks are the followers'.
+    /// Adds an entry for each part: the number of the set of its holders that are followers. The
+    /// marks are the followers'.
     fn add_entries(
         &mut self,
         alloc: Global,
@@ -263,7 +264,8 @@ impl States {
         Ok(())
     }
 
-    /// Adds the row of the next state. The marks, one for each position, are blank before and after.
+    /// Adds the row of the next state. The marks, one for each position, are blank before and
+    /// after.
     pub fn add_row(
         &mut self,
         alloc: Global,
@@ -304,7 +306,8 @@ impl States {
         Ok(())
     }
 
-    /// Adds the rows of all states, and of those that come with them. The marks, one for each position, are blank.
+    /// Adds the rows of all states, and of those that come with them. The marks, one for each
+    /// position, are blank.
     pub fn add_rows(
         &mut self,
         alloc: Global,
@@ -313,8 +316,7 @@ impl States {
         marks: &mut Vec<bool>,
     ) -> Result<(), DfaFault>
         requires rules { (rules : List Expression) × (starts : List ℕ)
-            × AreRules rules starts trees.now parts.now
-            × HasRows rules starts self.old }
+            × AreRules rules starts trees.now parts.now × HasRows rules starts self.old }
         requires blank { AreBlank marks.old.items }
         requires all { length marks.old.items ≡ all_counts trees.now }
         ensures rows { IfOk result (λ _. (rules : List Expression) (starts : List ℕ)
@@ -325,8 +327,7 @@ impl States {
         ensures many { IfErr result (λ e. e ≡ TooManyStates
             → (rules : List Expression) (starts : List ℕ)
             → AreRules rules starts trees.now parts.now
-            → HasRows rules starts self.old
-            → HasMoreStatesThan rules 4096) }
+            → HasRows rules starts self.old → HasMoreStatesThan rules 4096) }
     {
         'rows: while self.accepts.len() < self.sets.len() {
             self.add_row(alloc, trees, parts, marks)?;

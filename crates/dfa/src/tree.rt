@@ -1,4 +1,5 @@
-//! The positions of a rule as a tree of little depth, in which what lies apart from a set of positions is passed over.
+//! The positions of a rule as a tree of little depth, in which what lies apart from a set of
+//! positions is passed over.
 ghost use Rattle.std.specs.Prelude.{◌≡◌, ◌+◌, ◌-◌, ◌<◌, ◌≤◌, ◌^◌, ◌++◌, true, false, length, IfOk};
 ghost use Rattle.definitions.specs.Spelling.{IsWellMade};
 ghost use Rattle.dfa.specs.Marks.{mark, marks_of};
@@ -10,17 +11,18 @@ use definitions::Expression;
 use std::alloc::{AllocError, Global};
 use std::mem;
 
-/// The greatest count of positions of a part that is walked through where it might be passed over: looking for one of its
-/// positions in the set takes longer.
+/// The greatest count of positions of a part that is walked through where it might be passed over:
+/// looking for one of its positions in the set takes longer.
 const SMALL: usize = 8;
 
-/// A rule, or a part of one. What it says of characters is left out, and a literal is a sequence of its characters.
+/// A rule, or a part of one. What it says of characters is left out, and a literal is a sequence
+/// of its characters.
 #[derive(Drop)]
 pub enum Tree {
     /// One character.
     Position,
-    /// The first part or the second if the flag is set, and otherwise the first, then the second. The number is how many
-    /// positions they have.
+    /// The first part or the second if the flag is set, and otherwise the first, then the second.
+    /// The number is how many positions they have.
     Pair(bool, usize, Box<Tree>, Box<Tree>),
     /// At least once a part that has so many positions.
     Plus(usize, Box<Tree>),
@@ -39,8 +41,9 @@ impl Tree {
         }
     }
 
-    /// Puts a part after this one: as the other choice if the flag is set, and otherwise as the rest of a sequence. It goes
-    /// down to the right while it finds a smaller part there, so that the tree stays balanced.
+    /// Puts a part after this one: as the other choice if the flag is set, and otherwise as the
+    /// rest of a sequence. It goes down to the right while it finds a smaller part there, so that
+    /// the tree stays balanced.
     fn join(&mut self, alloc: Global, is_choice: bool, last: Tree) -> Result<(), AllocError>
         requires fits { count self.old + count last < 2 ^ 64 }
         requires counted { IsCounted self.old }
@@ -62,8 +65,8 @@ impl Tree {
         }
     }
 
-    /// Whether the part is passed over: nothing begins in it, and the set has none of its positions, which begin at `at`. A
-    /// small part is rather walked through.
+    /// Whether the part is passed over: nothing begins in it, and the set has none of its
+    /// positions, which begin at `at`. A small part is rather walked through.
     fn is_apart(&self, set: &[usize], at: usize, start: bool) -> bool
         requires rises { Rises 0 set.now }
         requires within { at + count self.now < 2 ^ 64 }
@@ -73,8 +76,9 @@ impl Tree {
         !start && self.count() > SMALL && !meets(set, at, self.count())
     }
 
-    /// Whether what was read can end with a text of this part, whose positions begin at `at`. The set, of which the marks
-    /// are, says where the last character that was read can stand, and `start` says that the part can begin after it.
+    /// Whether what was read can end with a text of this part, whose positions begin at `at`. The
+    /// set, of which the marks are, says where the last character that was read can stand, and
+    /// `start` says that the part can begin after it.
     #[tactic(auto, using(crate::proofs::Trees::no_end, crate::proofs::MarkedSets::same_mark))]
     pub fn ends(&self, set: &[usize], marks: &[bool], at: usize, start: bool) -> bool
         requires rises { Rises 0 set.now }
@@ -105,8 +109,8 @@ impl Tree {
         }
     }
 
-    /// Adds the positions of this part at which one more character can stand, whatever that character is. Returns what
-    /// `ends` does.
+    /// Adds the positions of this part at which one more character can stand, whatever that
+    /// character is. Returns what `ends` does.
     #[tactic(auto, using(crate::proofs::Trees::no_end, crate::proofs::MarkedSets::same_mark))]
     pub fn follow(
         &self,
@@ -238,7 +242,8 @@ fn put_literal(alloc: Global, characters: &[char], tree: &mut Tree) -> Result<()
 
 /// Makes it the tree of a rule, or of a part of one, without what it says of characters.
 ///
-/// It needs little of the stack: sequences and choices are nested to the left, as deep as they are long.
+/// It needs little of the stack: sequences and choices are nested to the left, as deep as they are
+/// long.
 fn put(alloc: Global, e: &Expression, tree: &mut Tree) -> Result<(), AllocError>
     requires made { IsWellMade e.now }
     requires few { positions e.now < 2 ^ 64 }

@@ -82,7 +82,8 @@ fn count(rt: &impl Abort, alloc: Global, piece: &str) -> usize
     Text::open(alloc, piece).expect(rt, "a piece").len()
 }
 
-/// Puts the piece of a change into a text, brings the tokens to it, and returns how the kinds change.
+/// Puts the piece of a change into a text, brings the tokens to it, and returns how the kinds
+/// change.
 pub fn rescan(
     rt: &impl Abort,
     alloc: Global,

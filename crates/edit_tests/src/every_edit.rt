@@ -1,4 +1,5 @@
-//! Every edit of every short text, against whole scans and parses of the text before and the text after it.
+//! Every edit of every short text, against whole scans and parses of the text before and the text
+//! after it.
 
 ghost use Rattle.lexer.specs.Rescans.{significant_kinds};
 ghost use Rattle.parser.specs.Parses.{IsParseOf};
@@ -80,8 +81,8 @@ fn place_of_start(tokens: &[Placed], start: usize) -> Option<usize> {
     None
 }
 
-/// What an edit is to make: all from the tokens kept at the start up to the first place after what was inserted where a new token
-/// starts, and an old one started before the edit moved it.
+/// What an edit is to make: all from the tokens kept at the start up to the first place after what
+/// was inserted where a new token starts, and an old one started before the edit moved it.
 fn made_by(old: &[Placed], new: &[Placed], cut: Cut) -> Made {
     let from = kept_prefix(old, cut.at);
     let following = cut.at.saturating_add(cut.inserted);
@@ -118,8 +119,8 @@ fn splice_of(rt: &impl Abort, alloc: Global, old: &[Placed], new: &[Placed], mad
     }
 }
 
-/// Whether the trees of branch `o` and of branch `n` are the same. Productions in preorder determine a tree, as each has its right
-/// side.
+/// Whether the trees of branch `o` and of branch `n` are the same. Productions in preorder
+/// determine a tree, as each has its right side.
 fn is_same_tree(old: &[Branch], o: usize, new: &[Branch], n: usize, size: usize) -> bool {
     for k in 0..size {
         let before = old.get(o.saturating_add(k));
@@ -307,7 +308,8 @@ fn facts_of_texts(
     all
 }
 
-/// All texts up to a length, and what is so of each. The first of them are the pieces that edits put in.
+/// All texts up to a length, and what is so of each. The first of them are the pieces that edits
+/// put in.
 #[derive(Clone, Copy)]
 struct Texts<'a> {
     language: &'a Language,
@@ -332,8 +334,8 @@ fn facts_among<'a>(rt: &impl Abort, alloc: Global, all: &Texts<'a>, text: &Text)
     all.facts.get(number).expect(rt, "such a text")
 }
 
-/// Whether edit 1 of an old text has brought the document to what a whole scan and parse come to, and has made no more than it
-/// had to.
+/// Whether edit 1 of an old text has brought the document to what a whole scan and parse come to,
+/// and has made no more than it had to.
 fn is_brought(
     rt: &impl Abort,
     alloc: Global,
@@ -414,7 +416,8 @@ fn check_text(rt: &impl Abort, alloc: Global, all: &Texts<'_>, number: usize) {
     }
 }
 
-/// Each text of a length, with each edit that puts a piece in the place of two or fewer characters.
+/// Each text of a length, with each edit that puts a piece in the place of two or fewer
+/// characters.
 fn check_length(rt: &impl Abort, alloc: Global, all: &Texts<'_>, length: usize) {
     let first = count_below(all.letters, length);
     for number in first..count_below(all.letters, length.saturating_add(1)) {

@@ -36,7 +36,8 @@ pub struct Branch {
     pub born: u64,
 }
 
-/// The tokens of a document, the branches of its trees in preorder, and what is reported of its parse.
+/// The tokens of a document, the branches of its trees in preorder, and what is reported of its
+/// parse.
 #[derive(Drop)]
 pub struct Facts {
     pub tokens: Vec<Placed>,

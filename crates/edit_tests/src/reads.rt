@@ -16,7 +16,8 @@ use std::process::Abort;
 use trees::Kinds;
 use worked::SUMS;
 
-/// The kinds of the significant tokens, with a count of those read, and of the places looked up among all.
+/// The kinds of the significant tokens, with a count of those read, and of the places looked up
+/// among all.
 #[derive(Drop)]
 struct Counted<'a> {
     whole: Significant<'a>,
@@ -56,7 +57,8 @@ impl<'a> Kinds for Counted<'a> {
     }
 }
 
-/// Makes a change, and returns how many kinds the parser reads for it, and how many places it looks up.
+/// Makes a change, and returns how many kinds the parser reads for it, and how many places it
+/// looks up.
 fn reads_for(
     rt: &impl Abort,
     alloc: Global,
@@ -117,7 +119,8 @@ fn expect_fewer(rt: &impl Abort, count: usize, bound: usize) {
     assert!(rt; count < bound, "{count}");
 }
 
-/// The last change of a sum with so many pluses reads fewer kinds than this, and looks up few places.
+/// The last change of a sum with so many pluses reads fewer kinds than this, and looks up few
+/// places.
 fn check_reads(
     rt: &impl Abort,
     alloc: Global,
@@ -147,14 +150,15 @@ fn few_kinds_are_read(rt: HostRuntime) {
     check_reads(&rt, rt.alloc(), 9_999, &[insertion(19_999, "+1")], 10);
 }
 
-/// After an edit at the start all sums are made anew, over numbers that stand as they were: the kind after each of these is
-/// that of the next tree, and isn't looked up.
+/// After an edit at the start all sums are made anew, over numbers that stand as they were: the
+/// kind after each of these is that of the next tree, and isn't looked up.
 #[test]
 fn no_kind_is_looked_up_before_old_trees(rt: HostRuntime) {
     check_reads(&rt, rt.alloc(), 2_000, &[insertion(1, "+1")], 10);
 }
 
-/// After a fault there are no old trees. Its mending, which takes a second plus away, reads each kind once, one after another.
+/// After a fault there are no old trees. Its mending, which takes a second plus away, reads each
+/// kind once, one after another.
 #[test]
 fn kinds_are_read_in_order(rt: HostRuntime) {
     let mend = Change {

@@ -12,7 +12,8 @@ use std::alloc::Global;
 use std::process::Abort;
 use worked::{LISTS, SUMS};
 
-/// How many tokens and branches there are, how many of them the last edit made, and what is reported.
+/// How many tokens and branches there are, how many of them the last edit made, and what is
+/// reported.
 #[derive(Clone, Copy, PartialEq, Eq)]
 struct Outcome {
     tokens: usize,
@@ -22,8 +23,8 @@ struct Outcome {
     ending: Ending,
 }
 
-/// The number of an edit, the edit, and what is expected: the counts of tokens, of those scanned, of branches and of those
-/// built, and what is reported.
+/// The number of an edit, the edit, and what is expected: the counts of tokens, of those scanned,
+/// of branches and of those built, and what is reported.
 type Row<'a> = (
     u64,
     (usize, usize, &'a str),
@@ -123,8 +124,8 @@ fn edits_of_lists(rt: HostRuntime) {
     check_by(&rt, rt.alloc(), LISTS, "ab cd", ROWS);
 }
 
-/// A fault, edits after and before it, and the fault mended: what stands before the fault is kept, and what stands after it
-/// is built once it is mended.
+/// A fault, edits after and before it, and the fault mended: what stands before the fault is kept,
+/// and what stands after it is built once it is mended.
 #[test]
 fn faulty_and_back(rt: HostRuntime) {
     const ROWS: &[Row<'static>] = &[
@@ -138,7 +139,8 @@ fn faulty_and_back(rt: HostRuntime) {
     check_by(&rt, rt.alloc(), SUMS, "1+2+3", ROWS);
 }
 
-/// Only a number above every stamp of the nodes keeps what stands, whatever the last edit's number was.
+/// Only a number above every stamp of the nodes keeps what stands, whatever the last edit's number
+/// was.
 #[test]
 fn numbers_that_are_no_new_ones(rt: HostRuntime) {
     const SPACE: (usize, usize, &str) = (1, 0, " ");

@@ -127,7 +127,8 @@ fn found_in(
     split(alloc, bytes)
 }
 
-/// Lets go of the bytes before a place. Where none are left, the room that they took is given up, too: a message may be long.
+/// Lets go of the bytes before a place. Where none are left, the room that they took is given up,
+/// too: a message may be long.
 fn discard(alloc: Global, bytes: &mut Vec<u8>, until: usize)
     requires { until ≤ length bytes.old.items }
     ensures { bytes.new.items ≡ drop until bytes.old.items }
@@ -172,8 +173,7 @@ fn take_frames(
 fn answer(frames: Vec<Frame>, fault: Option<FrameFault>) -> Result<Vec<Frame>, FrameFault>
     ensures ok { IfOk result (λ answered. answered.items ≡ frames.items) }
     ensures none { IfOk result (λ answered. answered.items ≡ [] → fault ≡ None) }
-    ensures fault { IfErr result (λ answered.
-        (frames.items ≡ []) × (fault ≡ Some answered)) }
+    ensures fault { IfErr result (λ answered. (frames.items ≡ []) × (fault ≡ Some answered)) }
 {
     match fault {
         Some(fault) if frames.is_empty() => Err(fault),
@@ -186,7 +186,8 @@ fn answer(frames: Vec<Frame>, fault: Option<FrameFault>) -> Result<Vec<Frame>, F
 pub struct Decoder {
     /// The bytes after the whole frames.
     rest: Vec<u8>,
-    /// How many bytes `rest` has to have before a frame of it can be whole, so that a content isn't looked at before.
+    /// How many bytes `rest` has to have before a frame of it can be whole, so that a content
+    /// isn't looked at before.
     awaited: usize,
     /// How many bytes of `rest` hold no blank line, so that they aren't searched again.
     searched: usize,
@@ -220,8 +221,9 @@ impl Decoder {
 
     /// Takes the next piece of the stream, and returns the frames that are whole now, in order.
     ///
-    /// If a fault follows these frames, the next call returns it; with no frames, this call does. From then on every call
-    /// returns it and takes no bytes. `Memory` says that memory was refused: the piece isn't taken, and may be fed again.
+    /// If a fault follows these frames, the next call returns it; with no frames, this call does.
+    /// From then on every call returns it and takes no bytes. `Memory` says that memory was
+    /// refused: the piece isn't taken, and may be fed again.
     pub fn feed(&mut self, alloc: Global, piece: &[u8]) -> Result<Vec<Frame>, FrameFault>
         ensures ok { IfOk result (λ frames.
             GoesOn self.old piece.now (contents frames.items) self.new) }
@@ -267,8 +269,8 @@ impl Decoder {
         self.met
     }
 
-    /// What it means that the stream ends here: `Truncated` where a frame is begun and no fault was met, and the fault where
-    /// one was.
+    /// What it means that the stream ends here: `Truncated` where a frame is begun and no fault
+    /// was met, and the fault where one was.
     pub fn finish(&self) -> Result<(), FrameFault>
         ensures value { result ≡ finish_of self.now }
         ensures truncated { (result ≡ Err FrameFault.Truncated) ↔ IsCut self.now }

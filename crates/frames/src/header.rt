@@ -186,7 +186,8 @@ fn field_of(line: &[u8]) -> Option<(&[u8], &[u8])>
     }
 }
 
-/// The length that a `Content-Length` with this value gives, where `given` was given before it; or its fault.
+/// The length that a `Content-Length` with this value gives, where `given` was given before it; or
+/// its fault.
 fn add_length(given: Option<usize>, value: &[u8]) -> Result<Option<usize>, FrameFault>
     ensures { result ≡ option_map_or Err
         (length_fault (is_some given) (length_value value.now)) (Ok (length_value value.now)) }

@@ -15,20 +15,23 @@ pub fn one_split()
         Splits bytes cs t → Splits bytes ds u → (cs ≡ ds) × (t ≡ u) }
 {}
 
-/// Whole frames stay as they are when their stream goes on: what the tail and the piece after it make comes after them.
+/// Whole frames stay as they are when their stream goes on: what the tail and the piece after it
+/// make comes after them.
 pub fn streams_go_on()
     ensures { (old : Tail) (piece : List ℕ) (contents : List (List ℕ)) (new : Tail) →
         Continues old piece contents new → GoesOn old piece contents new }
 {}
 
-/// `header_size` is the size of the header part, where there is one, and none where no prefix is a whole header part.
+/// `header_size` is the size of the header part, where there is one, and none where no prefix is a
+/// whole header part.
 pub fn shortest_header_part()
     ensures found { (bytes : List ℕ) (size : ℕ) →
         (header_size bytes ≡ Some size) ↔ IsHeaderPart bytes size }
     ensures none { (bytes : List ℕ) (n : ℕ) → header_size bytes ≡ None → ¬ IsWhole (take n bytes) }
 {}
 
-/// Of a whole header part, `header_length` computes what its field lines give: the first fault, or the one length.
+/// Of a whole header part, `header_length` computes what its field lines give: the first fault, or
+/// the one length.
 pub fn first_fault_decides()
     ensures { (part : List ℕ) (result : Result ℕ FrameFault) → IsWhole part →
         (header_length part ≡ result) ↔ IsHeaderLength part result }

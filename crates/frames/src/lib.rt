@@ -1,14 +1,16 @@
-//! The base protocol of LSP 3.17: contents in frames, from bytes that come in any pieces, and back to bytes.
+//! The base protocol of LSP 3.17: contents in frames, from bytes that come in any pieces, and back
+//! to bytes.
 //!
-//! `Decoder::new` comes first; then `feed` takes bytes as they come, and returns the frames that they complete. After
-//! the first fault each `feed` returns that fault again; `finish` says whether the stream may end here. `write_frame`
-//! writes a content's frame to an `Output`. `ReadInput` and `WriteOutput` make devices of std's readers and writers.
+//! `Decoder::new` comes first; then `feed` takes bytes as they come, and returns the frames that
+//! they complete. After the first fault each `feed` returns that fault again; `finish` says
+//! whether the stream may end here. `write_frame` writes a content's frame to an `Output`.
+//! `ReadInput` and `WriteOutput` make devices of std's readers and writers.
 //!
 //! Words: a *frame* is a header part and a content of as many bytes as its `Content-Length` says.
 //!
-//! Limits: a header part has at most 4,096 bytes, and a content at most 16,777,216. A `feed` costs the size of the
-//! piece, and of the rest of a frame that it completes; where it leaves no bytes to keep, the decoder keeps no room for
-//! any. `write_frame` doesn't allocate.
+//! Limits: a header part has at most 4,096 bytes, and a content at most 16,777,216. A `feed` costs
+//! the size of the piece, and of the rest of a frame that it completes; where it leaves no bytes
+//! to keep, the decoder keeps no room for any. `write_frame` doesn't allocate.
 //!
 //! ```
 //! let mut decoder = Decoder::new(alloc);

@@ -31,8 +31,8 @@ pub trait Output {
             (λ _. failures self.new ≡ 0) (λ _. failures self.new ≡ 1) };
 }
 
-/// Rust's `Write` as an output. Every error is a fault, also one that says to try again, and so is a write that takes
-/// nothing.
+/// Rust's `Write` as an output. Every error is a fault, also one that says to try again, and so is
+/// a write that takes nothing.
 #[derive(Drop)]
 pub struct WriteOutput<W> {
     inner: W,

@@ -17,8 +17,9 @@ pub trait Input {
     /// How often the device has failed: once at most.
     ghost failures: { Self → ℕ };
 
-    /// Reads some bytes to the start of `buf`, and returns how many: none only at the end of the stream, or where `buf`
-    /// is empty. It takes one of the reads that are left, and fails where none is.
+    /// Reads some bytes to the start of `buf`, and returns how many: none only at the end of the
+    /// stream, or where `buf` is empty. It takes one of the reads that are left, and fails where
+    /// none is.
     fn read(&mut self, buf: &mut [u8]) -> Result<usize, DeviceFault>
         requires { failures self.old ≡ 0 }
         ensures bound { IfOk result (λ n. n ≤ length buf.new) }
@@ -37,7 +38,8 @@ pub struct ReadInput<R> {
 }
 
 impl<R: Read> ReadInput<R> {
-    /// The input that gives the bytes of `inner`. It hasn't failed, and can be read 18,446,744,073,709,551,615 times.
+    /// The input that gives the bytes of `inner`. It hasn't failed, and can be read
+    /// 18,446,744,073,709,551,615 times.
     pub fn new(inner: R) -> ReadInput<R>
         ensures bytes { ⟦<ReadInput<R> as Input>⟧.remaining result ≡ R.remaining inner }
         ensures reads { ⟦<ReadInput<R> as Input>⟧.reads_left result ≡ 2 ^ 64 - 1 }

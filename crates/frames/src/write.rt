@@ -35,8 +35,8 @@ fn put_digits(buffer: &mut [u8], n: usize) -> usize
     prefix + 1
 }
 
-/// Writes the content after a header part that gives its length in bytes. After a fault, a prefix of the frame was
-/// written. Takes no memory.
+/// Writes the content after a header part that gives its length in bytes. After a fault, a prefix
+/// of the frame was written. Takes no memory.
 pub fn write_frame<W: Output>(output: &mut W, content: &[u8]) -> Result<(), DeviceFault>
     requires { W.failures output.old ≡ 0 }
     ensures bytes { Writes

@@ -1,11 +1,13 @@
 //! What one line of a grammar file says.
 //!
-//! `read_line` takes a line of a file of a `Version` and returns a `Line`: a production, a rule with the text of its
-//! pattern, `start` or `fold` with a name, nothing, or that it is none of these. `RightWord::read` takes a word of a
-//! right side apart, into its name and its `Mark`; `is_reserved` says whether a name is reserved.
+//! `read_line` takes a line of a file of a `Version` and returns a `Line`: a production, a rule
+//! with the text of its pattern, `start` or `fold` with a name, nothing, or that it is none of
+//! these. `RightWord::read` takes a word of a right side apart, into its name and its `Mark`;
+//! `is_reserved` says whether a name is reserved.
 //!
-//! Words: a *word* is what stands between spaces and tabs; a *name* is an ASCII letter or `_`, then ASCII letters,
-//! digits and `_`; a *mark* is `*`, `+` or `?` at the end of a word, in `lrgrammar 2`.
+//! Words: a *word* is what stands between spaces and tabs; a *name* is an ASCII letter or `_`,
+//! then ASCII letters, digits and `_`; a *mark* is `*`, `+` or `?` at the end of a word, in
+//! `lrgrammar 2`.
 //!
 //! No line is too long, and no pattern is read here. A line costs its length.
 //!

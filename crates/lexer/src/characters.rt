@@ -4,8 +4,8 @@ ghost use Rattle.std.specs.Prelude.{⊤, ◌<◌, length};
 
 use dfa::Source;
 
-/// Characters in one vector, whose window is the whole of it. A scan of a whole text reads each of them, so that a look-up in the
-/// text for each would take most of its time.
+/// Characters in one vector, whose window is the whole of it. A scan of a whole text reads each of
+/// them, so that a look-up in the text for each would take most of its time.
 #[derive(Clone, Copy)]
 pub struct Characters<'a>(pub &'a [char]);
 

@@ -15,7 +15,8 @@ pub fn each_text_has_tokens()
         IsText t → (tokens : List Token) × AreTokens rules t tokens }
 {}
 
-/// Kinds in 16 bits, tokens and sums are equal by `==` exactly where they are the same: no part of them is left out.
+/// Kinds in 16 bits, tokens and sums are equal by `==` exactly where they are the same: no part of
+/// them is left out.
 pub fn equal_tokens_are_the_same()
     ensures kinds { (a b : ShortKind) →
         IsTrue (⟦<crate::ShortKind as PartialEq>⟧.eq a b) ↔ (a ≡ b) }

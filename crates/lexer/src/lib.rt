@@ -1,16 +1,19 @@
 //! The tokens of a text by longest matches, and what an edit changes of them.
 //!
-//! `Tokens::scan` scans a text by the token rules of a grammar and their automaton, which a `Scanner` owns; after an edit
-//! `rescan` changes the tokens to those of the new text, and returns the splice of the kinds. The source is
-//! `Whole(&text)`; for a whole scan it is faster to read `Characters` out of a vector, or ASCII out of `Bytes`. `token`,
-//! `start_of` and `count` are about all tokens, by their places; `kind`, `place` and `significant` about those that
-//! aren't skipped. `items` is the list, in which each token is a `PackedToken`, of 16 bytes.
+//! `Tokens::scan` scans a text by the token rules of a grammar and their automaton, which a
+//! `Scanner` owns; after an edit `rescan` changes the tokens to those of the new text, and returns
+//! the splice of the kinds. The source is `Whole(&text)`; for a whole scan it is faster to read
+//! `Characters` out of a vector, or ASCII out of `Bytes`. `token`, `start_of` and `count` are
+//! about all tokens, by their places; `kind`, `place` and `significant` about those that aren't
+//! skipped. `items` is the list, in which each token is a `PackedToken`, of 16 bytes.
 //!
-//! Words: a token's *stamp* is the number of the edit that made it; `scanned` counts the tokens made by the last edit.
+//! Words: a token's *stamp* is the number of the edit that made it; `scanned` counts the tokens
+//! made by the last edit.
 //!
-//! Limits: those of `text`, and of `dfa` for the rules. A rescan reads from the first token whose reach the edit meets
-//! to the first place where an old token begins again; the other tokens stay. A scanner whose automaton would have more
-//! than 4,096 states is refused. In the example `scanner` is that of the grammar file in README.md.
+//! Limits: those of `text`, and of `dfa` for the rules. A rescan reads from the first token whose
+//! reach the edit meets to the first place where an old token begins again; the other tokens stay.
+//! A scanner whose automaton would have more than 4,096 states is refused. In the example
+//! `scanner` is that of the grammar file in README.md.
 //!
 //! ```
 //! let text = Text::open(alloc, "1 + 2").ok()?;

@@ -23,7 +23,8 @@ const KIND_UNIT: u64 = 8_796_093_022_208;
 pub struct PackedToken {
     /// The number of the edit.
     born: u64,
-    /// From its lowest bits up: the length in 21 bits, the reach in 21, whether it is skipped in 1, and the code of its kind.
+    /// From its lowest bits up: the length in 21 bits, the reach in 21, whether it is skipped in
+    /// 1, and the code of its kind.
     shape: u64,
 }
 

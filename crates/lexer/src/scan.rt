@@ -14,10 +14,12 @@ use grammar::Grammar;
 use std::alloc::{AllocError, Global};
 use std::marker::Model;
 
-/// How many tokens are scanned before they are put into the list, so that they are still in the processor's cache then.
+/// How many tokens are scanned before they are put into the list, so that they are still in the
+/// processor's cache then.
 const BATCH_LEN: usize = 1024;
 
-/// The token rules of a grammar, with their automaton, while tokens are found by them. A contract sees the rules.
+/// The token rules of a grammar, with their automaton, while tokens are found by them. A contract
+/// sees the rules.
 #[derive(Drop)]
 pub(crate) struct Scan<'a> {
     grammar: &'a Grammar,
@@ -87,8 +89,7 @@ impl<'a> Scan<'a> {
         requires small { length (S.text source.now) ≤ 1048576 }
         requires within { from < length (S.text source.now) }
         requires window { (i : ℕ) → i < length (S.text source.now) → S.in_window source.now i }
-        ensures next { IfOk result
-            (λ r. AreNext self.now (S.text source.now) from r.0.items r.1) }
+        ensures next { IfOk result (λ r. AreNext self.now (S.text source.now) from r.0.items r.1) }
         ensures some { IfOk result (λ r. from < r.1) }
     {
         let mut made = Vec::with_capacity(alloc, BATCH_LEN)?;

@@ -34,8 +34,8 @@ impl Model for Scanner {
 }
 
 impl Scanner {
-    /// The scanner of a grammar. Refuses one whose automaton would have more than 4,096 states with `TooManyStates`. `Memory`
-    /// says that memory was refused.
+    /// The scanner of a grammar. Refuses one whose automaton would have more than 4,096 states
+    /// with `TooManyStates`. `Memory` says that memory was refused.
     pub fn new(alloc: Global, grammar: Grammar) -> Result<Scanner, DfaFault>
         ensures grammar { IfOk result (λ s. s ≡ grammar) }
         ensures few { IfOk result (λ _. HasMoreStatesThan grammar.patterns 4096 → ⊥) }

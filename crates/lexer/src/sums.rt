@@ -39,8 +39,8 @@ impl ShortKind {
     }
 }
 
-/// A token: the number of the edit that made it, its kind, its length and its reach in characters, and whether it is
-/// skipped.
+/// A token: the number of the edit that made it, its kind, its length and its reach in characters,
+/// and whether it is skipped.
 #[derive(Clone, Copy, Debug, PartialEq, Eq)]
 pub struct Token {
     /// The number of the edit.
@@ -64,8 +64,8 @@ impl Token {
     }
 }
 
-/// How many tokens are significant, how many characters all have, and the greatest sum of a start and a reach, which is 0
-/// for no token.
+/// How many tokens are significant, how many characters all have, and the greatest sum of a start
+/// and a reach, which is 0 for no token.
 #[derive(Clone, Copy, Debug, PartialEq, Eq)]
 pub struct Sums {
     /// How many tokens are not skipped.

@@ -120,8 +120,9 @@ impl Tokens {
         Some(token.kind())
     }
 
-    /// The kinds of the significant tokens from number `k` on, and none past the last one. The way to the first is a logarithm of
-    /// the count of all, and each further one takes a step for each token up to it.
+    /// The kinds of the significant tokens from number `k` on, and none past the last one. The way
+    /// to the first is a logarithm of the count of all, and each further one takes a step for each
+    /// token up to it.
     pub fn kinds_from(&self, k: usize) -> KindsAhead<'_>
         ensures { result ≡ drop k (significant_kinds self.now.items) }
     {
@@ -130,8 +131,8 @@ impl Tokens {
         KindsAhead::new(self.items.iter_from(place))
     }
 
-    /// The kind of significant token number `k`, and none past the last one, from the kinds that begin with it. They go on
-    /// after it.
+    /// The kind of significant token number `k`, and none past the last one, from the kinds that
+    /// begin with it. They go on after it.
     pub fn next_kind(&self, ahead: &mut KindsAhead<'_>, k: usize) -> Option<Kind>
         requires { ahead.old ≡ drop k (significant_kinds self.now.items) }
         ensures is { result ≡ slice_get (significant_kinds self.now.items) k }
@@ -154,9 +155,9 @@ impl Tokens {
         &self.items
     }
 
-    /// Brings the tokens to the text after an edit: keeps those whose reach the edit leaves alone, makes the others with
-    /// the edit's number, and returns how the list of the significant kinds changes. After a refusal nothing has
-    /// changed.
+    /// Brings the tokens to the text after an edit: keeps those whose reach the edit leaves alone,
+    /// makes the others with the edit's number, and returns how the list of the significant kinds
+    /// changes. After a refusal nothing has changed.
     pub fn rescan<S: Source>(
         &mut self,
         alloc: Global,
@@ -215,7 +216,8 @@ fn kept_prefix(items: &Runs<PackedToken>, edit: Edit) -> (usize, usize)
     (kept_before, before.characters as usize)
 }
 
-/// Where offset `at` of the new text lies after what was inserted and an old token started there: its place.
+/// Where offset `at` of the new text lies after what was inserted and an old token started there:
+/// its place.
 fn rejoin_place(old: &mut Walk<'_>, edit: Edit, at: usize) -> Option<usize>
     requires inserted { edit.inserted ≤ 1048576 }
     requires removed { edit.at + edit.removed ≤ 2 ^ 30 }
@@ -233,7 +235,8 @@ fn rejoin_place(old: &mut Walk<'_>, edit: Edit, at: usize) -> Option<usize>
     old.place_of(at - edit.inserted + edit.removed)
 }
 
-/// The tokens from where the old ones are no longer kept to the place of rejoining, and the place of the first old token after it.
+/// The tokens from where the old ones are no longer kept to the place of rejoining, and the place
+/// of the first old token after it.
 fn remake<S: Source>(
     alloc: Global,
     scan: &Scan<'_>,
@@ -291,7 +294,8 @@ fn is_same(a: Kind, b: Kind) -> bool
     a == b
 }
 
-/// What is left of these kinds without that of the token, if it has one for a parser. None where they begin with another one.
+/// What is left of these kinds without that of the token, if it has one for a parser. None where
+/// they begin with another one.
 fn without_kind<'a>(token: &PackedToken, kinds: &'a [Kind]) -> Option<&'a [Kind]>
     ensures { (others : List Token)
         → let tokens = significant_kinds (token.now ∷ others) in
@@ -326,8 +330,8 @@ fn have_kinds(items: &Runs<PackedToken>, from: usize, to: usize, kinds: &[Kind])
     left.len() == 0
 }
 
-/// How the list of the significant kinds changes where the tokens from one place up to another give way to tokens of
-/// these kinds.
+/// How the list of the significant kinds changes where the tokens from one place up to another
+/// give way to tokens of these kinds.
 fn splice_of(
     items: &Runs<PackedToken>,
     kept_before: usize,

@@ -8,7 +8,8 @@ use crate::packed::PackedToken;
 use runs::{Iter, Runs};
 use std::marker::Model;
 
-/// A place among tokens. A walk goes over each of them once, so that places of rising offsets are found without a search for each.
+/// A place among tokens. A walk goes over each of them once, so that places of rising offsets are
+/// found without a search for each.
 #[derive(Drop)]
 pub struct Walk<'a> {
     items: &'a Runs<PackedToken>,
@@ -61,8 +62,8 @@ impl<'a> Walk<'a> {
         self.items.len()
     }
 
-    /// The place of the token that starts at this offset, or the count of all at the end of the text. The walk goes on to the
-    /// first token that doesn't start before the offset.
+    /// The place of the token that starts at this offset, or the count of all at the end of the
+    /// text. The walk goes on to the first token that doesn't start before the offset.
     pub fn place_of(&mut self, offset: usize) -> Option<usize>
         ensures items { self.new.items ≡ self.old.items }
         ensures passed { IsPassed offset self.old → IsPassed offset self.new }

@@ -5,8 +5,8 @@ ghost use Rattle.std.specs.Prelude.{◌≡◌, ◌<◌, length, drop};
 use dfa::Source;
 use text::{Chars, Text};
 
-/// A text whose window is the whole of it. A character is looked up, or stands next to the one read last, so that few can be
-/// asked for without a pass over the text.
+/// A text whose window is the whole of it. A character is looked up, or stands next to the one
+/// read last, so that few can be asked for without a pass over the text.
 #[derive(Clone, Copy)]
 pub struct Whole<'a>(pub &'a Text);
 

@@ -1,15 +1,16 @@
-//! The program `lrls`: checks grammars, parses texts, and is a language server on standard input and output.
+//! The program `lrls`: checks grammars, parses texts, and is a language server on standard input
+//! and output.
 //!
-//! It is no library: `main` reads the words of the command line and the files that they name, writes what `commands`
-//! returns, and calls `server::run` on the standard streams. What can be proved stands in the crates below; here it is
-//! proved that the program is safe and ends.
+//! It is no library: `main` reads the words of the command line and the files that they name,
+//! writes what `commands` returns, and calls `server::run` on the standard streams. What can be
+//! proved stands in the crates below; here it is proved that the program is safe and ends.
 //!
-//! `lrls check GRAMMAR` prints the names that no derivation from the start uses, and `ok`; `lrls parse GRAMMAR TEXT`
-//! the tree of a text, or its fault; `lrls serve GRAMMAR` serves an editor. docs/PROTOCOL.md has the methods, the
-//! messages and the exit statuses.
+//! `lrls check GRAMMAR` prints the names that no derivation from the start uses, and `ok`;
+//! `lrls parse GRAMMAR TEXT` the tree of a text, or its fault; `lrls serve GRAMMAR` serves an
+//! editor. docs/PROTOCOL.md has the methods, the messages and the exit statuses.
 //!
-//! Limits: those of README.md. Files are read whole; standard input is read as it comes, and the replies to all whole
-//! frames are out before the next read.
+//! Limits: those of README.md. Files are read whole; standard input is read as it comes, and the
+//! replies to all whole frames are out before the next read.
 #![tactic(auto)]
 
 use commands::{Fault, Printed, Words, check, load, parse, words};
@@ -95,7 +96,8 @@ fn perform_in(rt: &HostRuntime, asked: &Words, language: Language) -> Result<u8,
     }
 }
 
-/// Does what is asked, or prints why its grammar gives no language. No other file is read before the grammar's.
+/// Does what is asked, or prints why its grammar gives no language. No other file is read before
+/// the grammar's.
 fn perform(rt: &HostRuntime, asked: &Words) -> Result<u8, Fault> {
     match load_language(rt, grammar_of(asked))? {
         Ok(language) => perform_in(rt, asked, language),

@@ -37,7 +37,8 @@ fn a_full_writer_is_a_fault(rt: HostRuntime) {
     assert!(rt; &room == b"Content-Length: 2\r\n\r");
 }
 
-/// Fails at its first call, and works at all others, each of which takes or gives one byte. Its calls are counted.
+/// Fails at its first call, and works at all others, each of which takes or gives one byte. Its
+/// calls are counted.
 #[derive(Drop)]
 struct FailsFirst<'a> {
     calls: &'a Cell<usize>,

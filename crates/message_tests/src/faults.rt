@@ -1,5 +1,5 @@
-//! The texts of faults. The program prints few of them: the labels of frame faults and the faults of grammar files, which the
-//! formats give.
+//! The texts of faults. The program prints few of them: the labels of frame faults and the faults
+//! of grammar files, which the formats give.
 
 use dfa::DfaFault;
 use docs::{DocFault, Language, LoadFault};

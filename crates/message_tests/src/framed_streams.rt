@@ -1,4 +1,5 @@
-//! Streams of frames, whatever the pieces that they come and go in. `tests/program` has more of them, and the longest content.
+//! Streams of frames, whatever the pieces that they come and go in. `tests/program` has more of
+//! them, and the longest content.
 
 ghost use Rattle.std.specs.Prelude.{None, ◌<◌, if◌then◌else◌};
 
@@ -40,7 +41,8 @@ fn feed_again(
     }
 }
 
-/// Feeds the stream in pieces of this size, and puts the frames that come of them after the others.
+/// Feeds the stream in pieces of this size, and puts the frames that come of them after the
+/// others.
 fn feed_pieces(
     rt: &impl Abort,
     alloc: Global,

@@ -1,5 +1,5 @@
-//! What contents are read as, and the bytes of replies, once of each kind. `tests/program` has the rows that the built program
-//! shows.
+//! What contents are read as, and the bytes of replies, once of each kind. `tests/program` has the
+//! rows that the built program shows.
 
 use rpc::{
     Call, Change, Diagnostic, Id, Log, Loss, Message, Note, Position, Range, Refusal, Reply, Row,

@@ -1,4 +1,5 @@
-//! Tests of the public calls of the parser, and of rows of tokens and texts of trees. The crate has nothing else.
+//! Tests of the public calls of the parser, and of rows of tokens and texts of trees. The crate
+//! has nothing else.
 #![tactic(auto)]
 
 #[cfg(test)]

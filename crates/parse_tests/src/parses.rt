@@ -170,8 +170,8 @@ fn parses_of_sums_stop_at_the_first_fault(rt: HostRuntime) {
     sums_stop(&rt, rt.alloc(), &rows);
 }
 
-/// Parses these kinds as edit 0 after the nodes that a store has, and compares how many branches there are and how many of them
-/// were built, which are all.
+/// Parses these kinds as edit 0 after the nodes that a store has, and compares how many branches
+/// there are and how many of them were built, which are all.
 fn parse_whole(
     rt: &impl Abort,
     alloc: Global,

@@ -130,7 +130,8 @@ impl Input {
         }
     }
 
-    /// Puts the list back of which the first tree was opened: that tree, where there was one, and the list's length are given.
+    /// Puts the list back of which the first tree was opened: that tree, where there was one, and
+    /// the list's length are given.
     pub fn close(&mut self, first: Option<Child>, len: usize) -> Result<(), AllocError>
         requires { (before : List Child) × IsOpened before self.old × (len ≡ length before)
             × BeginsWith before first }

@@ -15,13 +15,14 @@ ghost use Rattle.parser.specs.declared.parse.Verdict.{Verdict as Answer};
 
 use theory::laws::{document_trees_unique, verdict_unique};
 
-/// The parser's verdicts are equal by `==` exactly where they are the same: no part of them is left out.
+/// The parser's verdicts are equal by `==` exactly where they are the same: no part of them is
+/// left out.
 pub fn equal_verdicts_are_the_same()
     ensures { (a b : Answer) → IsTrue (⟦<crate::Verdict as PartialEq>⟧.eq a b) ↔ (a ≡ b) }
 {}
 
-/// What stands on the parser's stack has the nodes of the document's trees, at their places, and no more kinds than the
-/// document: the last leaf before a fault is no node.
+/// What stands on the parser's stack has the nodes of the document's trees, at their places, and
+/// no more kinds than the document: the last leaf before a fault is no node.
 pub fn stack_has_the_nodes_of_the_document()
     ensures { (g : Grammar) (kinds : List Kind) (v : Verdict) (stack : List Tree)
         → IsVerdict g kinds v → AreStacked g kinds v stack
@@ -40,8 +41,8 @@ pub fn stack_unique()
     document_trees_unique();
 }
 
-/// What an edit builds is the number of the branches that lie in no kept node: those that carry its number, where exactly
-/// these carry it.
+/// What an edit builds is the number of the branches that lie in no kept node: those that carry
+/// its number, where exactly these carry it.
 pub fn built_nodes_lie_in_no_kept_one()
     ensures count { (s : Splice) (old : List Tree) (number : ℕ) (new : List Stamped)
         → StampsKept number s old new

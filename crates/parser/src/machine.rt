@@ -1,4 +1,5 @@
-//! The LR(1) machine, which makes trees of what it reads, and takes over whole trees of its input where it can.
+//! The LR(1) machine, which makes trees of what it reads, and takes over whole trees of its input
+//! where it can.
 
 ghost use Rattle.std.specs.Prelude.{◌≡◌, ℕ, ◌+◌, ◌-◌, ◌^◌, ◌<◌, ◌≤◌, List, [], ◌∷◌, ◌++◌, length, take, drop, slice_get, slice_index_or, Option, IfOk, MatchOption};
 ghost use Rattle.definitions.specs.declared.Kind.{Kind as TokenKind};
@@ -104,8 +105,8 @@ impl Machine {
         Ok(())
     }
 
-    /// The kind of the token after the first tree of the input. It is read from the next trees, where one of them begins with it
-    /// not far down.
+    /// The kind of the token after the first tree of the input. It is read from the next trees,
+    /// where one of them begins with it not far down.
     fn kind_after<K: Kinds>(
         &self,
         store: &Store,
@@ -131,7 +132,8 @@ impl Machine {
         kinds.kind(self.read + store.tokens(id) as usize)
     }
 
-    /// The state after the first tree of the input, where the tables have a move there on what follows it.
+    /// The state after the first tree of the input, where the tables have a move there on what
+    /// follows it.
     fn passes<K: Kinds>(
         &self,
         tables: &Tables,
@@ -167,7 +169,8 @@ impl Machine {
         }
     }
 
-    /// Tries the nodes on the left edge of the input, from the top down. Those that fail are opened.
+    /// Tries the nodes on the left edge of the input, from the top down. Those that fail are
+    /// opened.
     fn first_input<K: Kinds>(
         &self,
         tables: &Tables,
@@ -176,11 +179,9 @@ impl Machine {
         input: &mut Input,
     ) -> Result<FirstInput, AllocError>
         requires states { StandsOn tables.now store.now self.now }
-        requires input { IsInput tables.now.grammar store.now input.old kinds.old
-            self.now.read }
+        requires input { IsInput tables.now.grammar store.now input.old kinds.old self.now.read }
         requires full { IsFull store.now input.old }
-        ensures input { IfOk result
-            (λ _. IsInput tables.now.grammar store.now input.new kinds.old
+        ensures input { IfOk result (λ _. IsInput tables.now.grammar store.now input.new kinds.old
             self.now.read) }
         ensures opened { IfOk result (λ _. IsOpened input.old input.new) }
         ensures offers { let stack = plain_of store.now self.now.stack.items in
@@ -242,7 +243,8 @@ impl Machine {
         Ok(Edge { offer, first, len })
     }
 
-    /// Puts a branch in the place of the last trees, as many as its production's right side has symbols.
+    /// Puts a branch in the place of the last trees, as many as its production's right side has
+    /// symbols.
     fn reduce(
         &mut self,
         alloc: Global,
@@ -281,8 +283,8 @@ impl Machine {
         Ok(())
     }
 
-    /// Runs over the trees of the input, and the kinds that they don't cover, to the tree or to the fault. It stamps what it
-    /// makes with the number.
+    /// Runs over the trees of the input, and the kinds that they don't cover, to the tree or to
+    /// the fault. It stamps what it makes with the number.
     pub fn run<K: Kinds>(
         &mut self,
         alloc: Global,
@@ -301,8 +303,7 @@ impl Machine {
             self.old.read input }
         ensures stops { IfOk result
             (λ halt. IsStoppedAt tables.now kinds.old store.new
-            (verdict_of halt self.new.stack.items) self.new.stack.items
-            self.new.states.items) }
+            (verdict_of halt self.new.stack.items) self.new.stack.items self.new.states.items) }
         ensures so_far { IfOk result (λ _. (rest : List Child)
             × SoFar tables.now (input_of store.old input kinds.old 0) kinds.old
             (length store.old) number store.new self.new.stack.items self.new.states.items

@@ -8,7 +8,8 @@ use crate::input::Input;
 use std::alloc::{AllocError, Global};
 use trees::{Child, Children, Store};
 
-/// Whether each branch of the trees of the children was made by an edit of a lower number. All of them are looked at.
+/// Whether each branch of the trees of the children was made by an edit of a lower number. All of
+/// them are looked at.
 pub fn are_older(
     alloc: Global,
     store: &Store,

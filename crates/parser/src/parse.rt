@@ -39,8 +39,8 @@ pub enum Verdict {
     FaultAtEnd,
 }
 
-/// The verdict on a list of kinds, and what the parser has made of it. It means something only beside its tables, its kinds
-/// and the store that has its nodes.
+/// The verdict on a list of kinds, and what the parser has made of it. It means something only
+/// beside its tables, its kinds and the store that has its nodes.
 #[derive(Drop)]
 pub struct Parse {
     /// How the machine stopped.
@@ -72,8 +72,8 @@ impl Model for Parse {
     } };
 }
 
-/// How many branches the trees of the children have. Memory is refused where they have 18,446,744,073,709,551,615 or more, since
-/// the store's counts stop there.
+/// How many branches the trees of the children have. Memory is refused where they have
+/// 18,446,744,073,709,551,615 or more, since the store's counts stop there.
 fn branches_of(store: &Store, children: &[Child]) -> Result<usize, AllocError>
     requires { AreBelow (length store.now) children.now }
     ensures { IfOk result (λ n. n ≡ all_branches (plain_of store.now children.now)) }
@@ -95,8 +95,8 @@ fn bound(branches: usize) -> usize
     branches.saturating_mul(2).saturating_add(1024)
 }
 
-/// The parse of the kinds, over trees that begin at the first of them. Its new nodes have this number. After a refusal some
-/// nodes may stay.
+/// The parse of the kinds, over trees that begin at the first of them. Its new nodes have this
+/// number. After a refusal some nodes may stay.
 fn parse_from<K: Kinds>(
     alloc: Global,
     tables: &Tables,
@@ -136,7 +136,8 @@ fn parse_from<K: Kinds>(
 }
 
 impl Parse {
-    /// The parse of the kinds. Its nodes are made by edit 0, and stand after all others of the store; no others are added.
+    /// The parse of the kinds. Its nodes are made by edit 0, and stand after all others of the
+    /// store; no others are added.
     ///
     /// After a refusal the store is as before.
     pub fn whole<K: Kinds>(
@@ -167,13 +168,15 @@ impl Parse {
         }
     }
 
-    /// The parse after a splice of the kinds, as edit `number`. It takes over each old node that the splice leaves as it was,
-    /// where it can stand as it is among the new ones, with the stamps that it has. New nodes carry the number, and stand after
-    /// all others of the store; no others are added. Where the number is not above every stamp of the old nodes, everything is
+    /// The parse after a splice of the kinds, as edit `number`. It takes over each old node that
+    /// the splice leaves as it was, where it can stand as it is among the new ones, with the
+    /// stamps that it has. New nodes carry the number, and stand after all others of the store; no
+    /// others are added. Where the number is not above every stamp of the old nodes, everything is
     /// built anew.
     ///
-    /// The store holds this parse alone: where it would have too many nodes, those of no tree of the stack are given up, and
-    /// the others get other names. After a refusal parse and store are as before.
+    /// The store holds this parse alone: where it would have too many nodes, those of no tree of
+    /// the stack are given up, and the others get other names. After a refusal parse and store are
+    /// as before.
     pub fn change<K: Kinds>(
         &mut self,
         alloc: Global,
@@ -228,7 +231,8 @@ impl Parse {
         parse.within_bound(alloc, store)
     }
 
-    /// This parse, in a store within the bound: where there are more nodes, those of no tree of the stack are given up.
+    /// This parse, in a store within the bound: where there are more nodes, those of no tree of
+    /// the stack are given up.
     ///
     /// After a refusal the store is as before.
     fn within_bound(mut self, alloc: Global, store: &mut Store) -> Result<Parse, AllocError>
@@ -246,8 +250,8 @@ impl Parse {
         Ok(self)
     }
 
-    /// What the splice leaves of the trees of the stack, with the new kinds between. It is nothing where the number is not above
-    /// every stamp of theirs.
+    /// What the splice leaves of the trees of the stack, with the new kinds between. It is nothing
+    /// where the number is not above every stamp of theirs.
     fn remaining_input(
         &self,
         alloc: Global,
@@ -288,16 +292,16 @@ impl Parse {
         }
     }
 
-    /// The tree alone; or at a fault the settled trees of the tokens before it, and after them the last of these tokens, if
-    /// there is any.
+    /// The tree alone; or at a fault the settled trees of the tokens before it, and after them the
+    /// last of these tokens, if there is any.
     pub fn stack(&self) -> &[Child]
         ensures { result.now ≡ self.now.stack }
     {
         &self.stack
     }
 
-    /// How many branches the trees of the stack have, and how many of these the last edit built. A whole parse builds all of
-    /// them.
+    /// How many branches the trees of the stack have, and how many of these the last edit built. A
+    /// whole parse builds all of them.
     pub fn counts(&self) -> (usize, usize)
         ensures branches { result.0 ≡ self.now.branches }
         ensures built { result.1 ≡ self.now.built }
@@ -312,8 +316,9 @@ impl Parse {
         self.number
     }
 
-    /// What may stand at the fault, after the tokens before it: the token rules in file order, and then the end. Where there is
-    /// a tree, nothing may. The tables are those of the parse. It takes no memory.
+    /// What may stand at the fault, after the tokens before it: the token rules in file order, and
+    /// then the end. Where there is a tree, nothing may. The tables are those of the parse. It
+    /// takes no memory.
     pub fn expected<'a>(&self, tables: &'a Tables) -> Expected<'a>
         requires { (kinds : List Kind) × (cells : List Cell)
             × IsParseOf tables.now kinds cells self.now }

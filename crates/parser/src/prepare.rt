@@ -1,4 +1,5 @@
-//! The input of the machine after an edit: what a splice leaves of the old trees, with the new kinds in their place.
+//! The input of the machine after an edit: what a splice leaves of the old trees, with the new
+//! kinds in their place.
 
 ghost use Rattle.std.specs.Prelude.{◌≡◌, ◌+◌, ◌<◌, ◌≤◌, ◌++◌, ◌∷◌, [], ℕ, List, length, map, take, slice_get, IfOk, IfSome, MatchOption};
 ghost use Rattle.definitions.specs.declared.Kind.{Kind};
@@ -19,8 +20,8 @@ use definitions::{Kind, KindSplice};
 use std::alloc::{AllocError, Global};
 use trees::{Child, Children, Store};
 
-/// How many of the children, from the first one on, stand whole among the first `n` kinds, and how many of these kinds are left
-/// after them.
+/// How many of the children, from the first one on, stand whole among the first `n` kinds, and how
+/// many of these kinds are left after them.
 fn count_whole(store: &Store, children: &[Child], n: u64) -> (usize, u64)
     requires below { AreBelow (length store.now) children.now }
     requires countable { place_of (plain_of store.now children.now) ≤ most }
@@ -53,8 +54,8 @@ fn take_next(children: &mut Children<'_>, trees: &mut Input) -> Option<Child>
     }
 }
 
-/// Takes the trees of the first `n` kinds away, and returns them, and how many of the `n` kinds there weren't. A tree that has
-/// kinds on both sides is opened.
+/// Takes the trees of the first `n` kinds away, and returns them, and how many of the `n` kinds
+/// there weren't. A tree that has kinds on both sides is opened.
 fn take_prefix(
     alloc: Global,
     store: &Store,
@@ -98,8 +99,8 @@ fn put_kinds(trees: &mut Input, kinds: &[Kind]) -> Result<(), AllocError>
     Ok(())
 }
 
-/// The old trees, with the new kinds in the place of what the splice takes away. Of the trees that it touches only the parts
-/// that it leaves are there.
+/// The old trees, with the new kinds in the place of what the splice takes away. Of the trees that
+/// it touches only the parts that it leaves are there.
 pub fn prepare(
     alloc: Global,
     store: &Store,

@@ -6,8 +6,9 @@ use definitions::Kind;
 use std::marker::Model;
 use trees::Kinds;
 
-/// The kinds of a document's significant tokens, and a place among them. A machine asks for the same kind again and again, and
-/// then nearly always for the next one: the first costs nothing, and the other one a step.
+/// The kinds of a document's significant tokens, and a place among them. A machine asks for the
+/// same kind again and again, and then nearly always for the next one: the first costs nothing,
+/// and the other one a step.
 #[derive(Drop)]
 pub struct Reader<'a, K: Kinds> {
     kinds: &'a K,
@@ -69,8 +70,8 @@ impl<'a, K: Kinds> Reader<'a, K> {
         self.jump(k)
     }
 
-    /// The same, wherever the place is. It is a call of its own, since a new place may take much room on the stack, which would
-    /// cost each call that needs none.
+    /// The same, wherever the place is. It is a call of its own, since a new place may take much
+    /// room on the stack, which would cost each call that needs none.
     #[inline(never)]
     fn jump(&mut self, k: usize) -> Option<Kind>
         ensures is { result ≡ slice_get self.old k }

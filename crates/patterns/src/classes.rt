@@ -17,7 +17,8 @@ use crate::refusals::{Read, Refusal, fault};
 use definitions::{Interval, PatternCause};
 use std::alloc::Global;
 
-/// The place of the first of these characters, and the others, if it is this one, written as itself.
+/// The place of the first of these characters, and the others, if it is this one, written as
+/// itself.
 pub fn strip<'a>(words: &'a [Character], sign: char) -> Option<(usize, &'a [Character])>
     ensures { MatchOption result
         (Begins sign (writing words.now) → ⊥)
@@ -41,7 +42,8 @@ pub struct Reader {
 }
 
 impl Reader {
-    /// The fault that no pattern goes on with the first of these characters, or ends where there is none.
+    /// The fault that no pattern goes on with the first of these characters, or ends where there
+    /// is none.
     pub fn syntax(self, words: &[Character]) -> Refusal
         ensures { result ≡ fault_at (place_of self.end (writing words.now)) Syntax }
     {
@@ -56,19 +58,18 @@ impl Reader {
         fault(at, PatternCause::Syntax)
     }
 
-    /// The literal whose opening quote is at `quote` and has these characters after it, and the rest after the literal.
+    /// The literal whose opening quote is at `quote` and has these characters after it, and the
+    /// rest after the literal.
     pub fn literal<'a>(self, words: &'a [Character], quote: usize) -> Read<'a, Vec<char>>
         ensures spelled { IfOk result (λ r.
             IsLiteralPrefix r.0.items (writing words.now) (writing r.1.now)) }
         ensures not_empty { IfOk result (λ r. is_empty r.0.items ≡ false) }
         ensures shorter { IfOk result (λ r. length r.1.now < length words.now) }
-        ensures goes_on { IfOk result (λ r.
-            (depth : ℕ) →
+        ensures goes_on { IfOk result (λ r. (depth : ℕ) →
             fault_from self.end (InLiteral depth quote true) (writing words.now)
             ≡ fault_from self.end (Outside depth AnAtom) (writing r.1.now)) }
         ensures fault { IfErr result (λ r.
-            Reports r (λ f.
-            (depth : ℕ) →
+            Reports r (λ f. (depth : ℕ) →
             fault_from self.end (InLiteral depth quote true) (writing words.now) ≡ Some f)) }
     {
         let mut characters = Vec::new(self.alloc);
@@ -88,7 +89,8 @@ impl Reader {
         }
     }
 
-    /// The class whose bracket is at `bracket` and has these characters after it, and the rest after the class.
+    /// The class whose bracket is at `bracket` and has these characters after it, and the rest
+    /// after the class.
     pub fn class<'a>(
         self,
         words: &'a [Character],
@@ -99,13 +101,11 @@ impl Reader {
         ensures ordered { IfOk result (λ r. list_all is_range r.0.1.items ≡ true) }
         ensures not_empty { IfOk result (λ r. is_nothing r.0.0 r.0.1.items ≡ false) }
         ensures shorter { IfOk result (λ r. length r.1.now < length words.now) }
-        ensures goes_on { IfOk result (λ r.
-            (depth : ℕ) →
+        ensures goes_on { IfOk result (λ r. (depth : ℕ) →
             fault_from self.end (InClass depth bracket false [] Opened) (writing words.now)
             ≡ fault_from self.end (Outside depth AnAtom) (writing r.1.now)) }
         ensures fault { IfErr result (λ r.
-            Reports r (λ f.
-            (depth : ℕ) →
+            Reports r (λ f. (depth : ℕ) →
             fault_from self.end (InClass depth bracket false [] Opened) (writing words.now)
             ≡ Some f)) }
     {
@@ -123,14 +123,12 @@ impl Reader {
             IsClassPrefix r.0.items (writing words.now) (writing r.1.now)) }
         ensures ordered { IfOk result (λ r. list_all is_range r.0.items ≡ true) }
         ensures shorter { IfOk result (λ r. length r.1.now < length words.now) }
-        ensures goes_on { IfOk result (λ r.
-            (depth bracket : ℕ) (negated : Bool) →
+        ensures goes_on { IfOk result (λ r. (depth bracket : ℕ) (negated : Bool) →
             fault_from self.end (InClass depth bracket negated [] Items) (writing words.now)
             ≡ or_later (λ s. fault_from self.end s (writing r.1.now))
             (closed depth bracket negated r.0.items)) }
         ensures fault { IfErr result (λ r.
-            Reports r (λ f.
-            (depth bracket : ℕ) (negated : Bool) →
+            Reports r (λ f. (depth bracket : ℕ) (negated : Bool) →
             fault_from self.end (InClass depth bracket negated [] Items) (writing words.now)
             ≡ Some f)) }
     {
@@ -159,8 +157,7 @@ impl Reader {
             ≡ fault_from self.end (InClass depth bracket negated (before ++ r.0 ∷ []) Items)
             (writing r.1.now)) }
         ensures fault { IfErr result (λ r.
-            Reports r (λ f.
-            (depth bracket : ℕ) (negated : Bool) (before : List Interval) →
+            Reports r (λ f. (depth bracket : ℕ) (negated : Bool) (before : List Interval) →
             fault_from self.end (InClass depth bracket negated before Items) (writing words.now)
             ≡ Some f)) }
     {
@@ -214,7 +211,8 @@ fn range(first: char, last: char) -> Interval
     Interval { first, last }
 }
 
-/// The place and the code of the first of these characters, and the others, if it may stand for itself in a class.
+/// The place and the code of the first of these characters, and the others, if it may stand for
+/// itself in a class.
 fn class_char<'a>(words: &'a [Character]) -> Option<(usize, char, &'a [Character])>
     ensures { MatchOption result
         (HasNoClassChar (writing words.now))

@@ -13,8 +13,8 @@ pub fn one_text_has_one_meaning()
         Spells f t → Matches e u ↔ Matches f u }
 {}
 
-/// A text has no first fault exactly where it spells a well-made expression. The text is of characters, and fits in
-/// memory, as the expression has to.
+/// A text has no first fault exactly where it spells a well-made expression. The text is of
+/// characters, and fits in memory, as the expression has to.
 pub fn texts_without_a_fault_are_spelled()
     ensures { (t : List ℕ) → IsText t → length t < 2 ^ 63 →
         (first_fault t ≡ None) ↔ ((e : Expression) × IsWellMade e × Spells e t) }

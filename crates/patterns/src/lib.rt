@@ -1,11 +1,13 @@
-//! The text of a token pattern, and the expression that it spells: for whoever builds an automaton of patterns, or says
-//! what is wrong with one.
+//! The text of a token pattern, and the expression that it spells: for whoever builds an automaton
+//! of patterns, or says what is wrong with one.
 //!
-//! `Pattern::read` parses the text, and `expression` returns what it spells: a literal, a class, a sequence, a choice,
-//! or a repetition by `*`, `+` or `?`. A text that is no pattern is refused with the place and the cause
-//! (`PatternCause`) of the first fault from the left; a pattern that matches the empty text is refused too.
+//! `Pattern::read` parses the text, and `expression` returns what it spells: a literal, a class, a
+//! sequence, a choice, or a repetition by `*`, `+` or `?`. A text that is no pattern is refused
+//! with the place and the cause (`PatternCause`) of the first fault from the left; a pattern that
+//! matches the empty text is refused too.
 //!
-//! Words: a *place* counts characters of the pattern from 0. docs/GRAMMARS.md says how patterns are written.
+//! Words: a *place* counts characters of the pattern from 0. docs/GRAMMARS.md says how patterns
+//! are written.
 //!
 //! Limits: parentheses nest at most 64 deep. Reading costs the length of the text.
 //!
@@ -44,7 +46,8 @@ use refusals::{Refusal, fault};
 use std::alloc::{AllocError, Global};
 use std::marker::Model;
 
-/// A pattern of tokens: a regular expression over characters that is well made and does not match the empty text.
+/// A pattern of tokens: a regular expression over characters that is well made and does not match
+/// the empty text.
 #[derive(Drop)]
 pub struct Pattern {
     expression: Expression,
@@ -70,10 +73,11 @@ impl Model for Pattern {
 impl Pattern {
     /// The pattern that `text` spells.
     ///
-    /// Refuses a text that spells none with its first fault, read from the left, at a place in characters from the
-    /// start: `Syntax` at the first character with which no pattern goes on, or at the end; `EmptyClass` at the `[` of a
-    /// class with no member; `ReversedRange` at the first character of a range; `EmptyLiteral` at its first quote;
-    /// `MatchesEmpty` at 0, where nothing else is wrong. `Memory`, at 0, says that memory was refused.
+    /// Refuses a text that spells none with its first fault, read from the left, at a place in
+    /// characters from the start: `Syntax` at the first character with which no pattern goes on,
+    /// or at the end; `EmptyClass` at the `[` of a class with no member; `ReversedRange` at the
+    /// first character of a range; `EmptyLiteral` at its first quote; `MatchesEmpty` at 0, where
+    /// nothing else is wrong. `Memory`, at 0, says that memory was refused.
     pub fn read(alloc: Global, text: &str) -> Result<Pattern, PatternFault>
         ensures pattern { IfOk result (λ p. IsPattern (chars text.now) p) }
         ensures no_fault { IfOk result (λ p. first_fault (chars text.now) ≡ None) }

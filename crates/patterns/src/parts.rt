@@ -33,7 +33,8 @@ pub fn whole(alloc: Global, words: &[Character], end: usize) -> Result<Expressio
 }
 
 impl Reader {
-    /// The alternatives at the start, and the rest, which is empty or begins with a closing parenthesis.
+    /// The alternatives at the start, and the rest, which is empty or begins with a closing
+    /// parenthesis.
     #[cycle(parts)]
     fn alternatives<'a>(self, words: &'a [Character]) -> Read<'a, Expression>
         requires { self.depth ≤ 64 }
@@ -50,7 +51,8 @@ impl Reader {
         Ok((choice, rest))
     }
 
-    /// The sequence at the start, and the rest, which is empty or begins with a `|` or a closing parenthesis.
+    /// The sequence at the start, and the rest, which is empty or begins with a `|` or a closing
+    /// parenthesis.
     #[cycle(parts)]
     fn sequence<'a>(self, words: &'a [Character]) -> Read<'a, Expression>
         requires { self.depth ≤ 64 }
@@ -67,7 +69,8 @@ impl Reader {
         Ok((sequence, rest))
     }
 
-    /// The atom at the start with its sign of repetition, if it has one, and the rest, which begins with no blank.
+    /// The atom at the start with its sign of repetition, if it has one, and the rest, which
+    /// begins with no blank.
     #[cycle(parts)]
     fn repetition<'a>(self, words: &'a [Character]) -> Read<'a, Expression>
         requires { self.depth ≤ 64 }
@@ -166,7 +169,8 @@ fn stops(words: &[Character]) -> bool
     }
 }
 
-/// The atom with the sign of repetition that stands at the start, if there is one, and the rest after the blanks.
+/// The atom with the sign of repetition that stands at the start, if there is one, and the rest
+/// after the blanks.
 fn with_repetition<'a>(
     alloc: Global,
     part: Expression,

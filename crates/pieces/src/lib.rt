@@ -1,15 +1,17 @@
-//! Pieces of texts, and their sums for lines and positions: a `Seq` of pieces is a text whose parts know what they add
-//! up to.
+//! Pieces of texts, and their sums for lines and positions: a `Seq` of pieces is a text whose
+//! parts know what they add up to.
 //!
-//! `pieces_of` cuts a text into pieces, `of_text` returns the sum of a text, and `join` that of two texts, one after
-//! the other. `Pieces` is a text in pieces: `position` and `offset` convert offsets to positions and back, `cut_at`
-//! returns what is before and after an offset, and `replace` puts a text in the place of pieces.
+//! `pieces_of` cuts a text into pieces, `of_text` returns the sum of a text, and `join` that of
+//! two texts, one after the other. `Pieces` is a text in pieces: `position` and `offset` convert
+//! offsets to positions and back, `cut_at` returns what is before and after an offset, and
+//! `replace` puts a text in the place of pieces.
 //!
-//! Words: the *sum* of a text is its characters, bytes and line breaks, and the units after the last break, in UTF-8,
-//! UTF-16 and UTF-32.
+//! Words: the *sum* of a text is its characters, bytes and line breaks, and the units after the
+//! last break, in UTF-8, UTF-16 and UTF-32.
 //!
-//! Limits: a piece has 1 to 1,024 bytes of UTF-8, and `Pieces` have at most 2^30; sums are exact up to 4,294,967,295. A
-//! look-up takes steps logarithmic in the number of pieces, and a walk in one piece.
+//! Limits: a piece has 1 to 1,024 bytes of UTF-8, and `Pieces` have at most 2^30; sums are exact
+//! up to 4,294,967,295. A look-up takes steps logarithmic in the number of pieces, and a walk in
+//! one piece.
 //!
 //! ```
 //! let pieces = pieces_of(alloc, "1+\n2").ok()?;

@@ -15,8 +15,8 @@ use crate::sums::{AfterCharacter, AfterPosition, Sums};
 use definitions::{Position, Unit};
 
 impl Pieces {
-    /// The position of an offset (LSP 3.17, "Position"). Between a `\r` and its `\n` it is the end of the line, and past
-    /// the end of the text the end of the text.
+    /// The position of an offset (LSP 3.17, "Position"). Between a `\r` and its `\n` it is the end
+    /// of the line, and past the end of the text the end of the text.
     pub fn position(&self, unit: Unit, offset: usize) -> Position
         ensures { result ≡ of.position unit (text_in self.now) offset }
     {
@@ -34,8 +34,9 @@ impl Pieces {
         prefix.position(before_feed)
     }
 
-    /// The offset of a position (LSP 3.17, "Position"): past the end of a line it is the end of the line, past the last
-    /// line the end of the text, and between the units of one character the start of that character.
+    /// The offset of a position (LSP 3.17, "Position"): past the end of a line it is the end of
+    /// the line, past the last line the end of the text, and between the units of one character
+    /// the start of that character.
     pub fn offset(&self, unit: Unit, position: Position) -> usize
         ensures is { result ≡ of.offset unit (text_in self.now) position }
         ensures within { result ≤ length (text_in self.now) }
@@ -101,14 +102,16 @@ impl Prefix {
         }
     }
 
-    /// Whether a character after this prefix stands in its last line, with one unit in each encoding.
+    /// Whether a character after this prefix stands in its last line, with one unit in each
+    /// encoding.
     fn goes_on(self, c: char) -> bool
         ensures { result ≡ goes_on self c }
     {
         c > '\r' && c < '\u{80}' && !self.ends_with_return
     }
 
-    /// This prefix and so many characters after it that stand in its last line and have one unit each.
+    /// This prefix and so many characters after it that stand in its last line and have one unit
+    /// each.
     fn with_ones(self, count: u32) -> Prefix
         ensures { (unit : Encoding) (s : List ℕ) → units Utf8 s ≤ 2 ^ 30 →
             with_ones self count ≡ prefix_of unit s → result ≡ prefix_of unit s }
@@ -193,7 +196,8 @@ impl Prefix {
         (prefix.with_ones(ones), false)
     }
 
-    /// The offset of a position that this prefix is not past, and this prefix with `text` after it is.
+    /// The offset of a position that this prefix is not past, and this prefix with `text` after it
+    /// is.
     fn offset_in(self, unit: Unit, text: &str, position: Position) -> usize
         ensures { (s r : List ℕ) → units Utf8 (s ++ chars text.now) ≤ 2 ^ 30 →
             self ≡ prefix_of unit s → ¬ IsPast position (end_before_feed unit s) →

@@ -13,7 +13,8 @@ use std::marker::Model;
 /// The most bytes that a piece may have in UTF-8.
 pub const LONGEST_PIECE: usize = 1_024;
 
-/// A part of a text: its characters, of at least one byte and at most [`LONGEST_PIECE`] in UTF-8, and their sum.
+/// A part of a text: its characters, of at least one byte and at most [`LONGEST_PIECE`] in UTF-8,
+/// and their sum.
 #[derive(Drop)]
 pub struct Piece {
     text: String,
@@ -33,8 +34,8 @@ impl Model for Piece {
 }
 
 impl Piece {
-    /// The piece with the characters of `text`, which must have at least one byte and at most [`LONGEST_PIECE`]. Takes
-    /// memory once, and refuses for memory alone.
+    /// The piece with the characters of `text`, which must have at least one byte and at most
+    /// [`LONGEST_PIECE`]. Takes memory once, and refuses for memory alone.
     pub fn new(alloc: Global, text: &str) -> Result<Piece, AllocError>
         requires some { 1 ≤ length text.now }
         requires few { length text.now ≤ LONGEST_PIECE }

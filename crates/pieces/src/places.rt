@@ -68,8 +68,9 @@ impl Pieces {
         self.chunks.seq()
     }
 
-    /// Puts a text in the place of the pieces from `from` up to `to`, or to the end. Takes all memory before it changes
-    /// anything, and refuses for memory alone; after a refusal the pieces are as before.
+    /// Puts a text in the place of the pieces from `from` up to `to`, or to the end. Takes all
+    /// memory before it changes anything, and refuses for memory alone; after a refusal the pieces
+    /// are as before.
     pub fn replace(
         &mut self,
         alloc: Global,
@@ -90,8 +91,8 @@ impl Pieces {
         Ok(())
     }
 
-    /// Cuts the text in two at an offset, and at its end where the offset is past it. The steps are a logarithm, and one
-    /// walk over a piece that isn't ASCII.
+    /// Cuts the text in two at an offset, and at its end where the offset is past it. The steps
+    /// are a logarithm, and one walk over a piece that isn't ASCII.
     pub fn cut_at(&self, offset: usize) -> Cut<'_>
         ensures { IsCut self.now offset result }
     {

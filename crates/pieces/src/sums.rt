@@ -65,7 +65,8 @@ impl Units {
     }
 }
 
-/// What the characters of a part of a text add up to. A `\r` at its end is no break yet, since a `\n` may come next.
+/// What the characters of a part of a text add up to. A `\r` at its end is no break yet, since a
+/// `\n` may come next.
 #[derive(Clone, Copy, Debug, PartialEq, Eq)]
 pub struct Counts {
     /// How many characters.
@@ -287,8 +288,8 @@ impl Goal<Sums> for AfterCharacter {
     }
 }
 
-/// Looks for the first part that goes on past this position: where a later line begins in it, or where its characters
-/// of the line have more units.
+/// Looks for the first part that goes on past this position: where a later line begins in it, or
+/// where its characters of the line have more units.
 #[derive(Clone, Copy)]
 pub struct AfterPosition {
     pub unit: Unit,

@@ -1,11 +1,13 @@
-//! What is sent (JSON-RPC 2.0; LSP 3.17): replies, published diagnostics and log messages, and the JSON of each.
+//! What is sent (JSON-RPC 2.0; LSP 3.17): replies, published diagnostics and log messages, and the
+//! JSON of each.
 //!
-//! `to_bytes` writes a `Reply` as compact JSON, with the keys of each object in byte order. Its one error is that memory
-//! ran out. It writes the reply part by part: nothing of it is copied before, and no JSON value is built.
+//! `to_bytes` writes a `Reply` as compact JSON, with the keys of each object in byte order. Its
+//! one error is that memory ran out. It writes the reply part by part: nothing of it is copied
+//! before, and no JSON value is built.
 //!
-//! Words: a `Reply` is a result, an error, published diagnostics or a log message. An `Id` names the request that is
-//! answered; a `Refusal` says why it is refused, a `Loss` why a document was lost, and a `Log` what is logged of a
-//! notification.
+//! Words: a `Reply` is a result, an error, published diagnostics or a log message. An `Id` names
+//! the request that is answered; a `Refusal` says why it is refused, a `Loss` why a document was
+//! lost, and a `Log` what is logged of a notification.
 //!
 //! Limits: numeric ids and versions have 32 bits. A call costs the bytes that it returns.
 //!

@@ -101,7 +101,8 @@ fn send_versioned<S: Serializer>(
     out.end_map()
 }
 
-/// Diagnostics with their URI, and with their version where they have one (LSP 3.17, "PublishDiagnosticsParams").
+/// Diagnostics with their URI, and with their version where they have one (LSP 3.17,
+/// "PublishDiagnosticsParams").
 fn send_published<S: Serializer>(
     uri: &str,
     version: Option<i32>,

@@ -57,8 +57,7 @@ fn send_position<S: Serializer>(position: Position, out: &mut S) -> Result<(), S
 
 /// A range (LSP 3.17, "Range").
 pub(crate) fn send_range<S: Serializer>(range: Range, out: &mut S) -> Result<(), S::Error>
-    ensures { OnOk result
-        (SendsValue (range_data range) (S.written out.old) (S.written out.new)) }
+    ensures { OnOk result (SendsValue (range_data range) (S.written out.old) (S.written out.new)) }
 {
     out.begin_map(Some(2))?;
     out.key("end")?;

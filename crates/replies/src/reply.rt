@@ -55,7 +55,8 @@ pub struct Row {
 /// What is sent: the reply to a request, diagnostics, or what is logged.
 #[derive(Debug, Drop)]
 pub enum Reply {
-    /// What the server can do, and the unit that positions count, for `initialize` (LSP 3.17, "InitializeResult").
+    /// What the server can do, and the unit that positions count, for `initialize` (LSP 3.17,
+    /// "InitializeResult").
     Capabilities {
         id: Id,
         unit: Unit,
@@ -96,7 +97,8 @@ pub enum Reply {
         id: Id,
         selections: Vec<Vec<Range>>,
     },
-    /// The diagnostics of a document, which no request asks for (LSP 3.17, "PublishDiagnostics Notification").
+    /// The diagnostics of a document, which no request asks for (LSP 3.17, "PublishDiagnostics
+    /// Notification").
     Diagnostics {
         uri: String,
         version: Option<i32>,

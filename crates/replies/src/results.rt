@@ -68,8 +68,7 @@ fn send_capability_list<S: Serializer>(unit: Unit, out: &mut S) -> Result<(), S:
 
 /// The reply to `initialize` (LSP 3.17, "InitializeResult").
 fn send_capabilities<S: Serializer>(unit: Unit, out: &mut S) -> Result<(), S::Error>
-    ensures { OnOk result
-        (SendsValue (capabilities unit) (S.written out.old) (S.written out.new)) }
+    ensures { OnOk result (SendsValue (capabilities unit) (S.written out.old) (S.written out.new)) }
 {
     out.begin_map(Some(1))?;
     out.key("capabilities")?;

@@ -106,7 +106,8 @@ impl Serialize for Content<'_> {
     }
 }
 
-/// The bytes of a reply: compact JSON, the keys of each object in byte order. It is refused where memory is.
+/// The bytes of a reply: compact JSON, the keys of each object in byte order. It is refused where
+/// memory is.
 pub fn to_bytes(alloc: Global, reply: &Reply) -> Result<Vec<u8>, AllocError>
     ensures { IfOk result (λ bytes.
         bytes.items ≡ compact_text (reply_data (reply_view reply.now))) }

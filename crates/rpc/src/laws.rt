@@ -16,7 +16,8 @@ pub fn received_exists()
     ensures { (content : List ℕ) → (received : Received) × Receives content received }
 {}
 
-/// Each id, URI and text in what is received is in UTF-8: its characters are Unicode scalar values, and its bytes are theirs.
+/// Each id, URI and text in what is received is in UTF-8: its characters are Unicode scalar
+/// values, and its bytes are theirs.
 pub fn each_text_is_unicode()
     ensures { (content : List ℕ) (received : Received) → Receives content received →
         All IsSpelled (texts_of received) }

@@ -1,13 +1,15 @@
 //! Messages (JSON-RPC 2.0; LSP 3.17): which message a content is.
 //!
-//! `read` returns the message that a content is. An `RpcFault` says that a content is no JSON or no message, that a
-//! request has an unknown method or invalid parameters, or that memory ran out. What is sent is in `replies`: this crate
-//! has its public names too, so a caller needs to know only `rpc`.
+//! `read` returns the message that a content is. An `RpcFault` says that a content is no JSON or
+//! no message, that a request has an unknown method or invalid parameters, or that memory ran out.
+//! What is sent is in `replies`: this crate has its public names too, so a caller needs to know
+//! only `rpc`.
 //!
-//! Words: a `Message` is a request (a `Call` with its `Id`), a notification (a `Note`), or one that is ignored.
+//! Words: a `Message` is a request (a `Call` with its `Id`), a notification (a `Note`), or one
+//! that is ignored.
 //!
-//! Limits: numeric ids and versions have 32 bits; a content that is nested deeper than `serde_json` reads counts as no
-//! JSON. A call costs the content.
+//! Limits: numeric ids and versions have 32 bits; a content that is nested deeper than
+//! `serde_json` reads counts as no JSON. A call costs the content.
 //!
 //! ```
 //! let content = br#"{"jsonrpc":"2.0","id":7,"method":"shutdown"}"#;

@@ -19,8 +19,8 @@ pub struct Change {
 /// What a request asks.
 #[derive(Debug, Drop)]
 pub enum Call {
-    /// `initialize` (LSP 3.17, "Initialize Request"). The unit is the first of those that the client names, and UTF-16
-    /// where it names none.
+    /// `initialize` (LSP 3.17, "Initialize Request"). The unit is the first of those that the
+    /// client names, and UTF-16 where it names none.
     Initialize {
         unit: Unit,
     },
@@ -75,8 +75,8 @@ pub enum Note {
         version: i32,
         text: String,
     },
-    /// `textDocument/didChange` (LSP 3.17, "DidChangeTextDocument Notification"). The changes apply in
-    /// their order.
+    /// `textDocument/didChange` (LSP 3.17, "DidChangeTextDocument Notification"). The changes
+    /// apply in their order.
     DidChange {
         uri: String,
         version: i32,

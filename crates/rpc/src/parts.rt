@@ -140,7 +140,8 @@ fn first_unit(items: &[Value]) -> Option<Unit>
     None
 }
 
-/// What stands under `capabilities.general.positionEncodings` (LSP 3.17, "General client capabilities").
+/// What stands under `capabilities.general.positionEncodings` (LSP 3.17, "General client
+/// capabilities").
 fn encodings_at(params: &Value) -> Option<&Value>
     ensures { option_map (λ v. view v.now) result ≡ encodings_at (view params.now) }
 {
@@ -150,7 +151,8 @@ fn encodings_at(params: &Value) -> Option<&Value>
         .get("positionEncodings")
 }
 
-/// The unit that positions are to count: the first that the client names, and UTF-16 where it names none.
+/// The unit that positions are to count: the first that the client names, and UTF-16 where it
+/// names none.
 pub fn unit_at(params: &Value) -> Unit
     ensures { result ≡ unit_at (view params.now) }
 {
@@ -174,7 +176,8 @@ fn has_version(value: &Value) -> bool
     text_at(value, "jsonrpc").is_some_and(|version| version == "2.0")
 }
 
-/// Whether the version isn't 2.0, there is no method, or there is an id that can't be read. `id` is the one that can.
+/// Whether the version isn't 2.0, there is no method, or there is an id that can't be read. `id`
+/// is the one that can.
 pub fn is_invalid(value: &Value, id: &Option<Id>) -> bool
     requires { option_map id_view id.now ≡ id_at (view value.now) }
     ensures { result ≡ is_invalid (view value.now) }

@@ -246,8 +246,7 @@ fn of_method(
     id: Option<Id>,
     params: &Value,
 ) -> Result<Message, RpcFault>
-    ensures { Gives result (of_method
-        (Some method.now) (option_map id_view id) (view params.now)) }
+    ensures { Gives result (of_method (Some method.now) (option_map id_view id) (view params.now)) }
 {
     match id {
         Some(id) => request_of(alloc, method, id, params),
@@ -259,8 +258,7 @@ fn of_method(
 fn method_message(alloc: Global, value: &Value, id: Option<Id>) -> Result<Message, RpcFault>
     ensures { Gives result (of_method
         (text_at (codes "method") (view value.now))
-        (option_map id_view id)
-        (params_at (view value.now))) }
+        (option_map id_view id) (params_at (view value.now))) }
 {
     let Some(method) = text_at(value, "method") else {
         return Err(RpcFault::Invalid { id });
@@ -286,9 +284,9 @@ fn message_of(alloc: Global, value: &Value) -> Result<Message, RpcFault>
     method_message(alloc, value, id)
 }
 
-/// The message that a content is (JSON-RPC 2.0). It is refused where the content is no JSON value in
-/// UTF-8 or is nested too deep, where the value is no request, notification or reply, and where the
-/// method of a request is unknown or its parameters don't fit.
+/// The message that a content is (JSON-RPC 2.0). It is refused where the content is no JSON value
+/// in UTF-8 or is nested too deep, where the value is no request, notification or reply, and where
+/// the method of a request is unknown or its parameters don't fit.
 #[tactic(auto, using(crate::proofs::Receiving::received_value, crate::proofs::Receiving::received_unread))]
 pub fn read(alloc: Global, content: &[u8]) -> Result<Message, RpcFault>
     // Nothing is received where memory was refused.

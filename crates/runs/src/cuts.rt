@@ -20,7 +20,8 @@ pub struct Cut<'a, T> {
     pub back: &'a [T],
 }
 
-/// Cuts a list in two at an offset, and at its end where the offset is past it. The steps are a logarithm.
+/// Cuts a list in two at an offset, and at its end where the offset is past it. The steps are a
+/// logarithm.
 pub fn cut_at<T: Measured>(runs: &Seq<Run<T>>, offset: usize) -> Cut<'_, T>
     requires counted { length (flattened runs.now) < 2 ^ 64 }
     ensures { IsCut (λ run. run) runs.now offset result.run result.prefix.now result.back.now }

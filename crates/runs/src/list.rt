@@ -13,8 +13,8 @@ use seqtree::{Chunks, Goal, Measured, Monoid, Seq};
 use std::alloc::{AllocError, Global};
 use std::marker::Model;
 
-/// A list of items, which returns the sum of any prefix of it. The items lie in runs, so that a change costs the runs that it
-/// touches, the new items, and the logarithm of the length.
+/// A list of items, which returns the sum of any prefix of it. The items lie in runs, so that a
+/// change costs the runs that it touches, the new items, and the logarithm of the length.
 #[derive(Drop)]
 pub struct Runs<T: Measured + Copy> {
     runs: Chunks<Run<T>>,
@@ -90,8 +90,8 @@ impl<T: Measured + Copy> Runs<T> {
         Iter::new(cut.back, runs.iter_from(cut.run + 1))
     }
 
-    /// The least `i` such that the sum of the first `i + 1` items reaches the goal, and the sum of the items before
-    /// it. Where no such sum does, `i` is the length.
+    /// The least `i` such that the sum of the first `i + 1` items reaches the goal, and the sum of
+    /// the items before it. Where no such sum does, `i` is the length.
     pub fn locate<G: Goal<T::Sum>>(&self, goal: &G) -> (usize, T::Sum)
         ensures within { result.0 ≤ length self.now }
         ensures before { result.1 ≡ total T.Sum.empty T.Sum.op T.measure (take result.0 self.now) }
@@ -112,8 +112,8 @@ impl<T: Measured + Copy> Runs<T> {
         (items + within, sum)
     }
 
-    /// Puts the given items in the place of `from..to`. Takes all memory before it changes anything, and refuses for memory
-    /// alone; after a refusal the list is as before.
+    /// Puts the given items in the place of `from..to`. Takes all memory before it changes
+    /// anything, and refuses for memory alone; after a refusal the list is as before.
     pub fn replace(
         &mut self,
         alloc: Global,
@@ -138,7 +138,8 @@ impl<T: Measured + Copy> Runs<T> {
     }
 }
 
-/// How many of these items go before the one at which the sum, begun with `before`, reaches the goal, and that sum.
+/// How many of these items go before the one at which the sum, begun with `before`, reaches the
+/// goal, and that sum.
 fn locate_in<T: Measured, G: Goal<T::Sum>>(items: &[T], before: T::Sum, goal: &G) -> (usize, T::Sum)
     ensures { IsLeast T.Sum.empty T.Sum.op T.measure
         (G.reaches goal.now) before items.now result.0 result.1 }

@@ -45,8 +45,8 @@ impl<T: Measured> Run<T> {
 }
 
 impl<T: Measured + Copy> Run<T> {
-    /// The run of these items, of which there must be at least one and at most [`LONGEST_RUN`]. Takes memory once, and
-    /// refuses for memory alone.
+    /// The run of these items, of which there must be at least one and at most [`LONGEST_RUN`].
+    /// Takes memory once, and refuses for memory alone.
     fn new(alloc: Global, items: &[T]) -> Result<Run<T>, AllocError>
         requires some { 1 ≤ length items.now }
         requires few { length items.now ≤ LONGEST_RUN }
@@ -141,9 +141,9 @@ pub fn sum_of<T: Measured>(items: &[T]) -> T::Sum
     sum
 }
 
-/// The runs of items, which joined in order are these; none where there is no item. They are few: each has at least
-/// [`SHORTEST_OF_SEVERAL`] items where there are so many, and items that fit into one run are one. Refuses for memory
-/// alone.
+/// The runs of items, which joined in order are these; none where there is no item. They are few:
+/// each has at least [`SHORTEST_OF_SEVERAL`] items where there are so many, and items that fit
+/// into one run are one. Refuses for memory alone.
 pub fn runs_of<T: Measured + Copy>(alloc: Global, items: &[T]) -> Result<Vec<Run<T>>, AllocError>
     ensures { IfOk result (λ runs. AreCut (λ run. run) length SHORTEST_OF_SEVERAL LONGEST_RUN
         items.now runs.items) }
@@ -161,8 +161,8 @@ pub fn runs_of<T: Measured + Copy>(alloc: Global, items: &[T]) -> Result<Vec<Run
     Ok(runs)
 }
 
-/// How many items the first run of `len` has, which are too many for one: as many as fit, or half of those that are left
-/// where the rest would be small.
+/// How many items the first run of `len` has, which are too many for one: as many as fit, or half
+/// of those that are left where the rest would be small.
 fn prefix_len(len: usize) -> usize
     requires { LONGEST_RUN < len }
     ensures few { result ≤ LONGEST_RUN }

@@ -71,8 +71,8 @@ impl<'a> Source for Counted<'a> {
     ghost inside = { λ s i h. h };
 }
 
-/// An edit of a text, and what is expected: its number, the characters that give way to a piece, how many tokens are scanned
-/// for it and how many there are after it, and the splice of kinds.
+/// An edit of a text, and what is expected: its number, the characters that give way to a piece,
+/// how many tokens are scanned for it and how many there are after it, and the splice of kinds.
 type Step<'a> = (
     u64,
     (usize, usize, &'a str),
@@ -163,7 +163,8 @@ fn check_rescan(rt: &impl Abort, tokens: &Tokens, splice: &KindSplice, step: &St
     expect(rt, splice.kinds.as_slice() == kinds, "kinds put in");
 }
 
-/// Makes the edit of a step, checks the expected counts, and returns how many characters were read.
+/// Makes the edit of a step, checks the expected counts, and returns how many characters were
+/// read.
 fn check_step(
     rt: &impl Abort,
     alloc: Global,
@@ -180,7 +181,8 @@ fn check_step(
     rescan.reads
 }
 
-/// What is known after the steps: how many characters were read for the last one, and in how many runs the tokens lie.
+/// What is known after the steps: how many characters were read for the last one, and in how many
+/// runs the tokens lie.
 type Ending = (usize, usize);
 
 /// Opens a text, and makes the edits of the steps in turn.
@@ -389,8 +391,8 @@ fn reads_few_characters(rt: HostRuntime) {
     expect(&rt, 0 < reads && reads < 100, "few reads");
 }
 
-/// Three runs of 64 tokens, of each of which 28 are taken away: none is so short that it is joined with another. The plus before
-/// them is scanned again, since its reach meets the edit.
+/// Three runs of 64 tokens, of each of which 28 are taken away: none is so short that it is joined
+/// with another. The plus before them is scanned again, since its reach meets the edit.
 #[test]
 fn tokens_lie_in_few_runs(rt: HostRuntime) {
     const STEPS: &[Step<'static>] = &[

@@ -6,8 +6,8 @@ ghost use Rattle.seqtree.specs.Chunks.{AreCut, IsMeasure};
 use crate::Measured;
 use std::alloc::{AllocError, Global};
 
-/// Some items of a list, which lie together. Contracts see those of a chunk as `items`, those that lie in no chunk as `list`,
-/// and the size of either as `size`.
+/// Some items of a list, which lie together. Contracts see those of a chunk as `items`, those that
+/// lie in no chunk as `list`, and the size of either as `size`.
 pub trait Chunk: Measured {
     /// An item.
     type Item;
@@ -41,8 +41,8 @@ pub trait Chunk: Measured {
     fn after(&self, alloc: Global, prefix: Self::Items) -> Result<Self::Items, AllocError>
         ensures { IfOk result (λ both. list both ≡ list prefix ++ items self.now) };
 
-    /// Chunks with these items, none where there is no item. Each has at least `SHORTEST` where the items have so much,
-    /// and at most `LONGEST`. Refuses for memory alone.
+    /// Chunks with these items, none where there is no item. Each has at least `SHORTEST` where
+    /// the items have so much, and at most `LONGEST`. Refuses for memory alone.
     fn cut_up(alloc: Global, whole: &Self::Items) -> Result<Vec<Self>, AllocError>
         ensures { IfOk result (λ chunks.
             AreCut items size SHORTEST LONGEST (list whole.now) chunks.items) };

@@ -36,15 +36,15 @@ impl<C: Chunk> Chunks<C> {
     /// The chunks: few, but enough to hold their items.
     pub fn seq(&self) -> &Seq<C>
         ensures same { result.now ≡ self.now }
-        ensures few { C.SHORTEST * length self.now
-            ≤ C.size (joined C.items self.now) + C.SHORTEST }
+        ensures few { C.SHORTEST * length self.now ≤ C.size (joined C.items self.now) + C.SHORTEST }
         ensures enough { C.size (joined C.items self.now) ≤ C.LONGEST * length self.now }
     {
         &self.chunks
     }
 
-    /// Puts items in the place of the chunks from `from` up to `to`, or to the end. Takes all memory before it changes
-    /// anything, and refuses for memory alone; after a refusal the list is as before.
+    /// Puts items in the place of the chunks from `from` up to `to`, or to the end. Takes all
+    /// memory before it changes anything, and refuses for memory alone; after a refusal the list
+    /// is as before.
     pub fn replace(
         &mut self,
         alloc: Global,
@@ -77,7 +77,8 @@ struct Gap<C: Chunk> {
     items: C::Items,
 }
 
-/// The gap with the chunk before it, or else the one after it, where its items are too few for one of several chunks.
+/// The gap with the chunk before it, or else the one after it, where its items are too few for one
+/// of several chunks.
 fn widen<C: Chunk>(alloc: Global, chunks: &Seq<C>, gap: Gap<C>) -> Result<Gap<C>, AllocError>
     requires ordered { gap.from ≤ gap.to }
     requires in_range { gap.to ≤ length chunks.now }

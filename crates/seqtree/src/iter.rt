@@ -29,8 +29,9 @@ impl<'a, T: Measured> Clone for Part<'a, T> {
 
 impl<'a, T: Measured> Copy for Part<'a, T> {}
 
-/// The items of a list from one place on. What is left lies in parts, the next one on top, so that no way down the tree is
-/// gone twice: a walk of n items takes a number of steps that grows with n, and no memory.
+/// The items of a list from one place on. What is left lies in parts, the next one on top, so that
+/// no way down the tree is gone twice: a walk of n items takes a number of steps that grows with
+/// n, and no memory.
 #[derive(Drop)]
 pub struct Iter<'a, T: Measured> {
     /// What is left, the next part on top.

@@ -1,18 +1,21 @@
-//! A list in a balanced tree that knows the sum of each of its parts: a place is found by a sum, and a part replaced,
-//! in a number of steps that grows with the logarithm of the length.
+//! A list in a balanced tree that knows the sum of each of its parts: a place is found by a sum,
+//! and a part replaced, in a number of steps that grows with the logarithm of the length.
 //!
-//! `Seq::new` is an empty list; `replace` puts items in the place of others, and returns those that were there.
-//! `Slots::make` allocates the memory that new items need beforehand, so `replace` takes none and can't fail. `total`
-//! is the sum of all, and `locate` finds the least place where a sum from the left reaches a `Goal`. `Chunks` is a list
-//! whose items lie in chunks, so that a node of a `Seq` holds many: its `replace` puts items in the place of some chunks,
-//! and cuts them into chunks with their neighbour's where they alone would be too few.
+//! `Seq::new` is an empty list; `replace` puts items in the place of others, and returns those
+//! that were there. `Slots::make` allocates the memory that new items need beforehand, so
+//! `replace` takes none and can't fail. `total` is the sum of all, and `locate` finds the least
+//! place where a sum from the left reaches a `Goal`. `Chunks` is a list whose items lie in chunks,
+//! so that a node of a `Seq` holds many: its `replace` puts items in the place of some chunks, and
+//! cuts them into chunks with their neighbour's where they alone would be too few.
 //!
-//! Words: the items are `Measured`, by a sum that is a `Monoid`: here the pieces of a text, by their characters and
-//! breaks. A *chunk* is some items that lie together, by the trait `Chunk`; its *size* is a number that adds up as items
-//! are joined, and it is *small* where that is less than `SHORTEST`.
+//! Words: the items are `Measured`, by a sum that is a `Monoid`: here the pieces of a text, by
+//! their characters and breaks. A *chunk* is some items that lie together, by the trait `Chunk`;
+//! its *size* is a number that adds up as items are joined, and it is *small* where that is less
+//! than `SHORTEST`.
 //!
-//! Limits: as many items as `usize` counts. `replace`, `get` and `locate` take steps logarithmic in the length, and
-//! `replace` also one for each new item. Of chunks at most one is small, and none has more than `LONGEST`.
+//! Limits: as many items as `usize` counts. `replace`, `get` and `locate` take steps logarithmic
+//! in the length, and `replace` also one for each new item. Of chunks at most one is small, and
+//! none has more than `LONGEST`.
 //!
 //! ```
 //! let mut pieces: Seq<Piece> = Seq::new();

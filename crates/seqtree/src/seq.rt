@@ -60,8 +60,9 @@ impl<T: Measured> Seq<T> {
         tree::sum_of(&self.root)
     }
 
-    /// The height of the tree that the list lies in. A caller sees no tree, so the contract says what that means for a
-    /// list: at most twice as much as its length has binary digits, and enough for a tree to hold its items.
+    /// The height of the tree that the list lies in. A caller sees no tree, so the contract says
+    /// what that means for a list: at most twice as much as its length has binary digits, and
+    /// enough for a tree to hold its items.
     pub fn height(&self) -> u8
         ensures low { result ≤ 2 * digits (length self.now) }
         ensures high { length self.now < 2 ^ result }
@@ -83,8 +84,8 @@ impl<T: Measured> Seq<T> {
         Iter::new(&self.root, i)
     }
 
-    /// The least `i` such that the sum of the first `i + 1` items reaches the goal, and the sum of the items before
-    /// it. Where no such sum does, `i` is the length.
+    /// The least `i` such that the sum of the first `i + 1` items reaches the goal, and the sum of
+    /// the items before it. Where no such sum does, `i` is the length.
     pub fn locate<G: Goal<T::Sum>>(&self, goal: &G) -> (usize, T::Sum)
         ensures within { result.0 ≤ length self.now }
         ensures before { result.1 ≡ total T.Sum.empty T.Sum.op T.measure (take result.0 self.now) }
@@ -98,7 +99,8 @@ impl<T: Measured> Seq<T> {
         tree::locate(&self.root, goal)
     }
 
-    /// Puts the given items in the place of `from..to`, and returns the removed ones. Takes no memory.
+    /// Puts the given items in the place of `from..to`, and returns the removed ones. Takes no
+    /// memory.
     pub fn replace(&mut self, from: usize, to: usize, items: Slots<T>) -> Slots<T>
         requires ordered { from ≤ to }
         requires in_range { to ≤ length self.old }

@@ -3,7 +3,8 @@ ghost use Rattle.std.specs.Prelude.{◌≡◌, ◌<◌, ◌++◌, ◌∷◌, [],
 
 use std::marker::Model;
 
-/// Up to 128 elements, the last one on top: as many as the nodes on the longest way down a tree. Takes no memory.
+/// Up to 128 elements, the last one on top: as many as the nodes on the longest way down a tree.
+/// Takes no memory.
 #[derive(Drop)]
 pub struct Stack<E: Copy> {
     /// The elements, from the lowest up, and after them free places.

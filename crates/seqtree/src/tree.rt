@@ -150,7 +150,8 @@ pub fn fork<T: Measured>(left: Tree<T>, mut root: Box<Node<T>>, right: Tree<T>) 
     root
 }
 
-/// Puts two trees to the sides of a single node, and rotates once or twice where one is two levels higher.
+/// Puts two trees to the sides of a single node, and rotates once or twice where one is two levels
+/// higher.
 fn balance<T: Measured>(left: Tree<T>, root: Box<Node<T>>, right: Tree<T>) -> Box<Node<T>>
     requires one { length root.value.0 ≡ 1 }
     requires nearly { DifferByAtMost 2 (height_of left) (height_of right) }

@@ -79,8 +79,7 @@ pub fn publish(
 ) -> Result<Reply, AllocError>
     requires { IsCurrent language.now doc.now }
     ensures { let document = open_document doc.now in
-        IfOk result (λ reply.
-        IsPublished language.now.file uri.now document (reply_view reply)) }
+        IfOk result (λ reply. IsPublished language.now.file uri.now document (reply_view reply)) }
 {
     Ok(Reply::Diagnostics {
         uri: String::from_str(alloc, uri)?,

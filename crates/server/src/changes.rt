@@ -25,8 +25,8 @@ fn loss_of(fault: DocFault) -> Loss
     }
 }
 
-/// The document of this version after the changes in turn, each scanned and parsed by itself, or how it is lost by the first
-/// of them that is refused.
+/// The document of this version after the changes in turn, each scanned and parsed by itself, or
+/// how it is lost by the first of them that is refused.
 fn apply_each(
     alloc: Global,
     language: &Language,
@@ -36,8 +36,7 @@ fn apply_each(
 ) -> Entry
     requires { IsCurrent language.now doc }
     ensures becomes { let changes = map change_view changes.now in
-        Becomes language.now.file version (open_document doc) changes
-        (entry_view result) }
+        Becomes language.now.file version (open_document doc) changes (entry_view result) }
     ensures current { IsEntryOf language.now result }
 {
     for change in changes {
@@ -50,8 +49,8 @@ fn apply_each(
     Entry::Open(doc)
 }
 
-/// The document after these changes, of whose counts none are reported, or how it is lost by the first of them that is
-/// refused. Changes that touch each other are scanned and parsed together.
+/// The document after these changes, of whose counts none are reported, or how it is lost by the
+/// first of them that is refused. Changes that touch each other are scanned and parsed together.
 fn apply_uncounted(
     alloc: Global,
     language: &Language,
@@ -61,8 +60,7 @@ fn apply_uncounted(
     requires current { IsCurrent language.now doc }
     requires numbered { number_of (last_edit doc) + length changes.now < 18446744073709551615 }
     ensures after { let changes = map change_view changes.now in
-        IfOk result (λ d.
-        IsAfter language.now.file (open_document doc) changes (open_document d)) }
+        IfOk result (λ d. IsAfter language.now.file (open_document doc) changes (open_document d)) }
     ensures current { IfOk result (IsCurrent language.now) }
     ensures lost { let changes = map change_view changes.now in
         IfErr result (λ loss. (v : ℤ)
@@ -82,8 +80,9 @@ fn apply_uncounted(
     }
 }
 
-/// The document of this version after the changes in turn, or how it is lost by the first of them that is refused. Only of the
-/// last change counts are reported, so the ones before it may be scanned and parsed together.
+/// The document of this version after the changes in turn, or how it is lost by the first of them
+/// that is refused. Only of the last change counts are reported, so the ones before it may be
+/// scanned and parsed together.
 pub fn apply_changes(
     alloc: Global,
     language: &Language,
@@ -93,8 +92,7 @@ pub fn apply_changes(
 ) -> Entry
     requires { IsCurrent language.now doc }
     ensures becomes { let changes = map change_view changes.now in
-        Becomes language.now.file version (open_document doc) changes
-        (entry_view result) }
+        Becomes language.now.file version (open_document doc) changes (entry_view result) }
     ensures current { IsEntryOf language.now result }
 {
     // Where the numbers of edits end, they share the last one, and what each makes is counted by what the one before it made.

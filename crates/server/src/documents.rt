@@ -17,8 +17,8 @@ use std::mem::replace;
 /// How many documents are held at most, lost ones among them.
 pub const MOST_DOCUMENTS: usize = 64;
 
-/// A language, and the documents that are held, by their URIs, which are compared byte for byte. Each open document is one of
-/// the language.
+/// A language, and the documents that are held, by their URIs, which are compared byte for byte.
+/// Each open document is one of the language.
 #[derive(Drop)]
 pub struct Documents {
     language: Language,
@@ -78,8 +78,8 @@ impl Documents {
         self.by_uri.contains_key(uri)
     }
 
-    /// Holds the entry under this URI, in the place of the one before. Refuses for memory alone, and only where nothing was held
-    /// under it.
+    /// Holds the entry under this URI, in the place of the one before. Refuses for memory alone,
+    /// and only where nothing was held under it.
     pub fn insert(&mut self, uri: String, entry: Entry) -> Result<(), AllocError>
         requires { IsEntryOf self.old.language entry }
         ensures ok { let old = self.old.documents in
@@ -93,8 +93,8 @@ impl Documents {
         Ok(())
     }
 
-    /// Takes out what is held under this URI, if anything is. Until another entry is held there, it counts as lost for memory. It
-    /// takes no memory.
+    /// Takes out what is held under this URI, if anything is. Until another entry is held there,
+    /// it counts as lost for memory. It takes no memory.
     pub fn take(&mut self, uri: &str) -> Option<Entry>
         ensures is { option_map (entry_view) result ≡ map.get self.old.documents uri.now }
         ensures current { IfSome result (IsEntryOf self.old.language) }

@@ -26,8 +26,7 @@ pub fn open_entry(
     version: i32,
     text: &str,
 ) -> Result<Entry, AllocError>
-    ensures is { IfOk result (λ e.
-        entry_view e ≡ new_document unit version (chars text.now)) }
+    ensures is { IfOk result (λ e. entry_view e ≡ new_document unit version (chars text.now)) }
     ensures current { IfOk result (IsEntryOf language.now) }
 {
     match Doc::open(alloc, language, unit, version, text) {

@@ -29,15 +29,15 @@ fn exit_status(phase: Phase) -> u8
 }
 
 impl Server {
-    /// Publishes an entry: its diagnostics if it is open, else empty ones, and the log message of the loss.
+    /// Publishes an entry: its diagnostics if it is open, else empty ones, and the log message of
+    /// the loss.
     fn announce(&self, alloc: Global, uri: &str, entry: &Entry) -> Result<Out, AllocError>
         requires { IsEntryOf self.now.documents.language entry.now }
         ensures { let old = state_view self.now in
             let state = entry_view entry.now in
             let held = insert old.documents uri.now state in
             let new : State = record { file = old.file; phase = old.phase; documents = held } in
-            IfOk result (λ out.
-            Holds old uri.now state (sent out) out.stop new) }
+            IfOk result (λ out. Holds old uri.now state (sent out) out.stop new) }
     {
         match entry {
             Entry::Open(doc) => {
@@ -78,8 +78,7 @@ impl Server {
             let room = has_room (string_bytes uri) old.documents in
             let state = new_document unit version (chars (string_bytes text)) in
             IfOk result (λ out.
-            Opens room old (string_bytes uri) state (sent out) out.stop
-            (state_view self.new)) }
+            Opens room old (string_bytes uri) state (sent out) out.stop (state_view self.new)) }
     {
         if !self.documents.has_room(uri.as_str()) {
             return one_log(alloc, Log::TooManyDocuments);
@@ -124,8 +123,7 @@ impl Server {
         ensures { let old = state_view self.old in
             let uri = string_bytes uri in
             IfOk result (λ out.
-            Spoils (get old.documents uri) old uri (sent out) out.stop
-            (state_view self.new)) }
+            Spoils (get old.documents uri) old uri (sent out) out.stop (state_view self.new)) }
     {
         match self.documents.get(uri.as_str()) {
             None => one_log(alloc, Log::ChangeNotOpen),
@@ -139,8 +137,7 @@ impl Server {
         ensures { let old = state_view self.old in
             let uri = string_bytes uri in
             IfOk result (λ out.
-            Closes (get old.documents uri) old uri (sent out) out.stop
-            (state_view self.new)) }
+            Closes (get old.documents uri) old uri (sent out) out.stop (state_view self.new)) }
     {
         if !self.documents.remove(uri.as_str()) {
             return one_log(alloc, Log::CloseNotOpen);
@@ -152,8 +149,7 @@ impl Server {
     fn on_malformed(&mut self, alloc: Global, malformed: Malformed) -> Result<Out, AllocError>
         ensures { IfOk result (λ out.
             let unfit = malformed_view malformed in
-            OnMalformed (state_view self.old) unfit (sent out) out.stop
-            (state_view self.new)) }
+            OnMalformed (state_view self.old) unfit (sent out) out.stop (state_view self.new)) }
     {
         match malformed {
             Malformed::DidOpen => one_log(alloc, Log::OpenMalformed),

@@ -52,8 +52,7 @@ pub(crate) fn one_log(alloc: Global, log: Log) -> Result<Out, AllocError>
 
 /// An answer, and a log message after it.
 pub(crate) fn reply_and_log(alloc: Global, reply: Reply, log: Log) -> Result<Out, AllocError>
-    ensures replies { IfOk result
-        (λ out. sent out ≡ reply_view reply ∷ log_message log ∷ []) }
+    ensures replies { IfOk result (λ out. sent out ≡ reply_view reply ∷ log_message log ∷ []) }
     ensures stop { IfOk result (λ out. out.stop ≡ None) }
 {
     let mut out = one_reply(alloc, reply)?;

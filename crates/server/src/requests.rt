@@ -65,7 +65,8 @@ impl Server {
         }
     }
 
-    /// The reply that says how much there is of the document of this URI, and how much its last edit has made.
+    /// The reply that says how much there is of the document of this URI, and how much its last
+    /// edit has made.
     fn stats(&self, id: Id, uri: &str) -> Reply
         ensures { let held = self.now.documents in
             let document = get held.documents uri.now in

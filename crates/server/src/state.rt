@@ -74,8 +74,8 @@ impl Server {
         }
     }
 
-    /// Takes one message, or what stands in its place. Once memory was refused the server has failed, and refuses every
-    /// message.
+    /// Takes one message, or what stands in its place. Once memory was refused the server has
+    /// failed, and refuses every message.
     pub fn handle(
         &mut self,
         alloc: Global,

@@ -47,7 +47,8 @@ fn write_replies<W: Output>(
     Ok(())
 }
 
-/// What a content is read as. The content is let go of before the message is answered, which may need as much memory.
+/// What a content is read as. The content is let go of before the message is answered, which may
+/// need as much memory.
 fn message_of(alloc: Global, content: Vec<u8>) -> Result<Message, RpcFault>
     ensures { IfSome (received_of result) (λ received. Receives content.items received) }
 {
@@ -115,7 +116,8 @@ fn end_of(decoder: &Decoder) -> Result<u8, RunFault>
     }
 }
 
-/// A fault of the stream as the fault of a session: memory that is refused in the frames is refused memory.
+/// A fault of the stream as the fault of a session: memory that is refused in the frames is
+/// refused memory.
 fn run_fault(fault: FrameFault) -> RunFault
     ensures { result ≡ run_fault fault }
 {
@@ -125,8 +127,8 @@ fn run_fault(fault: FrameFault) -> RunFault
     }
 }
 
-/// Answers what comes in, from the first byte on to `exit`, to the end of the input, or to a fault: by a server that no message
-/// has reached, and that always has an answer.
+/// Answers what comes in, from the first byte on to `exit`, to the end of the input, or to a
+/// fault: by a server that no message has reached, and that always has an answer.
 pub(crate) fn serve<R: Input, W: Output>(
     alloc: Global,
     server: &mut Server,

@@ -1,8 +1,8 @@
-//! Worked sessions. Each is a function that runs its bytes; what is written, and how the session ends, follows from the
-//! contract of `run` alone.
+//! Worked sessions. Each is a function that runs its bytes; what is written, and how the session
+//! ends, follows from the contract of `run` alone.
 //!
-//! A session may also end because a device gave out or memory was refused: an `Input` can be read so many times, and
-//! then fails, and bytes that are written take memory.
+//! A session may also end because a device gave out or memory was refused: an `Input` can be read
+//! so many times, and then fails, and bytes that are written take memory.
 #![tactic(auto)]
 
 mod few_bytes;

@@ -15,7 +15,8 @@ use patterns::one_text_has_one_meaning;
 use std::alloc::{AllocError, Global};
 use worked::SUMS;
 
-/// An empty text is opened; `12` is typed in and its first character taken out; the text is asked for.
+/// An empty text is opened; `12` is typed in and its first character taken out; the text is asked
+/// for.
 const TYPING: [&str; 20] = [
     "Content-Length: 58\r\n\r\n",
     r#"{"jsonrpc":"2.0","id":1,"method":"initialize","params":{}}"#,
@@ -46,8 +47,8 @@ fn at_least_once(alloc: Global, part: Expression) -> Result<Expression, AllocErr
     Ok(Expression::Plus(Box::new(alloc, part)?))
 }
 
-/// An expression of `[0-9]+`, of which `2` is a text. All expressions of one text mean the same, so the one that a grammar
-/// file's rule has means it too.
+/// An expression of `[0-9]+`, of which `2` is a text. All expressions of one text mean the same,
+/// so the one that a grammar file's rule has means it too.
 fn digits(alloc: Global) -> Result<Expression, AllocError>
     ensures spelled { IfOk result (λ e. Spells e (codes "[0-9]+")) }
     ensures two { IfOk result (λ e. Matches e (codes "2")) }
@@ -64,8 +65,8 @@ fn digits(alloc: Global) -> Result<Expression, AllocError>
     at_least_once(alloc, class)
 }
 
-/// Runs it over sums: the fault of the empty text is published, and then none; or, where memory is refused in the
-/// change, that the document is lost.
+/// Runs it over sums: the fault of the empty text is published, and then none; or, where memory is
+/// refused in the change, that the document is lost.
 pub fn typing(alloc: Global) -> Result<Ran, LoadFault>
     ensures { IfOk result (λ ran.
         CameEither (Ok 0) typed typed_and_lost ran.result ran.written.items) }

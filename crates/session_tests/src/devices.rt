@@ -7,8 +7,8 @@ use std::alloc::Global;
 use std::cell::RefCell;
 use std::io::{self, Read};
 
-/// What an output took, how much of it was flushed, whether each reply was flushed before the read after its request, and how many
-/// calls of the input and of the output succeeded.
+/// What an output took, how much of it was flushed, whether each reply was flushed before the read
+/// after its request, and how many calls of the input and of the output succeeded.
 #[derive(Drop)]
 pub struct Record {
     pub taken: Vec<u8>,
@@ -30,8 +30,8 @@ impl Record {
     }
 }
 
-/// Gives bytes, `first` of them at the first read and then at most `piece` a read; after `reads` reads it fails.
-/// Where `due` has (n, m), m bytes are to be flushed once n bytes are given.
+/// Gives bytes, `first` of them at the first read and then at most `piece` a read; after `reads`
+/// reads it fails. Where `due` has (n, m), m bytes are to be flushed once n bytes are given.
 #[derive(Drop)]
 pub struct Pieces<'a> {
     pub rest: &'a [u8],

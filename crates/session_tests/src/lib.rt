@@ -1,4 +1,5 @@
-//! Tests of the server's loop on devices that give and take bytes in pieces, and may fail. The crate has nothing else.
+//! Tests of the server's loop on devices that give and take bytes in pieces, and may fail. The
+//! crate has nothing else.
 #![tactic(auto)]
 
 #[cfg(test)]

@@ -40,8 +40,8 @@ struct Stored {
     due: Vec<(usize, usize)>,
 }
 
-/// How many bytes of the output are due once so many of the input are given: each line that is written answers the one before
-/// it.
+/// How many bytes of the output are due once so many of the input are given: each line that is
+/// written answers the one before it.
 fn due(rt: &impl Abort, alloc: Global) -> Vec<(usize, usize)> {
     let mut due = Vec::new(alloc);
     let mut read = Vec::new(alloc);
@@ -172,8 +172,8 @@ fn streams_end_and_fail(rt: HostRuntime) {
     ends(&rt, alloc, stream, bad_field, &parse_error);
 }
 
-/// A stream that comes in pieces, of which the last one that may be read has this frame fault: the read after it would fail, so
-/// it must not be made.
+/// A stream that comes in pieces, of which the last one that may be read has this frame fault: the
+/// read after it would fail, so it must not be made.
 fn stops(
     rt: &impl Abort,
     alloc: Global,

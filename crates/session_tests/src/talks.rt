@@ -1,5 +1,6 @@
-//! Sessions on these devices. A session is written as a transcript: a line that begins with `> ` is a content that the server reads,
-//! one that begins with `< ` a content that it writes. Other lines say nothing. `tests/program` runs more of them.
+//! Sessions on these devices. A session is written as a transcript: a line that begins with `> `
+//! is a content that the server reads, one that begins with `< ` a content that it writes. Other
+//! lines say nothing. `tests/program` runs more of them.
 
 use crate::devices::{Pieces, Record, Taker};
 use server::{Language, RunFault, run};
@@ -33,7 +34,8 @@ pub fn language(rt: &impl Abort, alloc: Global, file: &str) -> Language {
     language
 }
 
-/// Runs a session, and returns its outcome and its record, with how many calls of each device succeeded.
+/// Runs a session, and returns its outcome and its record, with how many calls of each device
+/// succeeded.
 pub fn run_by(
     alloc: Global,
     language: Language,

@@ -9,26 +9,30 @@ ghost use Rattle.sessions.specs.Fresh.{EveryAnswerIsFresh, EachTextIsItsEdits};
 ghost use Rattle.sessions.specs.declared.fault.RunFault.{RunFault as Ending};
 ghost use Rattle.sessions.specs.declared.phase.Phase.{Phase as Stage};
 
-/// In a session by a file that has one answer to each question, whatever was read before: there is a fresh server for each
-/// open document, and to each question about the document it and the server have one answer, the same; and the
-/// diagnostics that it published are those that the server published last.
+/// In a session by a file that has one answer to each question, whatever was read before: there is
+/// a fresh server for each open document, and to each question about the document it and the
+/// server have one answer, the same; and the diagnostics that it published are those that the
+/// server published last.
 pub fn every_answer_is_fresh()
     ensures { (file : FileGrammar) → AlwaysAnswers file → AnswersOnce file
         → EveryAnswerIsFresh file }
 {}
 
-/// A document's text after a change is its text before, edited by the changes in turn, unless memory was refused.
+/// A document's text after a change is its text before, edited by the changes in turn, unless
+/// memory was refused.
 pub fn each_text_is_its_edits()
     ensures { EachTextIsItsEdits }
 {}
 
-/// In a session by a file that has at most one answer to each question, whatever is held: a message that does not name a
-/// document leaves it as it was, and sends no diagnostics of it. What is sent on one that names it, and what the document
-/// becomes, depends on the phase, on what is held under its URI, on the room for it where it is opened, and on whether
-/// memory was refused within its changes.
+/// In a session by a file that has at most one answer to each question, whatever is held: a
+/// message that does not name a document leaves it as it was, and sends no diagnostics of it. What
+/// is sent on one that names it, and what the document becomes, depends on the phase, on what is
+/// held under its URI, on the room for it where it is opened, and on whether memory was refused
+/// within its changes.
 ///
-/// So what a run sends about a document is a function of what it receives about it: of the messages that name it, the phase at
-/// each, whether there was room for it where it was opened, and whether memory was refused in its changes.
+/// So what a run sends about a document is a function of what it receives about it: of the
+/// messages that name it, the phase at each, whether there was room for it where it was opened,
+/// and whether memory was refused in its changes.
 pub fn each_document_is_alone()
     ensures alone { (file : FileGrammar) → AnswersOnce file → CountsOnce file
         → EachDocumentIsAlone file }
@@ -37,7 +41,8 @@ pub fn each_document_is_alone()
         → HistoriesDecide file }
 {}
 
-/// Reasons why a session ends are equal by `==` exactly where they are the same: no part of them is left out.
+/// Reasons why a session ends are equal by `==` exactly where they are the same: no part of them
+/// is left out.
 pub fn equal_run_faults_are_the_same()
     ensures { (a b : Ending) → IsTrue (⟦<crate::RunFault as PartialEq>⟧.eq a b) ↔ (a ≡ b) }
 {}

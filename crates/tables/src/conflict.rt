@@ -12,12 +12,14 @@ use first_sets::AugmentedGrammar;
 use item_sets::{Item, States};
 use std::alloc::{AllocError, Global};
 
-/// Two items that are valid for a prefix and call for different moves at a lookahead. None is the end. The dot of `first`
-/// is at the end of its right side; where both are, its production is the earlier one, the added start production before all.
+/// Two items that are valid for a prefix and call for different moves at a lookahead. None is the
+/// end. The dot of `first` is at the end of its right side; where both are, its production is the
+/// earlier one, the added start production before all.
 #[derive(Debug, Drop)]
 pub struct Conflict {
-    /// Symbols for which both items are valid, which is proved. That they are no more than in any other prefix of their set is not:
-    /// the sets are met breadth first, and of several with a conflict the one that is met first is reported.
+    /// Symbols for which both items are valid, which is proved. That they are no more than in any
+    /// other prefix of their set is not: the sets are met breadth first, and of several with a
+    /// conflict the one that is met first is reported.
     pub prefix: Vec<Symbol>,
     /// The token rule at which both call for a move, or none at the end.
     pub look: Option<usize>,

@@ -7,7 +7,8 @@ use crate::decisions::Move;
 use crate::packed::Entries;
 use std::marker::Model;
 
-/// The token rules that may come next, in file order, and after them `None` where the end may come. It takes no memory.
+/// The token rules that may come next, in file order, and after them `None` where the end may
+/// come. It takes no memory.
 #[derive(Drop)]
 pub struct Expected<'a> {
     /// The moves of a state, by the token rule that is next.

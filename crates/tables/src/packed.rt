@@ -1,4 +1,5 @@
-//! A row of a table in little room: 16 bits for each entry, where all entries have numbers of so few.
+//! A row of a table in little room: 16 bits for each entry, where all entries have numbers of so
+//! few.
 
 ghost use Rattle.std.specs.Prelude.{◌≡◌, ◌<◌, [], None, drop, length, map, slice_index_or, IfOk, IfSome};
 ghost use Rattle.tables.specs.Packed.{entries_in, HasLarge};
@@ -23,7 +24,8 @@ pub trait Small: Copy + Drop {
         ensures { result ≡ meant number };
 }
 
-/// Entries, each of which may be missing. They lie in 16 bits each, but where one of them has no such number.
+/// Entries, each of which may be missing. They lie in 16 bits each, but where one of them has no
+/// such number.
 #[derive(Drop)]
 pub struct PackedRow<T: Small> {
     form: Form<T>,
@@ -156,8 +158,7 @@ fn numbers_of<T: Small>(
     alloc: Global,
     entries: &[Option<T>],
 ) -> Result<Option<Vec<u16>>, AllocError>
-    ensures all { IfOk result (λ found. IfSome found (λ ns.
-        map T.meant ns.items ≡ entries.now)) }
+    ensures all { IfOk result (λ found. IfSome found (λ ns. map T.meant ns.items ≡ entries.now)) }
     ensures none { IfOk result (λ found. found ≡ None → HasLarge T.meant entries.now) }
 {
     let mut numbers = Vec::with_capacity(alloc, entries.len())?;

@@ -19,7 +19,8 @@ pub struct ClashAt {
     pub clash: Clash,
 }
 
-/// The gotos and the moves of the first states, and the first conflict, after which the moves are not complete.
+/// The gotos and the moves of the first states, and the first conflict, after which the moves are
+/// not complete.
 #[derive(Drop)]
 pub struct Progress {
     /// Where the nonterminals lead from each of the states.

@@ -61,7 +61,8 @@ impl From<AllocError> for TableFault {
 pub struct Tables {
     /// The productions of the grammar.
     productions: Productions,
-    /// Where the nonterminals lead from each state, the first of which is that of the empty prefix.
+    /// Where the nonterminals lead from each state, the first of which is that of the empty
+    /// prefix.
     gotos: Vec<Gotos>,
     /// What each state does at each kind that may come next.
     moves: Vec<Moves>,
@@ -78,7 +79,8 @@ impl Model for Tables {
         (seen a.productions.grammar a.gotos.items a.moves.items) };
 }
 
-/// Makes the gotos and the moves of all states. They are refused where there are too many states, or two items conflict.
+/// Makes the gotos and the moves of all states. They are refused where there are too many states,
+/// or two items conflict.
 fn complete(
     alloc: Global,
     grammar: &AugmentedGrammar,
@@ -168,8 +170,8 @@ fn tables_of(alloc: Global, grammar: AugmentedGrammar) -> Result<Tables, TableFa
 }
 
 impl Tables {
-    /// The canonical tables of a grammar. A grammar with more than 8,192 sets is refused as `TooManySets`, one with fewer
-    /// whose sets have a conflict with one of its conflicts.
+    /// The canonical tables of a grammar. A grammar with more than 8,192 sets is refused as
+    /// `TooManySets`, one with fewer whose sets have a conflict with one of its conflicts.
     pub fn build(alloc: Global, grammar: &Grammar) -> Result<Tables, TableFault>
         ensures grammar { IfOk result (λ t. t.grammar ≡ grammar.now.grammar) }
         ensures free { IfOk result (λ _. HasNoConflict grammar.now.grammar) }
@@ -235,8 +237,8 @@ impl Tables {
         }
     }
 
-    /// What may come next in a state: the token rules in file order, and then the end, with which some sentence goes on after
-    /// the kinds that were read. It takes no memory.
+    /// What may come next in a state: the token rules in file order, and then the end, with which
+    /// some sentence goes on after the kinds that were read. It takes no memory.
     pub fn expects(&self, state: usize) -> Expected<'_>
         requires { state < length self.now.moves }
         ensures { (x : List Kind) (stack : List Tree) (prefix : List Symbol)
@@ -247,7 +249,8 @@ impl Tables {
         self.moves[state].expected()
     }
 
-    /// For every prefix with an item, and not for the states alone, it is decided what its items call for.
+    /// For every prefix with an item, and not for the states alone, it is decided what its items
+    /// call for.
     pub fn moves_are_decided(&self)
         ensures { AreMovesDecided self.now.grammar }
     {

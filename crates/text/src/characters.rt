@@ -40,8 +40,8 @@ impl<'a> Chars<'a> {
         Chars { present, pieces }
     }
 
-    /// Goes on over characters that pass the test, and returns how many they are. It stops at the first that doesn't or that
-    /// isn't in ASCII, and where a piece ends.
+    /// Goes on over characters that pass the test, and returns how many they are. It stops at the
+    /// first that doesn't or that isn't in ASCII, and where a piece ends.
     pub fn pass<F: Fn(char) -> bool>(&mut self, test: F) -> usize
         requires { F.IsAlwaysCallable test }
         ensures inside { result ≤ length self.old }
@@ -91,8 +91,7 @@ fn passed<F: Fn(char) -> bool>(bytes: &[u8], test: F) -> usize
 
 /// The first character and what comes after it.
 fn split_first(text: &str) -> Option<(char, &str)>
-    ensures { MatchOption result (length text.now ≡ 0)
-        (λ r. chars text.now ≡ r.0 ∷ chars r.1.now) }
+    ensures { MatchOption result (length text.now ≡ 0) (λ r. chars text.now ≡ r.0 ∷ chars r.1.now) }
 {
     let mut rest = text.chars();
     let first = rest.next()?;

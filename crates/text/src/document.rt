@@ -39,10 +39,12 @@ impl From<AllocError> for TextFault {
     }
 }
 
-/// The text of a document (LSP 3.17, "Text Documents"): its characters, of at most [`LONGEST_TEXT`] bytes in UTF-8.
+/// The text of a document (LSP 3.17, "Text Documents"): its characters, of at most
+/// [`LONGEST_TEXT`] bytes in UTF-8.
 ///
-/// Offsets count characters, and positions count lines and units (LSP 3.17, "Position"). The text lies in pieces, so that
-/// an edit costs the pieces that it touches, the new characters, and the logarithm of the length.
+/// Offsets count characters, and positions count lines and units (LSP 3.17, "Position"). The text
+/// lies in pieces, so that an edit costs the pieces that it touches, the new characters, and the
+/// logarithm of the length.
 #[derive(Drop)]
 pub struct Text {
     pieces: Pieces,
@@ -79,8 +81,8 @@ impl Text {
 
     /// Puts `new` in the place of the characters from offset `a` up to offset `b`.
     ///
-    /// `TooLarge` exactly where the text would have more than [`LONGEST_TEXT`] bytes. After a refusal the text is as
-    /// before.
+    /// `TooLarge` exactly where the text would have more than [`LONGEST_TEXT`] bytes. After a
+    /// refusal the text is as before.
     pub fn replace(&mut self, alloc: Global, a: usize, b: usize, new: &str) -> Result<(), TextFault>
         requires ordered { a ≤ b }
         requires in_range { b ≤ length self.old }
@@ -101,8 +103,9 @@ impl Text {
         Ok(())
     }
 
-    /// What a change of a document takes away (LSP 3.17, "TextDocumentContentChangeEvent"): the offsets of the range in
-    /// ascending order, since its ends may stand in either order, or those of the whole text where there is none.
+    /// What a change of a document takes away (LSP 3.17, "TextDocumentContentChangeEvent"): the
+    /// offsets of the range in ascending order, since its ends may stand in either order, or those
+    /// of the whole text where there is none.
     pub fn span(&self, unit: Unit, range: Option<Range>) -> (usize, usize)
         ensures is { result ≡ of.span unit self.now range }
         ensures edits { (s : List ℕ) →
@@ -120,8 +123,9 @@ impl Text {
         }
     }
 
-    /// The offset of a position (LSP 3.17, "Position"): past the end of a line it is the end of the line, past the last
-    /// line the end of the text, and between the units of one character the start of that character.
+    /// The offset of a position (LSP 3.17, "Position"): past the end of a line it is the end of
+    /// the line, past the last line the end of the text, and between the units of one character
+    /// the start of that character.
     pub fn offset(&self, unit: Unit, position: Position) -> usize
         ensures is { result ≡ of.offset unit self.now position }
         ensures within { result ≤ length self.now }
@@ -129,8 +133,8 @@ impl Text {
         self.pieces.offset(unit, position)
     }
 
-    /// The position of an offset (LSP 3.17, "Position"). Between a `\r` and its `\n` it is the end of the line, and past
-    /// the end of the text the end of the text.
+    /// The position of an offset (LSP 3.17, "Position"). Between a `\r` and its `\n` it is the end
+    /// of the line, and past the end of the text the end of the text.
     pub fn position(&self, unit: Unit, offset: usize) -> Position
         ensures { result ≡ of.position unit self.now offset }
     {
@@ -161,7 +165,8 @@ impl Text {
         self.pieces.bytes()
     }
 
-    /// The character at an offset. The steps are a logarithm of the length, and those within one piece.
+    /// The character at an offset. The steps are a logarithm of the length, and those within one
+    /// piece.
     pub fn at(&self, offset: usize) -> char
         requires { offset < length self.now }
         ensures { result ≡ slice_index self.now offset }
@@ -199,7 +204,8 @@ impl Text {
         Ok(string)
     }
 
-    /// The pieces of the text, in order. They are few: but for one, each has at least [`SHORTEST_OF_SEVERAL`] bytes.
+    /// The pieces of the text, in order. They are few: but for one, each has at least
+    /// [`SHORTEST_OF_SEVERAL`] bytes.
     pub fn pieces(&self) -> &Seq<Piece>
         ensures text { concat result.now ≡ self.now }
         ensures few { SHORTEST_OF_SEVERAL * length result.now

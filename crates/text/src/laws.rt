@@ -6,7 +6,8 @@ ghost use Rattle.definitions.specs.declared.Range.{Range};
 ghost use Rattle.definitions.specs.declared.Unit.{Unit as Encoding};
 ghost use Rattle.text.specs.declared.document.TextFault.{TextFault as Fault};
 
-/// A text of Unicode scalar values is one after a change too, if what is put in is one, whatever the range.
+/// A text of Unicode scalar values is one after a change too, if what is put in is one, whatever
+/// the range.
 pub fn changes_keep_texts()
     ensures { (encoding : Encoding) (t : List ℕ) (range : Option Range) (s : List ℕ) → IsText t
         → IsText s → IsText (changed encoding t range s) }

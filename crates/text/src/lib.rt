@@ -1,15 +1,16 @@
 //! The text of a document: characters, offsets and positions, edits and their limit.
 //!
-//! `Text::open` takes a text; `replace` edits it by offsets, and `span` gives those of a range of positions, as a client
-//! sends it, or of the whole text where the range is `None`. `at`, `chars_from`, `characters` and `to_string` return characters,
-//! `position` and `offset` convert places, and `places` is a walk along the text for many positions in ascending order.
+//! `Text::open` takes a text; `replace` edits it by offsets, and `span` gives those of a range of
+//! positions, as a client sends it, or of the whole text where the range is `None`. `at`,
+//! `chars_from`, `characters` and `to_string` return characters, `position` and `offset` convert
+//! places, and `places` is a walk along the text for many positions in ascending order.
 //!
-//! Words: an *offset* counts characters from 0; a *position* is a line and a count of units in it (LSP 3.17,
-//! "Position").
+//! Words: an *offset* counts characters from 0; a *position* is a line and a count of units in it
+//! (LSP 3.17, "Position").
 //!
-//! Limits: a text has at most 1,048,576 bytes of UTF-8; an edit that would exceed this is refused as
-//! `TextFault::TooLarge`, and the text stays as before. An edit costs the pieces that it touches and the new
-//! characters.
+//! Limits: a text has at most 1,048,576 bytes of UTF-8; an edit that would exceed this is refused
+//! as `TextFault::TooLarge`, and the text stays as before. An edit costs the pieces that it
+//! touches and the new characters.
 //!
 //! ```
 //! let mut text = Text::open(alloc, "1+2").ok()?;

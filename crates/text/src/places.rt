@@ -13,7 +13,8 @@ use std::marker::Model;
 
 /// An offset of a text, from its start on, and its position (LSP 3.17, "Position").
 ///
-/// To go on by so many characters takes as many steps, so that the positions of a whole text are found in one pass.
+/// To go on by so many characters takes as many steps, so that the positions of a whole text are
+/// found in one pass.
 #[derive(Drop)]
 pub struct Places<'a> {
     pieces: &'a Seq<Piece>,

@@ -1,4 +1,5 @@
-//! Makes one call of a text many times over, for `bench/text`, and prints the sum of what it answers.
+//! Makes one call of a text many times over, for `bench/text`, and prints the sum of what it
+//! answers.
 #![tactic(auto)]
 
 use anyhow::{Result, bail};
@@ -25,7 +26,8 @@ struct Request {
     count: usize,
 }
 
-/// Letters of the greatest length of a text, with a break in the place of each that is `length` after the one before.
+/// Letters of the greatest length of a text, with a break in the place of each that is `length`
+/// after the one before.
 fn lines(alloc: Global, length: usize) -> Result<String, AllocError> {
     let mut text = String::with_capacity(alloc, LONGEST_TEXT)?;
     let mut after = 0usize;

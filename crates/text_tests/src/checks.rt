@@ -1,4 +1,5 @@
-//! Checks that tests share, and steps: what is asked of a text and done with it, one after another.
+//! Checks that tests share, and steps: what is asked of a text and done with it, one after
+//! another.
 
 use std::alloc::Global;
 use std::process::Abort;

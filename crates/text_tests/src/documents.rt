@@ -78,7 +78,8 @@ fn put_ones(
     text.replace(alloc, from, to, piece.as_str()).err()
 }
 
-/// Each row is a range, how many times `1` it gives way to, why that is refused, and how many bytes there are after it.
+/// Each row is a range, how many times `1` it gives way to, why that is refused, and how many
+/// bytes there are after it.
 fn check_bytes(rt: &impl Abort, alloc: Global, text: &mut Text) {
     let start = at(0, 0);
     let prefix = Some(Range { start, end: start });
@@ -102,7 +103,8 @@ fn a_text_may_have_so_many_bytes(rt: HostRuntime) {
     check_bytes(&rt, rt.alloc(), &mut text);
 }
 
-/// How many of the first characters give way to a piece, why that is refused, and how many characters there are after it.
+/// How many of the first characters give way to a piece, why that is refused, and how many
+/// characters there are after it.
 type Replacement = (usize, &'static str, Option<TextFault>, usize);
 
 /// Edits a text of as many bytes as may be, which it has after the edit too.

@@ -1,4 +1,5 @@
-//! Tests of the public calls of texts, and of the lists that they are made of. The crate has nothing else.
+//! Tests of the public calls of texts, and of the lists that they are made of. The crate has
+//! nothing else.
 #![tactic(auto)]
 
 #[cfg(test)]

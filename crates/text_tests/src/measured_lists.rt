@@ -95,7 +95,8 @@ fn digits(rt: &impl Abort, alloc: Global) -> Seq<Number> {
     seq
 }
 
-/// The first number that is at least this one is here, and this is the greatest of those before it.
+/// The first number that is at least this one is here, and this is the greatest of those before
+/// it.
 fn check_located(rt: &impl Abort, seq: &Seq<Number>, value: u32, at: usize, before: u32) {
     let found = seq.locate(&AtLeast { value });
     let wanted = (at, Greatest { value: before });

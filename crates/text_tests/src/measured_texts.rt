@@ -152,7 +152,8 @@ fn edit_both(
     expect(rt, text.len() == wanted.len(), "as many characters");
 }
 
-/// Makes ten thousand edits of a text and of its characters, and sees now and then that they are the same.
+/// Makes ten thousand edits of a text and of its characters, and sees now and then that they are
+/// the same.
 fn edit_in_turn(
     rt: &impl Abort,
     alloc: Global,

@@ -90,8 +90,8 @@ fn positions_over_a_border(rt: HostRuntime) {
     check_three_lines(&rt, rt.alloc(), &[Step::InEachUnit(POSITIONS)]);
 }
 
-/// Lines and characters, and the offset of each in UTF-16. Some are past the ends of lines, between the units of a character, and
-/// past the last line.
+/// Lines and characters, and the offset of each in UTF-16. Some are past the ends of lines,
+/// between the units of a character, and past the last line.
 const UTF16_OFFSETS: &[(u32, u32, usize)] = &[
     (1, 1, 601),
     (1, 2, 602),

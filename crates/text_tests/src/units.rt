@@ -1,7 +1,8 @@
 //! Positions and offsets in all three units against values of another program.
 //!
-//! The texts have breaks of all three sorts and characters of one to four bytes, moved so that the first border of pieces
-//! falls at each place among them. The sums are what this program of Python 3 prints, with its own encoders:
+//! The texts have breaks of all three sorts and characters of one to four bytes, moved so that the
+//! first border of pieces falls at each place among them. The sums are what this program of Python
+//! 3 prints, with its own encoders:
 //!
 //! ```text
 //! import bisect, re

@@ -13,7 +13,8 @@ const PLUS: Child = Child::Token(Kind::Rule(1));
 
 const GREATEST: u64 = 18_446_744_073_709_551_615;
 
-/// The tree of `1+2` in the grammar of sums: its second number was made by edit 6, the rest by edit 5.
+/// The tree of `1+2` in the grammar of sums: its second number was made by edit 6, the rest by
+/// edit 5.
 fn sum(rt: &impl Abort, alloc: Global, store: &mut Store) -> [NodeId; 4] {
     let first = store.branch(alloc, 2, &[NUMBER], 5).expect(rt, "memory");
     let left = store
@@ -168,7 +169,8 @@ fn may_be_counts(k: u64, counts: (u64, u64)) -> bool {
     }
 }
 
-/// Makes nodes of which each stands twice below the next one, so that the numbers double. The last one is above all others.
+/// Makes nodes of which each stands twice below the next one, so that the numbers double. The last
+/// one is above all others.
 fn check_doubling(rt: &impl Abort, alloc: Global, store: &mut Store) -> NodeId {
     let mut last = store
         .branch(alloc, 0, &[NUMBER, NUMBER], 0)
@@ -294,8 +296,8 @@ fn check_root(rt: &impl Abort, store: &Store, root: NodeId) {
     expect_label(rt, store, left, (1, 5, 1, 2));
 }
 
-/// Compacts a store of a sum to roots that share a node, of which one stands twice. The node over both is below none. What
-/// is shared stays one.
+/// Compacts a store of a sum to roots that share a node, of which one stands twice. The node over
+/// both is below none. What is shared stays one.
 fn check_compaction(
     rt: &impl Abort,
     alloc: Global,
@@ -326,8 +328,8 @@ fn compacting_keeps_the_trees_of_the_roots(rt: HostRuntime) {
     check_compaction(&rt, rt.alloc(), &mut store, nodes);
 }
 
-/// Makes two trees that share no node, with nodes of no tree before, between and after theirs. One of their nodes has a
-/// production that takes more than 16 bits.
+/// Makes two trees that share no node, with nodes of no tree before, between and after theirs. One
+/// of their nodes has a production that takes more than 16 bits.
 fn make_apart(rt: &impl Abort, alloc: Global, store: &mut Store) -> [NodeId; 2] {
     let _before = store.branch(alloc, 4, &[PLUS], 1).expect(rt, "memory");
     let [_, _, _, whole] = sum(rt, alloc, store);

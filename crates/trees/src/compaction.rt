@@ -9,8 +9,8 @@ use crate::store::{NodeId, Store};
 use std::alloc::{AllocError, Global};
 
 impl Store {
-    /// Keeps the nodes of the trees of these roots alone, in their order, and renames the roots. No other id means anything
-    /// then. A node that stands in several places stays one node.
+    /// Keeps the nodes of the trees of these roots alone, in their order, and renames the roots.
+    /// No other id means anything then. A node that stands in several places stays one node.
     ///
     /// After a refusal the store and the roots are as before.
     pub fn compact(&mut self, alloc: Global, roots: &mut [NodeId]) -> Result<(), AllocError>

@@ -27,8 +27,9 @@ pub trait Kinds {
     fn ahead(&self, k: usize) -> Self::Ahead
         ensures { is_before self.now k result };
 
-    /// The kind of token number `k`, before which the place is, and none past the last one. The place moves on to the next
-    /// token, which takes a constant number of steps when averaged over a walk.
+    /// The kind of token number `k`, before which the place is, and none past the last one. The
+    /// place moves on to the next token, which takes a constant number of steps when averaged over
+    /// a walk.
     fn next(&self, ahead: &mut Self::Ahead, k: usize) -> Option<Kind>
         requires { is_before self.now k ahead.old }
         ensures is { result ≡ slice_get (kinds self.now) k }

@@ -1,14 +1,16 @@
-//! The nodes of parse trees: each is named by a number above those of its children, and means one tree for as long as
-//! it stays in its store.
+//! The nodes of parse trees: each is named by a number above those of its children, and means one
+//! tree for as long as it stays in its store.
 //!
-//! `Store::new` is an empty store, and `branch` adds a node over children that are in the store. `production`, `born`,
-//! `tokens`, `size` and `children` describe a node. `truncate` cuts the store back to its first nodes, and `compact`
-//! keeps the trees of some roots, under new names.
+//! `Store::new` is an empty store, and `branch` adds a node over children that are in the store.
+//! `production`, `born`, `tokens`, `size` and `children` describe a node. `truncate` cuts the
+//! store back to its first nodes, and `compact` keeps the trees of some roots, under new names.
 //!
-//! Words: a `Child` is a token's kind or a `NodeId`; `born` is the number of the edit that made a node.
+//! Words: a `Child` is a token's kind or a `NodeId`; `born` is the number of the edit that made a
+//! node.
 //!
-//! Limits: `tokens` and `size` saturate at the greatest `u64`; otherwise memory is the only limit. A node takes 48 bytes
-//! with up to four children. `branch` costs the number of children, and `compact` that of nodes.
+//! Limits: `tokens` and `size` saturate at the greatest `u64`; otherwise memory is the only limit.
+//! A node takes 48 bytes with up to four children. `branch` costs the number of children, and
+//! `compact` that of nodes.
 //!
 //! ```
 //! let mut store = Store::new(alloc);

@@ -1,4 +1,5 @@
-//! Nodes in little room: 16 bits for the production, and 32 for each other number and each child, where they fit.
+//! Nodes in little room: 16 bits for the production, and 32 for each other number and each child,
+//! where they fit.
 
 ghost use Rattle.std.specs.Prelude.{◌≡◌, ◌≤◌, ℕ, length, map, slice_index_or, IfOk, IfSome, IsSome};
 ghost use Rattle.std.specs.List.{All};
@@ -35,13 +36,15 @@ pub(crate) struct Label {
     pub size: u64,
 }
 
-/// A branch of a tree. The counts are those of the whole tree below it, so that no call has to walk a tree.
+/// A branch of a tree. The counts are those of the whole tree below it, so that no call has to
+/// walk a tree.
 #[derive(Drop)]
 pub(crate) struct Node {
     form: Form,
 }
 
-/// How a node lies in memory. The production lies beside the tag, where a struct would begin 8 bytes later.
+/// How a node lies in memory. The production lies beside the tag, where a struct would begin 8
+/// bytes later.
 #[derive(Drop)]
 enum Form {
     /// A node whose numbers fit, over children that each have a number.
@@ -143,7 +146,8 @@ impl Node {
 }
 
 impl Numbers {
-    /// The numbers of a label, but for its production, where each is one of 32 bits, and the production one of 16.
+    /// The numbers of a label, but for its production, where each is one of 32 bits, and the
+    /// production one of 16.
     fn of(label: Label) -> Option<(u16, Numbers)>
         ensures is { IfSome result (λ r. label_of r.0 r.1 ≡ label) }
         ensures every { IsSmall label → IsSome result }
@@ -236,8 +240,8 @@ fn narrow_form(alloc: Global, label: Label, children: &[Child]) -> Result<Option
     }))
 }
 
-/// The packed number of each of the children, where each has one. Nearly all nodes have one to three: an array of known length is
-/// written at once, and no room is looked for at each child.
+/// The packed number of each of the children, where each has one. Nearly all nodes have one to
+/// three: an array of known length is written at once, and no room is looked for at each child.
 fn pack_all(alloc: Global, children: &[Child]) -> Result<Option<SmallVec<u32, FEW>>, AllocError>
     ensures are { IfOk result (λ r. IfSome r (λ ns. map unpack ns.items ≡ children.now)) }
     ensures every { All HasNumber children.now → IfOk result IsSome }

@@ -76,7 +76,8 @@ pub fn ranks(alloc: Global, marks: &[bool]) -> Result<Vec<usize>, AllocError>
     Ok(ranks)
 }
 
-/// Moves each marked node to its rank, with the ranks of its children for their names, and forgets the others.
+/// Moves each marked node to its rank, with the ranks of its children for their names, and forgets
+/// the others.
 pub fn slide(stored: &mut Vec<Node>, marks: &[bool], ranks: &[usize])
     requires store { IsStore stored.old.items }
     requires long { length marks.now ≡ length stored.old.items }

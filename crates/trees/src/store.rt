@@ -42,7 +42,8 @@ impl Default for Child {
 /// The nodes of trees, each after those of its children.
 ///
 /// A [`NodeId`] means one tree until the store is cut at or below it, or compacted. No calls but
-/// [`with_capacity`](Store::with_capacity), [`branch`](Store::branch) and [`compact`](Store::compact) take memory.
+/// [`with_capacity`](Store::with_capacity), [`branch`](Store::branch) and
+/// [`compact`](Store::compact) take memory.
 #[derive(Drop)]
 pub struct Store {
     pub(crate) nodes: Vec<Node>,
@@ -115,7 +116,8 @@ impl Store {
         self.nodes[id.index].label().tokens
     }
 
-    /// How many branches the tree of a node has, itself among them, or 18,446,744,073,709,551,615 where it has more.
+    /// How many branches the tree of a node has, itself among them, or 18,446,744,073,709,551,615
+    /// where it has more.
     pub fn size(&self, id: NodeId) -> u64
         requires { id.index < length self.now }
         ensures { result ≡ min most (branches (plain (tree self.now (Child.Node id)))) }
@@ -186,7 +188,8 @@ impl Store {
         (tokens, size)
     }
 
-    /// Adds the node of a production over these children, made by edit number `born`, and returns its id.
+    /// Adds the node of a production over these children, made by edit number `born`, and returns
+    /// its id.
     ///
     /// After a refusal the store is as before.
     pub fn branch(

@@ -1,5 +1,5 @@
-//! The examples of the crates' pages: for each crate a function with the first calls that a caller makes. What is printed stands in
-//! the comment after each print, and in the file `stdout`.
+//! The examples of the crates' pages: for each crate a function with the first calls that a caller
+//! makes. What is printed stands in the comment after each print, and in the file `stdout`.
 #![tactic(auto)]
 
 mod answers;

@@ -20,8 +20,9 @@ use std::alloc::{AllocError, Global};
 use tables::{Expected, Tables};
 use text::Text;
 
-/// What is reported of the fault of a text: where it stands, and what could have stood there. `None` where the text has a
-/// tree. Positions count this unit. The tables are those of the grammar, and the parse is that of the tokens of the text.
+/// What is reported of the fault of a text: where it stands, and what could have stood there.
+/// `None` where the text has a tree. Positions count this unit. The tables are those of the
+/// grammar, and the parse is that of the tokens of the text.
 ///
 /// Refuses for memory alone.
 pub fn diagnostic(

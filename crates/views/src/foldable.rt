@@ -25,9 +25,9 @@ struct Siblings<'a> {
     from: usize,
 }
 
-/// The lines that can be folded: for each node of a `fold` symbol that has tokens the line where the first of them
-/// starts and the line where the last one ends, where this is a later one. Each pair is listed once, in ascending order.
-/// Lines are counted from 0. Refuses for memory alone.
+/// The lines that can be folded: for each node of a `fold` symbol that has tokens the line where
+/// the first of them starts and the line where the last one ends, where this is a later one. Each
+/// pair is listed once, in ascending order. Lines are counted from 0. Refuses for memory alone.
 pub fn folds(
     alloc: Global,
     grammar: &Grammar,
@@ -131,7 +131,8 @@ fn add_own(
     Ok(())
 }
 
-/// The first and the last line of the tokens from one place up to another, where these are two lines.
+/// The first and the last line of the tokens from one place up to another, where these are two
+/// lines.
 fn span(lines: &[(u32, u32)], from: usize, to: usize) -> Option<(u32, u32)>
     requires { to ≤ length lines.now }
     ensures { MatchOption result ((p : ℕ × ℕ) → ¬ SpanLines lines.now from to p)

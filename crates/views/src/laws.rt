@@ -26,12 +26,12 @@ pub fn trees_have_folds()
         (pairs : List (ℕ × ℕ)) × AreFolds t tokens folds (IsNodeOf g trees) pairs }
 {}
 
-/// Each offset has a selection in trees of the grammar that have no more kinds than there are significant tokens.
+/// Each offset has a selection in trees of the grammar that have no more kinds than there are
+/// significant tokens.
 pub fn each_offset_has_a_selection()
     ensures { (encoding : Encoding) (file : FileGrammar) (t : List ℕ) (tokens : List Token)
         (trees : List Tree) (symbols : List Symbol) → AreTokens file.patterns t tokens
         → HaveRoots file.grammar trees symbols
         → length (all_kinds trees) ≤ length (kinds file.skips tokens)
-        → (o : ℕ) → (ranges : List Range)
-        × IsSelectionOf encoding file t tokens trees o ranges }
+        → (o : ℕ) → (ranges : List Range) × IsSelectionOf encoding file t tokens trees o ranges }
 {}

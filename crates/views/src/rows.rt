@@ -16,7 +16,8 @@ pub struct Row<'a> {
     pub range: Range,
 }
 
-/// The rows of all tokens of a text, in order; positions count this unit. Refuses for memory alone.
+/// The rows of all tokens of a text, in order; positions count this unit. Refuses for memory
+/// alone.
 pub fn token_rows<'a>(
     alloc: Global,
     grammar: &'a Grammar,

@@ -40,9 +40,10 @@ struct Branch {
     to: usize,
 }
 
-/// The ranges that can be selected around an offset (LSP 3.17, "Selection Range Request"), from inner to outer: those of
-/// the branches that cover it, each once, and that of the whole text. Positions count this unit. Of more than 32 they are the first 31 and the last.
-/// Refuses for memory alone.
+/// The ranges that can be selected around an offset (LSP 3.17, "Selection Range Request"), from
+/// inner to outer: those of the branches that cover it, each once, and that of the whole text.
+/// Positions count this unit. Of more than 32 they are the first 31 and the last. Refuses for
+/// memory alone.
 pub fn selection(
     alloc: Global,
     unit: Unit,
@@ -106,7 +107,8 @@ fn spans_around(
     Ok(spans)
 }
 
-/// The one of these children that stands around an offset, if it is a branch. Their first token has the place `from`.
+/// The one of these children that stands around an offset, if it is a branch. Their first token
+/// has the place `from`.
 fn branch_around(store: &Store, children: Children<'_>, from: usize, point: Point) -> Option<Branch>
     requires below { AreBelow (length store.now) children }
     requires fits { from + length (all_kinds (trees_of_roots store.now children)) < 2 ^ 64 }
@@ -136,7 +138,8 @@ fn branch_at(child: Child, from: usize, to: usize) -> Option<Branch>
     }
 }
 
-/// The offsets of the whole text, and of these spans if they are others: at most 32, the first and the last 31.
+/// The offsets of the whole text, and of these spans if they are others: at most 32, the first and
+/// the last 31.
 fn selection_offsets(
     alloc: Global,
     tokens: &Tokens,
@@ -171,8 +174,7 @@ fn spans_inside<'a>(
     ensures inside { (skips : List Bool)
         → All (λ x. x.skipped ≡ is_skipped skips (kind_in x)) tokens.now.items
         → let parts = significant skips (placed 0 (map plain tokens.now.items)) in
-        map (of.offsets_of parts) result.now
-        ≡ inside whole (map (of.offsets_of parts) spans.now) }
+        map (of.offsets_of parts) result.now ≡ inside whole (map (of.offsets_of parts) spans.now) }
 {
     match spans.split_first() {
         Some((outer, rest)) if whole == offsets_of(tokens, *outer) => rest,

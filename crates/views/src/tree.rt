@@ -12,8 +12,9 @@ use grammar::Grammar;
 use std::alloc::{AllocError, Global};
 use trees::{Child, Children, NodeId, Store};
 
-/// The text of the tree of a node. A token is its kind's name. A branch is, in parentheses, the name of its nonterminal
-/// and the texts of its children, with a space before each. Refuses for memory alone.
+/// The text of the tree of a node. A token is its kind's name. A branch is, in parentheses, the
+/// name of its nonterminal and the texts of its children, with a space before each. Refuses for
+/// memory alone.
 pub fn tree_text(
     alloc: Global,
     grammar: &Grammar,
@@ -54,8 +55,7 @@ fn begin<'a>(
 ) -> Result<Children<'a>, AllocError>
     requires { id.index < length store.now }
     ensures { IfOk result (λ children.
-        IsBegun grammar.now store.now id (string_bytes text.old) (string_bytes text.new)
-        children) }
+        IsBegun grammar.now store.now id (string_bytes text.old) (string_bytes text.new) children) }
 {
     text.push('(')?;
     text.push_str(name_of(grammar, store.production(id)))?;
