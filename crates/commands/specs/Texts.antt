@@ -2,7 +2,7 @@
 use Rattle.std.specs.Prelude.{◌≡◌, ℕ, ◌++◌, List, [], codes, string_bytes}
 use Rattle.frames.specs.declared.fault.FrameFault.{FrameFault}
 use Rattle.frames.specs.declared.fault.FrameFault.TheVariants as frame
-use Rattle.grammar.specs.Texts.{fault_text}
+use Rattle.grammar.specs.Faults.{fault_text}
 use Rattle.commands.specs.declared.fault.Fault.{Fault}
 use Rattle.commands.specs.declared.fault.Fault.TheVariants.{CommandLine, Grammar, TooManyStates, TooManySets, NotUtf8, TextNotUtf8}
 use Rattle.commands.specs.declared.fault.Fault.TheVariants.{TextTooLarge, CannotRead, Memory, Frame, Read, Write}

@@ -40,7 +40,8 @@ fn with_subcommand<'a>(
     command.subcommand(below?)
 }
 
-/// `lrls check GRAMMAR`, `lrls parse GRAMMAR TEXT` and `lrls serve GRAMMAR`, as the words say them.
+/// `lrls check GRAMMAR`, `lrls parse GRAMMAR TEXT` and `lrls serve GRAMMAR`, as the words say
+/// them.
 fn command<'a>(alloc: Global) -> Result<Command<'a>, AllocError>
     ensures { IfOk result (λ c. app_of c ≡ lrls) }
 {

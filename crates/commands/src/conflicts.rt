@@ -56,8 +56,7 @@ fn line(
     item: Item,
 ) -> Result<String, AllocError>
     requires { item.at ≤ length right.now }
-    ensures { IfOk result (λ text.
-        string_bytes text ≡ line grammar.now left.now right.now item) }
+    ensures { IfOk result (λ text. string_bytes text ≡ line grammar.now left.now right.now item) }
 {
     let before = names_with_spaces(alloc, grammar, &right[..item.at])?;
     let after = names_with_spaces(alloc, grammar, &right[item.at..])?;
@@ -84,8 +83,8 @@ fn item_line(alloc: Global, grammar: &Grammar, item: Item) -> Result<String, All
     }
 }
 
-/// The four lines that report a conflict: the lookahead, the symbols after which the two items call for different moves, and the
-/// items. Refuses for memory alone.
+/// The four lines that report a conflict: the lookahead, the symbols after which the two items
+/// call for different moves, and the items. Refuses for memory alone.
 pub fn conflict_text(
     alloc: Global,
     grammar: &Grammar,

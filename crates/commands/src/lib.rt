@@ -1,16 +1,18 @@
 //! What the commands of the program `lrls` do, over the bytes of files.
 //!
-//! `load` makes the language from the bytes of a grammar file, or returns what to print of its fault.
-//! `check` and `parse` return what their commands print. `words` reads the words after the program's name: what they
-//! ask for (`Words`), or `None` if they are no command of the program, a request for help included. `Fault` is why the
-//! program ends with a fault: its `Display` is the line on standard error, and `status` the exit status.
+//! `load` makes the language from the bytes of a grammar file, or returns what to print of its
+//! fault. `check` and `parse` return what their commands print. `words` reads the words after the
+//! program's name: what they ask for (`Words`), or `None` if they are no command of the program, a
+//! request for help included. `Fault` is why the program ends with a fault: its `Display` is the
+//! line on standard error, and `status` the exit status.
 //!
-//! Words: `Printed` is what goes to standard output and standard error, in bytes, and the exit status, 2 where the command
-//! line or the grammar was refused.
+//! Words: `Printed` is what goes to standard output and standard error, in bytes, and the exit
+//! status, 2 where the command line or the grammar was refused.
 //!
-//! Limits: those of the crates below, and each call refuses for memory alone. `clap` reads the words, so an option or a
-//! word that begins with `-` is none, and `--` ends the options. `parse` opens the text as a document, so it costs a whole scan and parse. In the
-//! example `SUMS` is the grammar file in README.md.
+//! Limits: those of the crates below, and each call refuses for memory alone. `clap` reads the
+//! words, so an option or a word that begins with `-` is none, and `--` ends the options. `parse`
+//! opens the text as a document, so it costs a whole scan and parse. In the example `SUMS` is the
+//! grammar file in README.md.
 //!
 //! ```
 //! let language = load(alloc, SUMS.as_bytes()).ok()?.ok()?;

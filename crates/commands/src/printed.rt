@@ -33,7 +33,8 @@ impl Printed {
         }
     }
 
-    /// What is printed of a fault: its text on standard error, and its status. Refuses for memory alone.
+    /// What is printed of a fault: its text on standard error, and its status. Refuses for memory
+    /// alone.
     pub fn fault(alloc: Global, fault: &Fault) -> Result<Printed, AllocError>
         ensures { IfOk result (PrintsFault fault.now) }
     {

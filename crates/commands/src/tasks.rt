@@ -53,8 +53,9 @@ fn document_report(alloc: Global, language: &Language, doc: &Doc) -> Result<Prin
     outcome_report(alloc, doc.outcome(alloc, language)?)
 }
 
-/// The language of a grammar file of these bytes, or what is printed, with status 2, where it defines none: that it isn't UTF-8,
-/// the four lines that show a conflict, or else the text of its first fault. Refuses for memory alone.
+/// The language of a grammar file of these bytes, or what is printed, with status 2, where it
+/// defines none: that it isn't UTF-8, the four lines that show a conflict, or else the text of its
+/// first fault. Refuses for memory alone.
 pub fn load(alloc: Global, bytes: &[u8]) -> Result<Result<Language, Printed>, AllocError>
     ensures utf8 { IfOk result (λ loaded. IfOk loaded (λ _. IsUtf8 bytes.now)) }
     ensures language { IfOk result (λ loaded. IfOk loaded (λ l. IsLanguageOf bytes.now l.file)) }
@@ -80,8 +81,8 @@ fn write_note(out: &mut String, name: &str) -> Result<(), AllocError>
     Ok(())
 }
 
-/// What `lrls check` prints of a grammar: a line for each name that no derivation from the start uses, and `ok`, all of it on
-/// standard output. Refuses for memory alone.
+/// What `lrls check` prints of a grammar: a line for each name that no derivation from the start
+/// uses, and `ok`, all of it on standard output. Refuses for memory alone.
 pub fn check(alloc: Global, language: &Language) -> Result<Printed, AllocError>
     ensures { IfOk result (IsChecked language.now.file) }
 {
@@ -110,9 +111,10 @@ fn fault_line(alloc: Global, fault: &Diagnostic) -> Result<String, AllocError>
     format!(in alloc; "{start}-{end}: {message}\n")
 }
 
-/// What `lrls parse` prints of a text of these bytes: on standard output the text of its tree, or its fault, with status 1.
-/// Positions count UTF-16 units. A text that isn't UTF-8 or has more than 1,048,576 bytes is refused with status 1, which standard
-/// error says. Refuses for memory alone.
+/// What `lrls parse` prints of a text of these bytes: on standard output the text of its tree, or
+/// its fault, with status 1. Positions count UTF-16 units. A text that isn't UTF-8 or has more
+/// than 1,048,576 bytes is refused with status 1, which standard error says. Refuses for memory
+/// alone.
 pub fn parse(alloc: Global, language: &Language, bytes: &[u8]) -> Result<Printed, AllocError>
     ensures { IfOk result (IsParsed language.now.file bytes.now) }
 {

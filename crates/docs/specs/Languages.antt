@@ -2,10 +2,9 @@
 use Rattle.std.specs.Prelude.{◌≡◌, ℕ, List, Some}
 use Rattle.definitions.specs.Items.{HasMoreSetsThan, HasNoConflict}
 use Rattle.dfa.specs.Positions.{HasMoreStatesThan}
-use Rattle.grammar.specs.Faults.{Cause, IsFault}
+use Rattle.grammar.specs.Faults.{Cause, cause_of, IsFault}
 use Rattle.grammar.specs.Grammars.{FileGrammar}
 use Rattle.grammar.specs.Meaning.{IsGrammarOf}
-use Rattle.grammar.specs.PublicCauses.{public_cause}
 use Rattle.tables.specs.Reports.{IsReport}
 use Rattle.tables.specs.Tables.{Sets}
 use Rattle.docs.specs.declared.language.LoadFault.{LoadFault}
@@ -25,7 +24,7 @@ pub record HasAutomaton (text : List ℕ) (file : FileGrammar) : Type 0 where
 
 -- `IsLoadFault text fault`: the text defines no language, for the first cause in the order of the tests; memory may be wanting at any time
 abbrev pub IsLoadFault : List ℕ → LoadFault → Type 0
-IsLoadFault text (load.Grammar fault) = (cause : Cause) × (public_cause fault.cause ≡ Some cause) × IsFault text fault.line cause
+IsLoadFault text (load.Grammar fault) = (cause : Cause) × (cause_of fault.cause ≡ Some cause) × IsFault text fault.line cause
 IsLoadFault text load.TooManyStates = (file : FileGrammar) × IsGrammarOf text file × HasMoreStatesThan file.patterns 4096
 IsLoadFault text load.TooManySets = (file : FileGrammar) × HasAutomaton text file × HasMoreSetsThan file.grammar 8192
 IsLoadFault text (load.Conflict file conflict) = HasAutomaton text file × (HasMoreSetsThan file.grammar 8192 → ⊥)

@@ -73,7 +73,8 @@ pub enum Outcome {
     Fault(Diagnostic),
 }
 
-/// A document of a language. Its positions count one unit. The tokens are those of the text, and the parse is that of the tokens.
+/// A document of a language. Its positions count one unit. The tokens are those of the text, and
+/// the parse is that of the tokens.
 ///
 /// A language that is handed in is always the one by which the document was opened.
 #[derive(Drop)]
@@ -88,7 +89,8 @@ pub struct Doc {
 }
 
 impl Doc {
-    /// A document of this text, whose positions count this unit. `TooLarge` exactly where the text has more than 1,048,576 bytes in UTF-8.
+    /// A document of this text, whose positions count this unit. `TooLarge` exactly where the text
+    /// has more than 1,048,576 bytes in UTF-8.
     pub fn open(
         alloc: Global,
         language: &Language,
@@ -122,10 +124,12 @@ impl Doc {
         })
     }
 
-    /// The document after a change (LSP 3.17, "TextDocumentContentChangeEvent"): `new` stands in the place of the range, or of
-    /// the whole text where there is none. The ends of a range may stand in either order. The change is the edit after the last
-    /// one: tokens and nodes that it keeps have the stamps that they had, all others its number. `TooLarge` exactly where the
-    /// text would have more than 1,048,576 bytes in UTF-8. Where it is refused, the document is lost.
+    /// The document after a change (LSP 3.17, "TextDocumentContentChangeEvent"): `new` stands in
+    /// the place of the range, or of the whole text where there is none. The ends of a range may
+    /// stand in either order. The change is the edit after the last one: tokens and nodes that it
+    /// keeps have the stamps that they had, all others its number. `TooLarge` exactly where the
+    /// text would have more than 1,048,576 bytes in UTF-8. Where it is refused, the document is
+    /// lost.
     pub fn change(
         mut self,
         alloc: Global,
@@ -151,8 +155,8 @@ impl Doc {
         Ok(self)
     }
 
-    /// Scans and parses the text after an edit that it has already. Refuses for memory alone; the parts of the document don't
-    /// belong together any more then.
+    /// Scans and parses the text after an edit that it has already. Refuses for memory alone; the
+    /// parts of the document don't belong together any more then.
     pub(crate) fn settle(
         &mut self,
         alloc: Global,
@@ -229,8 +233,8 @@ impl Doc {
         }
     }
 
-    /// The fault of the text, where it has one: the first token with which no sentence goes on, or the end. Refuses for memory
-    /// alone.
+    /// The fault of the text, where it has one: the first token with which no sentence goes on, or
+    /// the end. Refuses for memory alone.
     pub fn diagnostic(
         &self,
         alloc: Global,
@@ -271,7 +275,8 @@ impl Doc {
         Ok(Outcome::Tree(text))
     }
 
-    /// The first and last lines of what can be folded, in ascending order. Refuses for memory alone.
+    /// The first and last lines of what can be folded, in ascending order. Refuses for memory
+    /// alone.
     pub fn folds(&self, alloc: Global, language: &Language) -> Result<Vec<(u32, u32)>, AllocError>
         requires { IsCurrent language.now self.now }
         ensures { let file = language.now.file in
@@ -306,7 +311,8 @@ impl Doc {
         }
     }
 
-    /// What can be selected around each of these positions, from inner to outer. Refuses for memory alone.
+    /// What can be selected around each of these positions, from inner to outer. Refuses for
+    /// memory alone.
     pub fn selections(
         &self,
         alloc: Global,

@@ -87,8 +87,8 @@ impl From<AllocError> for LoadFault {
 impl Language {
     /// The language of a grammar file's text, or why it defines none.
     ///
-    /// Reported first is a fault of the file, then too many states of the automaton, then too many sets of the tables, then a
-    /// conflict.
+    /// Reported first is a fault of the file, then too many states of the automaton, then too many
+    /// sets of the tables, then a conflict.
     pub fn load(alloc: Global, text: &str) -> Result<Language, LoadFault>
         ensures language { IfOk result (λ l. IsLanguageOf text.now l.file) }
         ensures fault { IfErr result (IsLoadFault text.now) }
@@ -157,8 +157,8 @@ impl Language {
         Tokens::scan(alloc, grammar, automaton, &Characters(&characters))
     }
 
-    /// Brings the tokens to the text after an edit, and returns how the kinds of the significant ones change. Refuses for memory
-    /// alone, and leaves them as they were then.
+    /// Brings the tokens to the text after an edit, and returns how the kinds of the significant
+    /// ones change. Refuses for memory alone, and leaves them as they were then.
     pub fn rescan(
         &self,
         alloc: Global,

@@ -14,8 +14,8 @@ use tables::laws::{each_list_has_a_verdict, each_viable_list_has_expected};
 use theory::laws::settled_unique;
 use views::{each_offset_has_a_selection, trees_have_folds};
 
-/// Each text that fits has a reading by the language, and each reading one answer to each question.
-/// Of each edit one answer is given, where the texts before and after it fit.
+/// Each text that fits has a reading by the language, and each reading one answer to each
+/// question. Of each edit one answer is given, where the texts before and after it fit.
 pub fn always_answers(language: &Language)
     ensures always { AlwaysAnswers language.now.file }
     ensures once { AnswersOnce language.now.file }

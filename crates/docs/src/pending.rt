@@ -1,4 +1,5 @@
-//! A document with pending changes: its text is ahead of its tokens and of its parse, so that many changes cost one scan.
+//! A document with pending changes: its text is ahead of its tokens and of its parse, so that many
+//! changes cost one scan.
 
 ghost use Rattle.std.specs.Prelude.{◌≡◌, ◌+◌, ◌<◌, ◌≤◌, ◌^◌, ℕ, List, Err, Some, true, false, IfOk, IfErr, OnOk, OnErr, MatchOption, length, min};
 ghost use Rattle.std.specs.Str.{chars};
@@ -16,8 +17,8 @@ use crate::language::Language;
 use definitions::{Edit, Range};
 use std::alloc::{AllocError, Global};
 
-/// The most places that are scanned and parsed each by itself. Changes at more places than these are rare, and opening the
-/// text costs less than very many of them.
+/// The most places that are scanned and parsed each by itself. Changes at more places than these
+/// are rare, and opening the text costs less than very many of them.
 const MOST_PLACES: usize = 256;
 
 /// A document with pending changes. Changes that touch each other are scanned and parsed as one.
@@ -30,8 +31,8 @@ pub struct Pending {
     places: usize,
 }
 
-/// An edit, and after it one that puts so many characters in the place of those from `from` up to `to`, as one edit of this
-/// number.
+/// An edit, and after it one that puts so many characters in the place of those from `from` up to
+/// `to`, as one edit of this number.
 fn as_one_edit(first: Edit, from: usize, to: usize, inserted: usize, number: u64) -> Edit
     requires ordered { from ≤ to }
     requires small { first.at + first.removed + first.inserted + to + inserted < 2 ^ 63 }
@@ -82,7 +83,8 @@ impl Pending {
         }
     }
 
-    /// Whether a change of the characters from `from` up to `to` is scanned apart from the pending ones: it doesn't touch them.
+    /// Whether a change of the characters from `from` up to `to` is scanned apart from the pending
+    /// ones: it doesn't touch them.
     fn is_apart(&self, from: usize, to: usize) -> bool
         ensures { HasNone self.now → result ≡ false }
     {
@@ -183,7 +185,8 @@ impl Pending {
         Ok(())
     }
 
-    /// The document after the changes, scanned and parsed. Refuses for memory alone, and not where nothing is pending.
+    /// The document after the changes, scanned and parsed. Refuses for memory alone, and not where
+    /// nothing is pending.
     pub fn finish(mut self, alloc: Global, language: &Language) -> Result<Doc, AllocError>
         requires { IsPending language.now self }
         ensures text { IfOk result (λ d. d.text ≡ pending_text self) }

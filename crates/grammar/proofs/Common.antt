@@ -14,7 +14,7 @@ pub use Rattle.std.proofs.lemmas.List.{get_or-set_other, get_or-set_same, get_or
 pub use Rattle.std.proofs.lemmas.List.Elements.{All-cons, All-nil, filter_map-append}
 pub use Rattle.std.proofs.lemmas.List.Folds.{list_any-append, list_any_at}
 pub use Rattle.std.proofs.lemmas.List.Sums.{fold-append, sum_by-set}
-pub use Rattle.std.proofs.lemmas.Option.{get_or_from_slice_get, slice_get_read, slice_get_within}
+pub use Rattle.std.proofs.lemmas.Option.{IfSome_then, get_or_from_slice_get, slice_get_read, slice_get_within}
 pub use Rattle.std.proofs.lemmas.Result.{err_from_is_err_and}
 pub use Rattle.std.proofs.lemmas.Slice.Eq.{bytes_eq-Decides}
 pub use Rattle.definitions.specs.Answers.{kind_name}
@@ -33,20 +33,18 @@ pub use Rattle.grammar.specs.Marks.{AllProductiveIn, AreBelow, AreComplete, AreS
 pub use Rattle.grammar.specs.Meaning.{IsGrammarOf, file_grammar, grammar_with}
 pub use Rattle.grammar.specs.Notes.{AreNotes, is_rule, is_skip, none, noted_symbol, skipped, used}
 pub use Rattle.grammar.specs.Parts.{AreParts, AreProductive, IsUnproductive}
-pub use Rattle.grammar.specs.PublicCauses.{IsFor, ReportsCause, public_cause}
 pub use Rattle.grammar.specs.Uses.{AreAllUsed, AreOnlyUsed, AreUsed, AreWithin, IsReached, IsSpread, IsUnmarkedIn}
 pub use Rattle.grammar.specs.declared.read.Parts.{Parts}
 pub use Rattle.grammar_file.proofs.Lines.{nonterminals-step, rules-step}
 pub use Rattle.grammar_file.proofs.OneMoreItem.{push_at}
-pub use Rattle.grammar_file.proofs.Splits.{length-texts, productions_more, said_split, shows_map}
+pub use Rattle.grammar_file.proofs.Splits.{length-texts, productions_more, said_split}
 pub use Rattle.grammar_file.proofs.TestedItems.{list_any-map}
-pub use Rattle.grammar_file.specs.Causes.{Reports, cause_of}
+pub use Rattle.grammar_file.specs.Causes.{Reports}
 pub use Rattle.grammar_file.specs.Contents.{ProductionLine, RuleLine, as_production, as_rule, as_start, defined, defined_after, defines, is_among, nonterminals, number_of, productions, starts, with_name}
 pub use Rattle.grammar_file.specs.Faults.{AreFaultless, Cause, DefinedTwice, HasPattern, HasPatternFault, HaveReferents, IsFaultless, IsFileFault, IsLineFault, IsWhole, NotANonterminal, Unproductive, cause_if, early_fault, first_line, has_production, has_rule, is_production, is_skip_rule, line, no_start, or_else, reference, reference_fault, reserved, right_fault, symbol_fault, too_large}
 pub use Rattle.grammar_file.specs.Kept.{AreFew, AreNames, ArePatterns, IsWrittenOut, lines_view, rule_line, statement_of, with_left, with_rule}
 pub use Rattle.grammar_file.specs.WrittenOut.{added, marked, right_sides, written_out}
-pub use Rattle.grammar_file.specs.declared.fault.Refusal.{Refusal}
-pub use Rattle.grammar_file.specs.declared.fault.Refusal.TheVariants.{Fault, Memory}
+pub use Rattle.grammar_file.specs.declared.fault.GrammarFault.{GrammarFault}
 pub use Rattle.grammar_file.specs.declared.names.Names.{Names}
 pub use Rattle.grammar_file.specs.declared.statements.File.{File}
 pub use Rattle.grammar_file.specs.declared.statements.Numbered.{Numbered}

@@ -1,13 +1,13 @@
 -- The grammar of a file without a fault.
-use Rattle.grammar.proofs.Common.{slice_get_within, get_or_from_slice_get, AreNotes, AreWithin, Symbol, Nonterminal, Production', Refusal, Numbered, File, Word, Statement, statements, flat_map, RuleLine, productions, nonterminals, defined, added, marked, written_out, production_of, grammar_of, IsWhole, HaveReferents, IsFileFault, Unproductive, IsFirstProduction, IsFault, file_fault, unproductive, FileGrammar, IsGrammar, IsUsable, AreBelow, AllProductiveIn, IsUnproductiveIn, grammar_with, file_grammar, IsGrammarOf, Names, texts, lines_view, AreNames, ArePatterns, IsWrittenOut, Parts, AreParts, AreProductive, IsUnproductive, Reports, shows_map, length-texts}
+use Rattle.grammar.proofs.Common.{slice_get_within, get_or_from_slice_get, AreNotes, AreWithin, Symbol, Nonterminal, Production', Cause, GrammarFault, Numbered, File, Word, Statement, statements, flat_map, RuleLine, productions, nonterminals, defined, added, marked, written_out, production_of, grammar_of, IsWhole, HaveReferents, IsFileFault, Unproductive, IsFirstProduction, IsFault, file_fault, unproductive, FileGrammar, IsGrammar, IsUsable, AreBelow, AllProductiveIn, IsUnproductiveIn, grammar_with, file_grammar, IsGrammarOf, Names, texts, lines_view, AreNames, ArePatterns, IsWrittenOut, Parts, AreParts, AreProductive, IsUnproductive, Reports, IfSome_then, length-texts}
 use Rattle.std.proofs.Common.{◌≡◌, ℕ, ◌<◌, List, refl, ap, sym, ◌∙◌, length, arith, subst, Bor, Some, Result, Ok, Err, IfOk, IfErr, map, slice_get}
 use Rattle.grammar.proofs.NumbersInRange.{known}
 use Rattle.grammar.proofs.Ranges.{lefts_below, is_grammar}
 use Rattle.grammar.proofs.WrittenOut.{rules_written, few_nonterminals, few_productions, are_once, plain_lefts, are_fine, are_short, start_in}
 
 -- what is reported of the lines and names is reported of the file
-pub shown_of_file : (text : List ℕ) (r : Refusal) → Reports r (λ n c. IsFileFault text n c) → Reports r (λ n c. IsFault text n c)
-shown_of_file text r shows = shows_map r (λ n c. IsFileFault text n c) (λ n c. IsFault text n c) (λ n c h. file_fault n c h) shows
+pub shown_of_file : (text : List ℕ) (f : GrammarFault) → Reports f (IsFileFault text) → Reports f (IsFault text)
+shown_of_file text f shows = IfSome_then _ shows (file_fault f.line)
 
 pub productions_are : (names : Names) (ss : List Statement) (ps : List Production') → AreNames names ss → ps ≡ map (production_of names.nonterminals (map (λ r. r.name) names.rules)) (productions ss) → ps ≡ (grammar_of ss).productions
 productions_are names ss ps named are =
@@ -25,13 +25,11 @@ module _ (ss : List Statement) (names : List (Bor (List ℕ))) (ps : List Produc
   pub productive : AllProductiveIn ps (length names) → AreProductive ss
   productive all n within = all (grammar_of ss) n (sym are) (omega (arith, within, count_is))
 
-  pub unproductive_is : (r : Refusal) → Reports r (λ line c. (n : ℕ) × ((w : Word) × (slice_get (texts names) n ≡ Some w) × (c ≡ Unproductive w) × IsUnproductiveIn ps n × IsFirstProduction ss w line)) → Reports r (IsUnproductive ss)
-  unproductive_is r shows =
-      shows_map r _ (IsUnproductive ss)
-      (λ line c h.
+  pub unproductive_is : (line : ℕ) (c : Cause) → (n : ℕ) × ((w : Word) × (slice_get (texts names) n ≡ Some w) × (c ≡ Unproductive w) × IsUnproductiveIn ps n × IsFirstProduction ss w line) → IsUnproductive ss line c
+  unproductive_is line c h =
       let (n, named) = h in
       let (w, there, is, at, first) = named in
-      (n, (w, ap (λ ws. slice_get ws n) (sym same) ∙ there, is, record { unproductive = at.unproductive (grammar_of ss) (sym are); before = λ m l. at.before (grammar_of ss) m (sym are) l }, first))) shows
+      (n, (w, ap (λ ws. slice_get ws n) (sym same) ∙ there, is, record { unproductive = at.unproductive (grammar_of ss) (sym are); before = λ m l. at.before (grammar_of ss) m (sym are) l }, first))
 
 module _ (text : List ℕ) (file : File) (whole : IsWhole text) (read : IsWrittenOut file (statements text)) (refers : HaveReferents (statements text) (statements text)) (ns : List Numbered) (same : ns ≡ file.statements.items) where
   abbrev own : List Statement
@@ -54,21 +52,21 @@ module _ (text : List ℕ) (file : File) (whole : IsWhole text) (read : IsWritte
       (subst (λ (rs : List RuleLine). ArePatterns rs file.patterns.items) (sym (rules_written own)) read.patterns)
       (subst AreProductive line_view all) (known own (flat_map added (marked own)) file.patterns.items (defined own))))
 
-  pub is_meant : (r : Result FileGrammar Refusal) → IfOk r (λ f. AreProductive (lines_view ns)) → IfOk r (λ f. f ≡ grammar_with (lines_view ns) file.patterns.items file.defined.items) → IfOk r (λ f. IsGrammarOf text f)
+  pub is_meant : (r : Result FileGrammar GrammarFault) → IfOk r (λ f. AreProductive (lines_view ns)) → IfOk r (λ f. f ≡ grammar_with (lines_view ns) file.patterns.items file.defined.items) → IfOk r (λ f. IsGrammarOf text f)
   is_meant (Ok f) all is =
       let of_file : f ≡ file_grammar own file.patterns.items = is ∙ (λ i. grammar_with (line_view i) file.patterns.items (read.defined i)) in
       subst (λ (g : FileGrammar). IsGrammarOf text g) (sym of_file)
       (record { whole = whole; referents = refers; patterns = read.patterns; productive = subst AreProductive line_view all; is = refl })
   is_meant (Err e) all is = tt
 
-  pub is_fault : (r : Result FileGrammar Refusal) → IfErr r (λ e. Reports e (IsUnproductive (lines_view ns))) → IfErr r (λ e. Reports e (λ line c. IsFault text line c))
+  pub is_fault : (r : Result FileGrammar GrammarFault) → IfErr r (λ e. Reports e (IsUnproductive (lines_view ns))) → IfErr r (λ e. Reports e (IsFault text))
   is_fault (Ok f) shows = tt
   is_fault (Err e) shows =
-      shows_map e (IsUnproductive (lines_view ns)) (λ line c. IsFault text line c)
-      (λ line c h.
-      let (n, found) = subst (λ (xs : List Statement). IsUnproductive xs line c) line_view h in
+      IfSome_then _ shows
+      (λ c h.
+      let (n, found) = subst (λ (xs : List Statement). IsUnproductive xs e.line c) line_view h in
       let (w, there, is, first, stands) = found in
-      subst (λ d. IsFault text line d) (sym is) (unproductive line n w whole refers first there stands)) shows
+      subst (λ d. IsFault text e.line d) (sym is) (unproductive e.line n w whole refers first there stands))
 
 module _ (f : FileGrammar) (parts : Parts) (ps : List Production') (sound : IsGrammar f) (has : AreParts parts f) (same : ps ≡ f.grammar.productions) where
   -- the grammar of these parts

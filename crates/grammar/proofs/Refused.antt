@@ -1,7 +1,7 @@
 -- A text with a fault is no grammar's file.
-use Rattle.std.proofs.Common.{◌≡◌, inl, inr, ℕ, Bool, true, false, List, [], ◌∷◌, ◌++◌, refl, ap, ◌∙◌, length, take, arith, subst, Option, Some, None, slice_get}
+use Rattle.std.proofs.Common.{◌≡◌, inl, inr, ℕ, Bool, true, false, List, [], ◌∷◌, ◌++◌, refl, ap, ◌∙◌, length, take, arith, subst, Option, Some, None, Result, Ok, Err, IfErr, slice_get}
 use Rattle.std.specs.Str.{chars}
-use Rattle.grammar.proofs.Common.{slice_get_within, PatternFault, refused, Refusal, Fault, Memory, Statement, statements, Line, Nothing, Production, Rule, Start, Fold, Bad, nonterminals, written_out, Cause, HasPattern, HasPatternFault, IsFaultless, IsLineFault, IsFileFault, too_large, first_line, line, no_start, reference, reference_fault, IsFault, file_fault, unproductive, FileGrammar, IsGrammarOf, cause_of, Reports, ReportsCause, IsFor}
+use Rattle.grammar.proofs.Common.{slice_get_within, PatternFault, refused, GrammarFault, IfSome_then, Statement, statements, Line, Nothing, Production, Rule, Start, Fold, Bad, nonterminals, written_out, Cause, HasPattern, HasPatternFault, IsFaultless, IsLineFault, IsFileFault, too_large, first_line, line, no_start, reference, reference_fault, IsFault, file_fault, unproductive, FileGrammar, IsGrammarOf, Reports}
 
 met : {X : Type 0} (xs : List X) (y : X) (ys : List X) → slice_get (xs ++ y ∷ ys) (length xs) ≡ Some y
 met [] y ys = refl
@@ -60,8 +60,10 @@ module _ (text : List ℕ) (g : FileGrammar) (of : IsGrammarOf text g) where
   no_fault n c (file_fault m d h) = no_file_fault m d h
   no_fault n c (unproductive m k w whole refers first there at) = first.unproductive (of.productive k (slice_get_within (nonterminals (written_out ss)) k w there))
 
+refused_text : (text : List ℕ) (n : ℕ) (c : Cause) → IsFault text n c → (g : FileGrammar) → IsGrammarOf text g → ⊥
+refused_text text n c fault g of = no_fault text g of n c fault
+
 -- the text that is refused for a cause is no grammar's file
-pub no_file : (text : List ℕ) (r : Refusal) (o : Option Cause) (n : ℕ) → Reports r (λ m c. IsFault text m c) → ReportsCause o (λ c. IsFor r n c) → ReportsCause o (λ c. (g : FileGrammar) → IsGrammarOf text g → ⊥)
-no_file text r None n shows h = tt
-no_file text (Fault m d) (Some c) n shows h = λ g of. no_fault text g of m (cause_of d) shows
-no_file text Memory (Some c) n shows h = absurd h
+pub no_file : (text : List ℕ) (r : Result FileGrammar GrammarFault) → IfErr r (λ f. Reports f (IsFault text)) → IfErr r (λ f. Reports f (λ _ _. (g : FileGrammar) → IsGrammarOf text g → ⊥))
+no_file text (Ok g) shows = tt
+no_file text (Err f) shows = IfSome_then _ shows (refused_text text f.line)

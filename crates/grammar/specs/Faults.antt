@@ -10,6 +10,8 @@ use Rattle.grammar_file.specs.Contents.{nonterminals}
 use Rattle.grammar_file.specs.WrittenOut.{written_out}
 use Rattle.grammar_file.specs.Faults.{IsWhole, HaveReferents, IsFileFault}
 pub use Rattle.grammar_file.specs.Faults.{Cause, Unproductive}
+pub use Rattle.grammar_file.specs.Causes.{cause_of}
+pub use Rattle.grammar_file.specs.Texts.{fault_text}
 use Rattle.grammar.specs.Contents.{grammar_of}
 
 -- `is_production_of w line`: whether the line is a production of the nonterminal

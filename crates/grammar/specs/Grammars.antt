@@ -3,7 +3,7 @@ use Rattle.std.specs.Prelude.{◌≡◌, ℕ, ◌<◌, ◌≤◌, Bool, false, L
 use Rattle.definitions.specs.declared.Symbol.{Symbol}
 use Rattle.definitions.specs.declared.Symbol.TheVariants.{Rule as Terminal, Nonterminal}
 use Rattle.definitions.specs.declared.expression.Expression.{Expression}
-use Rattle.definitions.specs.Trees.{Grammar, HasProduction, HasDistinctProductions}
+use Rattle.definitions.specs.Trees.{Grammar, Production, HasProduction, HasDistinctProductions}
 use Rattle.definitions.specs.Sentences.{IsProductive}
 use Rattle.grammar.specs.Lexicon.{Lexicon}
 
@@ -18,6 +18,19 @@ pub record FileGrammar : Type 0 where
   pub folds : List Bool
   pub grammar : Grammar
   pub defined : List Symbol
+
+-- `stored names patterns skips nonterminals folds start productions defined`: what a file with these parts defines
+abbrev pub stored : List (List ℕ) → List Expression → List Bool → List (List ℕ) → List Bool → ℕ → List Production → List Symbol → FileGrammar
+stored names patterns skips nonterminals folds start productions defined =
+    record {
+      names = names;
+      patterns = patterns;
+      skips = skips;
+      nonterminals = nonterminals;
+      folds = folds;
+      grammar = record { start = start; rules = length names; productions = productions };
+      defined = defined;
+    }
 
 -- the token and skip rules of what a file defines
 abbrev pub lexicon_of : FileGrammar → Lexicon

@@ -3,8 +3,6 @@ pub mod Faults
 pub mod Grammars
 pub mod Lexicon
 pub mod Marks
-pub mod PublicCauses
-pub mod Texts
 pub mod Meaning
 pub mod Uses
 pub mod Notes

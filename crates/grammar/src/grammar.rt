@@ -6,17 +6,17 @@ ghost use Rattle.std.specs.Iterator.{YieldsFirstBy, item_count};
 ghost use Rattle.definitions.specs.Tokens.{is_skipped};
 ghost use Rattle.definitions.specs.Answers.{kind_name};
 ghost use Rattle.definitions.specs.declared.Symbol.{Symbol};
+ghost use Rattle.grammar_file.specs.Causes.{Reports};
 ghost use Rattle.grammar.specs.Faults.{IsFault};
 ghost use Rattle.definitions.specs.Trees.{left_of, right_of};
 ghost use Rattle.grammar.specs.Grammars.{FileGrammar, IsGrammar};
 ghost use Rattle.grammar.specs.Meaning.{IsGrammarOf};
 ghost use Rattle.grammar.specs.Notes.{AreNotes, symbol_name};
-ghost use Rattle.grammar.specs.PublicCauses.{public_cause, ReportsCause};
 
-use crate::fault::{GrammarFault, public_fault};
 use crate::read::read;
 use definitions::{Kind, Symbol};
 use first_sets::Production;
+use grammar_file::GrammarFault;
 use patterns::Pattern;
 use std::alloc::Global;
 use std::marker::Model;
@@ -36,8 +36,9 @@ impl Model for Name {
     ghost view = { λ n. chars (string_bytes n.text) };
 }
 
-/// What a grammar file defines: its rules and nonterminals in file order, and its productions. A marked word, as `X*`, is
-/// a nonterminal of this name. The marked words stand after what the lines define, and so do their productions.
+/// What a grammar file defines: its rules and nonterminals in file order, and its productions. A
+/// marked word, as `X*`, is a nonterminal of this name. The marked words stand after what the
+/// lines define, and so do their productions.
 #[derive(Drop)]
 pub struct Grammar {
     /// The names of the rules, in file order.
@@ -61,8 +62,7 @@ pub struct Grammar {
 }
 
 impl Model for Grammar {
-    ghost use Rattle.std.specs.Prelude.{length};
-    ghost use Rattle.grammar.specs.Grammars.{FileGrammar, IsGrammar};
+    ghost use Rattle.grammar.specs.Grammars.{FileGrammar, IsGrammar, stored};
     ghost use Rattle.grammar.specs.Notes.{AreNotes};
     ghost use Rattle.definitions.specs.contracts.expression.Expression as e;
     ghost use Rattle.std.specs.Coded.{codes};
@@ -71,42 +71,30 @@ impl Model for Grammar {
 
     ghost coded = { Prim.hlevel (codes, e.the_row.coded) };
 
-    ghost view = { λ g. record {
-      names = g.names.items;
-      patterns = g.patterns.items;
-      skips = g.skips.items;
-      nonterminals = g.nonterminals.items;
-      folds = g.folds.items;
-      grammar = record {
-        start = g.start;
-        rules = length g.names.items;
-        productions = g.productions.items;
-      };
-      defined = g.defined.items;
-    } };
+    ghost view = { λ g. stored g.names.items g.patterns.items g.skips.items g.nonterminals.items
+        g.folds.items g.start g.productions.items g.defined.items };
 
-    ghost invariant = { λ g. IsGrammar (record { names = g.names.items; patterns = g.patterns.items; skips = g.skips.items; nonterminals = g.nonterminals.items; folds = g.folds.items; grammar = record { start = g.start; rules = length g.names.items; productions = g.productions.items }; defined = g.defined.items }) × AreNotes (record { names = g.names.items; patterns = g.patterns.items; skips = g.skips.items; nonterminals = g.nonterminals.items; folds = g.folds.items; grammar = record { start = g.start; rules = length g.names.items; productions = g.productions.items }; defined = g.defined.items }) g.defined.items g.notes.items };
+    ghost invariant = { λ g.
+        let file = stored g.names.items g.patterns.items g.skips.items g.nonterminals.items
+        g.folds.items g.start g.productions.items g.defined.items in
+        IsGrammar file × AreNotes file g.defined.items g.notes.items };
 }
 
 impl Grammar {
     /// The grammar of a file, or its first fault.
     ///
-    /// Reported first is a file of more than 65,536 bytes, then a first line that is neither `lrgrammar 1` nor
-    /// `lrgrammar 2`, then the first line with a fault of its own, then that there is no start, then the first line that
-    /// uses a name wrongly, and then the first unproductive nonterminal, at its first production. Where memory is
-    /// refused the cause is `GrammarCause::Memory`, which says nothing of the file.
+    /// Reported first is a file of more than 65,536 bytes, then a first line that is neither
+    /// `lrgrammar 1` nor `lrgrammar 2`, then the first line with a fault of its own, then that
+    /// there is no start, then the first line that uses a name wrongly, and then the first
+    /// unproductive nonterminal, at its first production. Where memory is refused the cause is
+    /// `GrammarCause::Memory`, which says nothing of the file.
     pub fn read(alloc: Global, text: &str) -> Result<Grammar, GrammarFault>
         ensures grammar { IfOk result (λ g. IsGrammarOf text.now g) }
-        ensures fault { IfErr result (λ f.
-            ReportsCause (public_cause f.cause) (λ c. IsFault text.now f.line c)) }
+        ensures fault { IfErr result (λ f. Reports f (IsFault text.now)) }
         ensures refused { IfErr result (λ f.
-            ReportsCause (public_cause f.cause) (λ _.
-            (g : FileGrammar) → IsGrammarOf text.now g → ⊥)) }
+            Reports f (λ _ _. (g : FileGrammar) → IsGrammarOf text.now g → ⊥)) }
     {
-        match read(alloc, text) {
-            Ok(grammar) => Ok(grammar),
-            Err(refusal) => Err(public_fault(alloc, refusal)),
-        }
+        read(alloc, text)
     }
 
     /// The number of the start nonterminal.
@@ -132,7 +120,8 @@ impl Grammar {
         &self.patterns
     }
 
-    /// The name of a kind: its rule's, or `invalid`. Rule names are never empty; for an unknown rule the result is empty.
+    /// The name of a kind: its rule's, or `invalid`. Rule names are never empty; for an unknown
+    /// rule the result is empty.
     pub fn kind_name(&self, kind: Kind) -> &str
         ensures { chars result.now ≡ kind_name self.now.names kind }
     {
@@ -197,8 +186,8 @@ impl Grammar {
         &self.productions[production].right
     }
 
-    /// The names of the nonterminals and `token` rules that no derivation from the start uses, in file order, a
-    /// nonterminal at its first production.
+    /// The names of the nonterminals and `token` rules that no derivation from the start uses, in
+    /// file order, a nonterminal at its first production.
     pub fn notes(&self) -> Notes<'_>
         ensures { (notes : List Symbol) × AreNotes self.now self.now.defined notes ×
             (result ≡ map (symbol_name self.now) notes) }

@@ -14,7 +14,8 @@ use definitions::Symbol;
 use first_sets::Production;
 use std::alloc::{AllocError, Global};
 
-/// Those of the symbols, in order, that are neither skipped nor used, where `marks` has the nonterminals that are.
+/// Those of the symbols, in order, that are neither skipped nor used, where `marks` has the
+/// nonterminals that are.
 pub fn notes(
     alloc: Global,
     defined: &[Symbol],

@@ -78,6 +78,7 @@ pub fn productions(
     Ok(found)
 }
 
+/// Adds the production, if there is one.
 fn push(found: &mut Vec<Production>, production: Option<Production>) -> Result<(), AllocError>
     ensures { OnOk result (found.new.items ≡ found.old.items ++ cons_option production []) }
 {

@@ -21,7 +21,7 @@ use crate::unproductive::test_productive;
 use crate::used::mark_used;
 use definitions::Symbol;
 use first_sets::Production;
-use grammar_file::{File, Names, Numbered, Refusal, RuleName, read_file};
+use grammar_file::{File, GrammarFault, Names, Numbered, RuleName, read_file};
 use patterns::Pattern;
 use std::alloc::{AllocError, Global};
 
@@ -41,9 +41,9 @@ struct Parts {
 }
 
 /// The grammar of a file, or the first fault.
-pub fn read<'a>(alloc: Global, text: &'a str) -> Result<Grammar, Refusal<'a>>
+pub fn read(alloc: Global, text: &str) -> Result<Grammar, GrammarFault>
     ensures grammar { IfOk result (λ g. IsGrammarOf text.now g) }
-    ensures fault { IfErr result (λ r. Reports r (λ n c. IsFault text.now n c)) }
+    ensures fault { IfErr result (λ f. Reports f (IsFault text.now)) }
 {
     let File {
         statements,
@@ -55,20 +55,20 @@ pub fn read<'a>(alloc: Global, text: &'a str) -> Result<Grammar, Refusal<'a>>
 }
 
 /// The grammar of the lines and of these patterns, or the first unproductive nonterminal.
-fn grammar_of<'a>(
+fn grammar_of(
     alloc: Global,
-    statements: &[Numbered<'a>],
-    names: &Names<'a>,
+    statements: &[Numbered<'_>],
+    names: &Names<'_>,
     patterns: Vec<Pattern>,
     defined: Vec<Symbol>,
-) -> Result<Grammar, Refusal<'a>>
+) -> Result<Grammar, GrammarFault>
     requires names { AreNames names.now (lines_view statements.now) }
     requires grammar { AreProductive (lines_view statements.now) →
         IsGrammar (grammar_with (lines_view statements.now) patterns.items defined.items) }
     ensures productive { IfOk result (λ _. AreProductive (lines_view statements.now)) }
     ensures grammar { IfOk result (λ g.
         g ≡ grammar_with (lines_view statements.now) patterns.items defined.items) }
-    ensures fault { IfErr result (λ r. Reports r (IsUnproductive (lines_view statements.now))) }
+    ensures fault { IfErr result (λ f. Reports f (IsUnproductive (lines_view statements.now))) }
 {
     let productions = productions_of(alloc, statements, names)?;
     let parts = parts_of(alloc, statements, names)?;
@@ -87,16 +87,16 @@ fn grammar_of<'a>(
 }
 
 /// The productions of the lines, or the first unproductive nonterminal.
-fn productions_of<'a>(
+fn productions_of(
     alloc: Global,
-    statements: &[Numbered<'a>],
-    names: &Names<'a>,
-) -> Result<Vec<Production>, Refusal<'a>>
+    statements: &[Numbered<'_>],
+    names: &Names<'_>,
+) -> Result<Vec<Production>, GrammarFault>
     requires { AreNames names.now (lines_view statements.now) }
     ensures productions { IfOk result (λ ps.
         ps.items ≡ (grammar_of (lines_view statements.now)).productions) }
     ensures productive { IfOk result (λ _. AreProductive (lines_view statements.now)) }
-    ensures fault { IfErr result (λ r. Reports r (IsUnproductive (lines_view statements.now))) }
+    ensures fault { IfErr result (λ f. Reports f (IsUnproductive (lines_view statements.now))) }
 {
     let productions = numbers::productions(alloc, statements, names)?;
     test_productive(
@@ -159,6 +159,7 @@ fn skips(alloc: Global, rules: &[RuleName<'_>]) -> Result<Vec<bool>, AllocError>
     Ok(skips)
 }
 
+/// The names of the rules, in file order.
 fn rule_names(alloc: Global, rules: &[RuleName<'_>]) -> Result<Vec<Name>, AllocError>
     ensures { IfOk result (λ names.
         names.items ≡ map chars (map (λ r. r.name) (map rule_line rules.now))) }

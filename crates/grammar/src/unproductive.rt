@@ -13,21 +13,21 @@ ghost use Rattle.grammar_file.specs.Causes.{Reports};
 
 use crate::productive::productive;
 use first_sets::Production;
-use grammar_file::{Cause, Line, Numbered, Refusal};
+use grammar_file::{GrammarCause, GrammarFault, Line, Numbered};
 use std::alloc::Global;
 
 /// Tests that all nonterminals are productive.
-pub fn test_productive<'a>(
+pub fn test_productive(
     alloc: Global,
-    names: &[&'a str],
-    statements: &[Numbered<'a>],
+    names: &[&str],
+    statements: &[Numbered<'_>],
     productions: &[Production],
-) -> Result<(), Refusal<'a>>
+) -> Result<(), GrammarFault>
     requires below { AreBelow productions.now (length names.now) }
     requires names { texts names.now ≡ nonterminals (lines_view statements.now) }
     ensures fine { OnOk result (AllProductiveIn productions.now (length names.now)) }
-    ensures fault { IfErr result (λ r.
-        Reports r (λ line c.
+    ensures fault { IfErr result (λ f.
+        Reports f (λ line c.
         (n : ℕ) ×
         ((w : Word) × (slice_get (texts names.now) n ≡ Some w) × (c ≡ Unproductive w) ×
         IsUnproductiveIn productions.now n
@@ -38,11 +38,17 @@ pub fn test_productive<'a>(
         None => Ok(()),
         Some(nonterminal) => {
             let name = names[nonterminal];
-            Err(Refusal::Fault(first_line_of(name, statements), Cause::Unproductive(name)))
+            let line = first_line_of(name, statements);
+            let name = String::from_str(alloc, name)?;
+            Err(GrammarFault {
+                line,
+                cause: GrammarCause::Unproductive(name),
+            })
         }
     }
 }
 
+/// The number of the first mark that isn't set.
 fn first_unmarked(marks: &[bool]) -> Option<usize>
     ensures { MatchOption result
         ((n : ℕ) → n < length marks.now → slice_index_or marks.now n false ≡ true)

@@ -55,6 +55,7 @@ fn next_of(production: &Production, marks: &[bool]) -> Option<usize>
     }
 }
 
+/// The first nonterminal among the symbols that isn't marked.
 fn first_unmarked(symbols: &[Symbol], marks: &[bool]) -> Option<usize>
     ensures { MatchOption result
         (are_marked marks.now symbols.now ≡ true) (IsUnmarkedIn marks.now symbols.now) }

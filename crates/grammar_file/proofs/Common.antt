@@ -15,19 +15,18 @@ pub use Rattle.std.proofs.lemmas.List.{flat_map_more, length-map, length-take-le
 pub use Rattle.std.proofs.lemmas.List.Elements.{filter-append, filter_map-append}
 pub use Rattle.std.proofs.lemmas.List.Folds.{list_any-append, position_or_len_push}
 pub use Rattle.std.proofs.lemmas.List.Sums.{fold-append, prefix_len-le-length}
-pub use Rattle.std.proofs.lemmas.Option.{slice_get_within}
-pub use Rattle.std.proofs.lemmas.Result.{IfErr-weaker, err_from_is_err_and, on_ok_weaker}
+pub use Rattle.std.proofs.lemmas.Option.{IfSome_then, slice_get_within}
+pub use Rattle.std.proofs.lemmas.Result.{MatchResult-weaker, err_from_is_err_and, on_ok_weaker}
 pub use Rattle.definitions.specs.Spelling.{IsPattern}
 pub use Rattle.definitions.specs.declared.Symbol.{Symbol}
 pub use Rattle.definitions.specs.declared.expression.Expression.{Expression}
-pub use Rattle.grammar_file.specs.Causes.{Reports, cause_of}
+pub use Rattle.grammar_file.specs.Causes.{Reports, ReportsCause}
 pub use Rattle.grammar_file.specs.Contents.{ProductionLine, RuleLine, as_production, defines, is_among, number_of, productions, with_name}
 pub use Rattle.grammar_file.specs.Faults.{AreFaultless, Cause, HasPattern, HaveReferents, IsFaultless, IsFileFault, IsFirstLineFault, IsFirstReferenceFault, IsLineFault, IsWhole, NoStart, cause_if, early_fault, exceeded_limit, first_line, has_production, is_production, is_skip_rule, late_fault, limit_fault, line, line_limit, no_start, nonterminal_count, or_else, production_count, reference, reference_fault, reserved, right_fault, too_large}
 pub use Rattle.grammar_file.specs.Kept.{AreFew, AreNames, ArePatterns, IsPatternOf, IsRead, IsWrittenOut, are_among, lines_view, statement_of, with_left, with_names, with_pattern, with_production, with_right, with_rule, with_sides, with_skip, with_start}
 pub use Rattle.grammar_file.specs.Numbers.{AreNumbers}
 pub use Rattle.grammar_file.specs.WrittenOut.{added, marked, with_marked}
-pub use Rattle.grammar_file.specs.declared.fault.Refusal.{Refusal}
-pub use Rattle.grammar_file.specs.declared.fault.Refusal.TheVariants.{Fault, Memory}
+pub use Rattle.grammar_file.specs.declared.fault.GrammarFault.{GrammarFault}
 pub use Rattle.grammar_file.specs.declared.names.Names.{Names}
 pub use Rattle.grammar_file.specs.declared.statements.File.{File}
 pub use Rattle.grammar_file.specs.declared.statements.Numbered.{Numbered}

@@ -1,8 +1,7 @@
 -- What a file's lines say, as a whole.
 use Rattle.std.proofs.Common.{◌≡◌, ℕ, ◌≤◌, true, false, List, [], ◌∷◌, refl, ap, sym, ◌∙◌, length, drop, subst, Bor}
 use Rattle.std.specs.Prelude.{Option, Some, is_some, unwrap_or}
-use Rattle.grammar_file.proofs.Common.{lines, Version, One, File, Refusal, Statement, statements, statements_in, version_of, is_headed, NoStart, IsFileFault, line, no_start, reference, IsWhole, IsFirstLineFault, IsFirstReferenceFault, texts, IsRead, Reports}
-use Rattle.grammar_file.proofs.Splits.{shows_map}
+use Rattle.grammar_file.proofs.Common.{lines, Version, One, File, GrammarFault, IfSome_then, Statement, statements, statements_in, version_of, is_headed, NoStart, IsFileFault, line, no_start, reference, IsWhole, IsFirstLineFault, IsFirstReferenceFault, texts, IsRead, Reports}
 
 -- the version that the first line gives
 pub version_is : (v xs : List (Bor (List ℕ))) (t : List ℕ) (given o : Option Version) → given ≡ version_of (texts v) → v ≡ xs → texts xs ≡ lines t → given ≡ o → version_of (lines t) ≡ o
@@ -21,10 +20,8 @@ statements_are v xs ys t version rest same all is =
     ∙ ap (statements_in version) (rest_texts v ∙ ap (λ y. drop 1 (texts y)) same ∙ ap (λ y. drop 1 y) all)
     ∙ ap (λ o. statements_in (unwrap_or o One) (drop 1 (lines t))) (sym is)
 
-pub line_fault : (t : List ℕ) (ss : List Statement) (r : Refusal) → length t ≤ 65536 → is_headed (lines t) ≡ true → ss ≡ statements t → Reports r (λ n c. IsFirstLineFault ss n c) → Reports r (λ n c. IsFileFault t n c)
-line_fault t ss r small headed same shows =
-    shows_map r (λ n c. IsFirstLineFault ss n c) (λ n c. IsFileFault t n c)
-    (λ n c h. line n c small headed (subst (λ (xs : List Statement). IsFirstLineFault xs n c) same h)) shows
+pub line_fault : (t : List ℕ) (ss : List Statement) (f : GrammarFault) → length t ≤ 65536 → is_headed (lines t) ≡ true → ss ≡ statements t → Reports f (IsFirstLineFault ss) → Reports f (IsFileFault t)
+line_fault t ss f small headed same shows = IfSome_then _ shows (λ c h. line f.line c small headed (subst (λ (xs : List Statement). IsFirstLineFault xs f.line c) same h))
 
 pub no_start_fault : (t : List ℕ) (ss : List Statement) (f : File) → length t ≤ 65536 → is_headed (lines t) ≡ true → ss ≡ statements t → IsRead f ss → f.names.started ≡ false → IsFileFault t 0 NoStart
 no_start_fault t ss f small headed same read none =
@@ -36,7 +33,5 @@ is_whole t ss f small headed same read some =
     let whole = subst (λ (xs : List Statement). IsRead f xs) same read in
     record { small = small; headed = headed; faultless = whole.faultless; started = sym whole.names.started ∙ some }
 
-pub reference_fault : (t : List ℕ) (ss : List Statement) (r : Refusal) → IsWhole t → ss ≡ statements t → Reports r (λ n c. IsFirstReferenceFault ss n c) → Reports r (λ n c. IsFileFault t n c)
-reference_fault t ss r whole same shows =
-    shows_map r (λ n c. IsFirstReferenceFault ss n c) (λ n c. IsFileFault t n c)
-    (λ n c h. reference n c whole (subst (λ (xs : List Statement). IsFirstReferenceFault xs n c) same h)) shows
+pub reference_fault : (t : List ℕ) (ss : List Statement) (f : GrammarFault) → IsWhole t → ss ≡ statements t → Reports f (IsFirstReferenceFault ss) → Reports f (IsFileFault t)
+reference_fault t ss f whole same shows = IfSome_then _ shows (λ c h. reference f.line c whole (subst (λ (xs : List Statement). IsFirstReferenceFault xs f.line c) same h))

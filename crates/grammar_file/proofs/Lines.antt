@@ -1,9 +1,8 @@
 -- What one more line makes of the contents.
 use Rattle.std.proofs.Common.{◌≡◌, ℕ, ◌≤◌, Bool, true, false, List, [], ◌∷◌, ◌++◌, refl, ap, ◌∙◌, sym, length, arith, subst, length-append, append_assoc, inr, take, append-nil, Option, Some, None, map, filter, nat_lt, slice_get, ◌+◌, ◌*◌}
-use Rattle.grammar_file.proofs.Common.{fold, cons_option, flat_map, list_any, chars, common_steps, flat_map-append, File, map-append, take-append-le, fold-append, slice_get_within, IsPattern, Names, Refusal, Reports, filter-append, filter_map-append, Expression, Line, Nothing, Production, Rule, Start, Fold, Bad, Statement, at, Symbol, Word, is_marked, with_marked, marked, Cause, is_skip_rule, HasPattern, early_fault, line_limit, limit_fault, late_fault, nonterminal_count, production_count, exceeded_limit, cause_if, or_else, IsFaultless, AreFaultless, IsLineFault, are_among, with_rule, with_skip, with_left, with_right, with_sides, with_production, with_start, AreNames, ArePatterns, IsPatternOf, with_pattern, AreFew, IsRead, lines_view}
+use Rattle.grammar_file.proofs.Common.{fold, cons_option, flat_map, list_any, chars, common_steps, flat_map-append, File, map-append, take-append-le, fold-append, slice_get_within, IsPattern, Names, filter-append, filter_map-append, Expression, Line, Nothing, Production, Rule, Start, Fold, Bad, Statement, at, Symbol, Word, is_marked, with_marked, marked, Cause, is_skip_rule, HasPattern, early_fault, line_limit, limit_fault, late_fault, nonterminal_count, production_count, exceeded_limit, cause_if, or_else, IsFaultless, AreFaultless, IsLineFault, are_among, with_rule, with_skip, with_left, with_right, with_sides, with_production, with_start, AreNames, ArePatterns, IsPatternOf, with_pattern, AreFew, IsRead, lines_view}
 use Rattle.grammar_file.proofs.OneMoreItem.{push_at, take-all, cons_option-append}
 use Rattle.grammar_file.proofs.Sets.{skips-step, sides-step}
-use Rattle.grammar_file.proofs.Splits.{shows_map}
 use Rattle.grammar_file.specs.Contents as of
 
 pub has_pattern : (l : Line) (p : Option Expression) → IsPatternOf l p → HasPattern l
@@ -223,7 +222,5 @@ read-step f g ss n l p symbol read early pattern short none statements names pat
 }
 
 -- a limit that the lines pass with this one
-pub limit_line_fault : (ss ts : List Statement) (number : ℕ) (l : Line) (p : Option Expression) (r : Refusal) → ts ≡ ss ++ at number l ∷ [] → early_fault ss l ≡ None → IsPatternOf l p → line_limit ss l ≡ None → Reports r (λ n c. (n ≡ number) × (limit_fault ts ≡ Some c)) → Reports r (λ n c. (n ≡ number) × IsLineFault ss l c)
-limit_line_fault ss ts number l p r same early pattern short shows =
-    shows_map r (λ n c. (n ≡ number) × (limit_fault ts ≡ Some c)) (λ n c. (n ≡ number) × IsLineFault ss l c)
-    (λ n c h. (h.0, late_line_fault ss l p c early pattern (late-of ss number l (Some c) short (ap limit_fault (sym same) ∙ h.1)))) shows
+pub limit_line_fault : (ss ts : List Statement) (number : ℕ) (l : Line) (p : Option Expression) (c : Cause) → ts ≡ ss ++ at number l ∷ [] → early_fault ss l ≡ None → IsPatternOf l p → line_limit ss l ≡ None → limit_fault ts ≡ Some c → IsLineFault ss l c
+limit_line_fault ss ts number l p c same early pattern short is = late_line_fault ss l p c early pattern (late-of ss number l (Some c) short (ap limit_fault (sym same) ∙ is))

@@ -1,6 +1,6 @@
 -- A list of lines, cut at one of them.
 use Rattle.std.proofs.Common.{◌≡◌, ◌≢◌, ℕ, suc, ◌+◌, ◌<◌, List, [], ◌∷◌, ◌++◌, refl, ap, sym, ◌∙◌, length, take, drop, get_or, arith, append_assoc, Bor, subst, Option, Some, None, map, option_map}
-use Rattle.grammar_file.proofs.Common.{filter_map, cons_option, enumerate_from, map-append, take_more, take-append-drop, length-take-le, Version, Numbered, Statement, Line, Nothing, Production, Rule, Start, Fold, Bad, at, line_of, numbered, statements_in, filter_map-append, ProductionLine, productions, as_production, Cause, HaveReferents, reference_fault, IsLineFault, IsFirstLineFault, texts, statement_of, lines_view, IsRead, File, Refusal, Fault, Memory, Reports, cause_of}
+use Rattle.grammar_file.proofs.Common.{filter_map, cons_option, enumerate_from, map-append, take_more, take-append-drop, length-take-le, Version, Numbered, Statement, Line, Nothing, Production, Rule, Start, Fold, Bad, at, line_of, numbered, statements_in, filter_map-append, ProductionLine, productions, as_production, Cause, HaveReferents, reference_fault, IsLineFault, IsFirstLineFault, IsFirstReferenceFault, texts, statement_of, lines_view, IsRead, File}
 use Rattle.grammar_file.proofs.OneMoreItem.{push_at, cons_option-append}
 
 numbered-split : {Y : Type 0} (h : (ℕ × List ℕ) → Option Y) (xs : List (List ℕ)) (y : List ℕ) (zs : List (List ℕ)) (n m : ℕ) → m ≡ n + length xs → filter_map h (enumerate_from n (xs ++ y ∷ zs)) ≡ filter_map h (enumerate_from n xs) ++ cons_option (h (m, y)) (filter_map h (enumerate_from (m + 1) zs))
@@ -52,9 +52,9 @@ pub referents_more : (ss : List Statement) (ns : List Numbered) (i : ℕ) (x : N
 referents_more ss ns i x within is before at =
     subst (λ (some : List Statement). HaveReferents ss some) (sym (said_more ns i x within is)) (push_at (λ k s. reference_fault ss s.says ≡ None) (lines_view (take i ns)) (statement_of x) before at)
 
-pub shows_map : (r : Refusal) (P Q : ℕ → Cause → Type 0) → ((n : ℕ) (c : Cause) → P n c → Q n c) → Reports r P → Reports r Q
-shows_map (Fault n c) P Q f h = f n (cause_of c) h
-shows_map Memory P Q f h = h
+-- the first line that uses a name wrongly
+pub first_reference_fault : (ns : List Numbered) (i : ℕ) (x : Numbered) (c : Cause) → i < length ns → x ≡ get_or ns i x → HaveReferents (lines_view ns) (lines_view (take i ns)) → reference_fault (lines_view ns) (statement_of x).says ≡ Some c → IsFirstReferenceFault (lines_view ns) x.number c
+first_reference_fault ns i x c within is before fault = (lines_view (take i ns), lines_view (drop (i + 1) ns), (statement_of x, said_split ns i x within is, refl, before, fault))
 
 numbered-some : (n : ℕ) (l : Line) → l ≢ Nothing → numbered n l ≡ Some (at n l)
 numbered-some n Nothing says = absurd (says refl)
@@ -75,19 +75,19 @@ read_more v f g lines i d l within before is read =
     subst (λ (ss : List Statement). IsRead g ss) e read
 
 -- the first line that has a fault
-pub first_line_fault : (v : Version) (f : File) (lines : List (Bor (List ℕ))) (i : ℕ) (d : Bor (List ℕ)) (l : Line) (n : ℕ) (c : Cause) → i < length lines → IsRead f (statements_in v (texts (take i lines))) → l ≡ line_of v (get_or lines i d).now → (n ≡ i + 2) × (l ≢ Nothing) × IsLineFault (lines_view f.statements.items) l c → IsFirstLineFault (statements_in v (texts lines)) n c
-first_line_fault v f lines i d l n c within before is fault =
+pub first_line_fault : (v : Version) (f : File) (lines : List (Bor (List ℕ))) (i : ℕ) (d : Bor (List ℕ)) (l : Line) (c : Cause) → i < length lines → IsRead f (statements_in v (texts (take i lines))) → l ≡ line_of v (get_or lines i d).now → l ≢ Nothing → IsLineFault (lines_view f.statements.items) l c → IsFirstLineFault (statements_in v (texts lines)) (i + 2) c
+first_line_fault v f lines i d l c within before is says fault =
     let split = statements_split v lines i d within in
     let prefix : List Statement = statements_in v (texts (take i lines)) in
-    let some : numbered (i + 2) (line_of v (get_or lines i d).now) ≡ Some (at (i + 2) l) = ap (λ k. numbered (i + 2) k) (sym is) ∙ numbered-some (i + 2) l fault.1 in (
+    let some : numbered (i + 2) (line_of v (get_or lines i d).now) ≡ Some (at (i + 2) l) = ap (λ k. numbered (i + 2) k) (sym is) ∙ numbered-some (i + 2) l says in (
       prefix,
       split.0,
       (
         at (i + 2) l,
         split.1 ∙ ap (λ o. prefix ++ cons_option o split.0) some,
-        fault.0,
+        refl,
         before.faultless,
-        subst (λ (ss : List Statement). IsLineFault ss l c) before.statements fault.2,
+        subst (λ (ss : List Statement). IsLineFault ss l c) before.statements fault,
       ),
     )
 

@@ -4,3 +4,4 @@ pub mod Faults
 pub mod Causes
 pub mod Numbers
 pub mod Kept
+pub mod Texts

@@ -8,7 +8,7 @@ ghost use Rattle.grammar_line.specs.Kept.{texts};
 ghost use Rattle.grammar_file.specs.Kept.{IsRead, IsWrittenOut};
 ghost use Rattle.grammar_file.specs.Causes.{Reports};
 
-use crate::fault::{Cause, Limit, Refusal};
+use crate::fault::{GrammarCause, GrammarFault, Limit};
 use crate::references::test_references;
 use crate::statements::File;
 use crate::written_out::write_out;
@@ -18,54 +18,64 @@ use std::alloc::{AllocError, Global};
 /// The most bytes of a file.
 const LARGEST_FILE: usize = 65_536;
 
-/// What the lines of a file say, where no line has a fault, there is a start, and each name that is used is defined; or
-/// the first fault. After the lines stand the productions of the marked words.
+/// What the lines of a file say, where no line has a fault, there is a start, and each name that
+/// is used is defined; or the first fault. After the lines stand the productions of the marked
+/// words.
 ///
-/// Reported first is a file of more than 65,536 bytes, then a first line that is neither `lrgrammar 1` nor `lrgrammar 2`,
-/// then the first line with a fault of its own, then that there is no start, and then the first line that uses a name
-/// wrongly.
-pub fn read_file<'a>(alloc: Global, text: &'a str) -> Result<File<'a>, Refusal<'a>>
+/// Reported first is a file of more than 65,536 bytes, then a first line that is neither
+/// `lrgrammar 1` nor `lrgrammar 2`, then the first line with a fault of its own, then that there
+/// is no start, and then the first line that uses a name wrongly.
+pub fn read_file<'a>(alloc: Global, text: &'a str) -> Result<File<'a>, GrammarFault>
     ensures whole { IfOk result (λ _. IsWhole text.now) }
     ensures written { IfOk result (λ file. IsWrittenOut file (statements text.now)) }
     ensures referents { IfOk result (λ _.
         HaveReferents (statements text.now) (statements text.now)) }
-    ensures fault { IfErr result (λ r. Reports r (λ n c. IsFileFault text.now n c)) }
+    ensures fault { IfErr result (λ f. Reports f (IsFileFault text.now)) }
 {
     let mut file = File::new(alloc);
     fill(alloc, &mut file, text).and(Ok(file))
 }
 
 /// Fills an empty file with what the text says.
-fn fill<'a>(alloc: Global, file: &mut File<'a>, text: &'a str) -> Result<(), Refusal<'a>>
+fn fill<'a>(alloc: Global, file: &mut File<'a>, text: &'a str) -> Result<(), GrammarFault>
     requires { IsRead file.old [] }
     ensures whole { OnOk result (IsWhole text.now) }
     ensures written { OnOk result (IsWrittenOut file.new (statements text.now)) }
     ensures referents { OnOk result (HaveReferents (statements text.now) (statements text.now)) }
-    ensures fault { IfErr result (λ r. Reports r (λ n c. IsFileFault text.now n c)) }
+    ensures fault { IfErr result (λ f. Reports f (IsFileFault text.now)) }
 {
     read_lines(alloc, file, text)?;
-    test_references(&file.names, &file.statements)?;
+    test_references(alloc, &file.names, &file.statements)?;
     write_out(alloc, &mut file.statements, &mut file.names)?;
     Ok(())
 }
 
 /// Adds the lines of the text, which have a start, to an empty file.
-fn read_lines<'a>(alloc: Global, file: &mut File<'a>, text: &'a str) -> Result<(), Refusal<'a>>
+fn read_lines<'a>(alloc: Global, file: &mut File<'a>, text: &'a str) -> Result<(), GrammarFault>
     requires { IsRead file.old [] }
     ensures whole { OnOk result (IsWhole text.now) }
     ensures read { OnOk result (IsRead file.new (statements text.now)) }
-    ensures fault { IfErr result (λ r. Reports r (λ n c. IsFileFault text.now n c)) }
+    ensures fault { IfErr result (λ f. Reports f (IsFileFault text.now)) }
 {
     if LARGEST_FILE < text.len() {
-        return Err(Refusal::Fault(0, Cause::Passed(Limit::File)));
+        return Err(GrammarFault {
+            line: 0,
+            cause: GrammarCause::Limit(Limit::File),
+        });
     }
     let lines = lines_of(alloc, text)?;
     let Some(version) = version_of(&lines) else {
-        return Err(Refusal::Fault(1, Cause::FirstLine));
+        return Err(GrammarFault {
+            line: 1,
+            cause: GrammarCause::FirstLine,
+        });
     };
     file.add_lines(alloc, version, after_first(&lines))?;
     if !file.names.started {
-        return Err(Refusal::Fault(0, Cause::NoStart));
+        return Err(GrammarFault {
+            line: 0,
+            cause: GrammarCause::NoStart,
+        });
     }
     Ok(())
 }

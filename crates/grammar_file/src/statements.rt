@@ -1,21 +1,21 @@
 //! The statements of a file, line by line.
 
-ghost use Rattle.std.specs.Prelude.{◌≡◌, ◌≢◌, ◌≤◌, ◌^◌, ◌++◌, ◌∷◌, ◌||◌, [], ℕ, Bool, List, None, Some, map, option_map, IfOk, IfErr, OnOk};
+ghost use Rattle.std.specs.Prelude.{◌≡◌, ◌≢◌, ◌≤◌, ◌^◌, ◌++◌, ◌∷◌, ◌||◌, [], ℕ, Bool, List, None, map, IfOk, IfErr, OnOk};
 ghost use Rattle.std.specs.List.{cons_option};
 ghost use Rattle.std.specs.Str.{chars};
 ghost use Rattle.definitions.specs.declared.expression.PatternFault.{PatternFault};
 ghost use Rattle.definitions.specs.PatternFaults.{IsFault as IsPatternFault};
 ghost use Rattle.definitions.specs.Spelling.{IsPattern};
-ghost use Rattle.grammar_line.specs.Statements.{Statement, numbered, statements_in, Nothing, at};
+ghost use Rattle.grammar_line.specs.Statements.{numbered, statements_in, Nothing, at};
 ghost use Rattle.grammar_line.specs.Statements;
 ghost use Rattle.grammar_file.specs.Contents.{defines};
 ghost use Rattle.grammar_line.specs.Words.{plain};
-ghost use Rattle.grammar_file.specs.Faults.{reserved, has_rule, has_production, early_fault, line_limit, limit_fault, IsLineFault, IsFirstLineFault, HasPatternFault, BadPattern, Passed};
+ghost use Rattle.grammar_file.specs.Faults.{reserved, has_rule, has_production, early_fault, line_limit, limit_fault, IsLineFault, IsFirstLineFault, HasPatternFault, BadPattern};
 ghost use Rattle.grammar_line.specs.Kept.{line_view, texts};
 ghost use Rattle.grammar_file.specs.Kept.{lines_view, AreNames, IsRead, IsPatternOf, with_pattern};
-ghost use Rattle.grammar_file.specs.Causes.{cause_of, Reports};
+ghost use Rattle.grammar_file.specs.Causes.{Reports, ReportsCause, Tells};
 
-use crate::fault::{Cause, Limit, Refusal};
+use crate::fault::{GrammarCause, GrammarFault, Limit};
 use crate::names::Names;
 use definitions::{PatternCause, Symbol};
 use grammar_line::{Line, Version, is_reserved, plain, read_line};
@@ -34,8 +34,8 @@ const MOST_PRODUCTIONS: usize = 1024;
 /// The most symbols of a right side.
 const MOST_SYMBOLS: usize = 16;
 
-/// A line that says something, with its number, the first line's being 1. The production of a marked word stands on no
-/// line, and has number 0.
+/// A line that says something, with its number, the first line's being 1. The production of a
+/// marked word stands on no line, and has number 0.
 #[derive(Drop)]
 pub struct Numbered<'a> {
     /// The line's number.
@@ -47,13 +47,15 @@ pub struct Numbered<'a> {
 /// What is kept of a file's lines, which have no fault.
 #[derive(Drop)]
 pub struct File<'a> {
-    /// The lines that say something, in file order, and after all of them the productions of the marked words.
+    /// The lines that say something, in file order, and after all of them the productions of the
+    /// marked words.
     pub statements: Vec<Numbered<'a>>,
     /// The names that they define.
     pub names: Names<'a>,
     /// The patterns of the rules, in file order.
     pub patterns: Vec<Pattern>,
-    /// All that the lines define, in file order: a rule, and a nonterminal at its first production.
+    /// All that the lines define, in file order: a rule, and a nonterminal at its first
+    /// production.
     pub defined: Vec<Symbol>,
 }
 
@@ -76,28 +78,32 @@ impl<'a> File<'a> {
         alloc: Global,
         version: Version,
         lines: &[&'a str],
-    ) -> Result<(), Refusal<'a>>
+    ) -> Result<(), GrammarFault>
         requires { IsRead self.old [] }
         ensures read { OnOk result (IsRead self.new (statements_in version (texts lines.now))) }
-        ensures fault { IfErr result (λ r.
-            Reports r (λ n c. IsFirstLineFault (statements_in version (texts lines.now)) n c)) }
+        ensures fault { IfErr result (λ f.
+            Reports f (IsFirstLineFault (statements_in version (texts lines.now)))) }
     {
         for (index, text) in lines.iter().enumerate() {
             let line = read_line(alloc, version, text)?;
-            self.add(alloc, index + 2, line)?;
+            let number = index + 2;
+            if let Err(cause) = self.add(alloc, number, line) {
+                return Err(GrammarFault {
+                    line: number,
+                    cause,
+                });
+            }
         }
         Ok(())
     }
 
     /// Adds a line with its number, unless it says nothing.
-    fn add(&mut self, alloc: Global, number: usize, line: Line<'a>) -> Result<(), Refusal<'a>>
+    fn add(&mut self, alloc: Global, number: usize, line: Line<'a>) -> Result<(), GrammarCause>
         requires { IsRead self.old (lines_view self.old.statements.items) }
         ensures read { OnOk result (IsRead self.new (lines_view self.old.statements.items
             ++ cons_option (numbered number (line_view line.entry)) [])) }
-        ensures fault { IfErr result (λ r.
-            Reports r (λ n c.
-            (n ≡ number) × (line_view line.entry ≢ Nothing) ×
-            IsLineFault (lines_view self.old.statements.items) (line_view line.entry) c)) }
+        ensures fault { IfErr result (λ cause. (line_view line.entry ≢ Nothing) × ReportsCause cause
+            (IsLineFault (lines_view self.old.statements.items) (line_view line.entry))) }
     {
         match line {
             Line::Nothing => Ok(()),
@@ -111,19 +117,17 @@ impl<'a> File<'a> {
         alloc: Global,
         number: usize,
         line: Line<'a>,
-    ) -> Result<(), Refusal<'a>>
+    ) -> Result<(), GrammarCause>
         requires { IsRead self.old (lines_view self.old.statements.items) }
         ensures read { OnOk result (IsRead self.new (lines_view self.old.statements.items
             ++ at number (line_view line.entry) ∷ [])) }
-        ensures fault { IfErr result (λ r.
-            Reports r (λ n c.
-            (n ≡ number)
-            × IsLineFault (lines_view self.old.statements.items) (line_view line.entry) c)) }
+        ensures fault { IfErr result (λ cause. ReportsCause cause
+            (IsLineFault (lines_view self.old.statements.items) (line_view line.entry))) }
     {
-        let pattern = self.test(alloc, number, &line)?;
+        let pattern = self.test(alloc, &line)?;
         self.note(alloc, &line, pattern)?;
         add_line(&mut self.statements, number, line)?;
-        self.test_limits(number)
+        self.test_limits()
     }
 
     /// Notes what a line defines, but not the line.
@@ -151,81 +155,55 @@ impl<'a> File<'a> {
         Ok(())
     }
 
-    /// Tests a line but for the limits that all lines have to keep, and hands out the pattern of a rule.
-    fn test(
-        &self,
-        alloc: Global,
-        number: usize,
-        line: &Line<'a>,
-    ) -> Result<Option<Pattern>, Refusal<'a>>
+    /// Tests a line but for the limits that all lines have to keep, and hands out the pattern of a
+    /// rule.
+    fn test(&self, alloc: Global, line: &Line<'_>) -> Result<Option<Pattern>, GrammarCause>
         requires { AreNames self.now.names (lines_view self.now.statements.items) }
         ensures early { IfOk result (λ _.
             early_fault (lines_view self.now.statements.items) (line_view line.now) ≡ None) }
         ensures pattern { IfOk result (λ p. IsPatternOf (line_view line.now) p) }
         ensures limit { IfOk result (λ _.
             line_limit (lines_view self.now.statements.items) (line_view line.now) ≡ None) }
-        ensures fault { IfErr result (λ r.
-            Reports r (λ n c.
-            (n ≡ number)
-            × IsLineFault (lines_view self.now.statements.items) (line_view line.now) c)) }
+        ensures fault { IfErr result (λ cause. ReportsCause cause
+            (IsLineFault (lines_view self.now.statements.items) (line_view line.now))) }
     {
-        if let Some(cause) = self.early_fault(alloc, line)? {
-            return Err(Refusal::Fault(number, cause));
-        }
-        let pattern = pattern_of(alloc, number, line)?;
-        match self.line_limit(line) {
-            Some(cause) => Err(Refusal::Fault(number, cause)),
-            None => Ok(pattern),
-        }
+        self.test_early(alloc, line)?;
+        let pattern = pattern_of(alloc, line)?;
+        self.test_line_limit(line)?;
+        Ok(pattern)
     }
 
-    /// A fault that is reported before the pattern is read.
-    fn early_fault(&self, alloc: Global, line: &Line<'a>) -> Result<Option<Cause<'a>>, AllocError>
+    /// Tests what is reported before the pattern is read.
+    fn test_early(&self, alloc: Global, line: &Line<'_>) -> Result<(), GrammarCause>
         requires { AreNames self.now.names (lines_view self.now.statements.items) }
-        ensures { IfOk result (λ fault.
-            option_map cause_of fault
-            ≡ early_fault (lines_view self.now.statements.items) (line_view line.now)) }
+        ensures { Tells result
+            (early_fault (lines_view self.now.statements.items) (line_view line.now)) }
     {
         match line {
-            Line::Nothing => Ok(None),
-            Line::Production { left, right } => self.production_fault(alloc, left, right),
-            Line::Rule { name, .. } => Ok(self.rule_fault(name)),
-            Line::Start(name) | Line::Fold(name) => Ok(if_reserved(name)),
-            Line::Bad => Ok(Some(Cause::BadLine)),
+            Line::Nothing => Ok(()),
+            Line::Production { left, right } => self.test_production(alloc, left, right),
+            Line::Rule { name, .. } => self.test_rule(alloc, name),
+            Line::Start(name) | Line::Fold(name) => test_reserved(alloc, name),
+            Line::Bad => Err(GrammarCause::BadLine),
         }
     }
 
-    fn production_fault(
-        &self,
-        alloc: Global,
-        left: &'a str,
-        right: &[&'a str],
-    ) -> Result<Option<Cause<'a>>, AllocError>
+    /// Tests the names of a production, and that it stands nowhere before.
+    fn test_production(&self, alloc: Global, left: &str, right: &[&str]) -> Result<(), GrammarCause>
         requires { AreNames self.now.names (lines_view self.now.statements.items) }
-        ensures { IfOk result (λ fault.
-            option_map cause_of fault
-            ≡ early_fault (lines_view self.now.statements.items)
+        ensures { Tells result (early_fault (lines_view self.now.statements.items)
             (Statements.Production left.now (texts right.now))) }
     {
-        if is_reserved(left) {
-            return Ok(Some(Cause::Reserved(left)));
-        }
-        if let Some(cause) = first_reserved(right) {
-            return Ok(Some(cause));
-        }
+        test_reserved(alloc, left)?;
+        test_words(alloc, right)?;
         if self.is_defined(alloc, left, right)? {
-            return Ok(Some(Cause::DefinedTwice(left)));
+            return Err(GrammarCause::DefinedTwice(String::from_str(alloc, left)?));
         }
-        Ok(None)
+        Ok(())
     }
 
     /// Whether the left side is a rule's name, or the production is there.
-    fn is_defined(
-        &self,
-        alloc: Global,
-        left: &'a str,
-        right: &[&'a str],
-    ) -> Result<bool, AllocError>
+    fn is_defined(&self, alloc: Global, left: &str, right: &[&str]) -> Result<bool, AllocError>
         requires { AreNames self.now.names (lines_view self.now.statements.items) }
         ensures { IfOk result (λ is.
             is
@@ -238,71 +216,55 @@ impl<'a> File<'a> {
         self.names.sides.contains(alloc, left, right)
     }
 
-    fn rule_fault(&self, name: &'a str) -> Option<Cause<'a>>
+    fn test_rule(&self, alloc: Global, name: &str) -> Result<(), GrammarCause>
         requires { AreNames self.now.names (lines_view self.now.statements.items) }
-        ensures { (skip : Bool) (pattern : List ℕ) →
-            option_map cause_of result
-            ≡ early_fault (lines_view self.now.statements.items)
-            (Statements.Rule skip name.now pattern) }
+        ensures { (skip : Bool) (pattern : List ℕ) → Tells result
+            (early_fault (lines_view self.now.statements.items)
+            (Statements.Rule skip name.now pattern)) }
     {
-        if is_reserved(name) {
-            return Some(Cause::Reserved(name));
-        }
+        test_reserved(alloc, name)?;
         if self.names.rules.contains(name) || self.names.nonterminals.contains(name) {
-            return Some(Cause::DefinedTwice(name));
+            return Err(GrammarCause::DefinedTwice(String::from_str(alloc, name)?));
         }
-        None
+        Ok(())
     }
 
-    /// A second start, or a right side that is too long.
-    fn line_limit(&self, line: &Line<'a>) -> Option<Cause<'a>>
+    /// Tests that the line is no second start, and its right side isn't too long.
+    fn test_line_limit(&self, line: &Line<'_>) -> Result<(), GrammarCause>
         requires { AreNames self.now.names (lines_view self.now.statements.items) }
-        ensures { option_map cause_of result
-            ≡ line_limit (lines_view self.now.statements.items) (line_view line.now) }
+        ensures { Tells result
+            (line_limit (lines_view self.now.statements.items) (line_view line.now)) }
     {
         match line {
             Line::Production { right, .. } if MOST_SYMBOLS < right.len() => {
-                Some(Cause::Passed(Limit::Symbols))
+                Err(GrammarCause::Limit(Limit::Symbols))
             }
-            Line::Start(_) if self.names.started => Some(Cause::SecondStart),
-            _ => None,
+            Line::Start(_) if self.names.started => Err(GrammarCause::SecondStart),
+            _ => Ok(()),
         }
     }
 
-    /// Tests that the lines keep the limits.
-    fn test_limits(&self, number: usize) -> Result<(), Refusal<'a>>
+    /// Tests that the lines keep the limits, where a marked word counts as one nonterminal and two
+    /// productions.
+    fn test_limits(&self) -> Result<(), GrammarCause>
         requires names { AreNames self.now.names (lines_view self.now.statements.items) }
         requires small { self.now.names.productions ≤ 2 ^ 32 }
-        ensures fine { OnOk result (limit_fault (lines_view self.now.statements.items) ≡ None) }
-        ensures fault { IfErr result (λ r.
-            Reports r (λ n c.
-            (n ≡ number) × (limit_fault (lines_view self.now.statements.items) ≡ Some c))) }
+        ensures { Tells result (limit_fault (lines_view self.now.statements.items)) }
     {
-        match exceeded_limit(&self.names) {
-            Some(limit) => Err(Refusal::Fault(number, Cause::Passed(limit))),
-            None => Ok(()),
+        let marked = self.names.marked.len();
+        if MOST_RULES < self.names.rules.len() {
+            Err(GrammarCause::Limit(Limit::Tokens))
+        } else if MOST_NONTERMINALS < self.names.nonterminals.len() + marked {
+            Err(GrammarCause::Limit(Limit::Nonterminals))
+        } else if MOST_PRODUCTIONS < self.names.productions + 2 * marked {
+            Err(GrammarCause::Limit(Limit::Productions))
+        } else {
+            Ok(())
         }
     }
 }
 
-/// The first limit that the lines pass, where a marked word counts as one nonterminal and two productions.
-fn exceeded_limit(names: &Names<'_>) -> Option<Limit>
-    requires { names.now.productions ≤ 2 ^ 32 }
-    ensures { (ss : List Statement) → AreNames names.now ss →
-        option_map Passed result ≡ limit_fault ss }
-{
-    let marked = names.marked.len();
-    if MOST_RULES < names.rules.len() {
-        Some(Limit::Tokens)
-    } else if MOST_NONTERMINALS < names.nonterminals.len() + marked {
-        Some(Limit::Nonterminals)
-    } else if MOST_PRODUCTIONS < names.productions + 2 * marked {
-        Some(Limit::Productions)
-    } else {
-        None
-    }
-}
-
+/// Adds the pattern, if there is one.
 fn add_pattern(patterns: &mut Vec<Pattern>, pattern: Option<Pattern>) -> Result<(), AllocError>
     ensures { OnOk result (patterns.new.items ≡ with_pattern patterns.old.items pattern) }
 {
@@ -315,6 +277,7 @@ fn add_pattern(patterns: &mut Vec<Pattern>, pattern: Option<Pattern>) -> Result<
     }
 }
 
+/// Adds the symbol, if there is one.
 fn add_symbol(symbols: &mut Vec<Symbol>, symbol: Option<Symbol>) -> Result<(), AllocError>
     ensures { OnOk result (symbols.new.items ≡ symbols.old.items ++ cons_option symbol []) }
 {
@@ -340,61 +303,50 @@ pub fn add_line<'a>(
     Ok(())
 }
 
-fn if_reserved<'a>(name: &'a str) -> Option<Cause<'a>>
-    ensures { option_map cause_of result ≡ reserved (name.now ∷ []) }
+fn test_reserved(alloc: Global, name: &str) -> Result<(), GrammarCause>
+    ensures { Tells result (reserved (name.now ∷ [])) }
 {
     if is_reserved(name) {
-        Some(Cause::Reserved(name))
-    } else {
-        None
+        return Err(GrammarCause::Reserved(String::from_str(alloc, name)?));
     }
+    Ok(())
 }
 
-/// The leftmost reserved name of a right side.
-fn first_reserved<'a>(words: &[&'a str]) -> Option<Cause<'a>>
-    ensures { option_map cause_of result ≡ reserved (map plain (texts words.now)) }
+/// Tests that no name of a right side is reserved, from the left.
+fn test_words(alloc: Global, words: &[&str]) -> Result<(), GrammarCause>
+    ensures { Tells result (reserved (map plain (texts words.now))) }
 {
     for word in words {
-        let name = plain(word);
-        if is_reserved(name) {
-            return Some(Cause::Reserved(name));
-        }
+        test_reserved(alloc, plain(word))?;
     }
-    None
+    Ok(())
 }
 
 /// The pattern of a rule's line.
-fn pattern_of<'a>(
-    alloc: Global,
-    number: usize,
-    line: &Line<'_>,
-) -> Result<Option<Pattern>, Refusal<'a>>
+fn pattern_of(alloc: Global, line: &Line<'_>) -> Result<Option<Pattern>, GrammarCause>
     ensures pattern { IfOk result (λ p. IsPatternOf (line_view line.now) p) }
-    ensures fault { IfErr result (λ r.
-        Reports r (λ n c.
-        (n ≡ number) ×
-        ((f : PatternFault) × HasPatternFault (line_view line.now) f × (c ≡ BadPattern f)))) }
+    ensures fault { IfErr result (λ cause. ReportsCause cause (λ c.
+        (f : PatternFault) × HasPatternFault (line_view line.now) f × (c ≡ BadPattern f))) }
 {
     match line {
-        Line::Rule { pattern, .. } => Ok(Some(read_pattern(alloc, number, pattern)?)),
+        Line::Rule { pattern, .. } => Ok(Some(read_pattern(alloc, pattern)?)),
         _ => Ok(None),
     }
 }
 
-fn read_pattern<'a>(alloc: Global, number: usize, text: &str) -> Result<Pattern, Refusal<'a>>
+/// The pattern of a rule, or why its text is none.
+fn read_pattern(alloc: Global, text: &str) -> Result<Pattern, GrammarCause>
     ensures pattern { IfOk result (λ p. IsPattern (chars text.now) p) }
-    ensures fault { IfErr result (λ r.
-        Reports r (λ n c.
-        (n ≡ number) ×
-        ((f : PatternFault) × IsPatternFault (chars text.now) f × (c ≡ BadPattern f)))) }
+    ensures fault { IfErr result (λ cause. ReportsCause cause (λ c.
+        (f : PatternFault) × IsPatternFault (chars text.now) f × (c ≡ BadPattern f))) }
 {
     match Pattern::read(alloc, text) {
         Ok(pattern) => Ok(pattern),
         Err(fault) => {
             if fault.cause == PatternCause::Memory {
-                return Err(Refusal::Memory);
+                return Err(GrammarCause::Memory);
             }
-            Err(Refusal::Fault(number, Cause::BadPattern(fault)))
+            Err(GrammarCause::BadPattern(fault))
         }
     }
 }

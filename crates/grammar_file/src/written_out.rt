@@ -13,7 +13,8 @@ use crate::statements::{Numbered, add_line};
 use grammar_line::{Line, Mark, RightWord};
 use std::alloc::{AllocError, Global};
 
-/// Adds the productions of the marked words after the lines, in the order in which the words first stand.
+/// Adds the productions of the marked words after the lines, in the order in which the words first
+/// stand.
 pub fn write_out<'a>(
     alloc: Global,
     statements: &mut Vec<Numbered<'a>>,

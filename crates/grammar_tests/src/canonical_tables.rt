@@ -1,4 +1,5 @@
-//! The moves of the tables of sums. `tests/program` has the files that have a conflict or too many sets.
+//! The moves of the tables of sums. `tests/program` has the files that have a conflict or too many
+//! sets.
 
 ghost use Rattle.std.specs.Prelude.{◌<◌, List};
 ghost use Rattle.definitions.specs.declared.Symbol.{Symbol as GrammarSymbol};

@@ -1,6 +1,6 @@
 //! The lines of grammar files.
 
-use grammar_file::{File, Refusal, read_file};
+use grammar_file::{File, GrammarFault, read_file};
 use std::alloc::Global;
 
 const SUMS: &str = r#"lrgrammar 1
@@ -21,8 +21,8 @@ start S
 S = A* B?
 "#;
 
-/// What is known of a file: how many statements, patterns and defined names it has, its nonterminals, and the names of
-/// nonterminal 0 and of rule 1.
+/// What is known of a file: how many statements, patterns and defined names it has, its
+/// nonterminals, and the names of nonterminal 0 and of rule 1.
 #[derive(Clone, Copy)]
 struct Shown<'a> {
     counts: (usize, usize, usize),
@@ -31,7 +31,7 @@ struct Shown<'a> {
     rule: &'a str,
 }
 
-fn shows(outcome: &Result<File<'_>, Refusal<'_>>, shown: &Shown<'_>) -> bool {
+fn shows(outcome: &Result<File<'_>, GrammarFault>, shown: &Shown<'_>) -> bool {
     let Ok(file) = outcome else {
         return false;
     };
@@ -49,7 +49,7 @@ fn shows(outcome: &Result<File<'_>, Refusal<'_>>, shown: &Shown<'_>) -> bool {
 }
 
 /// Whether a file that is read has this.
-fn reads<'a>(alloc: Global, text: &'a str, shown: &Shown<'_>) -> Result<bool, Refusal<'a>> {
+fn reads(alloc: Global, text: &str, shown: &Shown<'_>) -> Result<bool, GrammarFault> {
     let outcome = read_file(alloc, text);
     let is_shown = shows(&outcome, shown);
     outcome.and(Ok(is_shown))
@@ -78,8 +78,8 @@ fn reads_lines_and_writes_out_marked_words(rt: HostRuntime) {
 /// The line of the first fault that lines and names show, and 99 where there is none.
 fn line_at_fault(alloc: Global, text: &str) -> usize {
     match read_file(alloc, text).err() {
-        Some(Refusal::Fault(line, _)) => line,
-        _ => 99,
+        Some(fault) => fault.line,
+        None => 99,
     }
 }
 

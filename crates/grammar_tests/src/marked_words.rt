@@ -1,4 +1,5 @@
-//! What grammar files define in which words of right sides have marks. `tests/program` has those that are refused, and notes.
+//! What grammar files define in which words of right sides have marks. `tests/program` has those
+//! that are refused, and notes.
 
 use crate::grammars::{check_productions, read_both};
 use grammar::Symbol;

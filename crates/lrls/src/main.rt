@@ -114,6 +114,7 @@ fn start(rt: &HostRuntime) -> Result<u8, Fault> {
     }
 }
 
+/// Does what the command line asks for; prints a fault on standard error.
 fn main(rt: HostRuntime) -> ExitCode {
     match start(&rt) {
         Ok(status) => ExitCode::from(status),

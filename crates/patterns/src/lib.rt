@@ -105,6 +105,7 @@ impl Pattern {
     }
 }
 
+/// The expression that a text spells, or the first fault.
 fn read_expression(alloc: Global, text: &str) -> Result<Expression, Refusal>
     ensures pattern { IfOk result (λ e. IsPattern (chars text.now) e) }
     ensures no_fault { IfOk result (λ e. first_fault (chars text.now) ≡ None) }

@@ -1,11 +1,21 @@
 -- The texts of faults of grammar files, in UTF-8.
 use Rattle.std.specs.Prelude.{ℕ, ◌++◌, List, codes, decimal, string_bytes}
+use Rattle.definitions.specs.declared.expression.PatternCause.{PatternCause}
+use Rattle.definitions.specs.declared.expression.PatternCause.TheVariants as pattern
 use Rattle.grammar_file.specs.declared.fault.Limit.{Limit}
 use Rattle.grammar_file.specs.declared.fault.Limit.TheVariants as limit
-use Rattle.grammar.specs.PublicCauses.{pattern_code}
-use Rattle.grammar.specs.declared.fault.GrammarCause.{GrammarCause}
-use Rattle.grammar.specs.declared.fault.GrammarCause.TheVariants as cause
-use Rattle.grammar.specs.declared.fault.GrammarFault.{GrammarFault}
+use Rattle.grammar_file.specs.declared.fault.GrammarCause.{GrammarCause}
+use Rattle.grammar_file.specs.declared.fault.GrammarCause.TheVariants as cause
+use Rattle.grammar_file.specs.declared.fault.GrammarFault.{GrammarFault}
+
+-- `pattern_code cause`: the code that is printed of a pattern's fault, `P1` to `P6`
+abbrev pub pattern_code : PatternCause → List ℕ
+pattern_code pattern.Syntax = codes "P1"
+pattern_code pattern.EmptyClass = codes "P2"
+pattern_code pattern.ReversedRange = codes "P3"
+pattern_code pattern.EmptyLiteral = codes "P4"
+pattern_code pattern.MatchesEmpty = codes "P5"
+pattern_code pattern.Memory = codes "P6"
 
 -- `limit_name limit`: what there is too much of
 abbrev pub limit_name : Limit → List ℕ
