@@ -20,7 +20,8 @@ pub record FileGrammar : Type 0 where
   pub defined : List Symbol
 
 -- `stored names patterns skips nonterminals folds start productions defined`: what a file with these parts defines
-abbrev pub stored : List (List ℕ) → List Expression → List Bool → List (List ℕ) → List Bool → ℕ → List Production → List Symbol → FileGrammar
+abbrev pub stored : List (List ℕ) → List Expression → List Bool → List (List ℕ) → List Bool → ℕ → List Production → List Symbol
+    → FileGrammar
 stored names patterns skips nonterminals folds start productions defined =
     record {
       names = names;

@@ -1,5 +1,6 @@
 -- Nodes that are marked, and slide down over the others.
-use Rattle.std.specs.Prelude.{◌≡◌, ℕ, zero, suc, ◌+◌, ◌<◌, ◌≤◌, cond, Bool, true, false, List, [], ◌∷◌, length, take, count_by, slice_index_or, slice_set}
+use Rattle.std.specs.Prelude.{◌≡◌, ℕ, zero, suc, ◌+◌, ◌<◌, ◌≤◌, Bool, true, false, List, [], ◌∷◌}
+use Rattle.std.specs.Prelude.{cond, count_by, length, slice_index_or, slice_set, take}
 use Rattle.definitions.specs.Nodes.{branches}
 use Rattle.definitions.specs.TreeEdits.{Stamped, plain}
 use Rattle.trees.specs.declared.store.Child.{Child}
