@@ -1,5 +1,5 @@
 //! A grammar with the added start production, as items are read by it.
-ghost use Rattle.std.specs.Prelude.{◌≡◌, ◌<◌, ◌+◌, ◌↔◌, ◌∷◌, ◌++◌, ℕ, [], Option, IsTrue, IfOk, OnOk, IfSome, All, AllPairs, Contains, length, slice_index_or};
+ghost use Rattle.std.specs.Prelude.{◌≡◌, ◌<◌, ◌+◌, ◌↔◌, ℕ, Option, IsTrue, IfOk, IfSome, All, AllPairs, Contains, length};
 ghost use Rattle.definitions.specs.Trees.{left_of, right_of};
 ghost use Rattle.first_sets.specs.Lookaheads.{rank};
 ghost use Rattle.first_sets.specs.Productions.{IsKnown, IsSound, AreByLeft};
@@ -8,24 +8,10 @@ ghost use Rattle.theory.specs.First.{MayFollow};
 use crate::first::First;
 use crate::production_number::ProductionNumber;
 use crate::productions::Productions;
+use crate::row::{Row, empty_rows};
 use definitions::Symbol;
 use std::alloc::{AllocError, Global};
 use std::marker::Model;
-
-/// The numbers of some productions.
-#[derive(Drop)]
-pub struct Numbers {
-    /// The numbers in ascending order.
-    list: Vec<ProductionNumber>,
-}
-
-impl Model for Numbers {
-    ghost use Rattle.std.specs.Prelude.{List, ℕ};
-
-    ghost Value = { List ℕ };
-
-    ghost view = { λ a. a.list.items };
-}
 
 /// A grammar with the added start production, whose right side is the start: its productions by number and by left side, and
 /// what its symbols can begin with. A contract sees its productions.
@@ -34,7 +20,7 @@ pub struct AugmentedGrammar {
     /// The productions of the grammar.
     productions: Productions,
     /// For each nonterminal the numbers of the productions that have it on the left.
-    by_left: Vec<Numbers>,
+    by_left: Vec<Row<ProductionNumber>>,
     /// What the symbols can begin with.
     first: First,
 }
@@ -50,50 +36,15 @@ impl Model for AugmentedGrammar {
     ghost invariant = { λ a. IsAugmented a.productions a.by_left.items a.first };
 }
 
-impl Numbers {
-    /// No number.
-    fn new(alloc: Global) -> Numbers
-        ensures { result ≡ [] }
-    {
-        Numbers {
-            list: Vec::new(alloc),
-        }
-    }
-
-    /// Adds a number.
-    fn add(&mut self, p: ProductionNumber) -> Result<(), AllocError>
-        ensures { OnOk result (self.new ≡ self.old ++ p ∷ []) }
-    {
-        self.list.push(p)?;
-        Ok(())
-    }
-
-    /// The numbers.
-    fn list(&self) -> &[ProductionNumber]
-        ensures { result.now ≡ self.now }
-    {
-        &self.list
-    }
-}
-
-/// No numbers for each nonterminal.
-fn no_numbers(alloc: Global, nonterminals: usize) -> Result<Vec<Numbers>, AllocError>
-    ensures wide { IfOk result (λ rows. length rows.items ≡ nonterminals) }
-    ensures none { IfOk result (λ rows. (n : ℕ) → slice_index_or rows.items n [] ≡ []) }
-{
-    let mut rows = Vec::new(alloc);
-    for _n in 0..nonterminals {
-        rows.push(Numbers::new(alloc))?;
-    }
-    Ok(rows)
-}
-
 /// For each nonterminal, the numbers of the productions that have it on the left.
-fn by_left(alloc: Global, productions: &Productions) -> Result<Vec<Numbers>, AllocError>
+fn by_left(
+    alloc: Global,
+    productions: &Productions,
+) -> Result<Vec<Row<ProductionNumber>>, AllocError>
     requires { IsSound productions.now }
     ensures { IfOk result (λ rows. AreByLeft productions.now rows.items) }
 {
-    let mut rows = no_numbers(alloc, productions.nonterminals())?;
+    let mut rows = empty_rows(alloc, productions.nonterminals())?;
     for index in 0..productions.len() {
         let p = ProductionNumber::new(index);
         let row = &mut rows[productions.left(p)];
@@ -215,7 +166,7 @@ impl AugmentedGrammar {
             → left_of self.now.grammar p ≡ nonterminal → Contains result.now p }
         ensures rising { AllPairs (λ p q. p < q) result.now }
     {
-        self.by_left[nonterminal].list()
+        self.by_left[nonterminal].items()
     }
 
     /// Whether `a` can follow: it begins the symbols, or they are nullable and `look` is `a`.

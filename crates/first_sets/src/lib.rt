@@ -31,6 +31,7 @@ mod lookahead;
 mod marks;
 mod production_number;
 mod productions;
+mod row;
 mod symbols;
 
 pub use augmented::AugmentedGrammar;
@@ -38,4 +39,5 @@ pub use lookahead::lookahead_at;
 pub use marks::Marks;
 pub use production_number::ProductionNumber;
 pub use productions::{Production, Productions};
+pub use row::{Row, empty_rows};
 pub use symbols::{number_of, symbol_at};

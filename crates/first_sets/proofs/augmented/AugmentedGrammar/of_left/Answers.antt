@@ -1,18 +1,18 @@
 use Rattle.std.proofs.Common.{◌≡◌, ◌<◌, [], All, AllPairs, Contains, length, slice_index_or, sym, subst, ap, ◌∙◌}
 use Rattle.first_sets.proofs.Common.{get_or_default, left_of}
 use Rattle.first_sets.proofs.augmented.AugmentedGrammar.of_left.Goals as goal
-use Rattle.first_sets.proofs.augmented.AugmentedGrammar.of_left.Goals.{After-list}
+use Rattle.first_sets.proofs.augmented.AugmentedGrammar.of_left.Goals.{After-items}
 
-row_is : (c : After-list) → c.list.result.now ≡ slice_index_or c.self.inside.by_left.items c.args.nonterminal []
+row_is : (c : After-items) → c.items.result.now ≡ slice_index_or c.self.inside.by_left.items c.args.nonterminal []
 row_is c =
     let n = c.args.nonterminal in
     let within : n < length c.self.inside.by_left.items = subst (λ x. n < x) (sym (c.self.invariant.by_left.wide ∙ ap (λ s. s.nonterminals) c.self.view_is)) c.requires in
-    c.list.ensures ∙ c.index.ensures ∙ get_or_default c.self.inside.by_left.items n c.index.result.now [] within
+    c.items.ensures ∙ c.index.ensures ∙ get_or_default c.self.inside.by_left.items n c.index.result.now [] within
 
 pub returns-clause-theirs : goal.returns-clause-theirs
 returns-clause-theirs c =
     let n = c.args.nonterminal in
-    subst (λ g. All (λ p. (p < length g.grammar.productions) × (left_of g.grammar p ≡ n)) c.list.result.now) c.self.view_is
+    subst (λ g. All (λ p. (p < length g.grammar.productions) × (left_of g.grammar p ≡ n)) c.items.result.now) c.self.view_is
     (subst (All (λ p. (p < length c.self.inside.productions.grammar.productions) × (left_of c.self.inside.productions.grammar p ≡ n))) (sym (row_is c)) (c.self.invariant.by_left.theirs n))
 
 pub returns-clause-all : goal.returns-clause-all
