@@ -25,7 +25,7 @@ pub use Rattle.definitions.specs.declared.Symbol.{Symbol}
 pub use Rattle.definitions.specs.declared.Symbol.TheVariants.{Nonterminal, Rule as Terminal}
 pub use Rattle.definitions.specs.declared.expression.Expression.{Expression}
 pub use Rattle.definitions.specs.declared.expression.PatternFault.{PatternFault}
-pub use Rattle.first_sets.specs.Productions.{IsSound, Shape}
+pub use Rattle.productions.specs.Productions.{IsSound, Shape}
 pub use Rattle.grammar.specs.Contents.{first_of, folds_name, grammar_of, is_fold, production_of, rule_names, symbol_of}
 pub use Rattle.grammar.specs.Faults.{IsFault, IsFirstProduction, file_fault, is_production_of, unproductive}
 pub use Rattle.grammar.specs.Grammars.{FileGrammar, IsGrammar, IsKnown, IsUsable}

@@ -15,9 +15,9 @@ ghost use Rattle.grammar.specs.Notes.{AreNotes, symbol_name};
 
 use crate::read::read;
 use definitions::{Kind, Symbol};
-use first_sets::Production;
 use grammar_file::GrammarFault;
 use patterns::Pattern;
+use productions::Production;
 use std::alloc::Global;
 use std::marker::Model;
 

@@ -11,7 +11,7 @@ ghost use Rattle.grammar.specs.Uses.{AreUsed};
 
 use crate::used::is_marked;
 use definitions::Symbol;
-use first_sets::Production;
+use productions::Production;
 use std::alloc::{AllocError, Global};
 
 /// Those of the symbols, in order, that are neither skipped nor used, where `marks` has the

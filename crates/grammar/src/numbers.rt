@@ -10,8 +10,8 @@ ghost use Rattle.grammar_file.specs.Kept.{lines_view};
 
 use crate::grammar::Name;
 use definitions::Symbol;
-use first_sets::Production;
 use grammar_file::{Line, Names, Numbered};
+use productions::Production;
 use std::alloc::{AllocError, Global};
 
 /// The symbol of a name.

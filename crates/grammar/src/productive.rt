@@ -4,7 +4,7 @@ ghost use Rattle.std.specs.Prelude.{◌≡◌, ◌<◌, length, IfOk, MatchOptio
 ghost use Rattle.grammar.specs.Marks.{is_marked, are_marked, is_ready, IsClosed, IsNext, AreBelow, AreSound, AreComplete};
 
 use definitions::Symbol;
-use first_sets::Production;
+use productions::Production;
 use std::alloc::{AllocError, Global};
 
 /// Whether each nonterminal is the root of some tree.

@@ -20,9 +20,9 @@ use crate::numbers;
 use crate::unproductive::test_productive;
 use crate::used::mark_used;
 use definitions::Symbol;
-use first_sets::Production;
 use grammar_file::{File, GrammarFault, Names, Numbered, RuleName, read_file};
 use patterns::Pattern;
+use productions::Production;
 use std::alloc::{AllocError, Global};
 
 /// What a grammar has of the names of its file.

@@ -12,8 +12,8 @@ ghost use Rattle.grammar_file.specs.Kept.{lines_view};
 ghost use Rattle.grammar_file.specs.Causes.{Reports};
 
 use crate::productive::productive;
-use first_sets::Production;
 use grammar_file::{GrammarCause, GrammarFault, Line, Numbered};
+use productions::Production;
 use std::alloc::Global;
 
 /// Tests that all nonterminals are productive.

@@ -6,7 +6,7 @@ ghost use Rattle.grammar.specs.Marks.{are_marked};
 ghost use Rattle.grammar.specs.Uses.{IsSpread, IsUnmarkedIn, IsReached, AreWithin, AreUsed};
 
 use definitions::Symbol;
-use first_sets::Production;
+use productions::Production;
 use std::alloc::{AllocError, Global};
 
 /// Whether each nonterminal is used by some derivation from the start.

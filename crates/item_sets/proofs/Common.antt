@@ -22,15 +22,15 @@ pub use Rattle.definitions.specs.Sentences.{AllProductive}
 pub use Rattle.definitions.specs.Trees.{Grammar, HasProduction, left_of, right_of, trees}
 pub use Rattle.definitions.specs.declared.Symbol.{Symbol}
 pub use Rattle.definitions.specs.declared.Symbol.TheVariants.{Nonterminal, Rule, Rule as Terminal}
-pub use Rattle.first_sets.proofs.Columns.{column_there, rank-lookahead_at}
-pub use Rattle.first_sets.proofs.EachMore.{each_more}
-pub use Rattle.first_sets.proofs.Follows.{follows_first, follows_nothing}
-pub use Rattle.first_sets.proofs.FollowsInRange.{may_known}
-pub use Rattle.first_sets.proofs.Numbers.{has_production, production_below, production_is}
-pub use Rattle.first_sets.proofs.SymbolNumbers.{number-symbol_of, symbol_of-number}
-pub use Rattle.first_sets.specs.Lookaheads.{lookahead_at, rank}
-pub use Rattle.first_sets.specs.Productions.{IsKnown, IsSound, Shape}
-pub use Rattle.first_sets.specs.Symbols.{number, symbol_of}
+pub use Rattle.productions.proofs.Columns.{column_there, rank-lookahead_at}
+pub use Rattle.productions.proofs.EachMore.{each_more}
+pub use Rattle.productions.proofs.Follows.{follows_first, follows_nothing}
+pub use Rattle.productions.proofs.FollowsInRange.{may_known}
+pub use Rattle.productions.proofs.Numbers.{has_production, production_below, production_is}
+pub use Rattle.productions.proofs.SymbolNumbers.{number-symbol_of, symbol_of-number}
+pub use Rattle.productions.specs.Lookaheads.{lookahead_at, rank}
+pub use Rattle.productions.specs.Productions.{IsKnown, IsSound, Shape}
+pub use Rattle.productions.specs.Symbols.{number, symbol_of}
 pub use Rattle.item_sets.specs.Collection.{AreStates, Found, GoesOn, IsAbsent, IsLed, IsReached, IsStep, Placed, kernel_at, origin_at}
 pub use Rattle.item_sets.specs.Order.{Below, IsBefore, IsInside, IsOrdered, IsRising}
 pub use Rattle.item_sets.specs.Sets.{Closed, IsIn, IsItem, Kernel, after_dot, item_of, side}

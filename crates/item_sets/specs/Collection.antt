@@ -6,9 +6,9 @@ use Rattle.definitions.specs.Trees.{Grammar}
 use Rattle.definitions.specs.Items.{HasItem}
 use Rattle.item_sets.specs.declared.collection.Origin.{Origin}
 use Rattle.item_sets.specs.declared.item.Item.{Item}
-use Rattle.first_sets.specs.Productions.{Shape, IsSound}
+use Rattle.productions.specs.Productions.{Shape, IsSound}
 use Rattle.item_sets.specs.Order.{IsOrdered}
-use Rattle.first_sets.specs.Symbols.{symbol_of}
+use Rattle.productions.specs.Symbols.{symbol_of}
 use Rattle.item_sets.specs.States.{HasKernel}
 
 -- the kernel of state `s`

@@ -1,8 +1,8 @@
 -- The order of the items of a set: the farther dot first, then the earlier production, then the earlier lookahead.
 use Rattle.std.specs.Prelude.{◌≡◌, ◌<◌, ◌+◌, ◌⊎◌, ℕ, List, None, All, AllPairs}
 use Rattle.item_sets.specs.declared.item.Item.{Item}
-use Rattle.first_sets.specs.Lookaheads.{rank}
-use Rattle.first_sets.specs.Productions.{Shape}
+use Rattle.productions.specs.Lookaheads.{rank}
+use Rattle.productions.specs.Productions.{Shape}
 use Rattle.item_sets.specs.Sets.{IsItem}
 
 -- the item `i` comes before `j`: its dot is farther; or its production is earlier; or its lookahead is

@@ -5,7 +5,7 @@ use Rattle.definitions.specs.declared.Symbol.TheVariants.{Nonterminal}
 use Rattle.definitions.specs.Trees.{Grammar, left_of, right_of}
 use Rattle.definitions.specs.Items.{Item as LrItem}
 use Rattle.item_sets.specs.declared.item.Item.{Item}
-use Rattle.first_sets.specs.Productions.{Shape}
+use Rattle.productions.specs.Productions.{Shape}
 use Rattle.theory.specs.First.{MayFollow}
 
 -- `side g p`: the right side of production `p`, or of the added `S' = S`, which is `None`

@@ -7,7 +7,7 @@ use Rattle.definitions.specs.Items.{Item as LrItem, IsValid}
 use Rattle.theory.specs.Closure.{IsKernel}
 use Rattle.item_sets.specs.declared.item.Item.{Item}
 use Rattle.item_sets.specs.Order.{IsRising, IsOrdered}
-use Rattle.first_sets.specs.Productions.{Shape}
+use Rattle.productions.specs.Productions.{Shape}
 use Rattle.item_sets.specs.Sets.{item_of, after_dot, IsItem}
 
 -- these are the items valid for the prefix

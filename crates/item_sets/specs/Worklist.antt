@@ -6,10 +6,10 @@ use Rattle.definitions.specs.declared.Symbol.TheVariants.{Nonterminal}
 use Rattle.definitions.specs.Trees.{Grammar, left_of, right_of}
 use Rattle.item_sets.specs.declared.item.Item.{Item}
 use Rattle.item_sets.specs.declared.worklist.Entry.{Entry}
-use Rattle.first_sets.specs.First.{unmarked}
-use Rattle.first_sets.specs.Lookaheads.{lookahead_at}
+use Rattle.productions.specs.First.{unmarked}
+use Rattle.productions.specs.Lookaheads.{lookahead_at}
 use Rattle.item_sets.specs.Order.{IsRising, IsBefore}
-use Rattle.first_sets.specs.Productions.{Shape}
+use Rattle.productions.specs.Productions.{Shape}
 use Rattle.item_sets.specs.Sets.{after_dot, IsIn}
 use Rattle.theory.specs.First.{MayFollow}
 

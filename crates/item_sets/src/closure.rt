@@ -2,9 +2,9 @@
 ghost use Rattle.std.specs.Prelude.{◌≡◌, ◌<◌, ◌+◌, ◌↔◌, ℕ, false, Option, Some, List, length, All, IfOk, OnOk, IfSome};
 ghost use Rattle.definitions.specs.Trees.{Grammar};
 ghost use Rattle.item_sets.specs.declared.item.Item.{Item};
-ghost use Rattle.first_sets.specs.Lookaheads.{lookahead_at};
+ghost use Rattle.productions.specs.Lookaheads.{lookahead_at};
 ghost use Rattle.item_sets.specs.Order.{IsOrdered};
-ghost use Rattle.first_sets.specs.Productions.{IsKnown, IsSound};
+ghost use Rattle.productions.specs.Productions.{IsKnown, IsSound};
 ghost use Rattle.item_sets.specs.Sets.{after_dot, IsItem};
 ghost use Rattle.item_sets.specs.States.{IsSetOf};
 ghost use Rattle.item_sets.specs.Worklist.{marked, AreCalledFor, IsGrownBy, CallFor, IsExpanded, HaveBeginnings};
@@ -13,7 +13,7 @@ ghost use Rattle.theory.specs.First.{MayFollow};
 use crate::item::Item;
 use crate::worklist::{Entry, Worklist};
 use definitions::Symbol;
-use first_sets::{AugmentedGrammar, ProductionNumber, lookahead_at};
+use productions::{AugmentedGrammar, ProductionNumber, lookahead_at};
 use std::alloc::{AllocError, Global};
 
 /// The column of a lookahead, where it is one of the grammar's.
@@ -30,7 +30,8 @@ fn column_in(grammar: &AugmentedGrammar, lookahead: Option<usize>) -> Option<usi
     }
 }
 
-/// The only lookahead that may follow these symbols, where they are none or begin with a token rule.
+/// The only lookahead that may follow these symbols, where they are none or begin with a token
+/// rule.
 fn only_lookahead(symbols: &[Symbol], lookahead: Option<usize>) -> Option<Option<usize>>
     ensures { IfSome result (λ a. (g : Grammar) (b : Option ℕ)
         → MayFollow g symbols.now lookahead b ↔ (b ≡ a)) }
@@ -61,7 +62,8 @@ impl<'a> Worklist<'a> {
         }
     }
 
-    /// Adds a nonterminal that stands before these symbols, with each lookahead that may follow them.
+    /// Adds a nonterminal that stands before these symbols, with each lookahead that may follow
+    /// them.
     fn insert_before(
         &mut self,
         nonterminal: usize,

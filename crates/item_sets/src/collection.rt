@@ -10,7 +10,7 @@ use crate::item::Item;
 use crate::kernels::Kernels;
 use crate::state_number::StateNumber;
 use definitions::Symbol;
-use first_sets::{AugmentedGrammar, symbol_at};
+use productions::{AugmentedGrammar, symbol_at};
 use std::alloc::{AllocError, Global};
 use std::marker::Model;
 
@@ -97,7 +97,8 @@ impl States {
         Ok(state)
     }
 
-    /// Where the symbol leads from a state, with this kernel after it. A state that is met for the first time is added.
+    /// Where the symbol leads from a state, with this kernel after it. A state that is met for the
+    /// first time is added.
     fn goto(
         &mut self,
         alloc: Global,
@@ -123,8 +124,8 @@ impl States {
         Ok(Some(to))
     }
 
-    /// Where each symbol leads from the state with these items, by the symbol's number. States that are met for the first time
-    /// are added in the order of the symbols.
+    /// Where each symbol leads from the state with these items, by the symbol's number. States
+    /// that are met for the first time are added in the order of the symbols.
     pub fn gotos(
         &mut self,
         alloc: Global,
@@ -148,8 +149,8 @@ impl States {
         Ok(to)
     }
 
-    /// The symbols by which the state was first reached. Where the states are taken in order to be followed, no fewer symbols
-    /// lead there, which no contract says.
+    /// The symbols by which the state was first reached. Where the states are taken in order to be
+    /// followed, no fewer symbols lead there, which no contract says.
     pub fn prefix(
         &self,
         alloc: Global,

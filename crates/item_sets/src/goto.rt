@@ -3,10 +3,10 @@ ghost use Rattle.std.specs.Prelude.{◌≡◌, ◌<◌, ◌+◌, ℕ, [], All, I
 ghost use Rattle.item_sets.specs.Order.{IsRising};
 ghost use Rattle.item_sets.specs.Sets.{IsItem};
 ghost use Rattle.item_sets.specs.States.{IsKernelAfter};
-ghost use Rattle.first_sets.specs.Symbols.{symbol_of};
+ghost use Rattle.productions.specs.Symbols.{symbol_of};
 
 use crate::item::Item;
-use first_sets::{AugmentedGrammar, Row, empty_rows, number_of};
+use productions::{AugmentedGrammar, Row, empty_rows, number_of};
 use std::alloc::{AllocError, Global};
 
 /// The kernels after the symbols, by the numbers of these.

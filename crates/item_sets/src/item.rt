@@ -1,13 +1,14 @@
 //! The items of sets.
 ghost use Rattle.std.specs.Prelude.{◌≡◌, ◌<◌, ◌+◌, ◌^◌, IfSome};
 ghost use Rattle.definitions.specs.Derivations.{first};
-ghost use Rattle.first_sets.specs.Productions.{IsKnown};
+ghost use Rattle.productions.specs.Productions.{IsKnown};
 ghost use Rattle.item_sets.specs.Sets.{IsItem, after_dot};
 
 use definitions::Symbol;
-use first_sets::{AugmentedGrammar, ProductionNumber};
+use productions::{AugmentedGrammar, ProductionNumber};
 
-/// An item: its production, where its dot is, and its lookahead. None is the added start production, and the end.
+/// An item: its production, where its dot is, and its lookahead. None is the added start
+/// production, and the end.
 #[derive(Clone, Copy, Debug, PartialEq, Eq, Hash)]
 pub struct Item {
     /// The number of the production in file order, from 0.

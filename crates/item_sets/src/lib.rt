@@ -1,16 +1,18 @@
-//! The canonical collection of sets of LR(1) items (Knuth 1965): the closure of a set, where symbols lead from it, and
-//! all sets, each once.
+//! The canonical collection of sets of LR(1) items (Knuth 1965): the closure of a set, where
+//! symbols lead from it, and all sets, each once.
 //!
-//! `States::new` begins the collection of a grammar with the start set. `close` adds to a kernel what its closure has;
-//! `gotos` returns the states after each symbol, by the symbols' numbers, and adds the new ones to the collection;
-//! `prefix` returns symbols that lead to a state, and `next` the symbol after an item's dot.
+//! `States::new` begins the collection of a grammar with the start set. `close` adds to a kernel
+//! what its closure has; `gotos` returns the states after each symbol, by the symbols' numbers,
+//! and adds the new ones to the collection; `prefix` returns symbols that lead to a state, and
+//! `next` the symbol after an item's dot.
 //!
-//! Words: an *item* is a production, a dot in its right side, and a lookahead; a *kernel* is a set of items without
-//! those that its closure adds.
+//! Words: an *item* is a production, a dot in its right side, and a lookahead; a *kernel* is a set
+//! of items without those that its closure adds.
 //!
-//! Limits: none of its own; `tables` stops at 8,192 sets. A closure costs its items, each with each of its lookaheads,
-//! so a grammar with many levels of operators that occur in many places, such as `grammars/lua.lr`, takes by far the
-//! longest. In the example `augmented` is the grammar of the example of `first_sets`.
+//! Limits: none of its own; `tables` stops at 8,192 sets. A closure costs its items, each with
+//! each of its lookaheads, so a grammar with many levels of operators that occur in many places,
+//! such as `grammars/lua.lr`, takes by far the longest. In the example `augmented` is the grammar
+//! of the example of `productions`.
 //!
 //! ```
 //! let mut states = States::new(alloc, augmented).ok()?;

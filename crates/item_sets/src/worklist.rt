@@ -1,9 +1,9 @@
 //! The worklist of a closure: nonterminals, each with a lookahead that may follow it.
 ghost use Rattle.std.specs.Prelude.{◌≡◌, ◌↔◌, ◌<◌, ◌+◌, ℕ, false, IsTrue, length, slice_index_or, IfOk, OnOk};
-ghost use Rattle.first_sets.specs.Productions.{IsSound};
+ghost use Rattle.productions.specs.Productions.{IsSound};
 ghost use Rattle.item_sets.specs.Worklist.{marked, AreEntries, IsGrownBy};
 
-use first_sets::{AugmentedGrammar, Marks};
+use productions::{AugmentedGrammar, Marks};
 use std::alloc::{AllocError, Global};
 use std::marker::Model;
 
@@ -86,8 +86,7 @@ impl<'a> Worklist<'a> {
     /// Whether the nonterminal has no entry.
     pub fn has_none(&self, nonterminal: usize) -> bool
         requires { nonterminal < self.now.grammar.nonterminals }
-        ensures { IsTrue result
-            ↔ ((k : ℕ) → marked self.now.rows nonterminal k ≡ false) }
+        ensures { IsTrue result ↔ ((k : ℕ) → marked self.now.rows nonterminal k ≡ false) }
     {
         self.rows[nonterminal].is_blank()
     }

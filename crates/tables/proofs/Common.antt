@@ -20,12 +20,12 @@ pub use Rattle.definitions.specs.declared.Kind.{Kind}
 pub use Rattle.definitions.specs.declared.Kind.TheVariants.{Invalid, Rule as Token}
 pub use Rattle.definitions.specs.declared.Symbol.{Symbol}
 pub use Rattle.definitions.specs.declared.Symbol.TheVariants.{Nonterminal, Rule as Terminal}
-pub use Rattle.first_sets.proofs.Columns.{column_there, lookahead_at-rule, lookahead_small, rank-lookahead_at}
-pub use Rattle.first_sets.proofs.EachMore.{each_more}
-pub use Rattle.first_sets.proofs.SymbolNumbers.{symbol_of-number}
-pub use Rattle.first_sets.specs.Lookaheads.{lookahead_at, rank}
-pub use Rattle.first_sets.specs.Productions.{IsKnown, IsSound, Shape}
-pub use Rattle.first_sets.specs.Symbols.{number}
+pub use Rattle.productions.proofs.Columns.{column_there, lookahead_at-rule, lookahead_small, rank-lookahead_at}
+pub use Rattle.productions.proofs.EachMore.{each_more}
+pub use Rattle.productions.proofs.SymbolNumbers.{symbol_of-number}
+pub use Rattle.productions.specs.Lookaheads.{lookahead_at, rank}
+pub use Rattle.productions.specs.Productions.{IsKnown, IsSound, Shape}
+pub use Rattle.productions.specs.Symbols.{number}
 pub use Rattle.grammar.specs.Grammars.{FileGrammar, IsGrammar, IsUsable}
 pub use Rattle.item_sets.proofs.AddedKernels.{no_item}
 pub use Rattle.item_sets.proofs.FirstKernel.{same_sets, start_item, start_kernel}

@@ -12,8 +12,8 @@ use Rattle.item_sets.specs.declared.item.Item.{Item}
 use Rattle.tables.specs.declared.progress.ClashAt.{ClashAt}
 use Rattle.item_sets.specs.Collection.{kernel_at}
 use Rattle.tables.specs.Gotos.{AreGotos, HasSteps}
-use Rattle.first_sets.specs.Lookaheads.{lookahead_at}
-use Rattle.first_sets.specs.Productions.{Shape}
+use Rattle.productions.specs.Lookaheads.{lookahead_at}
+use Rattle.productions.specs.Productions.{Shape}
 use Rattle.item_sets.specs.Sets.{IsItem, item_of}
 use Rattle.item_sets.specs.States.{HasKernel}
 

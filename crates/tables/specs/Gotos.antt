@@ -4,7 +4,7 @@ use Rattle.definitions.specs.declared.Symbol.{Symbol}
 use Rattle.definitions.specs.declared.Symbol.TheVariants.{Nonterminal}
 use Rattle.item_sets.specs.declared.item.Item.{Item}
 use Rattle.item_sets.specs.Collection.{IsStep}
-use Rattle.first_sets.specs.Productions.{Shape, IsKnown}
+use Rattle.productions.specs.Productions.{Shape, IsKnown}
 
 -- where each nonterminal leads from the state s
 pub record AreGotos (g : Shape) (kernels : List (List Item)) (s : ℕ) (gotos : List (Option ℕ)) : Type 0 where

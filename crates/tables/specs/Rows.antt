@@ -10,7 +10,7 @@ use Rattle.item_sets.specs.declared.item.Item.{Item}
 use Rattle.tables.specs.declared.moves.Call.{Call}
 use Rattle.tables.specs.declared.moves.Call.TheVariants.{Shift as ToShift, Reduce as ToReduce, Accept as ToAccept}
 use Rattle.tables.specs.declared.moves.Decision.TheVariants.{Nothing, Agreed, Conflict}
-use Rattle.first_sets.specs.Lookaheads.{lookahead_at}
+use Rattle.productions.specs.Lookaheads.{lookahead_at}
 use Rattle.tables.specs.Moves.{IsDecision}
 
 -- the move of a state with this row whose items call for one thing

@@ -6,7 +6,7 @@ use Rattle.definitions.specs.declared.Symbol.TheVariants.{Rule as Terminal, Nont
 use Rattle.definitions.specs.Trees.{Grammar}
 use Rattle.definitions.specs.Sentences.{AllProductive}
 use Rattle.definitions.specs.Items.{Move as LrMove, HasMove, HasItem, HasNoConflict, kind_of}
-use Rattle.first_sets.specs.Lookaheads.{rank}
+use Rattle.productions.specs.Lookaheads.{rank}
 use Rattle.tables.specs.declared.decisions.Move.{Move}
 use Rattle.tables.specs.declared.decisions.Move.TheVariants.{Shift, Reduce, Accept}
 use Rattle.tables.specs.Actions.{plain}

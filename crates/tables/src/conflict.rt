@@ -8,8 +8,8 @@ ghost use Rattle.item_sets.specs.Sets.{IsItem, item_of};
 use crate::decisions::Clash;
 use crate::progress::ClashAt;
 use definitions::Symbol;
-use first_sets::AugmentedGrammar;
 use item_sets::{Item, States};
+use productions::AugmentedGrammar;
 use std::alloc::{AllocError, Global};
 
 /// Two items that are valid for a prefix and call for different moves at a lookahead. None is the

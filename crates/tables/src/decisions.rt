@@ -3,7 +3,7 @@ ghost use Rattle.std.specs.Prelude.{◌≡◌, ◌<◌, ◌+◌, Some, None, Opt
 ghost use Rattle.definitions.specs.Items.{Move as LrMove, CallsFor, kind_of};
 ghost use Rattle.item_sets.specs.declared.item.Item.{Item};
 ghost use Rattle.tables.specs.Expected.{in_file_order, rules_with_move};
-ghost use Rattle.first_sets.specs.Lookaheads.{rank};
+ghost use Rattle.productions.specs.Lookaheads.{rank};
 ghost use Rattle.tables.specs.Rows.{chosen, IsDecided};
 ghost use Rattle.item_sets.specs.Sets.{IsItem, item_of};
 
@@ -12,8 +12,8 @@ use crate::moves::{Call, Decision, call_of, decide};
 use crate::packed::{PackedRow, Small};
 use crate::rows::GotoRow;
 use definitions::Symbol;
-use first_sets::{AugmentedGrammar, Marks, lookahead_at};
 use item_sets::Item;
+use productions::{AugmentedGrammar, Marks, lookahead_at};
 use std::alloc::{AllocError, Global};
 use std::marker::Model;
 

@@ -5,8 +5,8 @@ ghost use Rattle.item_sets.specs.Sets.{IsItem};
 ghost use Rattle.tables.specs.Moves.{IsCall, IsDecision};
 
 use definitions::Symbol;
-use first_sets::AugmentedGrammar;
 use item_sets::Item;
+use productions::AugmentedGrammar;
 
 /// What an item calls for.
 #[derive(Clone, Copy, Debug, PartialEq, Eq)]

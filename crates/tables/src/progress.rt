@@ -5,8 +5,8 @@ ghost use Rattle.item_sets.specs.Collection.{AreStates};
 
 use crate::decisions::{Clash, Decided, Moves, moves_of};
 use crate::rows::{GotoRow, Gotos};
-use first_sets::AugmentedGrammar;
 use item_sets::{StateNumber, States, close};
+use productions::AugmentedGrammar;
 use std::alloc::{AllocError, Global};
 use std::marker::Model;
 

@@ -1,4 +1,4 @@
--- The grammar of lists of numbers, of the example of `first_sets`, is one that the crate takes.
+-- The grammar of lists of numbers, of the example of `productions`, is one that the crate takes.
 use Rattle.std.proofs.Common.{◌≡◌, ◌<◌, ◌^◌, length, ℕ, zero, suc, List, [], ◌∷◌, Option, Some, None, refl, sym, ap, ◌∙◌, subst, All, Result, Ok, Err, arith}
 use Rattle.std.proofs.lemmas.List.Elements.{All-nil, All-cons}
 use Rattle.std.specs.Prelude.{IfOk}
@@ -8,7 +8,7 @@ use Rattle.definitions.specs.declared.Kind.TheVariants.{Rule as Token}
 use Rattle.definitions.specs.declared.Symbol.TheVariants.{Rule as Terminal, Nonterminal}
 use Rattle.definitions.specs.Sentences.{IsProductive}
 use Rattle.definitions.specs.Trees.{Production, HasProduction, Leaf, Branch, Nil}
-use Rattle.first_sets.specs.Productions.{Shape, no_productions, with_production, IsKnown, IsSound}
+use Rattle.productions.specs.Productions.{Shape, no_productions, with_production, IsKnown, IsSound}
 
 -- List = | List NUM
 abbrev pub lists : Shape

@@ -41,7 +41,7 @@ fn of_values(rt: &HostRuntime, alloc: Global) -> Option<()> {
 
 /// The examples of what tables are made of.
 fn of_sets(rt: &HostRuntime, alloc: Global) -> Option<()> {
-    sets::use_first_sets(rt, alloc)?;
+    sets::use_productions(rt, alloc)?;
     let augmented = sets::lists(alloc).ok()?;
     sets::use_item_sets(rt, alloc, &augmented)
 }

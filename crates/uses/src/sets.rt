@@ -1,12 +1,12 @@
 //! Examples of what tables are made of.
 
 use definitions::Symbol;
-use first_sets::{AugmentedGrammar, Productions};
 use item_sets::{StateNumber, States, close};
+use productions::{AugmentedGrammar, Productions};
 use std::alloc::{AllocError, Global};
 
-/// The example of `first_sets`.
-pub fn use_first_sets(rt: &HostRuntime, alloc: Global) -> Option<()> {
+/// The example of `productions`.
+pub fn use_productions(rt: &HostRuntime, alloc: Global) -> Option<()> {
     let (list, number) = (Symbol::Nonterminal(0), Symbol::Rule(0));
     let mut productions = Productions::new(alloc, 1, 1, 0);
     productions.push(0, Vec::new(alloc)).ok()?;
@@ -18,7 +18,7 @@ pub fn use_first_sets(rt: &HostRuntime, alloc: Global) -> Option<()> {
     // a list can begin with a number: true
 }
 
-/// The grammar of the example of `first_sets`.
+/// The grammar of the example of `productions`.
 pub fn lists(alloc: Global) -> Result<AugmentedGrammar, AllocError> {
     let mut productions = Productions::new(alloc, 1, 1, 0);
     productions.push(0, Vec::new(alloc))?;

@@ -1,5 +1,5 @@
 use Rattle.std.proofs.Common.{sym, subst}
-use Rattle.first_sets.specs.Productions.{IsSound}
+use Rattle.productions.specs.Productions.{IsSound}
 use Rattle.uses.proofs.ListGrammar.{lists_sound, pushed}
 use Rattle.uses.proofs.sets.lists.Goals as goal
 

@@ -1,6 +1,0 @@
-use Rattle.std.proofs.Common.{◌≡◌, drop}
-use Rattle.first_sets.proofs.Common.{nullable_by}
-use Rattle.first_sets.proofs.first.are_nullable.Given as goal
-
-abbrev pub invariant-loop-s : goal.invariant-loop-s
-invariant-loop-s l = nullable_by l.marks (drop l.s-index l.symbols) ≡ nullable_by l.marks l.symbols

@@ -1,6 +1,0 @@
-use Rattle.std.proofs.Common.{◌≡◌, drop}
-use Rattle.first_sets.proofs.Common.{begin_by}
-use Rattle.first_sets.proofs.first.begin.Given as goal
-
-abbrev pub invariant-loop-s : goal.invariant-loop-s
-invariant-loop-s l = begin_by l.a l.nullable l.marks (drop l.s-index l.symbols) ≡ begin_by l.a l.nullable l.marks l.symbols
