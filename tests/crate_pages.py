@@ -11,7 +11,7 @@ import re
 from specs import lines_of
 
 # The fewest and the most lines of a page.
-LINES_OF_PAGES = (10, 25)
+LINES_OF_PAGES = (10, 30)
 
 USE = re.compile(r"^pub fn use_(\w+)\(.*?(?:^| )\{\n(.*?)^\}$", re.M | re.S)
 

@@ -15,6 +15,7 @@ from specs import Definitions, files_of, imports_of, lines_of, words_of_run
 # The most columns of a line of a contract, and of a line of a definition.
 WIDTH_OF_CONTRACTS = 100
 WIDTH_OF_DEFINITIONS = 140
+WIDTH_OF_DOCSTRINGS = 99
 
 # What a proof that isn't written looks like, and how THEOREM.md writes the number of the lines that look so.
 HOLE = re.compile(r"\?|\{!")
@@ -72,6 +73,16 @@ def wide_definitions(top):
         for path in files_of(top, "specs", ".antt")
         for number, line in enumerate(lines_of(path), 1)
         if len(line) > WIDTH_OF_DEFINITIONS
+    ]
+
+
+def wide_docstrings(top):
+    """The lines of docstrings and of the crates' pages that are too wide."""
+    return [
+        f"{os.path.relpath(path, top)}:{number}"
+        for path in files_of(top, "src", ".rt")
+        for number, line in enumerate(lines_of(path), 1)
+        if line.lstrip().startswith(("///", "//!")) and len(line) > WIDTH_OF_DOCSTRINGS
     ]
 
 
@@ -164,6 +175,7 @@ def check(cases, top):
     cases.check("docs/THEOREM.md gives the lines of the crates", sizes(top), reported)
     cases.check("no line of a contract is too wide", [], wide_clauses(top))
     cases.check("no line of a definition is too wide", [], wide_definitions(top))
+    cases.check("no line of a docstring is too wide", [], wide_docstrings(top))
     cases.check("each name that a contract's file brings in is named there", [], idle_imports(top))
     cases.check("each name that a `proofs/Common` passes on is taken from there", [], idle_in_common(top))
     libraries.check(cases, top)

@@ -29,12 +29,11 @@ pub use Rattle.definitions.specs.declared.Position.{Position}
 pub use Rattle.definitions.specs.declared.Range.{Range}
 pub use Rattle.definitions.specs.declared.Stats.{Stats}
 pub use Rattle.definitions.specs.declared.Unit.{Unit as Encoding}
-pub use Rattle.docs.specs.Changes.{IsChanged}
 pub use Rattle.docs.specs.Docs.{IsCurrent, last_edit, open_document}
 pub use Rattle.docs.specs.Faults.{doc_fault}
 pub use Rattle.docs.specs.Outcomes.{IsOutcome}
 pub use Rattle.docs.specs.Pending.{number_or}
-pub use Rattle.docs.specs.Settling.{IsSettled, LeadsTo, with_text}
+pub use Rattle.docs.specs.Settling.{IsSettled, LeadsTo}
 pub use Rattle.docs.specs.Stamps.{AreStamped, splice_between}
 pub use Rattle.docs.specs.declared.doc.Doc.{Doc}
 pub use Rattle.docs.specs.declared.doc.DocFault.{DocFault}
@@ -57,7 +56,7 @@ pub use Rattle.readings.specs.Answers.{AreSelections, IsReading, IsReported, Rea
 pub use Rattle.readings.specs.Diagnostics.{IsDiagnosis, shown as fault_of}
 pub use Rattle.readings.specs.Edits.{AreStats, IsAbove, IsNext, ReportsLast, edit_of, number_after, number_of}
 pub use Rattle.readings.specs.Layers.{LayersAnswer}
-pub use Rattle.readings.specs.Texts.{LastEdit, OpenDocument, fits}
+pub use Rattle.readings.specs.Texts.{LastEdit, fits}
 pub use Rattle.readings.specs.Contents.{AreFoldsOf, IsSelectionOf, placed_parts}
 pub use Rattle.views.specs.Roots.{AreRootsOf, trees_of_roots}
 pub use Rattle.views.specs.Views.{text_of}

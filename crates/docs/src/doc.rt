@@ -14,7 +14,7 @@ ghost use Rattle.readings.specs.Diagnostics.{IsDiagnosis};
 ghost use Rattle.readings.specs.Answers.{AreSelections, IsReported, Reads, rows, written_tree};
 ghost use Rattle.docs.specs.Changes.{IsChanged};
 ghost use Rattle.docs.specs.Docs.{last_edit, open_document, IsCurrent};
-ghost use Rattle.docs.specs.Settling.{with_text, IsAhead, IsSettled};
+ghost use Rattle.docs.specs.Settling.{IsAhead, IsSettled};
 ghost use Rattle.readings.specs.Edits.{AreStats};
 ghost use Rattle.docs.specs.Languages.{LanguageData};
 ghost use Rattle.docs.specs.Outcomes.{IsOutcome};

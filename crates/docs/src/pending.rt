@@ -1,7 +1,7 @@
 //! A document with pending changes: its text is ahead of its tokens and of its parse, so that many
 //! changes cost one scan.
 
-ghost use Rattle.std.specs.Prelude.{◌≡◌, ◌+◌, ◌<◌, ◌≤◌, ◌^◌, ℕ, List, Err, Some, true, false, IfOk, IfErr, OnOk, OnErr, MatchOption, length, min};
+ghost use Rattle.std.specs.Prelude.{◌≡◌, ◌+◌, ◌<◌, ◌≤◌, ◌^◌, ℕ, List, Err, Some, true, false, IfOk, IfErr, OnOk, OnErr, length, min};
 ghost use Rattle.std.specs.Str.{chars};
 ghost use Rattle.definitions.specs.Text.{changed, edit};
 ghost use Rattle.docs.specs.Docs.{last_edit, IsCurrent};

@@ -4,7 +4,6 @@ pub use Rattle.std.specs.Cmp.Lexicographic.{pointwise}
 pub use Rattle.std.specs.List.{cons_option, enumerate_from, filter_map, flat_map, fold, list_all, list_any, prefix_len, sum_by}
 pub use Rattle.std.specs.Str.{bytes_eq}
 pub use Rattle.std.specs.Str.Lines.{lines}
-pub use Rattle.std.proofs.Math.Seq.{take-length}
 pub use Rattle.std.proofs.lemmas.Bool.{cases_lt}
 pub use Rattle.std.proofs.lemmas.Bool.Decides.{nat_tests}
 pub use Rattle.std.proofs.lemmas.Grind.{common_steps, get_or-set_at}
@@ -18,14 +17,13 @@ pub use Rattle.std.proofs.lemmas.Option.{IfSome_then, get_or_from_slice_get, sli
 pub use Rattle.std.proofs.lemmas.Result.{err_from_is_err_and}
 pub use Rattle.std.proofs.lemmas.Slice.Eq.{bytes_eq-Decides}
 pub use Rattle.definitions.specs.Answers.{kind_name}
-pub use Rattle.definitions.specs.Sentences.{AllProductive, IsProductive, IsUsed, On_right, The_start}
+pub use Rattle.definitions.specs.Sentences.{IsProductive, IsUsed, On_right, The_start}
 pub use Rattle.definitions.specs.Trees.{AreTrees, Branch, Cons, Forest, Grammar, HasDistinctProductions, HasProduction, IsTree, Leaf, Nil, Production as Production', Tree}
 pub use Rattle.definitions.specs.declared.Kind.TheVariants.{Invalid, Rule as Token}
 pub use Rattle.definitions.specs.declared.Symbol.{Symbol}
 pub use Rattle.definitions.specs.declared.Symbol.TheVariants.{Nonterminal, Rule as Terminal}
 pub use Rattle.definitions.specs.declared.expression.Expression.{Expression}
 pub use Rattle.definitions.specs.declared.expression.PatternFault.{PatternFault}
-pub use Rattle.productions.specs.Productions.{IsSound, Shape}
 pub use Rattle.grammar.specs.Contents.{first_of, folds_name, grammar_of, is_fold, production_of, rule_names, symbol_of}
 pub use Rattle.grammar.specs.Faults.{IsFault, IsFirstProduction, file_fault, is_production_of, unproductive}
 pub use Rattle.grammar.specs.Grammars.{FileGrammar, IsGrammar, IsKnown, IsUsable}
@@ -33,7 +31,7 @@ pub use Rattle.grammar.specs.Marks.{AllProductiveIn, AreBelow, AreComplete, AreS
 pub use Rattle.grammar.specs.Meaning.{IsGrammarOf, file_grammar, grammar_with}
 pub use Rattle.grammar.specs.Notes.{AreNotes, is_rule, is_skip, none, noted_symbol, skipped, used}
 pub use Rattle.grammar.specs.Parts.{AreParts, AreProductive, IsUnproductive}
-pub use Rattle.grammar.specs.Uses.{AreAllUsed, AreOnlyUsed, AreUsed, AreWithin, IsReached, IsSpread, IsUnmarkedIn}
+pub use Rattle.grammar.specs.Uses.{AreAllUsed, AreOnlyUsed, AreUsed, AreWithin, IsReached, IsSpread}
 pub use Rattle.grammar.specs.declared.read.Parts.{Parts}
 pub use Rattle.grammar_file.proofs.Lines.{nonterminals-step, rules-step}
 pub use Rattle.grammar_file.proofs.OneMoreItem.{push_at}

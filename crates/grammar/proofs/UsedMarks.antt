@@ -1,6 +1,6 @@
 -- What marks at used nonterminals mean.
-use Rattle.std.proofs.Common.{◌≡◌, inl, inr, ℕ, zero, suc, ◌+◌, ◌<◌, Bool, true, false, ◌&&◌, List, [], ◌∷◌, ◌++◌, refl, ap, sym, ◌∙◌, length, take, drop, get_or, set, replicate, arith, subst, Some, slice_get, slice_index_or}
-use Rattle.grammar.proofs.Common.{take_more, get_or-set_other, get_or-set_at, Symbol, Nonterminal, Grammar, IsUsed, The_start, On_right, is_marked, are_marked, IsSpread, IsUnmarkedIn, IsReached, AreWithin, AreOnlyUsed, AreAllUsed, push_at}
+use Rattle.std.proofs.Common.{◌≡◌, inl, inr, ℕ, zero, suc, ◌+◌, ◌<◌, Bool, true, false, ◌&&◌, List, [], ◌∷◌, ◌++◌, refl, ap, sym, ◌∙◌, length, take, drop, get_or, set, replicate, subst, Some, slice_get, slice_index_or}
+use Rattle.grammar.proofs.Common.{take_more, get_or-set_other, get_or-set_at, Symbol, Nonterminal, Grammar, IsUsed, The_start, On_right, is_marked, are_marked, IsSpread, IsReached, AreWithin, AreOnlyUsed, AreAllUsed, push_at}
 use Rattle.definitions.specs.Trees.{Production}
 use Rattle.grammar.proofs.NonterminalMarks.{and-left, and-right, same_or_not}
 

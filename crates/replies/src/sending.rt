@@ -1,7 +1,6 @@
 //! How a reply is sent: part by part to the JSON writer, so that nothing of it is copied.
 
 ghost use Rattle.std.specs.Prelude.{◌≡◌, Some, option_map, IfOk, OnOk};
-ghost use Rattle.serde_json.specs.Data.{number};
 ghost use Rattle.serde_json.specs.Events.{SendsValue};
 ghost use Rattle.serde_json.specs.Written.{compact_text};
 ghost use Rattle.replies.specs.Ids.{id_view};

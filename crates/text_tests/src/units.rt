@@ -6,7 +6,8 @@
 //!
 //! ```text
 //! import bisect, re
-//! places = [(0, 0), (0, 998), (0, 1010), (0, 1022), *((line, 0) for line in range(1, 8)), (6, 1096)]
+//! starts = [(line, 0) for line in range(1, 8)]
+//! places = [(0, 0), (0, 998), (0, 1010), (0, 1022), *starts, (6, 1096)]
 //! for code, size in ("utf-8", 1), ("utf-16-le", 2), ("utf-32-le", 4):
 //!     for n in range(1000, 1025):
 //!         text = "x" * n + "\r\né€😀\ré\n\n😀\r\r\ny" + "z" * 1100
