@@ -6,14 +6,12 @@ use Rattle.grammar_line.specs.declared.right_word.Mark.TheVariants.{Once, Any, A
 use Rattle.grammar_line.specs.Words.{Word, is_letter, is_name_byte, is_name, last_byte, without_last, mark_at, mark_of, is_mark, is_marked, plain}
 
 last-of : (xs : List ℕ) (b : ℕ) → last_byte (xs ++ b ∷ []) ≡ b
-last-of [] b = refl
-last-of (x ∷ []) b = refl
 last-of (x ∷ y ∷ xs) b = last-of (y ∷ xs) b
+last-of d b = refl
 
 prefix-of : (xs : List ℕ) (b : ℕ) → without_last (xs ++ b ∷ []) ≡ xs
-prefix-of [] b = refl
-prefix-of (x ∷ []) b = refl
 prefix-of (x ∷ y ∷ xs) b = ap (λ zs. x ∷ zs) (prefix-of (y ∷ xs) b)
+prefix-of d b = refl
 
 split-last : (x : ℕ) (xs : List ℕ) → x ∷ xs ≡ without_last (x ∷ xs) ++ last_byte (x ∷ xs) ∷ []
 split-last x [] = refl
@@ -31,10 +29,12 @@ not_last : (x : ℕ) (xs : List ℕ) (c : ℕ) → ((prefix : List ℕ) → x �
 not_last x xs c none = ne_eqb (last_byte (x ∷ xs)) c (λ e. none (without_last (x ∷ xs)) (split-last x xs ∙ ap (λ b. without_last (x ∷ xs) ++ b ∷ []) e))
 
 no_mark : (b : ℕ) → (b == 42) ≡ false → (b == 43) ≡ false → (b == 63) ≡ false → mark_at b ≡ Once
-no_mark b p q r = ap (λ t. if t then Any else if b == 43 then AtLeastOnce else if b == 63 then AtMostOnce else Once) p ∙ ap (λ t. if t then AtLeastOnce else if b == 63 then AtMostOnce else Once) q ∙ ap (λ t. if t then AtMostOnce else Once) r
+no_mark b p q r = ap (λ t. if t then Any else if b == 43 then AtLeastOnce else if b == 63 then AtMostOnce else Once) p
+    ∙ ap (λ t. if t then AtLeastOnce else if b == 63 then AtMostOnce else Once) q ∙ ap (λ t. if t then AtMostOnce else Once) r
 
 -- a word that ends with none of the marks
-pub unmarked-by : (w : Word) → ((prefix : List ℕ) → w ≢ prefix ++ (42 ∷ [])) → ((prefix : List ℕ) → w ≢ prefix ++ (43 ∷ [])) → ((prefix : List ℕ) → w ≢ prefix ++ (63 ∷ [])) → (w ≡ plain w) × (Once ≡ mark_of w)
+pub unmarked-by : (w : Word) → ((prefix : List ℕ) → w ≢ prefix ++ (42 ∷ [])) → ((prefix : List ℕ) → w ≢ prefix ++ (43 ∷ []))
+    → ((prefix : List ℕ) → w ≢ prefix ++ (63 ∷ [])) → (w ≡ plain w) × (Once ≡ mark_of w)
 unmarked-by [] p q r = (refl, refl)
 unmarked-by (x ∷ xs) p q r =
     let none : mark_of (x ∷ xs) ≡ Once = no_mark (last_byte (x ∷ xs)) (not_last x xs 42 p) (not_last x xs 43 q) (not_last x xs 63 r) in

@@ -1,8 +1,8 @@
 //! The words of a line.
 
-ghost use Rattle.std.specs.Prelude.{◌≡◌, ◌<◌, ◌++◌, ◌==◌, map, filter, length, IfOk, OnOk, MatchOption};
+ghost use Rattle.std.specs.Prelude.{◌≡◌, ◌<◌, ◌++◌, ◌==◌, map, filter, IfOk, OnOk};
 ghost use Rattle.std.specs.List.{list_all, slice_split};
-ghost use Rattle.grammar_line.specs.Words.{words, is_filled, trim_start, trim_end, after_equals, is_letter, is_name_byte, is_name, is_reserved};
+ghost use Rattle.grammar_line.specs.Words.{words, is_filled, after_equals, is_letter, is_name_byte, is_name, is_reserved};
 
 use std::alloc::{AllocError, Global};
 
@@ -50,55 +50,9 @@ pub fn after_equals(line: &str) -> &str
         Some((_, pattern)) => pattern,
         None => "",
     };
-    trim_end(trim_start(pattern))
-}
-
-/// Without the spaces and tabs at the start.
-fn trim_start(text: &str) -> &str
-    ensures { result.now ≡ trim_start text.now }
-{
-    let mut rest = text;
-    while let Some(after) = strip_first_blank(rest) {
-        rest = after;
-    }
-    rest
-}
-
-/// What stands after the first character, if it is a blank.
-fn strip_first_blank(text: &str) -> Option<&str>
-    ensures value { MatchOption result
-        (trim_start text.now ≡ text.now) (λ r. trim_start text.now ≡ trim_start r.now) }
-    ensures shorter { MatchOption result (text.now ≡ text.now) (λ r.
-        length r.now < length text.now) }
-{
-    match text.strip_prefix(' ') {
-        Some(rest) => Some(rest),
-        None => text.strip_prefix('\t'),
-    }
-}
-
-/// Without the spaces and tabs after.
-fn trim_end(text: &str) -> &str
-    ensures { result.now ≡ trim_end text.now }
-{
-    let mut rest = text;
-    while let Some(before) = strip_last_blank(rest) {
-        rest = before;
-    }
-    rest
-}
-
-/// What stands before the last character, if it is a blank.
-fn strip_last_blank(text: &str) -> Option<&str>
-    ensures value { MatchOption result
-        (trim_end text.now ≡ text.now) (λ r. trim_end text.now ≡ trim_end r.now) }
-    ensures shorter { MatchOption result (text.now ≡ text.now) (λ r.
-        length r.now < length text.now) }
-{
-    match text.strip_suffix(' ') {
-        Some(rest) => Some(rest),
-        None => text.strip_suffix('\t'),
-    }
+    pattern
+        .trim_start_matches([' ', '\t'])
+        .trim_end_matches([' ', '\t'])
 }
 
 fn is_letter(byte: u8) -> bool

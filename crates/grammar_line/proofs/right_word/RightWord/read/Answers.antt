@@ -10,16 +10,22 @@ pub returns-in-Some-clause-mark : goal.returns-in-Some-clause-mark
 returns-in-Some-clause-mark c = (marked-by c.args.word.now c.in-Some.name.now 42 (strip_suffix_char 42 c.args.word.now (Some c.in-Some.name) c.in-Some.ensures.cases (omega arith)) refl).1
 
 pub returns-in-Some-strip_suffix-clause-name : goal.returns-in-Some-strip_suffix-clause-name
-returns-in-Some-strip_suffix-clause-name c = (marked-by c.args.word.now c.in-Some-strip_suffix.name.now 43 (strip_suffix_char 43 c.args.word.now (Some c.in-Some-strip_suffix.name) c.in-Some-strip_suffix.ensures.cases (omega arith)) refl).0
+returns-in-Some-strip_suffix-clause-name c =
+    (marked-by c.args.word.now c.in-Some-strip_suffix.name.now 43 (strip_suffix_char 43 c.args.word.now (Some c.in-Some-strip_suffix.name) c.in-Some-strip_suffix.ensures.cases (omega arith)) refl).0
 
 pub returns-in-Some-strip_suffix-clause-mark : goal.returns-in-Some-strip_suffix-clause-mark
-returns-in-Some-strip_suffix-clause-mark c = (marked-by c.args.word.now c.in-Some-strip_suffix.name.now 43 (strip_suffix_char 43 c.args.word.now (Some c.in-Some-strip_suffix.name) c.in-Some-strip_suffix.ensures.cases (omega arith)) refl).1
+returns-in-Some-strip_suffix-clause-mark c =
+    (marked-by c.args.word.now c.in-Some-strip_suffix.name.now 43 (strip_suffix_char 43 c.args.word.now (Some c.in-Some-strip_suffix.name) c.in-Some-strip_suffix.ensures.cases (omega arith)) refl).1
 
 pub returns-in-Some-strip_suffix-2-clause-name : goal.returns-in-Some-strip_suffix-2-clause-name
-returns-in-Some-strip_suffix-2-clause-name c = (marked-by c.args.word.now c.in-Some-strip_suffix-2.name.now 63 (strip_suffix_char 63 c.args.word.now (Some c.in-Some-strip_suffix-2.name) c.in-Some-strip_suffix-2.ensures.cases (omega arith)) refl).0
+returns-in-Some-strip_suffix-2-clause-name c =
+    (marked-by c.args.word.now c.in-Some-strip_suffix-2.name.now 63
+    (strip_suffix_char 63 c.args.word.now (Some c.in-Some-strip_suffix-2.name) c.in-Some-strip_suffix-2.ensures.cases (omega arith)) refl).0
 
 pub returns-in-Some-strip_suffix-2-clause-mark : goal.returns-in-Some-strip_suffix-2-clause-mark
-returns-in-Some-strip_suffix-2-clause-mark c = (marked-by c.args.word.now c.in-Some-strip_suffix-2.name.now 63 (strip_suffix_char 63 c.args.word.now (Some c.in-Some-strip_suffix-2.name) c.in-Some-strip_suffix-2.ensures.cases (omega arith)) refl).1
+returns-in-Some-strip_suffix-2-clause-mark c =
+    (marked-by c.args.word.now c.in-Some-strip_suffix-2.name.now 63
+    (strip_suffix_char 63 c.args.word.now (Some c.in-Some-strip_suffix-2.name) c.in-Some-strip_suffix-2.ensures.cases (omega arith)) refl).1
 
 pub returns-clause-name : goal.returns-clause-name
 returns-clause-name c =
