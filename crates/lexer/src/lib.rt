@@ -44,6 +44,6 @@ pub use dfa::Source;
 pub use laws::{each_text_has_tokens, equal_tokens_are_the_same};
 pub use packed::PackedToken;
 pub use scanner::Scanner;
-pub use sums::{AfterCharacter, ShortKind, Sums, Token};
+pub use sums::{MoreThan, ShortKind, Sums, Token};
 pub use tokens::Tokens;
 pub use whole::Whole;

@@ -123,59 +123,31 @@ impl Measured for Token {
     }
 }
 
-/// Looks for the significant token after this many significant ones.
+/// Which token of a list is looked for: the first one up to which, it included, there is more than
+/// this.
 #[derive(Clone, Copy)]
-pub struct AfterSignificant {
-    pub count: usize,
+pub enum MoreThan {
+    /// This many significant tokens.
+    Significant(usize),
+    /// This many characters.
+    Characters(usize),
+    /// A reach up to this offset.
+    Reach(usize),
 }
 
-impl Goal<Sums> for AfterSignificant {
-    ghost use Rattle.lexer.specs.Sums.{is_after_significant};
-    ghost use Rattle.lexer.specs.Laws.{after_significant_stays};
+impl Goal<Sums> for MoreThan {
+    ghost use Rattle.lexer.specs.Sums.{has_more};
+    ghost use Rattle.lexer.specs.Laws.{more_stays};
 
-    ghost reaches = { is_after_significant };
+    ghost reaches = { has_more };
 
-    ghost stays = { after_significant_stays };
+    ghost stays = { more_stays };
 
     fn reached(&self, sum: &Sums) -> bool {
-        self.count < sum.significant as usize
-    }
-}
-
-/// Looks for the token that holds the character at this offset.
-#[derive(Clone, Copy)]
-pub struct AfterCharacter {
-    pub offset: usize,
-}
-
-impl Goal<Sums> for AfterCharacter {
-    ghost use Rattle.lexer.specs.Sums.{is_after_character};
-    ghost use Rattle.lexer.specs.Laws.{after_character_stays};
-
-    ghost reaches = { is_after_character };
-
-    ghost stays = { after_character_stays };
-
-    fn reached(&self, sum: &Sums) -> bool {
-        self.offset < sum.characters as usize
-    }
-}
-
-/// Looks for the first token whose reach goes past this offset.
-#[derive(Clone, Copy)]
-pub struct ReachesPast {
-    pub offset: usize,
-}
-
-impl Goal<Sums> for ReachesPast {
-    ghost use Rattle.lexer.specs.Sums.{reaches_past};
-    ghost use Rattle.lexer.specs.Laws.{reaches_past_stays};
-
-    ghost reaches = { reaches_past };
-
-    ghost stays = { reaches_past_stays };
-
-    fn reached(&self, sum: &Sums) -> bool {
-        self.offset < sum.end as usize
+        match *self {
+            MoreThan::Significant(count) => count < sum.significant as usize,
+            MoreThan::Characters(count) => count < sum.characters as usize,
+            MoreThan::Reach(offset) => offset < sum.end as usize,
+        }
     }
 }

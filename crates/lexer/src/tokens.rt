@@ -12,7 +12,7 @@ ghost use Rattle.lexer.specs.Rescans.{plain_all, significant_kinds, IsEdited, Is
 use crate::ahead::KindsAhead;
 use crate::packed::PackedToken;
 use crate::scan::Scan;
-use crate::sums::{AfterSignificant, ReachesPast, Token};
+use crate::sums::{MoreThan, Token};
 use crate::walk::Walk;
 use definitions::{Edit, Kind, KindSplice};
 use dfa::{Automaton, Source};
@@ -105,7 +105,7 @@ impl Tokens {
         ensures at { count_by is_significant (take (result + 1) self.now.items) ≡ k + 1 }
         ensures within { result < length self.now.items }
     {
-        let (place, _) = self.items.locate(&AfterSignificant { count: k });
+        let (place, _) = self.items.locate(&MoreThan::Significant(k));
         place
     }
 
@@ -126,7 +126,7 @@ impl Tokens {
     pub fn kinds_from(&self, k: usize) -> KindsAhead<'_>
         ensures { result ≡ drop k (significant_kinds self.now.items) }
     {
-        let first = AfterSignificant { count: k };
+        let first = MoreThan::Significant(k);
         let (place, _) = self.items.locate(&first);
         KindsAhead::new(self.items.iter_from(place))
     }
@@ -212,7 +212,7 @@ fn kept_prefix(items: &Runs<PackedToken>, edit: Edit) -> (usize, usize)
     ensures end { result.1 ≡ characters (take result.0 items.now) }
     ensures within { result.0 ≤ length items.now }
 {
-    let (kept_before, before) = items.locate(&ReachesPast { offset: edit.at });
+    let (kept_before, before) = items.locate(&MoreThan::Reach(edit.at));
     (kept_before, before.characters as usize)
 }
 

@@ -15,7 +15,7 @@ ghost use Rattle.views.specs.Roots.{AreRootsOf, trees_of_roots};
 
 use crate::parts::span_of;
 use definitions::{Range, Unit};
-use lexer::{AfterCharacter, Tokens};
+use lexer::{MoreThan, Tokens};
 use std::alloc::{AllocError, Global};
 use text::Text;
 use trees::{Child, Children, NodeId, Store};
@@ -74,7 +74,7 @@ fn point_of(tokens: &Tokens, offset: usize) -> Point
         result.reached result.first }
     ensures near { result.reached ≤ result.first + 1 }
 {
-    let (place, before) = tokens.items().locate(&AfterCharacter { offset });
+    let (place, before) = tokens.items().locate(&MoreThan::Characters(offset));
     let first = before.significant as usize;
     let reached = match tokens.token(place) {
         Some(token) if !token.skipped => first + 1,
