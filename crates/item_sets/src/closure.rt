@@ -133,7 +133,7 @@ impl<'a> Worklist<'a> {
         let start = [Symbol::Nonterminal(grammar.start())];
         let side: &[Symbol] = match item.production {
             None => &start,
-            Some(p) => grammar.right(ProductionNumber::new(p)),
+            Some(p) => grammar.right(ProductionNumber { index: p }),
         };
         self.insert_first(side.split_at(item.at).1, item.look)
     }
@@ -172,7 +172,7 @@ impl<'a> Worklist<'a> {
         for column in 0..grammar.lookaheads() {
             if self.has(left, column) {
                 items.push(Item {
-                    production: Some(p.index()),
+                    production: Some(p.index),
                     at: 0,
                     look: lookahead_at(column),
                 })?;
@@ -192,7 +192,7 @@ impl<'a> Worklist<'a> {
             return Ok(items);
         }
         for index in 0..self.grammar().len() {
-            self.add_items(ProductionNumber::new(index), &mut items)?;
+            self.add_items(ProductionNumber { index }, &mut items)?;
         }
         Ok(items)
     }

@@ -56,7 +56,7 @@ impl States {
         kernels.place(alloc, &kernel)?;
         let mut origins = Vec::new(alloc);
         origins.push(Origin {
-            from: StateNumber::new(0),
+            from: StateNumber { index: 0 },
             symbol: Symbol::Nonterminal(grammar.start()),
         })?;
         Ok(States { kernels, origins })
@@ -91,7 +91,7 @@ impl States {
         ensures placed { OnOk result (Placed self.old self.new kernel.now from symbol) }
     {
         let state = self.kernels.place(alloc, kernel)?;
-        if state.index() == self.origins.len() {
+        if state.index == self.origins.len() {
             self.origins.push(Origin { from, symbol })?;
         }
         Ok(state)
@@ -163,11 +163,11 @@ impl States {
             state) prefix.items) }
     {
         let mut symbols = Vec::new(alloc);
-        let mut at = state.index();
+        let mut at = state.index;
         while at > 0 {
             let origin = self.origins[at];
             symbols.push(origin.symbol)?;
-            at = origin.from.index();
+            at = origin.from.index;
         }
         symbols.reverse();
         Ok(symbols)

@@ -36,7 +36,7 @@ impl Item {
                 }
             }
             Some(p) => {
-                let right = grammar.right(ProductionNumber::new(p));
+                let right = grammar.right(ProductionNumber { index: p });
                 if self.at < right.len() {
                     Some(right[self.at])
                 } else {

@@ -46,7 +46,7 @@ impl Kernels {
         requires { state < length self.now }
         ensures { result.now ≡ slice_index_or self.now state [] }
     {
-        self.set.as_slice()[state.index()].as_slice()
+        self.set.as_slice()[state.index].as_slice()
     }
 
     /// The place of a kernel, which is added at the end where it is new.
@@ -57,7 +57,7 @@ impl Kernels {
             ⊎ ((self.new ≡ self.old ++ kernel.items ∷ []) × IsAbsent self.old kernel.items)) }
     {
         match self.set.insert_full(kernel) {
-            Ok((index, _)) => Ok(StateNumber::new(index)),
+            Ok((index, _)) => Ok(StateNumber { index }),
             Err(_) => Err(AllocError),
         }
     }
@@ -70,7 +70,7 @@ impl Kernels {
             ⊎ ((self.new ≡ self.old ++ kernel.now ∷ []) × IsAbsent self.old kernel.now)) }
     {
         if let Some(index) = self.set.get_index_of(kernel) {
-            return Ok(StateNumber::new(index));
+            return Ok(StateNumber { index });
         }
         self.add(Vec::from_slice(alloc, kernel)?)
     }

@@ -1,5 +1,4 @@
 //! The numbers of states, of a type of their own, so that none is taken for another number.
-ghost use Rattle.std.specs.Prelude.{◌≡◌};
 
 use std::marker::Model;
 
@@ -7,7 +6,7 @@ use std::marker::Model;
 #[derive(Clone, Copy)]
 pub struct StateNumber {
     /// The place.
-    index: usize,
+    pub index: usize,
 }
 
 impl Model for StateNumber {
@@ -18,20 +17,4 @@ impl Model for StateNumber {
     ghost view = { λ a. a.index };
 
     ghost inverse = { λ n. record { index = n } };
-}
-
-impl StateNumber {
-    /// The state whose set is at this place.
-    pub fn new(index: usize) -> StateNumber
-        ensures { result ≡ index }
-    {
-        StateNumber { index }
-    }
-
-    /// The place.
-    pub fn index(self) -> usize
-        ensures { result ≡ self }
-    {
-        self.index
-    }
 }

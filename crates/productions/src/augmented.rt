@@ -46,7 +46,7 @@ fn by_left(
 {
     let mut rows = empty_rows(alloc, productions.nonterminals())?;
     for index in 0..productions.len() {
-        let p = ProductionNumber::new(index);
+        let p = ProductionNumber { index };
         let row = &mut rows[productions.left(p)];
         row.add(p)?;
     }

@@ -97,7 +97,7 @@ fn pass(productions: &Productions, look: Option<usize>, nullable: &Marks, marks:
 {
     let mut changed = false;
     for index in 0..productions.len() {
-        let p = ProductionNumber::new(index);
+        let p = ProductionNumber { index };
         let left = productions.left(p);
         if !marks.has(left) {
             if holds(productions, look, nullable, marks, productions.right(p)) {

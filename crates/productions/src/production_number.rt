@@ -1,5 +1,4 @@
 //! The numbers of productions, of a type of their own, so that none is taken for another number.
-ghost use Rattle.std.specs.Prelude.{◌≡◌};
 
 use std::marker::Model;
 
@@ -7,7 +6,7 @@ use std::marker::Model;
 #[derive(Clone, Copy)]
 pub struct ProductionNumber {
     /// The place.
-    index: usize,
+    pub index: usize,
 }
 
 impl Model for ProductionNumber {
@@ -18,20 +17,4 @@ impl Model for ProductionNumber {
     ghost view = { λ a. a.index };
 
     ghost inverse = { λ n. record { index = n } };
-}
-
-impl ProductionNumber {
-    /// The production at this place.
-    pub fn new(index: usize) -> ProductionNumber
-        ensures { result ≡ index }
-    {
-        ProductionNumber { index }
-    }
-
-    /// The place.
-    pub fn index(self) -> usize
-        ensures { result ≡ self }
-    {
-        self.index
-    }
 }

@@ -110,7 +110,7 @@ impl Productions {
         requires { p < length self.now.grammar.productions }
         ensures { result ≡ left_of self.now.grammar p }
     {
-        self.productions[p.index()].left
+        self.productions[p.index].left
     }
 
     /// The right side of a production.
@@ -118,6 +118,6 @@ impl Productions {
         requires { p < length self.now.grammar.productions }
         ensures { result.now ≡ right_of self.now.grammar p }
     {
-        &self.productions[p.index()].right
+        &self.productions[p.index].right
     }
 }

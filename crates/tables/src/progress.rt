@@ -63,7 +63,9 @@ impl Progress {
         ensures gotos { OnOk result (self.new.gotos ≡ self.old.gotos ++ gotos ∷ []) }
         ensures moves { OnOk result (AddsMoves self.old self.new decided) }
     {
-        let state = StateNumber::new(self.gotos.len());
+        let state = StateNumber {
+            index: self.gotos.len(),
+        };
         self.gotos.push(gotos)?;
         match decided {
             Decided::Moves(moves) => self.moves.push(moves)?,
@@ -91,7 +93,7 @@ pub fn advance(
     ensures made { OnOk result (AreMade grammar.now states.new.kernels made.new) }
     ensures longer { OnOk result (length made.new.gotos ≡ length made.old.gotos + 1) }
 {
-    let state = StateNumber::new(made.len());
+    let state = StateNumber { index: made.len() };
     let items = close(alloc, grammar, states.kernel(state))?;
     let to = states.gotos(alloc, grammar, &items, state)?;
     let row = GotoRow::new(to);

@@ -38,7 +38,7 @@ impl GotoRow {
         ensures { result ≡ slice_index_or self.now symbol None }
     {
         match self.to[symbol] {
-            Some(state) => Some(state.index()),
+            Some(state) => Some(state.index),
             None => None,
         }
     }
@@ -66,7 +66,7 @@ impl Small for StateNumber {
     {
         match entry {
             None => Some(0),
-            Some(state) if state.index() < GREATEST => Some((state.index() + 1) as u16),
+            Some(state) if state.index < GREATEST => Some((state.index + 1) as u16),
             Some(_) => None,
         }
     }
@@ -77,7 +77,9 @@ impl Small for StateNumber {
         if number == 0 {
             None
         } else {
-            Some(StateNumber::new(number as usize - 1))
+            Some(StateNumber {
+                index: number as usize - 1,
+            })
         }
     }
 }
@@ -104,7 +106,7 @@ impl Gotos {
         ensures { result ≡ slice_index_or self.now nonterminal None }
     {
         match self.row.at(nonterminal) {
-            Some(state) => Some(state.index()),
+            Some(state) => Some(state.index),
             None => None,
         }
     }

@@ -264,7 +264,7 @@ impl Tables {
         ensures { (right : List Symbol) × HasProduction self.now.grammar p result.0 right
             × (length right ≡ result.1) }
     {
-        let p = ProductionNumber::new(p);
+        let p = ProductionNumber { index: p };
         (self.productions.left(p), self.productions.right(p).len())
     }
 }

@@ -30,7 +30,7 @@ pub fn lists(alloc: Global) -> Result<AugmentedGrammar, AllocError> {
 /// The example of `item_sets`.
 pub fn use_item_sets(rt: &HostRuntime, alloc: Global, augmented: &AugmentedGrammar) -> Option<()> {
     let mut states = States::new(alloc, augmented).ok()?;
-    let start = StateNumber::new(0);
+    let start = StateNumber { index: 0 };
     let items = close(alloc, augmented, states.kernel(start)).ok()?;
     let gotos = states.gotos(alloc, augmented, &items, start).ok()?;
     println!(rt; "{} symbols, {} states", gotos.len(), states.len()).ok()

@@ -12,13 +12,13 @@ loop-index-preserved c =
     let i = c.loop-index.invariant in
     let lt : p < length g.productions = search rules in
     let h = has_production g p lt in
-    let left : c.left-left.result ≡ left_of g p = c.left-left.ensures ∙ ap (left_of g) c.new-p.ensures in
+    let left : c.left-left.result ≡ left_of g p = c.left-left.ensures in
     elim c.if-not-has.branch [
       | then-not-has+then-holds w ↦
           let e : w.mark.new.self ≡ slice_set c.loop-index.marks (left_of g p) true = w.mark.ensures ∙ ap (λ n. slice_set c.loop-index.marks n true) left in
           let n : left_of g p < length c.loop-index.marks = subst (λ k. left_of g p < k) (sym i.wide) (c.requires.sound.left p (left_of g p) (right_of g p) h) in
           let off : slice_index_or c.loop-index.marks (left_of g p) false ≡ false = cc (c.has.ensures, w.if-not-has.true, left) in
-          let on : holds_by c.args.look c.args.nullable.now c.loop-index.marks (right_of g p) ≡ true = cc (w.holds.ensures, w.if-holds.true, w.right.ensures, c.new-p.ensures) in
+          let on : holds_by c.args.look c.args.nullable.now c.loop-index.marks (right_of g p) ≡ true = cc (w.holds.ensures, w.if-holds.true, w.right.ensures) in
           let less = unmarked_less c.loop-index.marks (left_of g p) n off in
           let most = i.at_most in
           rw (w.marks-is, w.changed-is, e) (record {
@@ -29,7 +29,7 @@ loop-index-preserved c =
             fewer = λ _. omega (arith, less, most);
           })
       | then-not-has+else-holds w ↦
-          let off : holds_by c.args.look c.args.nullable.now c.loop-index.marks (right_of g p) ≡ false = cc (w.holds.ensures, w.if-holds.false, w.right.ensures, c.new-p.ensures) in
+          let off : holds_by c.args.look c.args.nullable.now c.loop-index.marks (right_of g p) ≡ false = cc (w.holds.ensures, w.if-holds.false, w.right.ensures) in
           rw (w.marks-is, w.changed-is) (record {
             wide = i.wide;
             held = i.held;

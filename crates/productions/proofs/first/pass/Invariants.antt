@@ -6,7 +6,8 @@ abbrev pub invariant-loop-index : goal.invariant-loop-index
 invariant-loop-index l = record {
   wide : length l.marks ≡ l.productions.nonterminals;
   held : AreTrue l.productions.grammar l.look l.marks;
-  closed : l.changed ≡ false → (p n : ℕ) (right : List Symbol) → p < l.index → HasProduction l.productions.grammar p n right → holds_by l.look l.nullable l.marks right ≡ true → slice_index_or l.marks n false ≡ true;
+  closed : l.changed ≡ false → (p n : ℕ) (right : List Symbol) → p < l.index → HasProduction l.productions.grammar p n right
+      → holds_by l.look l.nullable l.marks right ≡ true → slice_index_or l.marks n false ≡ true;
   at_most : unmarked l.marks ≤ unmarked l.initial.marks;
   fewer : l.changed ≡ true → unmarked l.marks < unmarked l.initial.marks;
 }

@@ -17,7 +17,11 @@ returns c =
     record {
       states = placed_states g old c.requires.states kernel c.args.from c.args.symbol c.requires.from c.requires.ordered leads nonempty new to.placed;
       goes_on = goes;
-      step = (to.place.0, λ p k. subst (λ y. HasKernel g.grammar y (p ++ c.args.symbol ∷ [])) (sym to.place.1) (leads p (subst (λ y. HasKernel g.grammar y p) (goes.same c.args.from c.requires.from) k)));
+      step = (
+        to.place.0,
+        λ p k. subst (λ y. HasKernel g.grammar y (p ++ c.args.symbol ∷ [])) (sym to.place.1)
+            (leads p (subst (λ y. HasKernel g.grammar y p) (goes.same c.args.from c.requires.from) k)),
+      );
     }
 
 pub returns-then-is_empty-clause-step : goal.returns-then-is_empty-clause-step

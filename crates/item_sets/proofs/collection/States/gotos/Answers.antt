@@ -13,7 +13,8 @@ goto-requires c =
     let kernels = c.in_ok-kernels.kernels.items in
     let same : c.deref-kernel-items.result.now ≡ kernels = c.deref-kernel-items.ensures.value in
     let below : k < length kernels = subst (λ x. k < length x) same c.loop-kernel-test.true in
-    let kernel : c.items.result.now ≡ slice_index_or kernels k [] = c.items.ensures ∙ c.kernel-item.is ∙ ap (λ x. slice_index_or x k c.kernel-item.result) same ∙ get_or_default kernels k c.kernel-item.result [] below in
+    let kernel : c.items.result.now ≡ slice_index_or kernels k [] = c.items.ensures ∙ c.kernel-item.is ∙ ap (λ x. slice_index_or x k c.kernel-item.result) same
+    ∙ get_or_default kernels k c.kernel-item.result [] below in
     let long : c.len.result ≡ k = (let n = c.len.ensures in let ok = c.loop-kernel.to.ok in let filled = i.filled in omega (arith, n, ok, filled)) in
     let at : c.symbol_at-symbol.result ≡ symbol_of g k = c.symbol_at-symbol.ensures ∙ ap (symbol_of g) long in
     let after_dot = c.in_ok-kernels.ensures.each k below in
@@ -21,7 +22,9 @@ goto-requires c =
       states = i.states;
       from = let l = i.goes_on.longer in let b = c.requires.from in omega (arith, l, b);
       ordered = subst (IsOrdered shape) (sym kernel) after_dot.ordered;
-      leads = λ p h. subst (λ y. HasKernel g y (p ++ c.symbol_at-symbol.result ∷ [])) (sym kernel) (subst (λ s. HasKernel g (slice_index_or kernels k []) (p ++ s ∷ [])) (sym at) (after_dot.leads p (c.requires.items.set p (subst (λ y. HasKernel g y p) (i.goes_on.same from c.requires.from) h))));
+      leads = λ p h. subst (λ y. HasKernel g y (p ++ c.symbol_at-symbol.result ∷ [])) (sym kernel)
+          (subst (λ s. HasKernel g (slice_index_or kernels k []) (p ++ s ∷ [])) (sym at)
+          (after_dot.leads p (c.requires.items.set p (subst (λ y. HasKernel g y p) (i.goes_on.same from c.requires.from) h))));
     }
 
 pub loop-kernel-preserved : goal.loop-kernel-preserved

@@ -14,7 +14,7 @@ kernels_are c =
 
 pub returns-clause-states : goal.returns-clause-states
 returns-clause-states c =
-    let o : Origin = record { from = c.new.result; symbol = Nonterminal c.start.result } in
+    let o : Origin = record { from = 0; symbol = Nonterminal c.start.result } in
     let origins : c.push-2.new.self.items ≡ o ∷ [] = c.in_ok-push-2.ensures.items ∙ ap (λ x. x ++ o ∷ []) c.new-origins.ensures.items in
     rw (kernels_are c, origins) (start_states c.args.grammar.now c.start.ensures.sound o)
 

@@ -16,12 +16,16 @@ loop-at-preserved c =
     let seen : c.self.inside.origins.items ≡ t.origins = ap (λ x. x.origins) c.self.view_is in
     let long = ap length seen in
     let longer = c.requires.states.long in
-    let o : c.index-origin.result.now ≡ origin_at t.origins at = c.index-origin.ensures ∙ get_or_default c.self.inside.origins.items at c.index-origin.result.now none (omega (arith, below, long, longer)) ∙ ap (λ x. origin_at x at) seen in
+    let o : c.index-origin.result.now ≡ origin_at t.origins at = c.index-origin.ensures ∙ get_or_default c.self.inside.origins.items at c.index-origin.result.now none
+    (omega (arith, below, long, longer)) ∙ ap (λ x. origin_at x at) seen in
     let s = (origin_at t.origins at).symbol in
     let symbols = c.loop-at.symbols.items in
-    rw (c.in_ok-push.ensures.items, c.index-at-in-loop-at.ensures, o) (record {
+    let from = ap (λ (x : Origin). x.from) c.origin.view_is in
+    let symbol = ap (λ (x : Origin). x.symbol) c.origin.view_is in
+    rw (c.in_ok-push.ensures.items, from, symbol, o) (record {
       below = omega (arith, earlier, below);
-      leads = λ p k. subst (λ y. HasKernel g (kernel_at t.kernels c.args.state) (p ++ y)) (sym (reverse-append symbols (s ∷ []))) (subst (HasKernel g (kernel_at t.kernels c.args.state)) (append_assoc p (s ∷ []) (reverse symbols)) (i.leads (p ++ s ∷ []) (led.leads p k)));
+      leads = λ p k. subst (λ y. HasKernel g (kernel_at t.kernels c.args.state) (p ++ y)) (sym (reverse-append symbols (s ∷ [])))
+          (subst (HasKernel g (kernel_at t.kernels c.args.state)) (append_assoc p (s ∷ []) (reverse symbols)) (i.leads (p ++ s ∷ []) (led.leads p k)));
     })
 
 pub returns : goal.returns

@@ -12,7 +12,7 @@ returns-clause-place c = elim c.match-insert_full.branch [
       let k = w.in-Ok.ensures.stored in
       let below = w.in-Ok.ensures.within in
       let n = length-map keys items_of in
-      rw (w.result-is, w.new.ensures) (omega (arith, below, n), found_items keys c.args.kernel k.0 w.in-Ok.index below k.1 k.2)
+      rw w.result-is (omega (arith, below, n), found_items keys c.args.kernel k.0 w.in-Ok.index below k.1 k.2)
   | in-Err w ↦ rw w.result-is tt
 ]
 

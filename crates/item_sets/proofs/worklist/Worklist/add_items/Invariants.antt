@@ -4,5 +4,5 @@ use Rattle.item_sets.proofs.worklist.Worklist.add_items.Given as goal
 
 abbrev pub invariant-loop-column : goal.invariant-loop-column
 invariant-loop-column l =
-    (kernel : List Item) → HaveBeginnings l.self.grammar kernel l.self.rows l.p 0 l.fn.items.items
-    → HaveBeginnings l.self.grammar kernel l.self.rows l.p l.column l.items.items
+    (kernel : List Item) → HaveBeginnings l.self.grammar kernel l.self.rows l.fn.p 0 l.fn.items.items
+    → HaveBeginnings l.self.grammar kernel l.self.rows l.fn.p l.column l.items.items

@@ -13,7 +13,8 @@ loop-i-init c =
     let all : length kernel ≡ c.loop-item.item-index = search rules in
     record {
       grammar = i.grammar;
-      begun = λ j d l. subst (λ x. AreMarked g c.loop-item.self.rows (CallFor g.grammar (after_dot g.grammar x) x.look)) (get_or_default kernel j start_item d l) (λ n k b x. i.added n k b (j, omega (arith, l, all), x));
+      begun = λ j d l. subst (λ x. AreMarked g c.loop-item.self.rows (CallFor g.grammar (after_dot g.grammar x) x.look))
+          (get_or_default kernel j start_item d l) (λ n k b x. i.added n k b (j, omega (arith, l, all), x));
       sound = λ n k m. ⊎_elim
           (λ o. let b = c.requires.blank n k in absurd (cc (b, o)))
           (λ s. let l = s.1 in (slice_index_or kernel s.0 start_item, Kernel (Contains-get_or kernel s.0 start_item (omega (arith, l, all))), s.2))
@@ -33,16 +34,20 @@ loop-i-preserved c =
     let at : c.loop-i.i < length old.list = search rules in
     let is : entry ≡ slice_index_or old.list c.loop-i.i entry = c.at.ensures in
     let on : marked old.rows entry.nonterminal entry.column ≡ true = subst (λ x. marked old.rows x.nonterminal x.column ≡ true) (sym is) (c.len.ensures.entries.marks c.loop-i.i entry at) in
-    let here : AreMarked g new.rows (IsExpanded g.grammar entry.nonterminal entry.column) = subst (λ h. AreMarked h new.rows (IsExpanded h.grammar entry.nonterminal entry.column)) i.grammar e.added in
+    let here : AreMarked g new.rows (IsExpanded g.grammar entry.nonterminal entry.column) =
+    subst (λ h. AreMarked h new.rows (IsExpanded h.grammar entry.nonterminal entry.column)) i.grammar e.added in
     let longer = e.longer in
     record {
       grammar = e.grammar ∙ i.grammar;
       begun = λ j d l n k b x. e.keeps n k (i.begun j d l n k b x);
-      sound = λ n k m. ⊎_elim (λ o. i.sound n k o) (λ x. expanded_called g.grammar c.args.kernel.now old.rows i.sound entry.nonterminal entry.column on n k (subst (λ h. IsExpanded h.grammar entry.nonterminal entry.column n k) i.grammar x)) (e.only n k m);
+      sound = λ n k m. ⊎_elim (λ o. i.sound n k o) (λ x. expanded_called g.grammar c.args.kernel.now old.rows i.sound entry.nonterminal entry.column on n k
+          (subst (λ h. IsExpanded h.grammar entry.nonterminal entry.column n k) i.grammar x)) (e.only n k m);
       within = omega (arith, at, longer);
       expanded = λ j d l. ⊎_elim
-          (λ s. let same : slice_index_or new.list j d ≡ entry = ap (λ x. slice_index_or new.list x d) s ∙ e.same c.loop-i.i d at ∙ get_or_default old.list c.loop-i.i d entry at ∙ sym is in subst (λ x. AreMarked g new.rows (IsExpanded g.grammar x.nonterminal x.column)) (sym same) here)
-          (λ o. let before : j < c.loop-i.i = omega (arith, l, o) in subst (λ x. AreMarked g new.rows (IsExpanded g.grammar x.nonterminal x.column)) (sym (e.same j d (omega (arith, before, at)))) (λ n k b x. e.keeps n k (i.expanded j d before n k b x)))
+          (λ s. let same : slice_index_or new.list j d ≡ entry = ap (λ x. slice_index_or new.list x d) s ∙ e.same c.loop-i.i d at ∙ get_or_default old.list c.loop-i.i d entry at
+          ∙ sym is in subst (λ x. AreMarked g new.rows (IsExpanded g.grammar x.nonterminal x.column)) (sym same) here)
+          (λ o. let before : j < c.loop-i.i = omega (arith, l, o) in subst (λ x. AreMarked g new.rows (IsExpanded g.grammar x.nonterminal x.column))
+          (sym (e.same j d (omega (arith, before, at)))) (λ n k b x. e.keeps n k (i.expanded j d before n k b x)))
           (cases_eq j c.loop-i.i);
     }
 

@@ -1,9 +1,0 @@
-use Rattle.std.proofs.Common.{arith}
-use Rattle.std.proofs.lemmas.Grind.{common_steps}
-use Rattle.item_sets.proofs.kernels.Kernels.kernel.Goals as goal
-
-pub offset_bounds-as_slice-index : goal.offset_bounds-as_slice-index
-offset_bounds-as_slice-index c = grind (arith, common_steps)
-
-pub bounds-as_slice-index : goal.bounds-as_slice-index
-bounds-as_slice-index c = grind (arith, common_steps)
