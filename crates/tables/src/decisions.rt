@@ -176,37 +176,6 @@ fn move_at(row: &GotoRow, look: Option<usize>, call: Call) -> Option<Move>
     }
 }
 
-/// The moves that the items call for in a state with this row, unless two of them conflict.
-fn moves_of_callers(
-    alloc: Global,
-    grammar: &AugmentedGrammar,
-    items: &[Item],
-    row: &GotoRow,
-) -> Result<Decided, AllocError>
-    requires known { All (IsItem grammar.now) items.now }
-    requires row { length row.now ≡ grammar.now.grammar.rules + grammar.now.nonterminals }
-    ensures { IfOk result (IsDecided grammar.now.grammar items.now row.now) }
-{
-    let called = columns_of_calls(alloc, grammar, items)?;
-    let mut moves = Vec::with_capacity(alloc, grammar.lookaheads())?;
-    for column in 0..grammar.lookaheads() {
-        if called.has(column) {
-            let look = lookahead_at(column);
-            match decide(grammar, items, look) {
-                Decision::Nothing => moves.push(None)?,
-                Decision::Agreed(call) => moves.push(move_at(row, look, call))?,
-                Decision::Conflict(one, two) => {
-                    return Ok(Decided::Clash(Clash { look, one, two }));
-                }
-            }
-        } else {
-            moves.push(None)?;
-        }
-    }
-    let row = PackedRow::new(alloc, &moves)?;
-    Ok(Decided::Moves(Moves { row }))
-}
-
 /// The moves of the state with these items and this row, unless two of the items conflict.
 pub fn moves_of(
     alloc: Global,
@@ -219,7 +188,25 @@ pub fn moves_of(
     ensures { IfOk result (IsDecided grammar.now.grammar items.now row.now) }
 {
     let callers = callers(alloc, grammar, items)?;
-    moves_of_callers(alloc, grammar, &callers, row)
+    let calling = callers.as_slice();
+    let called = columns_of_calls(alloc, grammar, calling)?;
+    let mut moves = Vec::with_capacity(alloc, grammar.lookaheads())?;
+    for column in 0..grammar.lookaheads() {
+        if called.has(column) {
+            let look = lookahead_at(column);
+            match decide(grammar, calling, look) {
+                Decision::Nothing => moves.push(None)?,
+                Decision::Agreed(call) => moves.push(move_at(row, look, call))?,
+                Decision::Conflict(one, two) => {
+                    return Ok(Decided::Clash(Clash { look, one, two }));
+                }
+            }
+        } else {
+            moves.push(None)?;
+        }
+    }
+    let row = PackedRow::new(alloc, &moves)?;
+    Ok(Decided::Moves(Moves { row }))
 }
 
 impl Moves {

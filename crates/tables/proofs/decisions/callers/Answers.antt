@@ -23,13 +23,16 @@ loop-item-preserved c =
           rw new (record {
             known = All-push (IsItem g) old item i.known (c.requires at zero below);
             within = λ j h. ⊎_elim (λ o. i.within j o) (λ e. subst (Contains items) e (Contains-get_or items at zero below)) (Contains-push_cases old item j h);
-            all = λ k d look move l x. ⊎_elim (λ s. subst (Contains (old ++ item ∷ [])) (sym (ap (λ n. slice_index_or items n d) s ∙ default d)) (Contains-push old item)) (λ o. Contains-append_left old (item ∷ []) (slice_index_or items k d) (i.all k d look move (omega (arith, l, o)) x)) (cases_eq k at);
+            all = λ k d look move l x. ⊎_elim (λ s. subst (Contains (old ++ item ∷ [])) (sym (ap (λ n. slice_index_or items n d) s ∙ default d)) (Contains-push old item))
+                (λ o. Contains-append_left old (item ∷ []) (slice_index_or items k d) (i.all k d look move (omega (arith, l, o)) x)) (cases_eq k at);
           })
       | else-is_some w ↦
           rw w.called-is (record {
             known = i.known;
             within = i.within;
-            all = λ k d look move l x. ⊎_elim (λ s. absurd (let e = c.column_of_call.ensures.column look move (subst (λ y. CallsFor (item_of g.grammar y) (kind_of look) move) (ap (λ n. slice_index_or items n d) s ∙ default d) x) in shown look e c.is_some.ensures w.if-is_some.false)) (λ o. i.all k d look move (omega (arith, l, o)) x) (cases_eq k at);
+            all = λ k d look move l x. ⊎_elim
+                (λ s. absurd (let e = c.column_of_call.ensures.column look move (subst (λ y. CallsFor (item_of g.grammar y) (kind_of look) move)
+                (ap (λ n. slice_index_or items n d) s ∙ default d) x) in shown look e c.is_some.ensures w.if-is_some.false)) (λ o. i.all k d look move (omega (arith, l, o)) x) (cases_eq k at);
           })
     ]
 
@@ -37,4 +40,5 @@ pub returns-clause-all : goal.returns-clause-all
 returns-clause-all c = λ j look move h x.
     let items = c.args.items.now in
     let end = c.loop-item-test.false in
-    subst (Contains c.loop-item.called.items) h.2 (c.loop-item.invariant.all h.0 j look move (let l = h.1 in omega (arith, l, end)) (subst (λ y. CallsFor (item_of c.args.grammar.now.grammar y) (kind_of look) move) (sym h.2) x))
+    subst (Contains c.loop-item.called.items) h.2 (c.loop-item.invariant.all h.0 j look move (let l = h.1 in omega (arith, l, end))
+    (subst (λ y. CallsFor (item_of c.args.grammar.now.grammar y) (kind_of look) move) (sym h.2) x))
