@@ -26,6 +26,7 @@ pub mod expression;
 pub mod laws;
 
 pub use expression::{Expression, Interval, PatternCause, PatternFault};
+use std::rc::Rc;
 
 /// A place in a text: a line and a count of units in it (LSP 3.17, "Position").
 #[derive(Clone, Copy, Debug, PartialEq, Eq)]
@@ -86,6 +87,13 @@ pub enum Symbol {
 pub struct Diagnostic {
     pub range: Range,
     pub message: String,
+}
+
+/// A token's name, which the tokens of its rule share, and the token's range.
+#[derive(Debug, Drop)]
+pub struct Row {
+    pub name: Rc<String>,
+    pub range: Range,
 }
 
 /// How much there is of a document, and how much its last edit has made. Opening makes all there

@@ -29,6 +29,7 @@ use lexer::Tokens;
 use parser::laws::stack_has_the_nodes_of_the_document;
 use parser::{Parse, Verdict};
 use std::alloc::{AllocError, Global};
+use std::rc::Rc;
 use text::{Text, TextFault};
 use thiserror::Error;
 use trees::Store;
@@ -203,11 +204,11 @@ impl Doc {
     }
 
     /// The names and ranges of the tokens. Refuses for memory alone.
-    pub fn rows<'a>(
+    pub fn rows(
         &self,
         alloc: Global,
-        language: &'a Language,
-    ) -> Result<Vec<Row<'a>>, AllocError>
+        language: &Language,
+    ) -> Result<Vec<Row<Rc<String>>>, AllocError>
         requires { IsCurrent language.now self.now }
         ensures { let file = language.now.file in
             IfOk result (λ reported. Reads file self.now.text (λ reading.

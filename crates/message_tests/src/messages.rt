@@ -7,6 +7,7 @@ use rpc::{
 };
 use std::alloc::Global;
 use std::process::Abort;
+use std::rc::Rc;
 
 /// The place on line 0 before a character.
 fn before(character: u32) -> Position {
@@ -86,6 +87,7 @@ fn row(rt: &impl Abort, alloc: Global, name: &str, end: u32) -> Row {
         end: before(end),
     };
     let name = String::from_str(alloc, name).expect(rt, "memory");
+    let name = Rc::new(alloc, name).expect(rt, "memory");
     Row { name, range }
 }
 

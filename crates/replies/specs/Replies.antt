@@ -16,7 +16,7 @@ use Rattle.definitions.specs.declared.Range.{Range}
 use Rattle.definitions.specs.declared.Stats.{Stats}
 use Rattle.definitions.specs.declared.Unit.{Unit as Encoding}
 use Rattle.definitions.specs.declared.Unit.TheVariants.{Utf8, Utf16, Utf32}
-use Rattle.replies.specs.declared.reply.Row.{Row}
+use Rattle.definitions.specs.declared.Row.{Row}
 use Rattle.replies.specs.declared.reply.Reply.{Reply}
 use Rattle.replies.specs.declared.reply.Reply.TheVariants.{Capabilities, Null, Text, Tokens, Tree, Stats as StatsReply, Folds, Selections}
 use Rattle.replies.specs.declared.reply.Reply.TheVariants.{Error, Diagnostics, Log}
@@ -39,7 +39,7 @@ pub data Answer : Type 0 where
 
 -- `row_view row`: a token's row of the code as its name in UTF-8 and its range
 abbrev pub row_view : Row → List ℕ × Range
-row_view r = (string_bytes r.name, r.range)
+row_view r = (string_bytes r.name.value, r.range)
 
 -- a diagnostic of the code as its range and its message in UTF-8
 abbrev pub diagnostic_view : Diagnostic → Range × List ℕ

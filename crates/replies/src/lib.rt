@@ -27,7 +27,7 @@ mod reply;
 mod results;
 mod sending;
 
-pub use definitions::{Diagnostic, Position, Range, Stats, Unit};
+pub use definitions::{Diagnostic, Position, Range, Row, Stats, Unit};
 pub use id::Id;
-pub use reply::{Log, Loss, Refusal, Reply, Row};
+pub use reply::{Log, Loss, Refusal, Reply};
 pub use sending::to_bytes;

@@ -4,7 +4,7 @@ ghost use Rattle.std.specs.Prelude.{◌≡◌};
 ghost use Rattle.replies.specs.Replies.{code_of, loss_text, log_text, message_text, unit_name};
 
 use crate::id::Id;
-use definitions::{Diagnostic, Range, Stats, Unit};
+use definitions::{Diagnostic, Range, Row, Stats, Unit};
 
 /// Why a document was lost.
 #[derive(Clone, Copy, Debug, PartialEq, Eq)]
@@ -43,13 +43,6 @@ pub enum Refusal {
     /// The request names a document that is lost.
     DocumentLost(Loss),
     NotInitialized,
-}
-
-/// A token's name and range, as they are sent.
-#[derive(Debug, Drop)]
-pub struct Row {
-    pub name: String,
-    pub range: Range,
 }
 
 /// What is sent: the reply to a request, diagnostics, or what is logged.

@@ -6,8 +6,8 @@ ghost use Rattle.replies.specs.Replies.{capability_list, capabilities, synchroni
 ghost use Rattle.replies.specs.Sending.{outcome_data};
 
 use crate::parts::{send_integer, send_range};
-use crate::reply::{Row, unit_name};
-use definitions::{Range, Stats, Unit};
+use crate::reply::unit_name;
+use definitions::{Range, Row, Stats, Unit};
 use serde::Serializer;
 
 /// A token's name, and the lines and characters where it starts and ends.

@@ -62,10 +62,9 @@ fn rows(alloc: Global, language: &Language, doc: &Doc) -> Result<Vec<Row>, Alloc
     let found = doc.rows(alloc, language)?;
     let mut out = Vec::with_capacity(alloc, found.len())?;
     for row in &found {
-        out.push(Row {
-            name: String::from_str(alloc, row.name)?,
-            range: row.range,
-        })?;
+        let name = row.name.clone()?;
+        let range = row.range;
+        out.push(Row { name, range })?;
     }
     Ok(out)
 }

@@ -15,6 +15,7 @@ use grammar::{Grammar, GrammarFault};
 use lexer::Tokens;
 use parser::Parse;
 use std::alloc::{AllocError, Global};
+use std::rc::Rc;
 use tables::{Conflict, Tables};
 use text::{Position, Text, Unit};
 use trees::{Child, NodeId, Store};
@@ -27,7 +28,7 @@ pub fn diagnostic(found: Diagnostic) -> (Range, String) {
 }
 
 /// `Row`.
-pub fn row(row: Row<'_>) -> (&str, Range) {
+pub fn row(row: Row<Rc<String>>) -> (Rc<String>, Range) {
     let Row { name, range } = row;
     (name, range)
 }
@@ -94,13 +95,13 @@ pub fn tree_text(
 }
 
 /// `views::token_rows`.
-pub fn token_rows<'a>(
+pub fn token_rows(
     alloc: Global,
-    grammar: &'a Grammar,
+    grammar: &Grammar,
     unit: Unit,
     text: &Text,
     tokens: &Tokens,
-) -> Result<Vec<Row<'a>>, AllocError> {
+) -> Result<Vec<Row<Rc<String>>>, AllocError> {
     views::token_rows(alloc, grammar, unit, text, tokens)
 }
 
@@ -211,11 +212,11 @@ pub fn doc_folds(
 }
 
 /// `Doc::rows`.
-pub fn rows<'a>(
+pub fn rows(
     doc: &Doc,
     alloc: Global,
-    language: &'a Language,
-) -> Result<Vec<Row<'a>>, AllocError>
+    language: &Language,
+) -> Result<Vec<Row<Rc<String>>>, AllocError>
     requires { IsCurrent language.now doc.now }
 {
     doc.rows(alloc, language)

@@ -61,7 +61,7 @@ pub use Rattle.readings.specs.Contents.{AreFoldsOf, IsSelectionOf, placed_parts}
 pub use Rattle.views.specs.Roots.{AreRootsOf, trees_of_roots}
 pub use Rattle.views.specs.Folds.{AreAscending, AreSpanned, IsFold, SpanLines, line_at, lines_of, with_own}
 pub use Rattle.views.specs.NodesFrom.{IsNodeFrom}
-pub use Rattle.views.specs.Views.{IsBegun, in_utf8, rest_text, row_bytes, row_of, rows_from, rows_of, text_of}
+pub use Rattle.views.specs.Views.{IsBegun, Name, in_utf8, rest_text, row_bytes, row_of, rows_from, rows_of, text_of}
 pub use Rattle.views.specs.declared.foldable.Siblings.{Siblings}
 pub use Rattle.views.specs.declared.rows.Row.{Row}
 pub use Rattle.views.specs.declared.selections.Branch.{Branch as Found}

@@ -1,11 +1,14 @@
 -- The rows of tokens, listed one after another.
-use Rattle.views.proofs.Common.{IsUtf8, append-nil, map-append, Encoding, position, kind_name, range_of, position-min, encodes-chars, Place, FileGrammar, Token, kind_in, Row, row_of, row_bytes, in_utf8, rows_from, rows_of}
+use Rattle.views.proofs.Common.{map-append, Encoding, position, kind_name, range_of, position-min, encodes-chars, Place, FileGrammar, Token, kind_in, Row, Name, row_of, row_bytes, in_utf8, rows_from, rows_of}
 use Rattle.std.specs.Str.{chars}
-use Rattle.std.proofs.Common.{arith, refl, sym, ap, ◌∙◌, append_assoc, ◌≡◌, ℕ, ◌+◌, min, List, [], ◌∷◌, ◌++◌, length, map, encode_utf8_all}
+use Rattle.std.specs.String.{string_bytes}
+use Rattle.std.proofs.lemmas.Str.{IsUtf8-string_bytes}
+use Rattle.std.proofs.Math.Seq.{take-suc}
+use Rattle.std.proofs.Common.{arith, sym, ap, subst, ◌∙◌, append_assoc, ◌≡◌, ◌<◌, ℕ, suc, ◌+◌, min, take, slice_index_or, List, [], ◌∷◌, ◌++◌, length, map, encode_utf8_all}
 
 -- These rows are listed, of the tokens before an offset. The walk stands there, or at the end of the text where that comes before
 -- it, and the rest of the tokens begins there.
-pub record IsReported (encoding : Encoding) (f : FileGrammar) (t : List ℕ) (items : List Token) (rows : List Row) (at : Place) (rest : List Token) : Type 0 where
+pub record IsReported (encoding : Encoding) (f : FileGrammar) (t : List ℕ) (items : List Token) (rows : List (Row Name)) (at : Place) (rest : List Token) : Type 0 where
   pub offset : ℕ
   pub unit : at.unit ≡ encoding
   pub text : at.text ≡ t
@@ -14,17 +17,18 @@ pub record IsReported (encoding : Encoding) (f : FileGrammar) (t : List ℕ) (it
   pub spelled : map row_bytes rows ≡ map in_utf8 (map row_of rows)
 
 -- the walk has the position of the offset
-pub position-place : (encoding : Encoding) (t : List ℕ) (at : Place) (o : ℕ) → at.unit ≡ encoding → at.text ≡ t → at.offset ≡ min o (length t) → position at.unit at.text at.offset ≡ position encoding t o
+pub position-place : (encoding : Encoding) (t : List ℕ) (at : Place) (o : ℕ) → at.unit ≡ encoding → at.text ≡ t
+    → at.offset ≡ min o (length t) → position at.unit at.text at.offset ≡ position encoding t o
 position-place encoding t at o w e p = ap (λ v. position v at.text at.offset) w ∙ ap (λ u. position encoding u at.offset) e ∙ ap (position encoding t) p ∙ position-min encoding t o
 
 pub min-more : (n o k : ℕ) → min (min o n + k) n ≡ min (o + k) n
 min-more n o k = omega arith
 
-pub shown_more : (encoding : Encoding) (f : FileGrammar) (t : List ℕ) (items : List Token) (rows : List Row) (at next : Place) (x : Token) (rest : List Token) (r : Row)
+pub shown_more : (encoding : Encoding) (f : FileGrammar) (t : List ℕ) (items : List Token) (rows : List (Row Name)) (at next : Place) (x : Token) (rest : List Token) (r : Row Name)
     → IsReported encoding f t items rows at (x ∷ rest) → next.unit ≡ at.unit → next.text ≡ at.text → next.offset ≡ min (at.offset + x.length) (length at.text)
-    → chars r.name.now ≡ kind_name f.names (kind_in x) → IsUtf8 r.name.now → r.range.start ≡ position at.unit at.text at.offset → r.range.end ≡ position next.unit next.text next.offset
+    → chars (string_bytes r.name.value) ≡ kind_name f.names (kind_in x) → r.range.start ≡ position at.unit at.text at.offset → r.range.end ≡ position next.unit next.text next.offset
     → IsReported encoding f t items (rows ++ r ∷ []) next rest
-shown_more encoding f t items rows at next x rest r h v e p name utf8 from to =
+shown_more encoding f t items rows at next x rest r h v e p name from to =
     let unit : next.unit ≡ encoding = v ∙ h.unit in
     let text : next.text ≡ t = e ∙ h.text in
     let place : next.offset ≡ min (h.offset + x.length) (length t) =
@@ -32,7 +36,7 @@ shown_more encoding f t items rows at next x rest r h v e p name utf8 from to =
     let start = from ∙ position-place encoding t at h.offset h.unit h.text h.place in
     let end = to ∙ position-place encoding t next (h.offset + x.length) unit text place in
     let row : row_of r ≡ (kind_name f.names (kind_in x), range_of encoding t (h.offset, h.offset + x.length)) = λ i. (name i, record { start = start i; end = end i }) in
-    let bytes : r.name.now ≡ encode_utf8_all (chars r.name.now) = sym (encodes-chars r.name.now utf8) in
+    let bytes : string_bytes r.name.value ≡ encode_utf8_all (chars (string_bytes r.name.value)) = sym (encodes-chars (string_bytes r.name.value) (IsUtf8-string_bytes r.name.value)) in
     let spelled : row_bytes r ≡ in_utf8 (row_of r) = λ i. (bytes i, r.range) in
     record {
       offset = h.offset + x.length;
@@ -48,3 +52,11 @@ shown_more encoding f t items rows at next x rest r h v e p name utf8 from to =
           ∙ sym (map-append in_utf8 (map row_of rows) (row_of r ∷ []))
           ∙ ap (map in_utf8) (sym (map-append row_of rows (r ∷ [])));
     }
+
+-- the names of one rule more
+pub named_more : {N : Type 0} (f : N → List ℕ) (names : List (List ℕ)) (found : List N) (k : ℕ) (n : N) → map f found ≡ take k names
+    → k < length names → f n ≡ slice_index_or names k [] → map f (found ++ n ∷ []) ≡ take (k + 1) names
+named_more f names found k n same below is =
+    let next : suc k ≡ k + 1 = omega arith in
+    map-append f found (n ∷ []) ∙ (λ i. same i ++ is i ∷ [])
+    ∙ sym (subst (λ m. take m names ≡ take k names ++ slice_index_or names k [] ∷ []) next (take-suc names k [] below))
