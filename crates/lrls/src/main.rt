@@ -24,9 +24,7 @@ use std::process::ExitCode;
 fn given_words(rt: &HostRuntime) -> Result<Vec<String>, Fault> {
     let mut given = match std::env::args(rt) {
         Ok(given) => given,
-        Err(error) if error.kind() == ErrorKind::OutOfMemory => {
-            return Err(Fault::Memory);
-        }
+        Err(error) if error.kind() == ErrorKind::OutOfMemory => return Err(Fault::Memory),
         Err(_) => return Err(Fault::CommandLine),
     };
     given.next();
@@ -51,25 +49,16 @@ fn load_language(rt: &HostRuntime, path: &str) -> Result<Result<Language, Printe
 /// Prints what a command answers, and returns its status.
 fn print(rt: &HostRuntime, printed: &Printed) -> Result<u8, Fault> {
     let _ = rt.stderr().write_all(&printed.err);
-    match rt.stdout().write_all(&printed.out) {
-        Ok(()) => Ok(printed.status),
-        Err(_) => Err(Fault::Write),
-    }
-}
-
-/// Checks a grammar that gives this language.
-fn check_grammar(rt: &HostRuntime, language: &Language) -> Result<u8, Fault> {
-    print(rt, &check(rt.alloc(), language)?)
-}
-
-/// Parses a text of these bytes.
-fn parse_text(rt: &HostRuntime, language: &Language, bytes: &[u8]) -> Result<u8, Fault> {
-    print(rt, &parse(rt.alloc(), language, bytes)?)
+    rt.stdout()
+        .write_all(&printed.out)
+        .map_err(|_| Fault::Write)?;
+    Ok(printed.status)
 }
 
 /// Parses the text in a file.
 fn parse_file(rt: &HostRuntime, language: &Language, path: &str) -> Result<u8, Fault> {
-    parse_text(rt, language, &bytes_of(rt, path)?)
+    let bytes = bytes_of(rt, path)?;
+    print(rt, &parse(rt.alloc(), language, &bytes)?)
 }
 
 /// Serves an editor until it leaves.
@@ -90,7 +79,7 @@ fn grammar_of(asked: &Words) -> &str {
 /// Does what is asked by the language of its grammar.
 fn perform_in(rt: &HostRuntime, asked: &Words, language: Language) -> Result<u8, Fault> {
     match asked {
-        Words::Check(_) => check_grammar(rt, &language),
+        Words::Check(_) => print(rt, &check(rt.alloc(), &language)?),
         Words::Parse(_, text) => parse_file(rt, &language, text.as_str()),
         Words::Serve(_) => serve(rt, rt.alloc(), language),
     }
