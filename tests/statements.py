@@ -16,6 +16,7 @@ from specs import Definitions, files_of, imports_of, lines_of, words_of_run
 WIDTH_OF_CONTRACTS = 100
 WIDTH_OF_DEFINITIONS = 140
 WIDTH_OF_DOCSTRINGS = 99
+WIDTH_OF_PROOFS = 199
 
 # What a proof that isn't written looks like, and how THEOREM.md writes the number of the lines that look so.
 HOLE = re.compile(r"\?|\{!")
@@ -35,6 +36,8 @@ CLAUSE = re.compile(r"^\s*(?:ensures|requires|invariant|ghost view)\b")
 GHOST_USE = re.compile(r"^[ \t]*ghost use [^;]*?\{([^}]*)\};", re.M)
 ANY_USE = re.compile(r"^[ \t]*(?:pub )?(?:ghost )?use [^;]*;|//[^\n]*", re.M)
 PASSED_ON = re.compile(r"^(?:unfoldable )?pub use \S+\.\{([^}]*)\}$", re.M)
+ANY_IMPORT = re.compile(r"^\s*(?:unfoldable )?(?:pub )?use ")
+QUOTED = re.compile(r'"(?:[^"\\]|\\.)*"')
 TAKEN = re.compile(r"^use Rattle\.\w+\.proofs\.Common\.\{([^}]*)\}$", re.M)
 
 
@@ -83,6 +86,16 @@ def wide_docstrings(top):
         for path in files_of(top, "src", ".rt")
         for number, line in enumerate(lines_of(path), 1)
         if line.lstrip().startswith(("///", "//!")) and len(line) > WIDTH_OF_DOCSTRINGS
+    ]
+
+
+def wide_proofs(top):
+    """The lines of proofs that are too wide, without what they import and what stands in quotes in rows, which can't be broken."""
+    return [
+        f"{os.path.relpath(path, top)}:{number}"
+        for path in files_of(top, "proofs", ".antt")
+        for number, line in enumerate(lines_of(path), 1)
+        if not ANY_IMPORT.match(line) and len(QUOTED.sub("", line)) > WIDTH_OF_PROOFS
     ]
 
 
@@ -176,6 +189,7 @@ def check(cases, top):
     cases.check("no line of a contract is too wide", [], wide_clauses(top))
     cases.check("no line of a definition is too wide", [], wide_definitions(top))
     cases.check("no line of a docstring is too wide", [], wide_docstrings(top))
+    cases.check("no line of a proof is too wide", [], wide_proofs(top))
     cases.check("each name that a contract's file brings in is named there", [], idle_imports(top))
     cases.check("each name that a `proofs/Common` passes on is taken from there", [], idle_in_common(top))
     libraries.check(cases, top)

@@ -215,12 +215,15 @@ OneDone name w words shown =
 
 abbrev pub TwoDone : Walk → List Text → Option (List Text) → Type 0
 TwoDone w words shown =
-    ((g : Text) × (x : Text) × (shown ≡ Some (g ∷ x ∷ [])) × (rest_fault built_two w words ≡ []) × (grammar_in (rows_from built_two w words) ≡ Some g) × (text_in (rows_from built_two w words) ≡ Some x))
+    ((g : Text) × (x : Text) × (shown ≡ Some (g ∷ x ∷ [])) × (rest_fault built_two w words ≡ [])
+    × (grammar_in (rows_from built_two w words) ≡ Some g) × (text_in (rows_from built_two w words) ≡ Some x))
     ⊎ ((rest_fault built_two w words ≡ [] → ⊥) × ((g x : Text) → shown ≡ Some (g ∷ x ∷ []) → ⊥))
 
-one_on : (name : Text) (w after : Walk) (word : Text) (rest : List Text) (shown now : Option (List Text)) → turn_fault (built_one name) [] w word ≡ [] → walked (built_one name).rules [] w word ≡ after
+one_on : (name : Text) (w after : Walk) (word : Text) (rest : List Text) (shown now : Option (List Text))
+    → turn_fault (built_one name) [] w word ≡ [] → walked (built_one name).rules [] w word ≡ after
     → shown ≡ now → OneDone name after rest now → OneDone name w (word ∷ rest) shown
-one_on name w after word rest shown now e f same (inl d) = inl (d.0, same ∙ d.1, step_on (built_one name) w after word rest e f ∙ d.2, ap grammar_in (rows_on (built_one name) w after word rest f) ∙ d.3)
+one_on name w after word rest shown now e f same (inl d) =
+    inl (d.0, same ∙ d.1, step_on (built_one name) w after word rest e f ∙ d.2, ap grammar_in (rows_on (built_one name) w after word rest f) ∙ d.3)
 one_on name w after word rest shown now e f same (inr d) = inr ((λ h. d.0 (sym (step_on (built_one name) w after word rest e f) ∙ h)), (λ g h. d.1 g (sym same ∙ h)))
 
 two_on : (w after : Walk) (word : Text) (rest : List Text) (shown now : Option (List Text)) → turn_fault built_two [] w word ≡ [] → walked built_two.rules [] w word ≡ after

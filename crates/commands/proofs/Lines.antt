@@ -149,18 +149,15 @@ no_task word rest apart (Serve g) asks = absurd (true≢false (sym (ap (begins_w
 
 check_asks : (rest : List Text) → ((g : Text) → paths rest ≡ Some (g ∷ []) → ⊥) → (task : Words) → Asks (codes "check" ∷ rest) task → ⊥
 check_asks rest apart (Check g) asks = apart (string_bytes g) (ap paths (ap (drop 1) asks.1) ∙ asks.2)
-check_asks rest apart (Parse g x) asks = absurd (true≢false (ap (begins_with (codes "check")) asks.1))
-check_asks rest apart (Serve g) asks = absurd (true≢false (ap (begins_with (codes "check")) asks.1))
+check_asks rest apart d asks = absurd (true≢false (ap (begins_with (codes "check")) asks.1))
 
 serve_asks : (rest : List Text) → ((g : Text) → paths rest ≡ Some (g ∷ []) → ⊥) → (task : Words) → Asks (codes "serve" ∷ rest) task → ⊥
 serve_asks rest apart (Serve g) asks = apart (string_bytes g) (ap paths (ap (drop 1) asks.1) ∙ asks.2)
-serve_asks rest apart (Parse g x) asks = absurd (true≢false (ap (begins_with (codes "serve")) asks.1))
-serve_asks rest apart (Check g) asks = absurd (true≢false (ap (begins_with (codes "serve")) asks.1))
+serve_asks rest apart d asks = absurd (true≢false (ap (begins_with (codes "serve")) asks.1))
 
 parse_asks : (rest : List Text) → ((g x : Text) → paths rest ≡ Some (g ∷ x ∷ []) → ⊥) → (task : Words) → Asks (codes "parse" ∷ rest) task → ⊥
 parse_asks rest apart (Parse g x) asks = apart (string_bytes g) (string_bytes x) (ap paths (ap (drop 1) asks.1) ∙ asks.2)
-parse_asks rest apart (Serve g) asks = absurd (true≢false (ap (begins_with (codes "parse")) asks.1))
-parse_asks rest apart (Check g) asks = absurd (true≢false (ap (begins_with (codes "parse")) asks.1))
+parse_asks rest apart d asks = absurd (true≢false (ap (begins_with (codes "parse")) asks.1))
 
 check_outcome : (rest : List Text) → All IsUtf8 rest → Outcome (codes "check" ∷ rest)
 check_outcome rest u = elim (one_none (codes "check") false rest u) [

@@ -21,7 +21,8 @@ same_lists E each (x ∷ xs) (y ∷ ys) =
       (λ e. and_from _ _ ((each x y).1 (let same : x ≡ y = cc in same)) (more.1 (let same : xs ≡ ys = cc in same))),
     )
 
-pub same_splices : (E : Kind → Kind → Bool) → ((j k : Kind) → (E j k ≡ true) ↔ (j ≡ k)) → (a b : KindSplice) → (((nat_eq a.from b.from && (nat_eq a.to b.to && pointwise E a.kinds.items b.kinds.items))) ≡ true) ↔ (plain_splice a ≡ plain_splice b)
+pub same_splices : (E : Kind → Kind → Bool) → ((j k : Kind) → (E j k ≡ true) ↔ (j ≡ k)) → (a b : KindSplice)
+    → (((nat_eq a.from b.from && (nat_eq a.to b.to && pointwise E a.kinds.items b.kinds.items))) ≡ true) ↔ (plain_splice a ≡ plain_splice b)
 same_splices E each a b =
     let kinds = same_lists E each a.kinds.items b.kinds.items in (
       (λ e.

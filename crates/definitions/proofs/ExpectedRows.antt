@@ -68,4 +68,9 @@ no_kinds : IsVerdict alone [] FaultAtEnd
 no_kinds = ((λ s. let long : 0 ≡ 1 = ap length (only_number [] s) in omega (arith, long)), (Token 0 ∷ [], number))
 
 two_kinds : IsVerdict alone (Token 0 ∷ Token 0 ∷ Token 0 ∷ []) (FaultAt 1)
-two_kinds = (omega arith, too_long (Token 0) (Token 0) [], λ j l. (let first : 0 ≡ j = omega (arith, l) in subst (λ k. IsViable alone (take (k + 1) (Token 0 ∷ Token 0 ∷ Token 0 ∷ []))) first ([], number)))
+two_kinds = (
+  omega arith,
+  too_long (Token 0) (Token 0) [],
+  λ j l. (let first : 0 ≡ j = omega (arith, l) in
+      subst (λ k. IsViable alone (take (k + 1) (Token 0 ∷ Token 0 ∷ Token 0 ∷ []))) first ([], number)),
+)

@@ -19,7 +19,17 @@ module _ (p : Address) (v : Vec Interval Global) (digits : v.items ≡ record { 
 
   -- `[0-9]+` spells it
   spelled_class : SpellsAt Atom 0 digit (Plain 0 91 ∷ Plain 1 48 ∷ Plain 2 45 ∷ Plain 3 57 ∷ Plain 4 93 ∷ [])
-  spelled_class = class 0 false v _ (rw digits (refl, (Plain 1 48 ∷ Plain 2 45 ∷ Plain 3 57 ∷ [], Plain 4 93 ∷ [], refl, ((refl, omega arith, omega arith, omega arith), refl, (refl, omega arith, omega arith, omega arith)), (Plain 4 93, refl, refl))))
+  spelled_class = class 0 false v _
+      (rw digits (
+        refl,
+        (
+          Plain 1 48 ∷ Plain 2 45 ∷ Plain 3 57 ∷ [],
+          Plain 4 93 ∷ [],
+          refl,
+          ((refl, omega arith, omega arith, omega arith), refl, (refl, omega arith, omega arith, omega arith)),
+          (Plain 4 93, refl, refl),
+        ),
+      ))
 
   spelled : Spells number (codes "[0-9]+")
   spelled = one_seq 0 _ (one_rep 0 _ (plus 0 _ _ (Plain 5 43) refl refl spelled_class))

@@ -70,7 +70,8 @@ units-take-lt encoding (x ∷ xs) zero (suc n) l k = omega (arith, sum_by-cons (
 units-take-lt encoding (x ∷ xs) (suc m) (suc n) l k =
     omega (arith, sum_by-cons (unit encoding) x (take m xs), sum_by-cons (unit encoding) x (take n xs), units-take-lt encoding xs m n (omega arith) (omega arith))
 
-same : (encoding : Encoding) (start : ℕ) (line : List ℕ) (o x : ℕ) → start ≤ o → o ≤ x → x ≤ start + length line → units encoding (take (x - start) line) ≤ units encoding (take (o - start) line) → x ≡ o
+same : (encoding : Encoding) (start : ℕ) (line : List ℕ) (o x : ℕ) → start ≤ o → o ≤ x → x ≤ start + length line
+    → units encoding (take (x - start) line) ≤ units encoding (take (o - start) line) → x ≡ o
 same encoding start line o x begins up inside counted = go (cases_lt o x)
   where
     go : (o < x) ⊎ (x ≤ o) → x ≡ o

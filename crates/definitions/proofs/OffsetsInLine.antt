@@ -77,7 +77,8 @@ half c t e f =
 abbrev from_place : ℕ → ℕ → ℕ → List ℕ → ℕ → ℕ
 from_place o s p ends d = slice_index_or (s ∷ ends) (ended o ends) d
 
-opened : (o s p d c : ℕ) (t : List ℕ) (n : ℕ) (b : Bool) → ends_break c t ≡ b → from_place o s p (break_ends p (c ∷ t)) d ≤ n → from_place o s p (cond b ((p + 1) ∷ break_ends (p + 1) t) (break_ends (p + 1) t)) d ≤ n
+opened : (o s p d c : ℕ) (t : List ℕ) (n : ℕ) (b : Bool) → ends_break c t ≡ b → from_place o s p (break_ends p (c ∷ t)) d ≤ n
+    → from_place o s p (cond b ((p + 1) ∷ break_ends (p + 1) t) (break_ends (p + 1) t)) d ≤ n
 unfolding break_ends
 opened o s p d c t n b same e = subst (λ v. from_place o s p (cond v ((p + 1) ∷ break_ends (p + 1) t) (break_ends (p + 1) t)) d ≤ n) same e
 
@@ -103,18 +104,21 @@ covers (suc r) p s d (c ∷ t) sp rl nb zero jr e = at (cases_Bool (ends_break c
     at (inr b) (inl g) = g
     at (inr b) (inr g) = let h = half c t b g in absurd (no_half r p s d c t h.1.0 h.1.1 h.0 b nb e)
 covers (suc r) p s d (c ∷ t) sp rl nb (suc j) jr e =
-    go (λ v m. covers r (p + 1) v d t m (omega (arith, rl)) (λ b. nb (between_later c r t b)) j (omega (arith, jr))) (ends_break c t) (opened (p + suc r) s p d c t (p + suc j) (ends_break c t) refl e)
+    go (λ v m. covers r (p + 1) v d t m (omega (arith, rl)) (λ b. nb (between_later c r t b)) j (omega (arith, jr)))
+    (ends_break c t) (opened (p + suc r) s p d c t (p + suc j) (ends_break c t) refl e)
   where
     rest : List ℕ
     rest = break_ends (p + 1) t
 
-    next : ((v : ℕ) → v ≤ p + 1 → from_place (p + 1 + r) v (p + 1) rest d ≤ p + 1 + j → in_line (slice_index t j) ≡ true) → (v : ℕ) → v ≤ p + 1 → from_place (p + suc r) v (p + 1) rest d ≤ p + suc j → in_line (slice_index t j) ≡ true
+    next : ((v : ℕ) → v ≤ p + 1 → from_place (p + 1 + r) v (p + 1) rest d ≤ p + 1 + j → in_line (slice_index t j) ≡ true) → (v : ℕ) → v ≤ p + 1
+        → from_place (p + suc r) v (p + 1) rest d ≤ p + suc j → in_line (slice_index t j) ≡ true
     next later v m h =
         let same : p + suc r ≡ p + 1 + r = omega arith in
         let near : from_place (p + suc r) v (p + 1) rest d ≤ p + 1 + j = omega (arith, h) in
         later v m (subst (λ o. from_place o v (p + 1) rest d ≤ p + 1 + j) same near)
 
-    go : ((v : ℕ) → v ≤ p + 1 → from_place (p + 1 + r) v (p + 1) rest d ≤ p + 1 + j → in_line (slice_index t j) ≡ true) → (b : Bool) → from_place (p + suc r) s p (cond b ((p + 1) ∷ rest) rest) d ≤ p + suc j → in_line (slice_index t j) ≡ true
+    go : ((v : ℕ) → v ≤ p + 1 → from_place (p + 1 + r) v (p + 1) rest d ≤ p + 1 + j → in_line (slice_index t j) ≡ true) → (b : Bool)
+        → from_place (p + suc r) s p (cond b ((p + 1) ∷ rest) rest) d ≤ p + suc j → in_line (slice_index t j) ≡ true
     go later false h = next later s (omega arith) h
     go later true h =
         let one : ended (p + suc r) ((p + 1) ∷ rest) ≡ suc (ended (p + suc r) rest) = ended-cons (p + suc r) (p + 1) rest true (le-leb _ _ (omega arith)) ∙ omega arith in
@@ -140,7 +144,8 @@ in_line_end t o inside = go (cases_lt (start + n) o)
         let here : in_line (slice_index t (start + n)) ≡ false = subst (λ c. in_line c ≡ false) (get_or-drop start t n 0) stops in
         let whole : 0 + o ≡ o = omega arith in
         let from : start ≤ 0 + (start + n) = omega arith in
-        let goes : in_line (slice_index t (start + n)) ≡ true = covers o 0 0 (length t) t (omega arith) inside.0 inside.1 (start + n) l (subst (λ m. slice_index_or (0 ∷ break_ends 0 t) (ended m (break_ends 0 t)) (length t) ≤ 0 + (start + n)) (sym whole) from) in
+        let goes : in_line (slice_index t (start + n)) ≡ true = covers o 0 0 (length t) t (omega arith) inside.0 inside.1 (start + n) l
+        (subst (λ m. slice_index_or (0 ∷ break_ends 0 t) (ended m (break_ends 0 t)) (length t) ≤ 0 + (start + n)) (sym whole) from) in
         absurd (false≢true (sym here ∙ goes))
 
 pub offset-of_position : (encoding : Encoding) (t : List ℕ) (o : ℕ) → IsInLine t o → offset encoding t (position encoding t o) ≡ o

@@ -37,7 +37,8 @@ unfolding position
 position-past encoding t o l =
     let end : ℕ = length t in
     let line : line_of t o ≡ line_of t end = line_of-past t o l in
-    let count : units encoding (take (o - line_start t (line_of t o)) (line_from (line_start t (line_of t o)) t)) ≡ units encoding (take (end - line_start t (line_of t end)) (line_from (line_start t (line_of t end)) t)) =
+    let count : units encoding (take (o - line_start t (line_of t o)) (line_from (line_start t (line_of t o)) t)) ≡ units encoding
+    (take (end - line_start t (line_of t end)) (line_from (line_start t (line_of t end)) t)) =
     ap (units encoding) (take-past t (line_start t (line_of t o)) o l) ∙ ap (λ k. units encoding (take (end - line_start t k) (line_from (line_start t k) t))) line in
     λ i. record { line = line i; character = count i }
 

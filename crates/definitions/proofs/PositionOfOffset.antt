@@ -16,7 +16,8 @@ at_least s p k d (c ∷ t) l m = go (ends_break c t) k (λ r q i n. at_least r (
     rest : List ℕ
     rest = break_ends (p + 1) t
 
-    go : (b : Bool) (k : ℕ) → ((r : ℕ) → r ≤ p + 1 → (i : ℕ) → i ≤ length rest → r ≤ slice_index_or (r ∷ rest) i d) → k ≤ length (cond b ((p + 1) ∷ rest) rest) → s ≤ slice_index_or (s ∷ cond b ((p + 1) ∷ rest) rest) k d
+    go : (b : Bool) (k : ℕ) → ((r : ℕ) → r ≤ p + 1 → (i : ℕ) → i ≤ length rest → r ≤ slice_index_or (r ∷ rest) i d)
+        → k ≤ length (cond b ((p + 1) ∷ rest) rest) → s ≤ slice_index_or (s ∷ cond b ((p + 1) ∷ rest) rest) k d
     go false k ih n = ih s (omega arith) k n
     go true zero ih n = omega arith
     go true (suc k) ih n = let far : p + 1 ≤ slice_index_or ((p + 1) ∷ rest) k d = ih (p + 1) (omega arith) k (omega (arith, n)) in omega (arith, far)
@@ -53,7 +54,8 @@ line_at p s k n d (c ∷ t) l m h = go (ends_break c t) refl k m h (λ v q i a g
 
     go : (b : Bool) → ends_break c t ≡ b → (k : ℕ) → k ≤ length (cond b ((p + 1) ∷ rest) rest)
         → ((j : ℕ) → slice_index_or (s ∷ cond b ((p + 1) ∷ rest) rest) k d ≤ p + j → p + j < slice_index_or (s ∷ cond b ((p + 1) ∷ rest) rest) k d + n → in_line (slice_index (c ∷ t) j) ≡ true)
-        → ((v : ℕ) → v ≤ p + 1 → (i : ℕ) → i ≤ length rest → ((j : ℕ) → slice_index_or (v ∷ rest) i d ≤ p + 1 + j → p + 1 + j < slice_index_or (v ∷ rest) i d + n → in_line (slice_index t j) ≡ true) → ended (slice_index_or (v ∷ rest) i d + n) rest ≡ i)
+        → ((v : ℕ) → v ≤ p + 1 → (i : ℕ) → i ≤ length rest → ((j : ℕ) → slice_index_or (v ∷ rest) i d ≤ p + 1 + j → p + 1 + j < slice_index_or (v ∷ rest) i d + n
+        → in_line (slice_index t j) ≡ true) → ended (slice_index_or (v ∷ rest) i d + n) rest ≡ i)
         → ended (slice_index_or (s ∷ cond b ((p + 1) ∷ rest) rest) k d + n) (cond b ((p + 1) ∷ rest) rest) ≡ k
     go false e k m f ih = ih s (omega arith) k m (later s k f)
     go true e zero m f ih = near (cases_lt (s + n) (p + 1))
@@ -92,7 +94,8 @@ position-of_offset encoding t p h = ap (position encoding t) (ap (λ m. start + 
     n = h.0
 
     above : (k : ℕ) → n < k → k ≤ length (line_from start t) → nat_le (units encoding (take k (line_from start t))) p.character ≡ false
-    above k a b = lt-leb _ _ (let more : units encoding (take n (line_from start t)) < units encoding (take k (line_from start t)) = units-take-lt encoding (line_from start t) n k a b in omega (arith, more, h.3))
+    above k a b = lt-leb _ _ (let more : units encoding (take n (line_from start t)) < units encoding (take k (line_from start t)) =
+        units-take-lt encoding (line_from start t) n k a b in omega (arith, more, h.3))
 
     whole : greatest (λ k. nat_le (units encoding (take k (line_from start t))) p.character) (length (line_from start t)) ≡ n
     whole = greatest-is (λ k. nat_le (units encoding (take k (line_from start t))) p.character) (length (line_from start t)) n h.2 (le-leb _ _ (omega (arith, h.3))) above

@@ -56,7 +56,8 @@ term_put_in = (refl, refl)
 abbrev long_sum : List Token
 long_sum = token num 1 2 ∷ token plus 1 2 ∷ token num 1 2 ∷ token plus 1 2 ∷ token num 1 2 ∷ []
 
-close_put_in : (length (made (puts 0 0 1) long_sum (token close 1 2 ∷ long_sum)) ≡ 1) × (splice skips (puts 0 0 1) long_sum (token close 1 2 ∷ long_sum) ≡ record { from = 0; to = 0; kinds = close ∷ [] })
+close_put_in : (length (made (puts 0 0 1) long_sum (token close 1 2 ∷ long_sum)) ≡ 1)
+    × (splice skips (puts 0 0 1) long_sum (token close 1 2 ∷ long_sum) ≡ record { from = 0; to = 0; kinds = close ∷ [] })
 close_put_in = (refl, refl)
 
 close_taken_out : (length (made (puts 0 1 0) (token close 1 2 ∷ long_sum) long_sum) ≡ 0) × (splice skips (puts 0 1 0) (token close 1 2 ∷ long_sum) long_sum ≡ record { from = 0; to = 1; kinds = [] })

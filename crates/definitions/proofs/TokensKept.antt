@@ -22,7 +22,8 @@ boundaries-end rules t o d (x ∷ xs) p =
     omega (arith, boundaries-end rules (drop x.length t) (o + x.length) d xs p.1, length-drop x.length t, inside.1)
 
 -- the tokens from the i-th on are those of the text from their boundary on
-pub AreTokens-drop : (rules : List Expression) (t : List ℕ) (o d i : ℕ) (xs : List Token) → AreTokens rules (drop o t) xs → i ≤ length xs → AreTokens rules (drop (slice_index_or (boundaries o xs) i d) t) (drop i xs)
+pub AreTokens-drop : (rules : List Expression) (t : List ℕ) (o d i : ℕ) (xs : List Token) → AreTokens rules (drop o t) xs
+    → i ≤ length xs → AreTokens rules (drop (slice_index_or (boundaries o xs) i d) t) (drop i xs)
 AreTokens-drop rules t o d zero [] p l = p
 AreTokens-drop rules t o d zero (x ∷ xs) p l = p
 AreTokens-drop rules t o d (suc i) [] p l = absurd (omega arith)
@@ -51,7 +52,8 @@ prefix_from rules r u o a (x ∷ xs) ys l same p q =
     n = prefix_len (λ x. nat_le (x.start + x.token.reach) a) (placed (o + x.length) xs)
 
     go : (b : Bool) → nat_le (o + x.reach) a ≡ b → (zs : List Token) → AreTokens rules u zs
-        → ((ws : List Token) → o + x.length ≤ a → take (a - (o + x.length)) (drop x.length r) ≡ take (a - (o + x.length)) (drop x.length u) → AreTokens rules (drop x.length u) ws → take n xs ≡ take n ws)
+        → ((ws : List Token) → o + x.length ≤ a → take (a - (o + x.length)) (drop x.length r) ≡ take (a - (o + x.length)) (drop x.length u)
+        → AreTokens rules (drop x.length u) ws → take n xs ≡ take n ws)
         → take (cond b (1 + n) 0) (x ∷ xs) ≡ take (cond b (1 + n) 0) zs
     go false e zs z later = refl
     go true e [] z later =
@@ -69,7 +71,8 @@ prefix_from rules r u o a (x ∷ xs) ys l same p q =
         let short : x.length ≤ x.reach = length-le-reach rules r x p.0 in
         let sum : x.length + (a - (o + x.length)) ≡ a - o = omega arith in
         let after : take (a - (o + x.length)) (drop x.length r) ≡ take (a - (o + x.length)) (drop x.length u) =
-        sym (drop-take x.length (a - (o + x.length)) r) ∙ ap (λ m. drop x.length (take m r)) sum ∙ ap (drop x.length) same ∙ ap (λ m. drop x.length (take m u)) (sym sum) ∙ drop-take x.length (a - (o + x.length)) u in
+        sym (drop-take x.length (a - (o + x.length)) r) ∙ ap (λ m. drop x.length (take m r)) sum ∙ ap (drop x.length) same
+        ∙ ap (λ m. drop x.length (take m u)) (sym sum) ∙ drop-take x.length (a - (o + x.length)) u in
         let rest : take n xs ≡ take n ws = later ws (omega arith) after (subst (λ v. AreTokens rules (drop v.length u) ws) (sym first) z.1) in
         let more : 1 + n ≡ suc n = omega arith in
         ap (λ m. take m (x ∷ xs)) more ∙ (λ i. first i ∷ rest i) ∙ ap (λ m. take m (y ∷ ws)) (sym more)
@@ -118,7 +121,8 @@ module _ (rules : List Expression) (t s : List ℕ) (e : Edit) (inside : e.at + 
   pub tail_kept : drop (length old - (length new - rejoin e old new)) old ≡ drop (rejoin e old new) new
   tail_kept =
       let j = rejoin e old new in
-      let passes : is_rejoined e old (slice_index_or (boundaries 0 new) j 0) ≡ true = passes_at_first (is_rejoined e old) (boundaries 0 new) 0 (omega (arith, length-boundaries 0 new, rejoin-le-length)) in
+      let passes : is_rejoined e old (slice_index_or (boundaries 0 new) j 0) ≡ true = passes_at_first (is_rejoined e old)
+      (boundaries 0 new) 0 (omega (arith, length-boundaries 0 new, rejoin-le-length)) in
       let parts = and_parts _ _ passes in
       let some = Any-from_list_any (λ o. o + e.inserted == slice_index_or (boundaries 0 new) j 0 + e.removed) (boundaries 0 old) parts.1 in
       let i : ℕ = some.0 in

@@ -99,12 +99,14 @@ prefix_leads_from rules r u o a (x ∷ xs) l same p =
         let short : x.length ≤ x.reach = length-le-reach rules r x p.0 in
         let sum : x.length + (a - (o + x.length)) ≡ a - o = omega arith in
         let after : take (a - (o + x.length)) (drop x.length r) ≡ take (a - (o + x.length)) (drop x.length u) =
-        sym (drop-take x.length (a - (o + x.length)) r) ∙ ap (λ m. drop x.length (take m r)) sum ∙ ap (drop x.length) same ∙ ap (λ m. drop x.length (take m u)) (sym sum) ∙ drop-take x.length (a - (o + x.length)) u in
+        sym (drop-take x.length (a - (o + x.length)) r) ∙ ap (λ m. drop x.length (take m r)) sum ∙ ap (drop x.length) same
+        ∙ ap (λ m. drop x.length (take m u)) (sym sum) ∙ drop-take x.length (a - (o + x.length)) u in
         let more : 1 + n ≡ suc n = omega arith in
         subst (λ m. Leads rules u (take m (x ∷ xs))) (sym more) (here, later (omega arith) after)
 
 -- the kept prefix leads the edited text
-pub prefix_leads : (rules : List Expression) (t s : List ℕ) (e : Edit) (old : List Token) → e.at + e.removed ≤ length t → AreTokens rules t old → Leads rules (edit t e.at (e.at + e.removed) s) (take (kept_before e old) old)
+pub prefix_leads : (rules : List Expression) (t s : List ℕ) (e : Edit) (old : List Token) → e.at + e.removed ≤ length t → AreTokens rules t old
+    → Leads rules (edit t e.at (e.at + e.removed) s) (take (kept_before e old) old)
 prefix_leads rules t s e old inside p =
     let agree : take e.at t ≡ take e.at (edit t e.at (e.at + e.removed) s) =
     sym (ap (take e.at) (append_assoc (take e.at t) s (drop (e.at + e.removed) t)) ∙ take_at (take e.at t) (s ++ drop (e.at + e.removed) t) e.at (length-take e.at t ∙ omega (arith, inside))) in
@@ -112,14 +114,16 @@ prefix_leads rules t s e old inside p =
     prefix_leads_from rules t (edit t e.at (e.at + e.removed) s) 0 e.at old (omega arith) (subst (λ n. take n t ≡ take n (edit t e.at (e.at + e.removed) s)) whole agree) p
 
 -- the token that stands after others
-pub placed_at : (o : ℕ) (xs : List Token) (y : Token) (ys : List Token) (P : Placed → Type 0) → P (record { start = o + chars xs; token = y }) → IsSomeAnd (slice_get (placed o (xs ++ y ∷ ys)) (length xs)) P
+pub placed_at : (o : ℕ) (xs : List Token) (y : Token) (ys : List Token) (P : Placed → Type 0) → P (record { start = o + chars xs; token = y })
+    → IsSomeAnd (slice_get (placed o (xs ++ y ∷ ys)) (length xs)) P
 placed_at o [] y ys P h = let e : o + 0 ≡ o = omega arith in subst (λ n. P (record { start = n; token = y })) e h
 placed_at o (x ∷ xs) y ys P h =
     let e : o + chars (x ∷ xs) ≡ o + x.length + chars xs = omega (arith, chars-cons x xs) in
     placed_at (o + x.length) xs y ys P (subst (λ n. P (record { start = n; token = y })) e h)
 
 -- a place before which no boundary is one of rejoining lies before the first such
-pub before_rejoin : (e : Edit) (old new : List Token) (k : ℕ) → k < length (boundaries 0 new) → ((i : ℕ) → i ≤ k → is_rejoined e old (slice_index_or (boundaries 0 new) i 0) ≡ false) → k < rejoin e old new
+pub before_rejoin : (e : Edit) (old new : List Token) (k : ℕ) → k < length (boundaries 0 new)
+    → ((i : ℕ) → i ≤ k → is_rejoined e old (slice_index_or (boundaries 0 new) i 0) ≡ false) → k < rejoin e old new
 before_rejoin e old new k l h = elim (cases_lt k (rejoin e old new)) [
   | inl lt ↦ lt
   | inr ge ↦
@@ -128,14 +132,16 @@ before_rejoin e old new k l h = elim (cases_lt k (rejoin e old new)) [
 ]
 
 -- no kept token of the prefix starts after the place of the edit
-prefix_starts : (rules : List Expression) (r : List ℕ) (o a : ℕ) (xs : List Token) (i : ℕ) → AreTokens rules r xs → i < prefix_len (λ x. nat_le (x.start + x.token.reach) a) (placed o xs) → slice_index_or (boundaries o xs) i 0 < a
+prefix_starts : (rules : List Expression) (r : List ℕ) (o a : ℕ) (xs : List Token) (i : ℕ) → AreTokens rules r xs
+    → i < prefix_len (λ x. nat_le (x.start + x.token.reach) a) (placed o xs) → slice_index_or (boundaries o xs) i 0 < a
 prefix_starts rules r o a [] i p l = absurd (omega arith)
 prefix_starts rules r o a (x ∷ xs) i p l = go i (nat_le (o + x.reach) a) refl l (λ j m. prefix_starts rules (drop x.length r) (o + x.length) a xs j p.1 m)
   where
     n : ℕ
     n = prefix_len (λ x. nat_le (x.start + x.token.reach) a) (placed (o + x.length) xs)
 
-    go : (i : ℕ) (b : Bool) → nat_le (o + x.reach) a ≡ b → i < cond b (1 + n) 0 → ((j : ℕ) → j < n → slice_index_or (boundaries (o + x.length) xs) j 0 < a) → slice_index_or (boundaries o (x ∷ xs)) i 0 < a
+    go : (i : ℕ) (b : Bool) → nat_le (o + x.reach) a ≡ b → i < cond b (1 + n) 0 → ((j : ℕ) → j < n → slice_index_or (boundaries (o + x.length) xs) j 0 < a)
+        → slice_index_or (boundaries o (x ∷ xs)) i 0 < a
     go i false e m later = absurd (omega arith)
     go zero true e m later =
         let reach : o + x.reach ≤ a = leb-true _ _ e in

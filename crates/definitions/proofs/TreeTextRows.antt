@@ -5,6 +5,7 @@ use Rattle.std.specs.Prelude.{refl}
 atom : Tree
 atom = Branch 2 (forest (Leaf (Rule 0) ∷ []))
 
-sum : tree_text (codes "NUM" ∷ codes "PLUS" ∷ codes "LP" ∷ codes "RP" ∷ []) (codes "Sum" ∷ codes "Atom" ∷ []) (0 ∷ 0 ∷ 1 ∷ 1 ∷ []) (Branch 0 (forest (Branch 1 (forest (atom ∷ [])) ∷ Leaf (Rule 1) ∷ atom ∷ []))) ≡ codes "(Sum (Sum (Atom NUM)) PLUS (Atom NUM))"
+sum : tree_text (codes "NUM" ∷ codes "PLUS" ∷ codes "LP" ∷ codes "RP" ∷ []) (codes "Sum" ∷ codes "Atom" ∷ []) (0 ∷ 0 ∷ 1 ∷ 1 ∷ [])
+    (Branch 0 (forest (Branch 1 (forest (atom ∷ [])) ∷ Leaf (Rule 1) ∷ atom ∷ []))) ≡ codes "(Sum (Sum (Atom NUM)) PLUS (Atom NUM))"
 unfolding atom
 sum = refl

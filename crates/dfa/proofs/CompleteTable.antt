@@ -21,7 +21,8 @@ not_nil : (u : List ℕ) (c : ℕ) → u ++ c ∷ [] ≡ [] → ⊥
 not_nil [] c e = cc
 not_nil (d ∷ u) c e = cc
 
-module _ (rules : List Expression) (starts : List ℕ) (sets : List (List ℕ)) (next : List ℕ) (accepts : List (Option ℕ)) (made : AllMade rules) (r : AreRows rules starts sets next accepts) (all : length sets ≤ length accepts) where
+module _ (rules : List Expression) (starts : List ℕ) (sets : List (List ℕ)) (next : List ℕ) (accepts : List (Option ℕ)) (made : AllMade rules)
+    (r : AreRows rules starts sets next accepts) (all : length sets ≤ length accepts) where
   -- what the state says of the text
   abbrev pub Shows : List ℕ → Option ℕ → Type 0
   Shows u o = MatchOption o (¬ IsRulePrefix rules u) (λ s. (s < length sets) × IsStateOf rules sets s u)
@@ -42,8 +43,10 @@ module _ (rules : List Expression) (starts : List ℕ) (sets : List (List ℕ)) 
 
   walk : (v u : List ℕ) (o : Option ℕ) → IsText v → Shows u o → Shows (u ++ v) (state_from (table_of starts next accepts) o v)
   walk [] u o text t = subst (λ (w : List ℕ). Shows w o) (sym (append-nil u)) t
-  walk (c ∷ v) u None text t = subst (λ (w : List ℕ). Shows w (state_from (table_of starts next accepts) None v)) (append_assoc u (c ∷ []) v) (walk v (u ++ c ∷ []) None (λ k d lt. text (suc k) d (omega (arith, lt))) (λ f. t (prefix_longer rules u (c ∷ []) f)))
-  walk (c ∷ v) u (Some s) text t = subst (λ (w : List ℕ). Shows w (state_from (table_of starts next accepts) (follower (table_of starts next accepts) s c) v)) (append_assoc u (c ∷ []) v) (walk v (u ++ c ∷ []) (follower (table_of starts next accepts) s c) (λ k d lt. text (suc k) d (omega (arith, lt))) (step u c s (text 0 c (omega arith)) t.0 t.1))
+  walk (c ∷ v) u None text t = subst (λ (w : List ℕ). Shows w (state_from (table_of starts next accepts) None v)) (append_assoc u (c ∷ []) v)
+      (walk v (u ++ c ∷ []) None (λ k d lt. text (suc k) d (omega (arith, lt))) (λ f. t (prefix_longer rules u (c ∷ []) f)))
+  walk (c ∷ v) u (Some s) text t = subst (λ (w : List ℕ). Shows w (state_from (table_of starts next accepts) (follower (table_of starts next accepts) s c) v))
+      (append_assoc u (c ∷ []) v) (walk v (u ++ c ∷ []) (follower (table_of starts next accepts) s c) (λ k d lt. text (suc k) d (omega (arith, lt))) (step u c s (text 0 c (omega arith)) t.0 t.1))
 
   pub shows : (u : List ℕ) → IsText u → Shows u (state_after (table_of starts next accepts) u)
   unfolding state_after

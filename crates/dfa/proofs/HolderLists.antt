@@ -12,7 +12,8 @@ Place P o x = (q : ℕ) × (x ≡ o + q) × P q
 abbrev HoldsAt : List ℕ → ℕ → ℕ → Type 0
 HoldsAt xs c q = (q < length xs) × (slice_index_or xs q 0 ≡ c)
 
-literal_cases : (c o d : ℕ) (ds : List ℕ) → ((d ≡ c) × (literal_holders c o (d ∷ ds) ≡ o ∷ literal_holders c (o + 1) ds)) ⊎ ((d ≡ c → ⊥) × (literal_holders c o (d ∷ ds) ≡ literal_holders c (o + 1) ds))
+literal_cases : (c o d : ℕ) (ds : List ℕ) → ((d ≡ c) × (literal_holders c o (d ∷ ds) ≡ o ∷ literal_holders c (o + 1) ds))
+    ⊎ ((d ≡ c → ⊥) × (literal_holders c o (d ∷ ds) ≡ literal_holders c (o + 1) ds))
 literal_cases c o d ds = elim (eqb_tells d c) [
   | inl t ↦ inl (t.1, rw (t.0) refl)
   | inr t ↦ inr (t.1, rw (t.0) refl)
@@ -92,9 +93,11 @@ holders_complete (Class negated v) c o q h = elim (class_cases (is_in_class nega
   | inr t ↦ let y : is_in_class negated v.items c ≡ true = h.1 in let n = t.0 in cc
 ]
 holders_complete (Sequence' i a j b) c o q (inl h) = among_left (holders c o a) (holders c (o + positions a) b) (o + q) (holders_complete a c o q h)
-holders_complete (Sequence' i a j b) c o q (inr h) = among_right (holders c o a) (holders c (o + positions a) b) (o + q) (moved (holders c (o + positions a) b) (o + positions a + (q - positions a)) (o + q) (omega (arith, h.0)) (holders_complete b c (o + positions a) (q - positions a) h.1))
+holders_complete (Sequence' i a j b) c o q (inr h) = among_right (holders c o a) (holders c (o + positions a) b) (o + q)
+    (moved (holders c (o + positions a) b) (o + positions a + (q - positions a)) (o + q) (omega (arith, h.0)) (holders_complete b c (o + positions a) (q - positions a) h.1))
 holders_complete (Choice' i a j b) c o q (inl h) = among_left (holders c o a) (holders c (o + positions a) b) (o + q) (holders_complete a c o q h)
-holders_complete (Choice' i a j b) c o q (inr h) = among_right (holders c o a) (holders c (o + positions a) b) (o + q) (moved (holders c (o + positions a) b) (o + positions a + (q - positions a)) (o + q) (omega (arith, h.0)) (holders_complete b c (o + positions a) (q - positions a) h.1))
+holders_complete (Choice' i a j b) c o q (inr h) = among_right (holders c o a) (holders c (o + positions a) b) (o + q)
+    (moved (holders c (o + positions a) b) (o + positions a + (q - positions a)) (o + q) (omega (arith, h.0)) (holders_complete b c (o + positions a) (q - positions a) h.1))
 holders_complete (Star' i a) c o q h = holders_complete a c o q h
 holders_complete (Plus' i a) c o q h = holders_complete a c o q h
 holders_complete (Optional' i a) c o q h = holders_complete a c o q h
@@ -108,8 +111,10 @@ holders_rise (Class negated v) c o = elim (class_cases (is_in_class negated v.it
   | inl t ↦ subst (λ (l : List ℕ). Rises o l) (sym t.1) (omega arith, tt)
   | inr t ↦ subst (λ (l : List ℕ). Rises o l) (sym t.1) tt
 ]
-holders_rise (Sequence' i a j b) c o = rises_append o (o + positions a) (holders c o a) (holders c (o + positions a) b) (omega arith) (holders_rise a c o) (holders_below a c o) (holders_rise b c (o + positions a))
-holders_rise (Choice' i a j b) c o = rises_append o (o + positions a) (holders c o a) (holders c (o + positions a) b) (omega arith) (holders_rise a c o) (holders_below a c o) (holders_rise b c (o + positions a))
+holders_rise (Sequence' i a j b) c o = rises_append o (o + positions a) (holders c o a) (holders c (o + positions a) b) (omega arith)
+    (holders_rise a c o) (holders_below a c o) (holders_rise b c (o + positions a))
+holders_rise (Choice' i a j b) c o = rises_append o (o + positions a) (holders c o a) (holders c (o + positions a) b) (omega arith)
+    (holders_rise a c o) (holders_below a c o) (holders_rise b c (o + positions a))
 holders_rise (Star' i a) c o = holders_rise a c o
 holders_rise (Plus' i a) c o = holders_rise a c o
 holders_rise (Optional' i a) c o = holders_rise a c o
@@ -125,11 +130,13 @@ all_sound (e ∷ es) c o x h = two_sound (Holds e c) (HoldsIn es c) (positions e
 pub all_complete : (rules : List Expression) (c o q : ℕ) → HoldsIn rules c q → Among (all_holders c o rules) (o + q)
 all_complete [] c o q h = elim h [ ]
 all_complete (e ∷ es) c o q (inl h) = among_left (holders c o e) (all_holders c (o + positions e) es) (o + q) (holders_complete e c o q h)
-all_complete (e ∷ es) c o q (inr h) = among_right (holders c o e) (all_holders c (o + positions e) es) (o + q) (moved (all_holders c (o + positions e) es) (o + positions e + (q - positions e)) (o + q) (omega (arith, h.0)) (all_complete es c (o + positions e) (q - positions e) h.1))
+all_complete (e ∷ es) c o q (inr h) = among_right (holders c o e) (all_holders c (o + positions e) es) (o + q)
+    (moved (all_holders c (o + positions e) es) (o + positions e + (q - positions e)) (o + q) (omega (arith, h.0)) (all_complete es c (o + positions e) (q - positions e) h.1))
 
 pub all_rise : (rules : List Expression) (c o : ℕ) → Rises o (all_holders c o rules)
 all_rise [] c o = tt
-all_rise (e ∷ es) c o = rises_append o (o + positions e) (holders c o e) (all_holders c (o + positions e) es) (omega arith) (holders_rise e c o) (holders_below e c o) (all_rise es c (o + positions e))
+all_rise (e ∷ es) c o = rises_append o (o + positions e) (holders c o e) (all_holders c (o + positions e) es) (omega arith)
+    (holders_rise e c o) (holders_below e c o) (all_rise es c (o + positions e))
 
 holds_all_below : (rules : List Expression) (c q : ℕ) → HoldsIn rules c q → q < all_positions rules
 holds_all_below [] c q h = elim h [ ]

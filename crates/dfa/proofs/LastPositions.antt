@@ -94,7 +94,8 @@ sequence_second K a b i j q u le h =
     let t = then_right K (Matches a) (CanStandAt b (q - positions a)) u h in
     (t.0, t.1, t.2, t.3, inr (le, t.4))
 
-pub sequence_cases : (K : List ℕ → Type 0) (a b : Expression) (i j : _) (q : ℕ) (u : List ℕ) → Stands K (Sequence' i a j b) q u → Stands K a q u ⊎ ((positions a ≤ q) × Stands (Then K (Matches a)) b (q - positions a) u)
+pub sequence_cases : (K : List ℕ → Type 0) (a b : Expression) (i j : _) (q : ℕ) (u : List ℕ) → Stands K (Sequence' i a j b) q u
+    → Stands K a q u ⊎ ((positions a ≤ q) × Stands (Then K (Matches a)) b (q - positions a) u)
 sequence_cases K a b i j q u (v, w, e, k, inl h) = inl (v, w, e, k, h)
 sequence_cases K a b i j q u (v, w, e, k, inr h) = inr (h.0, then_left K (Matches a) (CanStandAt b (q - positions a)) u (v, w, e, k, h.1))
 

@@ -16,7 +16,8 @@ unfolding state_after
 state_after-none table = refl
 
 -- The state after one more character c of t.
-module _ (rules : List Expression) (table : Table) (a : IsAutomaton rules table) (t : List ℕ) (n s c : ℕ) (text : IsText (take n t)) (character : IsCharacter c) (lt : n < length t) (read : c ≡ slice_index_or t n 0) (is : state_after table (take n t) ≡ Some s) where
+module _ (rules : List Expression) (table : Table) (a : IsAutomaton rules table) (t : List ℕ) (n s c : ℕ) (text : IsText (take n t)) (character : IsCharacter c)
+    (lt : n < length t) (read : c ≡ slice_index_or t n 0) (is : state_after table (take n t) ≡ Some s) where
   longer : take (n + 1) t ≡ take n t ++ c ∷ []
   longer = take_more t n 0 lt ∙ ap (λ x. take n t ++ x ∷ []) (sym read)
 
@@ -27,10 +28,12 @@ module _ (rules : List Expression) (table : Table) (a : IsAutomaton rules table)
   pub more_state : (o : Option ℕ) → follower table s c ≡ o → state_after table (take (n + 1) t) ≡ o
   more_state o f = ap (state_after table) longer ∙ state_after-more table (take n t) c s is ∙ f
 
-  shown : (o : Option ℕ) → follower table s c ≡ o → MatchOption o (¬ IsRulePrefix rules (take (n + 1) t)) (λ x. IsRulePrefix rules (take (n + 1) t) × IsFirst rules (take (n + 1) t) (slice_index_or table.accepts x None))
+  shown : (o : Option ℕ) → follower table s c ≡ o → MatchOption o (¬ IsRulePrefix rules (take (n + 1) t))
+      (λ x. IsRulePrefix rules (take (n + 1) t) × IsFirst rules (take (n + 1) t) (slice_index_or table.accepts x None))
   shown o f =
       let some : 1 ≤ length (take (n + 1) t) = omega (arith, length-take (n + 1) t) in
-      subst (λ o. MatchOption o (¬ IsRulePrefix rules (take (n + 1) t)) (λ x. IsRulePrefix rules (take (n + 1) t) × IsFirst rules (take (n + 1) t) (slice_index_or table.accepts x None))) (more_state o f) (a.shows (take (n + 1) t) more_text some)
+      subst (λ o. MatchOption o (¬ IsRulePrefix rules (take (n + 1) t)) (λ x. IsRulePrefix rules (take (n + 1) t) × IsFirst rules (take (n + 1) t) (slice_index_or table.accepts x None)))
+      (more_state o f) (a.shows (take (n + 1) t) more_text some)
 
   pub more_prefix : (x : ℕ) → follower table s c ≡ Some x → IsRulePrefix rules (take (n + 1) t)
   more_prefix x f = (shown (Some x) f).0
@@ -41,14 +44,16 @@ module _ (rules : List Expression) (table : Table) (a : IsAutomaton rules table)
   pub more_dead : follower table s c ≡ None → ¬ IsRulePrefix rules (take (n + 1) t)
   more_dead f = shown None f
 
-pub prefixes_more : (rules : List Expression) (t : List ℕ) (n : ℕ) → ((m : ℕ) → 1 ≤ m → m ≤ n → IsRulePrefix rules (take m t)) → IsRulePrefix rules (take (n + 1) t) → (m : ℕ) → 1 ≤ m → m ≤ n + 1 → IsRulePrefix rules (take m t)
+pub prefixes_more : (rules : List Expression) (t : List ℕ) (n : ℕ) → ((m : ℕ) → 1 ≤ m → m ≤ n → IsRulePrefix rules (take m t))
+    → IsRulePrefix rules (take (n + 1) t) → (m : ℕ) → 1 ≤ m → m ≤ n + 1 → IsRulePrefix rules (take m t)
 prefixes_more rules t n h f m p q = elim (cases_lt n m) [
   | inl x ↦ let e : n + 1 ≡ m = omega arith in subst (λ (y : ℕ). IsRulePrefix rules (take y t)) e f
   | inr x ↦ h m p x
 ]
 
 -- where none of the longer prefixes has a rule, the best match stays
-unmatched : (rules : List Expression) (t : List ℕ) (n read : ℕ) (r : Option ℕ) (len : ℕ) → IsBest rules t n r len → n ≤ read → ((m : ℕ) → n < m → m ≤ read → IsFirst rules (take m t) None) → IsBest rules t read r len
+unmatched : (rules : List Expression) (t : List ℕ) (n read : ℕ) (r : Option ℕ) (len : ℕ) → IsBest rules t n r len → n ≤ read
+    → ((m : ℕ) → n < m → m ≤ read → IsFirst rules (take m t) None) → IsBest rules t read r len
 unmatched rules t n read None len h within f = (
   h.0,
   λ j m p q. elim (cases_lt n m) [
@@ -139,7 +144,11 @@ module _ (rules : List Expression) (table : Table) (a : IsAutomaton rules table)
       let one = h.each k (omega arith) in
       let lt : n + k < length t = omega (arith, h.inside) in
       let e : n + k + 1 ≡ n + suc k = omega arith in
-      subst (λ (m : ℕ). IsText (take m t) × (state_after table (take m t) ≡ Some s)) e (more_text rules table a t (n + k) s (slice_index_or t (n + k) 0) old.0 one.0 lt refl old.1, more_state rules table a t (n + k) s (slice_index_or t (n + k) 0) old.0 one.0 lt refl old.1 (Some s) one.1)
+      subst (λ (m : ℕ). IsText (take m t) × (state_after table (take m t) ≡ Some s)) e (
+        more_text rules table a t (n + k) s (slice_index_or t (n + k) 0) old.0 one.0 lt refl old.1,
+        more_state rules table a t
+            (n + k) s (slice_index_or t (n + k) 0) old.0 one.0 lt refl old.1 (Some s) one.1,
+      )
 
   pub kept_prefixes : (k : ℕ) → Keeps table t s n k → ((m : ℕ) → 1 ≤ m → m ≤ n → IsRulePrefix rules (take m t)) → (m : ℕ) → 1 ≤ m → m ≤ n + k → IsRulePrefix rules (take m t)
   kept_prefixes zero h old m p q = old m p (omega (arith, q))
@@ -160,7 +169,8 @@ module _ (rules : List Expression) (table : Table) (a : IsAutomaton rules table)
       let one = h.each k (omega arith) in
       let lt : n + k < length t = omega (arith, h.inside) in
       let same : n + k + 1 ≡ n + suc k = omega arith in
-      subst (λ (m : ℕ). IsNoted rules t m r best len) same (read_on rules t (n + k) r best len (kept_noted k fewer r best len e old) (more_first rules table a t (n + k) s (slice_index_or t (n + k) 0) before.0 one.0 lt refl before.1 s r one.1 e))
+      subst (λ (m : ℕ). IsNoted rules t m r best len) same (read_on rules t (n + k) r best len (kept_noted k fewer r best len e old)
+      (more_first rules table a t (n + k) s (slice_index_or t (n + k) 0) before.0 one.0 lt refl before.1 s r one.1 e))
 
 -- of the characters that follow
 passed_each : (P : ℕ → Type 0) (t : List ℕ) (i k : ℕ) → i + k ≤ length t → All P (take k (drop i t)) → (j : ℕ) → j < k → P (slice_index_or t (i + j) 0)
@@ -169,7 +179,8 @@ passed_each P t i k inside h j lt =
     subst P (get_or-take k (drop i t) j 0 lt ∙ get_or-drop i t j 0) (All-get_or P (take k (drop i t)) j 0 many h)
 
 -- a character at offset `o + n` that keeps the state, and those that were passed after it
-pub keeps_on : (table : Table) (t : List ℕ) (o n k s c : ℕ) → o + (n + 1) + k ≤ length t → IsCharacter c → c ≡ slice_index_or (drop o t) n 0 → follower table s c ≡ Some s → All (Stays table s) (take k (drop (o + (n + 1)) t)) → Keeps table (drop o t) s n (suc k)
+pub keeps_on : (table : Table) (t : List ℕ) (o n k s c : ℕ) → o + (n + 1) + k ≤ length t → IsCharacter c → c ≡ slice_index_or (drop o t) n 0 → follower table s c ≡ Some s
+    → All (Stays table s) (take k (drop (o + (n + 1)) t)) → Keeps table (drop o t) s n (suc k)
 keeps_on table t o n k s c inside character read next all = record { inside = omega (arith, within); each = each }
   where
     within : n + 1 + k ≤ length (drop o t)
@@ -193,7 +204,8 @@ best_none rules t len e = best_at_start rules t None None len (read_none rules t
 pub best_more_none : (rules : List Expression) (t : List ℕ) (n : ℕ) (r : Option ℕ) (len : ℕ) → IsBest rules t n r len → IsFirst rules (take (n + 1) t) None → IsBest rules t (n + 1) r len
 best_more_none rules t n r len h f = best_unmatched rules t (n + 1) r len (read_anew rules t n None r len h f)
 
-pub best_more_some : (rules : List Expression) (t : List ℕ) (n k : ℕ) (r : Option ℕ) (len : ℕ) → IsBest rules t n r len → IsFirst rules (take (n + 1) t) (Some k) → IsBest rules t (n + 1) (Some k) (n + 1)
+pub best_more_some : (rules : List Expression) (t : List ℕ) (n k : ℕ) (r : Option ℕ) (len : ℕ) → IsBest rules t n r len
+    → IsFirst rules (take (n + 1) t) (Some k) → IsBest rules t (n + 1) (Some k) (n + 1)
 best_more_some rules t n k r len h f = best_matched rules t (n + 1) k r len (omega arith) (read_anew rules t n (Some k) r len h f)
 
 -- nothing goes on past n characters: they are all, or one more begins no text of a rule

@@ -20,7 +20,8 @@ pub all_done : {A B : Type 0} (f : List A → List B) (xs : List A) (i : ℕ) (m
 all_done f xs i made whole none le so_far = sym (append-nil made) ∙ ap (λ l. made ++ l) (sym (at_drop_all f xs i le ∙ none)) ∙ so_far
 
 -- the places of the rules that are left
-pub positions_more : (e : Expression) (rest later : List Expression) (old new whole : ℕ) → rest ≡ e ∷ later → new ≡ old + positions e → old + all_positions rest ≡ whole → new + all_positions later ≡ whole
+pub positions_more : (e : Expression) (rest later : List Expression) (old new whole : ℕ) → rest ≡ e ∷ later → new ≡ old + positions e
+    → old + all_positions rest ≡ whole → new + all_positions later ≡ whole
 positions_more e rest later old new whole here past so_far =
     let left : all_positions rest ≡ positions e + all_positions later = ap all_positions here in
     omega (arith, left, past, so_far)
@@ -31,7 +32,8 @@ positions_within e rest later old whole here so_far =
     omega (arith, left, so_far)
 
 -- a loop adds what it makes of one more rule, whose positions begin at n
-pub rule_more : {A : Type 0} (f : ℕ → List Expression → List A) (e : Expression) (rest later : List Expression) (n m : ℕ) (old part new whole : List A) → rest ≡ e ∷ later → f n (e ∷ later) ≡ part ++ f (n + positions e) later → m ≡ n + positions e → new ≡ old ++ part → old ++ f n rest ≡ whole → new ++ f m later ≡ whole
+pub rule_more : {A : Type 0} (f : ℕ → List Expression → List A) (e : Expression) (rest later : List Expression) (n m : ℕ) (old part new whole : List A)
+    → rest ≡ e ∷ later → f n (e ∷ later) ≡ part ++ f (n + positions e) later → m ≡ n + positions e → new ≡ old ++ part → old ++ f n rest ≡ whole → new ++ f m later ≡ whole
 rule_more f e rest later n m old part new whole here step past is so_far =
     ap (λ k. new ++ f k later) past ∙ one_more new old part (f n rest) (f (n + positions e) later) whole is (ap (f n) here ∙ step) so_far
 
@@ -42,18 +44,21 @@ differs : (d c : ℕ) → (d ≡ c → ⊥) → (d == c) ≡ false
 differs d c h = grind (arith, nat_tests)
 
 -- a character of a literal is held, or isn't
-pub held_more : (c at d : ℕ) (rest later old new whole : List ℕ) → rest ≡ d ∷ later → d ≡ c → new ≡ old ++ at ∷ [] → old ++ literal_holders c at rest ≡ whole → new ++ literal_holders c (at + 1) later ≡ whole
+pub held_more : (c at d : ℕ) (rest later old new whole : List ℕ) → rest ≡ d ∷ later → d ≡ c → new ≡ old ++ at ∷ []
+    → old ++ literal_holders c at rest ≡ whole → new ++ literal_holders c (at + 1) later ≡ whole
 held_more c at d rest later old new whole here is_c is so_far =
     let after = literal_holders c (at + 1) later in
     one_more new old (at ∷ []) (literal_holders c at rest) after whole is (ap (literal_holders c at) here ∙ ap (λ b. cond b (at ∷ after) after) (equals d c is_c)) so_far
 
-pub other_more : (c at d : ℕ) (rest later old new whole : List ℕ) → rest ≡ d ∷ later → (d ≡ c → ⊥) → new ≡ old → old ++ literal_holders c at rest ≡ whole → new ++ literal_holders c (at + 1) later ≡ whole
+pub other_more : (c at d : ℕ) (rest later old new whole : List ℕ) → rest ≡ d ∷ later → (d ≡ c → ⊥) → new ≡ old
+    → old ++ literal_holders c at rest ≡ whole → new ++ literal_holders c (at + 1) later ≡ whole
 other_more c at d rest later old new whole here is_other is so_far =
     let after = literal_holders c (at + 1) later in
     ap (λ l. l ++ after) is ∙ ap (λ l. old ++ l) (sym (ap (literal_holders c at) here ∙ ap (λ b. cond b (at ∷ after) after) (differs d c is_other))) ∙ so_far
 
 -- what two expressions make, one after another, where the positions of the first begin at n
-pub joined_at : {A : Type 0} (f : Expression → List A) (g : ℕ → Expression → List A) (a b x y : Expression) (n m : ℕ) (old middle new whole : List A) → a ≡ x → b ≡ y → m ≡ n + positions a → middle ≡ old ++ f a → new ≡ middle ++ g m b → f x ++ g (n + positions x) y ≡ whole → new ≡ old ++ whole
+pub joined_at : {A : Type 0} (f : Expression → List A) (g : ℕ → Expression → List A) (a b x y : Expression) (n m : ℕ) (old middle new whole : List A) → a ≡ x
+    → b ≡ y → m ≡ n + positions a → middle ≡ old ++ f a → new ≡ middle ++ g m b → f x ++ g (n + positions x) y ≡ whole → new ≡ old ++ whole
 joined_at f g a b x y n m old middle new whole is_x is_y past first made whole_is =
     let after = g (n + positions a) b in
     made ∙ ap (λ k. middle ++ g k b) past ∙ ap (λ l. l ++ after) first ∙ append_assoc old (f a) after ∙ (λ i. old ++ (f (is_x i) ++ g (n + positions (is_x i)) (is_y i))) ∙ ap (λ l. old ++ l) whole_is

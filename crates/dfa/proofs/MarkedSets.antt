@@ -82,7 +82,8 @@ pub meets_found : (set : List ℕ) (o n i : ℕ) → i < length set → get_or s
 meets_found set o zero i lt e = refl
 meets_found set o (suc n) i lt e = less 0 (suc n) (omega arith) ∙ sym (met_at set o (suc n) i lt (omega (arith, e)) (omega (arith, e)))
 
-pub meets_next : (set : List ℕ) (o n i : ℕ) → IsAscending set → i < length set → ((k : ℕ) → k < i → get_or set k 0 < o) → ((k : ℕ) → i ≤ k → k < length set → o < get_or set k 0) → nat_lt (get_or set i 0) (o + n) ≡ any_mark (marks_of set) o n
+pub meets_next : (set : List ℕ) (o n i : ℕ) → IsAscending set → i < length set → ((k : ℕ) → k < i → get_or set k 0 < o)
+    → ((k : ℕ) → i ≤ k → k < length set → o < get_or set k 0) → nat_lt (get_or set i 0) (o + n) ≡ any_mark (marks_of set) o n
 meets_next set o n i up lt below above = elim (cases_lt (get_or set i 0) (o + n)) [
   | inl x ↦ less (get_or set i 0) (o + n) x ∙ sym (met_at set o n i lt (let a = above i (omega arith) lt in omega (arith, a)) x)
   | inr x ↦ not_less (get_or set i 0) (o + n) x ∙ sym (not_met set o n i below (λ k le l. let a = up i k le l in omega (arith, a, x)))
@@ -96,7 +97,8 @@ not_true true h = absurd (h refl)
 not_true false h = refl
 
 abbrev pub IsFound : List ℕ → ℕ → Result ℕ ℕ → Type 0
-IsFound set p r = MatchResult r (λ i. (i < length set) × (get_or set i 0 ≡ p)) (λ i. (i ≤ length set) × ((k : ℕ) → k < i → get_or set k 0 < p) × ((k : ℕ) → i ≤ k → k < length set → p < get_or set k 0))
+IsFound set p r = MatchResult r (λ i. (i < length set) × (get_or set i 0 ≡ p))
+    (λ i. (i ≤ length set) × ((k : ℕ) → k < i → get_or set k 0 < p) × ((k : ℕ) → i ≤ k → k < length set → p < get_or set k 0))
 
 -- a search finds what is marked
 pub found_marked : (set : List ℕ) (p : ℕ) (r : Result ℕ ℕ) → IsFound set p r → is_ok r ≡ mark (marks_of set) p
@@ -187,7 +189,8 @@ written_other : (set : List ℕ) (value : Bool) (old new : List Bool) (p : ℕ) 
 written_other set value old new p w h = w.other p (λ k lt e. h (subst (λ (x : ℕ). Among set x) e (among_from_at set k lt)))
 
 among_cases : (set : List ℕ) (p : ℕ) → Among set p ⊎ (Among set p → ⊥)
-among_cases set p = elim (mark (marks_of set) p) as (λ b. mark (marks_of set) p ≡ b → Among set p ⊎ (Among set p → ⊥)) [ true ↦ (λ e. inl (marks_only set p e)) | false ↦ (λ e. inr (λ h. false≢true (sym e ∙ marks_every set p h))) ] refl
+among_cases set p = elim (mark (marks_of set) p) as (λ b. mark (marks_of set) p ≡ b → Among set p ⊎ (Among set p → ⊥))
+    [ true ↦ (λ e. inl (marks_only set p e)) | false ↦ (λ e. inr (λ h. false≢true (sym e ∙ marks_every set p h))) ] refl
 
 pub written_marks : (set : List ℕ) (value : Bool) (old new : List Bool) → Written set value old new (length set) → value ≡ true → AreBlank old → AreMarksOf set new
 written_marks set value old new w v b = record {

@@ -14,7 +14,8 @@ absent [] key h i lt e = absurd (omega (arith, lt))
 absent (k ∷ keys) key h zero lt e = false≢true (sym (or_parts (same key k) (list_any (same key) keys) h).0 ∙ (bytes_eq-Decides key.items k.items).1 (sym e))
 absent (k ∷ keys) key h (suc i) lt e = absent keys key (or_parts (same key k) (list_any (same key) keys) h).1 i (omega (arith, lt)) e
 
-insert_cases : (b : Bool) (keys : List Key) (key : Key) → ((b ≡ true) × ((if b then keys else (keys ++ key ∷ [])) ≡ keys)) ⊎ ((b ≡ false) × ((if b then keys else (keys ++ key ∷ [])) ≡ keys ++ key ∷ []))
+insert_cases : (b : Bool) (keys : List Key) (key : Key) → ((b ≡ true) × ((if b then keys else (keys ++ key ∷ [])) ≡ keys))
+    ⊎ ((b ≡ false) × ((if b then keys else (keys ++ key ∷ [])) ≡ keys ++ key ∷ []))
 insert_cases true keys key = inl (refl, refl)
 insert_cases false keys key = inr (refl, refl)
 

@@ -20,13 +20,15 @@ numbered_positive zero = tt
 numbered_positive (suc n) = omega arith
 
 -- the place of an entry lies in the table
-pub entry_within : (starts next : List ℕ) (accepts : List (Option ℕ)) → IsTable (table_of starts next accepts) → (s : State) (p c : ℕ) → IsState (table_of starts next accepts) s → p ≡ part starts c → s.row + p < length next
+pub entry_within : (starts next : List ℕ) (accepts : List (Option ℕ)) → IsTable (table_of starts next accepts) → (s : State) (p c : ℕ)
+    → IsState (table_of starts next accepts) s → p ≡ part starts c → s.row + p < length next
 entry_within starts next accepts t s p c h f =
     let b = prefix_len-le-length (λ x. nat_le x c) starts in
     omega (arith, mul-add-lt s.number (length starts + 1) p (length accepts) h.inside (omega (arith, b, f)), mul_comm (length starts + 1) (length accepts), t.filled, h.row)
 
 -- what is read of a state's row
-pub entry_is : (starts next : List ℕ) (accepts : List (Option ℕ)) (s : State) (p c : ℕ) → IsState (table_of starts next accepts) s → p ≡ part starts c → follower (table_of starts next accepts) s.number c ≡ numbered (slice_index_or next (s.row + p) 0)
+pub entry_is : (starts next : List ℕ) (accepts : List (Option ℕ)) (s : State) (p c : ℕ) → IsState (table_of starts next accepts) s → p ≡ part starts c
+    → follower (table_of starts next accepts) s.number c ≡ numbered (slice_index_or next (s.row + p) 0)
 entry_is starts next accepts s p c h f = λ i. numbered (slice_index_or next (sym h.row i + sym f i) 0)
 
 -- A row that is read by the parts of the first 128 characters.

@@ -39,14 +39,16 @@ module _ (e : Expression) (es : List Expression) (marks : List Bool) (o : ℕ) (
       | inl s ↦ absurd (omega (arith, below e (positions e + p) u s))
       | inr s ↦ stands_at es (positions e + p - positions e) p u (omega arith) s.1
     ];
-    every = λ p s. mark_at marks (o + (positions e + p)) (o + positions e + p) (omega arith) (a.every (positions e + p) (inr (omega arith, stands_at es p (positions e + p - positions e) u (omega arith) s)));
+    every = λ p s. mark_at marks (o + (positions e + p)) (o + positions e + p) (omega arith)
+        (a.every (positions e + p) (inr (omega arith, stands_at es p (positions e + p - positions e) u (omega arith) s)));
   }
 
 abbrev pub HoldsIn : List Expression → ℕ → ℕ → Type 0
 HoldsIn [] c p = ⊥
 HoldsIn (e ∷ es) c p = Holds e c p ⊎ (positions e ≤ p) × HoldsIn es c (p - positions e)
 
-pub next_sound : (rules : List Expression) (marks : List Bool) (o : ℕ) (start : Bool) (u : List ℕ) (c p : ℕ) → IsCharacter c → (start ≡ true → u ≡ []) → AreMarks rules marks o u → mark (all_next marks o start rules) p ≡ true → HoldsIn rules c p → StandsAt rules p (u ++ c ∷ [])
+pub next_sound : (rules : List Expression) (marks : List Bool) (o : ℕ) (start : Bool) (u : List ℕ) (c p : ℕ) → IsCharacter c → (start ≡ true → u ≡ [])
+    → AreMarks rules marks o u → mark (all_next marks o start rules) p ≡ true → HoldsIn rules c p → StandsAt rules p (u ++ c ∷ [])
 next_sound [] marks o start u c p is k a m h = h
 next_sound (e ∷ es) marks o start u c p is k a m (inl h) =
     let f = mark_left (next marks o start e) (all_next marks (o + positions e) start es) (positions e) p (length-next e marks o start) (holds_below e c p h) in
@@ -55,7 +57,8 @@ next_sound (e ∷ es) marks o start u c p is k a m (inr h) =
     let f = mark_right (next marks o start e) (all_next marks (o + positions e) start es) (positions e) p (length-next e marks o start) h.0 in
     inr (h.0, next_sound es marks (o + positions e) start u c (p - positions e) is k (rest_marks e es marks o u a) (sym f ∙ m) h.1)
 
-pub next_complete : (rules : List Expression) (marks : List Bool) (o : ℕ) (start : Bool) (u : List ℕ) (c p : ℕ) → (u ≡ [] → start ≡ true) → AreMarks rules marks o u → StandsAt rules p (u ++ c ∷ []) → (mark (all_next marks o start rules) p ≡ true) × HoldsIn rules c p
+pub next_complete : (rules : List Expression) (marks : List Bool) (o : ℕ) (start : Bool) (u : List ℕ) (c p : ℕ) → (u ≡ [] → start ≡ true) → AreMarks rules marks o u
+    → StandsAt rules p (u ++ c ∷ []) → (mark (all_next marks o start rules) p ≡ true) × HoldsIn rules c p
 next_complete [] marks o start u c p k a s = elim s [ ]
 next_complete (e ∷ es) marks o start u c p k a (inl s) =
     let t = step_complete e (Is []) marks o start u c p k (first_every e es marks o u a) (alone e p (u ++ c ∷ []) s) in
@@ -101,7 +104,8 @@ first_from (e ∷ es) marks o k u a some = elim (ends_cases (ends marks o false 
       let not_it : ¬ Matches e u = λ m.
       let f = ends_complete e (Is []) marks o false u [] u (first_every e es marks o u a) refl refl m (λ none. let n : length u ≡ 0 = ap length none in absurd (omega (arith, n, some))) in
       false≢true (sym t.0 ∙ f) in
-      subst (λ (r : Option ℕ). IsFirstFrom (e ∷ es) u k r) (sym t.1) (first_later e es u k (first_end marks (o + positions e) (k + 1) es) not_it (first_from es marks (o + positions e) (k + 1) u (rest_marks e es marks o u a) some))
+      subst (λ (r : Option ℕ). IsFirstFrom (e ∷ es) u k r) (sym t.1) (first_later e es u k (first_end marks (o + positions e) (k + 1) es) not_it
+      (first_from es marks (o + positions e) (k + 1) u (rest_marks e es marks o u a) some))
 ]
 
 first_is : (rules : List Expression) (u : List ℕ) (r : Option ℕ) → IsFirstFrom rules u 0 r → IsFirst rules u r

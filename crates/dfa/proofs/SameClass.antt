@@ -73,18 +73,22 @@ apart (Class negated v) c d o p q s =
     let m = member_apart v.items c d p q s in
     let e : is_in_class negated v.items c ≡ is_in_class negated v.items d = ap (λ x. if negated then not x else x) m in
     ap (λ x. if x then o ∷ [] else []) e
-apart (Sequence' i a j b) c d o p q s = ap (λ l. l ++ holders c (o + positions a) b) (apart a c d o p q (side_left (cuts a) (cuts b) c d s)) ∙ ap (λ l. holders d o a ++ l) (apart b c d (o + positions a) p q (side_right (cuts a) (cuts b) c d s))
-apart (Choice' i a j b) c d o p q s = ap (λ l. l ++ holders c (o + positions a) b) (apart a c d o p q (side_left (cuts a) (cuts b) c d s)) ∙ ap (λ l. holders d o a ++ l) (apart b c d (o + positions a) p q (side_right (cuts a) (cuts b) c d s))
+apart (Sequence' i a j b) c d o p q s = ap (λ l. l ++ holders c (o + positions a) b) (apart a c d o p q (side_left (cuts a) (cuts b) c d s))
+    ∙ ap (λ l. holders d o a ++ l) (apart b c d (o + positions a) p q (side_right (cuts a) (cuts b) c d s))
+apart (Choice' i a j b) c d o p q s = ap (λ l. l ++ holders c (o + positions a) b) (apart a c d o p q (side_left (cuts a) (cuts b) c d s))
+    ∙ ap (λ l. holders d o a ++ l) (apart b c d (o + positions a) p q (side_right (cuts a) (cuts b) c d s))
 apart (Star' i a) c d o p q s = apart a c d o p q s
 apart (Plus' i a) c d o p q s = apart a c d o p q s
 apart (Optional' i a) c d o p q s = apart a c d o p q s
 
 pub all_apart : (rules : List Expression) (c d o : ℕ) → IsCharacter c → IsCharacter d → SameSide (all_cuts rules) c d → all_holders c o rules ≡ all_holders d o rules
 all_apart [] c d o p q s = refl
-all_apart (e ∷ es) c d o p q s = ap (λ l. l ++ all_holders c (o + positions e) es) (apart e c d o p q (side_left (cuts e) (all_cuts es) c d s)) ∙ ap (λ l. holders d o e ++ l) (all_apart es c d (o + positions e) p q (side_right (cuts e) (all_cuts es) c d s))
+all_apart (e ∷ es) c d o p q s = ap (λ l. l ++ all_holders c (o + positions e) es) (apart e c d o p q (side_left (cuts e) (all_cuts es) c d s))
+    ∙ ap (λ l. holders d o e ++ l) (all_apart es c d (o + positions e) p q (side_right (cuts e) (all_cuts es) c d s))
 
 -- what is at or below c is what stands before its part
-side_of : (starts : List ℕ) (c k : ℕ) → IsAscending starts → k < length starts → ((k < part starts c) × (nat_le (slice_index_or starts k 0) c ≡ true)) ⊎ ((part starts c ≤ k) × (nat_le (slice_index_or starts k 0) c ≡ false))
+side_of : (starts : List ℕ) (c k : ℕ) → IsAscending starts → k < length starts → ((k < part starts c) × (nat_le (slice_index_or starts k 0) c ≡ true))
+    ⊎ ((part starts c ≤ k) × (nat_le (slice_index_or starts k 0) c ≡ false))
 side_of starts c k up lt = elim (cases_lt k (part starts c)) [
   | inl l ↦ inl (l, prefix_len_passes (λ x. nat_le x c) starts k 0 l)
   | inr l ↦
@@ -119,5 +123,7 @@ pub represents : (starts : List ℕ) (c : ℕ) → IsAscending starts → part s
 represents starts c up = represented starts c (part starts c) up refl
 
 -- the representative of a part stands for its characters
-pub stands_for : (rules : List Expression) (starts : List ℕ) (c : ℕ) → IsAscending starts → ((x : ℕ) → Contains (all_cuts rules) x → Contains starts x) → IsCharacter c → IsCharacter (representative starts (part starts c)) → all_holders c 0 rules ≡ all_holders (representative starts (part starts c)) 0 rules
-stands_for rules starts c up within p q = all_apart rules c (representative starts (part starts c)) 0 p q (same_part starts (all_cuts rules) c (representative starts (part starts c)) up (sym (represents starts c up)) within)
+pub stands_for : (rules : List Expression) (starts : List ℕ) (c : ℕ) → IsAscending starts → ((x : ℕ) → Contains (all_cuts rules) x → Contains starts x) → IsCharacter c
+    → IsCharacter (representative starts (part starts c)) → all_holders c 0 rules ≡ all_holders (representative starts (part starts c)) 0 rules
+stands_for rules starts c up within p q = all_apart rules c (representative starts (part starts c)) 0 p q
+    (same_part starts (all_cuts rules) c (representative starts (part starts c)) up (sym (represents starts c up)) within)

@@ -30,7 +30,8 @@ rises_append n m [] ys le r b s = rises_lower n m ys le s
 rises_append n m (x ∷ xs) ys le r b s = (r.0, rises_append (x + 1) m xs ys (omega (arith, b x (inl refl))) r.1 (λ y h. b y (inr h)) s)
 
 filter_cases : (f : ℕ → Bool) (x : ℕ) (xs : List ℕ) → ((f x ≡ true) × (filter f (x ∷ xs) ≡ x ∷ filter f xs)) ⊎ ((f x ≡ false) × (filter f (x ∷ xs) ≡ filter f xs))
-filter_cases f x xs = elim (f x) as (λ b. ((b ≡ true) × (cond b (x ∷ filter f xs) (filter f xs) ≡ x ∷ filter f xs)) ⊎ ((b ≡ false) × (cond b (x ∷ filter f xs) (filter f xs) ≡ filter f xs))) [ true ↦ inl (refl, refl) | false ↦ inr (refl, refl) ]
+filter_cases f x xs = elim (f x) as (λ b. ((b ≡ true) × (cond b (x ∷ filter f xs) (filter f xs) ≡ x ∷ filter f xs)) ⊎ ((b ≡ false) × (cond b (x ∷ filter f xs) (filter f xs) ≡ filter f xs)))
+    [ true ↦ inl (refl, refl) | false ↦ inr (refl, refl) ]
 
 pub among_filter : (f : ℕ → Bool) (xs : List ℕ) (x : ℕ) → Among (filter f xs) x → Among xs x × (f x ≡ true)
 among_filter f [] x h = elim h [ ]

@@ -5,8 +5,10 @@ use Rattle.std.specs.Prelude.{All}
 use Rattle.dfa.proofs.CompleteTable.{some_member, shows, at_state, same_positions}
 use Rattle.dfa.proofs.Successors.{set_unique}
 
-module _ (rules : List Expression) (starts : List ℕ) (sets : List (List ℕ)) (next : List ℕ) (accepts : List (Option ℕ)) (made : AllMade rules) (r : AreRows rules starts sets next accepts) (all : length sets ≤ length accepts) where
-  state_of : (texts : List (List ℕ)) → All (HasPosition rules) texts → (k : ℕ) → k < length texts → (s : ℕ) × (s + 1 < length sets) × IsSetOf rules (slice_index_or texts k []) (slice_index_or sets (s + 1) [])
+module _ (rules : List Expression) (starts : List ℕ) (sets : List (List ℕ)) (next : List ℕ) (accepts : List (Option ℕ)) (made : AllMade rules)
+    (r : AreRows rules starts sets next accepts) (all : length sets ≤ length accepts) where
+  state_of : (texts : List (List ℕ)) → All (HasPosition rules) texts → (k : ℕ) → k < length texts → (s : ℕ) × (s + 1 < length sets)
+      × IsSetOf rules (slice_index_or texts k []) (slice_index_or sets (s + 1) [])
   state_of texts h k lt =
       let u = slice_index_or texts k [] in
       let p = h k [] lt in
@@ -22,7 +24,8 @@ module _ (rules : List Expression) (starts : List ℕ) (sets : List (List ℕ)) 
   number_below texts h k (inl l) lt = (state_of texts h k l).1
   number_below texts h k (inr l) lt = absurd (omega (arith, l, lt))
 
-  number_set : (texts : List (List ℕ)) (h : All (HasPosition rules) texts) (k : ℕ) (side : (k < length texts) ⊎ (length texts ≤ k)) → k < length texts → IsSetOf rules (slice_index_or texts k []) (slice_index_or sets (number_of texts h k side + 1) [])
+  number_set : (texts : List (List ℕ)) (h : All (HasPosition rules) texts) (k : ℕ) (side : (k < length texts) ⊎ (length texts ≤ k)) → k < length texts
+      → IsSetOf rules (slice_index_or texts k []) (slice_index_or sets (number_of texts h k side + 1) [])
   unfolding number_of state_of
   number_set texts h k (inl l) lt = (state_of texts h k l).2
   number_set texts h k (inr l) lt = absurd (omega (arith, l, lt))
@@ -36,7 +39,8 @@ module _ (rules : List Expression) (starts : List ℕ) (sets : List (List ℕ)) 
       let one = number_set texts m.2 i (cases_lt i (length texts)) (omega (arith, l, within)) in
       let two = number_set texts m.2 j (cases_lt j (length texts)) within in
       let same : slice_index_or sets (number i + 1) [] ≡ slice_index_or sets (number j + 1) [] = ap (λ (n : ℕ). slice_index_or sets (n + 1) []) e in
-      m.3 i j [] l within (same_positions rules starts sets next accepts made r all (slice_index_or texts i []) (slice_index_or texts j []) (slice_index_or sets (number j + 1) []) (subst (IsSetOf rules (slice_index_or texts i [])) same one) two) in
+      m.3 i j [] l within (same_positions rules starts sets next accepts made r all (slice_index_or texts i []) (slice_index_or texts j [])
+      (slice_index_or sets (number j + 1) []) (subst (IsSetOf rules (slice_index_or texts i [])) same one) two) in
       let into : Into number 4096 4095 = λ i l. omega (arith, number_below texts m.2 i (cases_lt i (length texts)) (omega (arith, l, m.1)), r.bound) in
       let one : OneToOne number 4096 = λ i j k l e. elim (cases_lt i j) [
         | inl x ↦ absurd (differ i j x l e)
@@ -49,7 +53,8 @@ module _ (rules : List Expression) (starts : List ℕ) (sets : List (List ℕ)) 
       absurd (omega (arith, bad))
 
 -- texts of the first n states after the start
-texts_of : (rules : List Expression) (sets : List (List ℕ)) → AreStates rules sets → (n : ℕ) → n < length sets → (texts : List (List ℕ)) × (length texts ≡ n) × All (HasPosition rules) texts × AllPairs (λ one two. ¬ HaveSamePositions rules one two) texts × ((k : ℕ) → k < n → IsSetOf rules (slice_index_or texts k []) (slice_index_or sets (k + 1) []))
+texts_of : (rules : List Expression) (sets : List (List ℕ)) → AreStates rules sets → (n : ℕ) → n < length sets → (texts : List (List ℕ)) × (length texts ≡ n)
+    × All (HasPosition rules) texts × AllPairs (λ one two. ¬ HaveSamePositions rules one two) texts × ((k : ℕ) → k < n → IsSetOf rules (slice_index_or texts k []) (slice_index_or sets (k + 1) []))
 texts_of rules sets s zero lt = ([], refl, (λ k d l. absurd (omega (arith, l))), (λ i j d l m. absurd (omega (arith, m))), (λ k l. absurd (omega (arith, l))))
 texts_of rules sets s (suc n) lt =
     let old = texts_of rules sets s n (omega (arith, lt)) in

@@ -41,17 +41,20 @@ number_grows old new n set g h = (omega (arith, h.0, g.longer), g.same n h.0 ∙
 pub entries_none : (old : List ℕ) (sets : List (List ℕ)) (marks : List Bool) (parts : List (List ℕ)) → AreEntries old old sets marks parts 0
 entries_none old sets marks parts = record { many = omega arith; same = λ i lt. refl; each = λ k lt. absurd (omega (arith, lt)) }
 
-pub entries_more : (old next later : List ℕ) (sets grown : List (List ℕ)) (marks : List Bool) (parts : List (List ℕ)) (n to : ℕ) → AreEntries old next sets marks parts n → Grows sets grown → later ≡ next ++ to ∷ [] → IsNumber grown to (kept marks (slice_index_or parts n [])) → AreEntries old later grown marks parts (n + 1)
+pub entries_more : (old next later : List ℕ) (sets grown : List (List ℕ)) (marks : List Bool) (parts : List (List ℕ)) (n to : ℕ) → AreEntries old next sets marks parts n
+    → Grows sets grown → later ≡ next ++ to ∷ [] → IsNumber grown to (kept marks (slice_index_or parts n [])) → AreEntries old later grown marks parts (n + 1)
 entries_more old next later sets grown marks parts n to a g e h =
     subst (λ (l : List ℕ). AreEntries old l grown marks parts (n + 1)) (sym e) (record {
       many = omega (arith, length-append next (to ∷ []), a.many);
       same = λ i lt. get_or_append_left next (to ∷ []) 0 i (omega (arith, lt, a.many)) ∙ a.same i lt;
       each = λ k lt. elim (cases_lt k n) [
-        | inl x ↦ subst (λ (m : ℕ). IsNumber grown m (kept marks (slice_index_or parts k []))) (sym (get_or_append_left next (to ∷ []) 0 (length old + k) (omega (arith, x, a.many)))) (number_grows sets grown (slice_index_or next (length old + k) 0) (kept marks (slice_index_or parts k [])) g (a.each k x))
+        | inl x ↦ subst (λ (m : ℕ). IsNumber grown m (kept marks (slice_index_or parts k []))) (sym (get_or_append_left next (to ∷ []) 0 (length old + k) (omega (arith, x, a.many))))
+            (number_grows sets grown (slice_index_or next (length old + k) 0) (kept marks (slice_index_or parts k [])) g (a.each k x))
         | inr x ↦
             let k_is : n ≡ k = omega (arith, x, lt) in
             let z : length old + k - length next ≡ 0 = omega (arith, a.many, k_is) in
-            let f : slice_index_or (next ++ to ∷ []) (length old + k) 0 ≡ to = get_or-append_right next (to ∷ []) (length next) (length old + k) 0 refl (omega (arith, a.many, k_is)) ∙ ap (λ j. get_or (to ∷ []) j 0) z in
+            let f : slice_index_or (next ++ to ∷ []) (length old + k) 0 ≡ to = get_or-append_right next (to ∷ []) (length next)
+            (length old + k) 0 refl (omega (arith, a.many, k_is)) ∙ ap (λ j. get_or (to ∷ []) j 0) z in
             subst (λ (m : ℕ). IsNumber grown m (kept marks (slice_index_or parts k []))) (sym f) (subst (λ (j : ℕ). IsNumber grown to (kept marks (slice_index_or parts j []))) k_is h)
       ];
     })

@@ -32,8 +32,15 @@ length-literal_next marks o start (d ∷ ds) = ap suc (length-literal_next marks
 pub length-next : (e : Expression) (marks : List Bool) (o : ℕ) (start : Bool) → length (next marks o start e) ≡ positions e
 length-next (Literal v) marks o start = length-literal_next marks o start v.items
 length-next (Class negated v) marks o start = refl
-length-next (Sequence' i a j b) marks o start = omega (arith, length-append (next marks o start a) (next marks (o + positions a) (ends marks o start a) b), length-next a marks o start, length-next b marks (o + positions a) (ends marks o start a))
-length-next (Choice' i a j b) marks o start = omega (arith, length-append (next marks o start a) (next marks (o + positions a) start b), length-next a marks o start, length-next b marks (o + positions a) start)
+length-next (Sequence' i a j b) marks o start =
+    omega (
+      arith,
+      length-append (next marks o start a) (next marks (o + positions a) (ends marks o start a) b),
+      length-next a marks o start,
+      length-next b marks (o + positions a) (ends marks o start a),
+    )
+length-next (Choice' i a j b) marks o start =
+    omega (arith, length-append (next marks o start a) (next marks (o + positions a) start b), length-next a marks o start, length-next b marks (o + positions a) start)
 length-next (Star' i a) marks o start = length-next a marks o (ends marks o start a || start)
 length-next (Plus' i a) marks o start = length-next a marks o (ends marks o start a || start)
 length-next (Optional' i a) marks o start = length-next a marks o start
@@ -58,14 +65,16 @@ last_equal (x ∷ u) (y ∷ v) c d e =
     let s = r.0 in
     ((cc), r.1)
 
-literal_step_sound : (K : List ℕ → Type 0) (marks : List Bool) (o : ℕ) (start : Bool) (xs u : List ℕ) (c q : ℕ) → (start ≡ true → K u) → Only (InRest K xs) (length xs) marks o u → mark (literal_next marks o start xs) q ≡ true → (q < length xs) × (slice_index_or xs q 0 ≡ c) → InRest K xs q (u ++ c ∷ [])
+literal_step_sound : (K : List ℕ → Type 0) (marks : List Bool) (o : ℕ) (start : Bool) (xs u : List ℕ) (c q : ℕ) → (start ≡ true → K u) → Only (InRest K xs) (length xs) marks o u
+    → mark (literal_next marks o start xs) q ≡ true → (q < length xs) × (slice_index_or xs q 0 ≡ c) → InRest K xs q (u ++ c ∷ [])
 literal_step_sound K marks o start [] u c q k h m s = absurd (omega (arith, s.0))
 literal_step_sound K marks o start (d ∷ ds) u c zero k h m s = (u, c ∷ [], refl, k m, (omega arith, ap (λ x. x ∷ []) (sym s.1)))
 literal_step_sound K marks o start (d ∷ ds) u c (suc q) k h m s =
     let t = literal_step_sound (Then K (Is (d ∷ []))) marks (o + 1) (mark marks o) ds u c q (only_start K marks o d ds u h) (only_rest K marks o d ds u h) m (omega (arith, s.0), s.1) in
     subst (λ (n : ℕ). InRest K (d ∷ ds) n (u ++ c ∷ [])) (add-one q) (rest_to K d ds q (u ++ c ∷ []) t)
 
-literal_step_complete : (K : List ℕ → Type 0) (marks : List Bool) (o : ℕ) (start : Bool) (xs u : List ℕ) (c q : ℕ) → (K u → start ≡ true) → Every (InRest K xs) (length xs) marks o u → InRest K xs q (u ++ c ∷ []) → (mark (literal_next marks o start xs) q ≡ true) × (q < length xs) × (slice_index_or xs q 0 ≡ c)
+literal_step_complete : (K : List ℕ → Type 0) (marks : List Bool) (o : ℕ) (start : Bool) (xs u : List ℕ) (c q : ℕ) → (K u → start ≡ true) → Every (InRest K xs) (length xs) marks o u
+    → InRest K xs q (u ++ c ∷ []) → (mark (literal_next marks o start xs) q ≡ true) × (q < length xs) × (slice_index_or xs q 0 ≡ c)
 literal_step_complete K marks o start [] u c q k h s = absurd (omega (arith, s.4.0))
 literal_step_complete K marks o start (d ∷ ds) u c zero k h s =
     let t = s.4 in
@@ -73,10 +82,12 @@ literal_step_complete K marks o start (d ∷ ds) u c zero k h s =
     (k (subst K (sym e.0) s.3), omega arith, sym e.1)
 literal_step_complete K marks o start (d ∷ ds) u c (suc q) k h s =
     let s' : InRest K (d ∷ ds) (q + 1) (u ++ c ∷ []) = subst (λ (n : ℕ). InRest K (d ∷ ds) n (u ++ c ∷ [])) (sym (add-one q)) s in
-    let t = literal_step_complete (Then K (Is (d ∷ []))) marks (o + 1) (mark marks o) ds u c q (every_start K marks o d ds u h) (every_rest K marks o d ds u h) (rest_from K d ds q (u ++ c ∷ []) s') in
+    let t = literal_step_complete (Then K (Is (d ∷ []))) marks (o + 1) (mark marks o) ds u c q (every_start K marks o d ds u h)
+    (every_rest K marks o d ds u h) (rest_from K d ds q (u ++ c ∷ []) s') in
     (t.0, omega (arith, t.1), t.2)
 
-pub step_sound : (e : Expression) (K : List ℕ → Type 0) (marks : List Bool) (o : ℕ) (start : Bool) (u : List ℕ) (c q : ℕ) → IsCharacter c → (start ≡ true → K u) → Only (Stands K e) (positions e) marks o u → mark (next marks o start e) q ≡ true → Holds e c q → Stands K e q (u ++ c ∷ [])
+pub step_sound : (e : Expression) (K : List ℕ → Type 0) (marks : List Bool) (o : ℕ) (start : Bool) (u : List ℕ) (c q : ℕ) → IsCharacter c → (start ≡ true → K u)
+    → Only (Stands K e) (positions e) marks o u → mark (next marks o start e) q ≡ true → Holds e c q → Stands K e q (u ++ c ∷ [])
 step_sound (Literal v) K marks o start u c q is k h m s = literal_step_sound K marks o start v.items u c q k h m s
 step_sound (Class negated v) K marks o start u c q is k h m s =
     let f : mark (start ∷ []) 0 ≡ true = subst (λ (n : ℕ). mark (start ∷ []) n ≡ true) s.0 m in
@@ -86,7 +97,8 @@ step_sound (Sequence' i a j b) K marks o start u c q is k h m (inl s) =
     sequence_first K a b i j q (u ++ c ∷ []) (step_sound a K marks o start u c q is k (only_first K a b i j marks o u h) (sym f ∙ m) s)
 step_sound (Sequence' i a j b) K marks o start u c q is k h m (inr s) =
     let f = mark_right (next marks o start a) (next marks (o + positions a) (ends marks o start a) b) (positions a) q (length-next a marks o start) s.0 in
-    sequence_second K a b i j q (u ++ c ∷ []) s.0 (step_sound b (Then K (Matches a)) marks (o + positions a) (ends marks o start a) u c (q - positions a) is (ends_sound a K marks o start u k (only_first K a b i j marks o u h)) (only_second K a b i j marks o u h) (sym f ∙ m) s.1)
+    sequence_second K a b i j q (u ++ c ∷ []) s.0 (step_sound b (Then K (Matches a)) marks (o + positions a) (ends marks o start a) u c (q - positions a) is
+    (ends_sound a K marks o start u k (only_first K a b i j marks o u h)) (only_second K a b i j marks o u h) (sym f ∙ m) s.1)
 step_sound (Choice' i a j b) K marks o start u c q is k h m (inl s) =
     let f = mark_left (next marks o start a) (next marks (o + positions a) start b) (positions a) q (length-next a marks o start) (holds_below a c q s) in
     let t = step_sound a K marks o start u c q is k (only_one K a b i j marks o u h) (sym f ∙ m) s in
@@ -104,10 +116,12 @@ step_sound (Plus' i a) K marks o start u c q is k h m s =
 step_sound (Optional' i a) K marks o start u c q is k h m s = step_sound a K marks o start u c q is k h m s
 
 -- where K can be after the first texts, the flag of the part says so
-again_complete : (a : Expression) (i : _) (K : List ℕ → Type 0) (marks : List Bool) (o : ℕ) (start : Bool) (u : List ℕ) → (K u → start ≡ true) → Every (Stands K (Star' i a)) (positions a) marks o u → Again K a u → (ends marks o start a || start) ≡ true
+again_complete : (a : Expression) (i : _) (K : List ℕ → Type 0) (marks : List Bool) (o : ℕ) (start : Bool) (u : List ℕ) → (K u → start ≡ true)
+    → Every (Stands K (Star' i a)) (positions a) marks o u → Again K a u → (ends marks o start a || start) ≡ true
 again_complete a i K marks o start u k h t = ends_complete (Star' i a) K marks o start u t.0 t.1 h t.2 t.3 t.4 (λ none. k (subst K (sym (t.2 ∙ ap (λ x. t.0 ++ x) none ∙ append-nil t.0)) t.3))
 
-pub step_complete : (e : Expression) (K : List ℕ → Type 0) (marks : List Bool) (o : ℕ) (start : Bool) (u : List ℕ) (c q : ℕ) → (K u → start ≡ true) → Every (Stands K e) (positions e) marks o u → Stands K e q (u ++ c ∷ []) → (mark (next marks o start e) q ≡ true) × Holds e c q
+pub step_complete : (e : Expression) (K : List ℕ → Type 0) (marks : List Bool) (o : ℕ) (start : Bool) (u : List ℕ) (c q : ℕ) → (K u → start ≡ true)
+    → Every (Stands K e) (positions e) marks o u → Stands K e q (u ++ c ∷ []) → (mark (next marks o start e) q ≡ true) × Holds e c q
 step_complete (Literal v) K marks o start u c q k h s = let t = literal_step_complete K marks o start v.items u c q k h s in (t.0, (t.1, t.2))
 step_complete (Class negated v) K marks o start u c q k h s =
     let t = s.4 in
@@ -123,7 +137,8 @@ step_complete (Sequence' i a j b) K marks o start u c q k h s =
           let t = step_complete a K marks o start u c q k (every_first K a b i j marks o u h) x in
           (mark_left xs ys (positions a) q (length-next a marks o start) (holds_below a c q t.1) ∙ t.0, inl t.1)
       | inr x ↦
-          let between : Then K (Matches a) u → ends marks o start a ≡ true = λ y. ends_complete a K marks o start u y.0 y.1 (every_first K a b i j marks o u h) y.2 y.3 y.4 (λ none. k (subst K (sym (y.2 ∙ ap (λ z. y.0 ++ z) none ∙ append-nil y.0)) y.3)) in
+          let between : Then K (Matches a) u → ends marks o start a ≡ true = λ y. ends_complete a K marks o start u y.0 y.1 (every_first K a b i j marks o u h) y.2 y.3 y.4
+          (λ none. k (subst K (sym (y.2 ∙ ap (λ z. y.0 ++ z) none ∙ append-nil y.0)) y.3)) in
           let t = step_complete b (Then K (Matches a)) marks (o + positions a) (ends marks o start a) u c (q - positions a) between (every_second K a b i j marks o u h) x.1 in
           (mark_right xs ys (positions a) q (length-next a marks o start) x.0 ∙ t.0, inr (x.0, t.1))
     ]
@@ -138,6 +153,8 @@ step_complete (Choice' i a j b) K marks o start u c q k h s =
           let t = step_complete b K marks (o + positions a) start u c (q - positions a) k (every_other K a b i j marks o u h) x.1 in
           (mark_right xs ys (positions a) q (length-next a marks o start) x.0 ∙ t.0, inr (x.0, t.1))
     ]
-step_complete (Star' i a) K marks o start u c q k h s = step_complete a (Again K a) marks o (ends marks o start a || start) u c q (again_complete a i K marks o start u k h) (every_again K a marks o u h) (then_left K (IsJoin (Matches a)) (CanStandAt a q) (u ++ c ∷ []) s)
-step_complete (Plus' i a) K marks o start u c q k h s = step_complete a (Again K a) marks o (ends marks o start a || start) u c q (again_complete a i K marks o start u k h) (every_again K a marks o u h) (then_left K (IsJoin (Matches a)) (CanStandAt a q) (u ++ c ∷ []) s)
+step_complete (Star' i a) K marks o start u c q k h s = step_complete a (Again K a) marks o (ends marks o start a || start) u c q (again_complete a i K marks o start u k h)
+    (every_again K a marks o u h) (then_left K (IsJoin (Matches a)) (CanStandAt a q) (u ++ c ∷ []) s)
+step_complete (Plus' i a) K marks o start u c q k h s = step_complete a (Again K a) marks o (ends marks o start a || start) u c q (again_complete a i K marks o start u k h)
+    (every_again K a marks o u h) (then_left K (IsJoin (Matches a)) (CanStandAt a q) (u ++ c ∷ []) s)
 step_complete (Optional' i a) K marks o start u c q k h s = step_complete a K marks o start u c q k h s

@@ -5,7 +5,8 @@ use Rattle.dfa.proofs.Sets.{among_filter, filter_among, filter_rises, same_set}
 use Rattle.dfa.proofs.HolderLists.{all_sound, all_complete, all_rise}
 use Rattle.dfa.proofs.RuleLists.{HoldsIn, marks_of_set, next_sound, next_complete, rules_nonempty}
 
-pub successor_set : (rules : List Expression) (u set : List ℕ) (marks : List Bool) (start : Bool) (c : ℕ) → IsCharacter c → (start ≡ true → u ≡ []) → (u ≡ [] → start ≡ true) → IsSetOf rules u set → AreMarksOf set marks → IsSetOf rules (u ++ c ∷ []) (successor rules marks start c)
+pub successor_set : (rules : List Expression) (u set : List ℕ) (marks : List Bool) (start : Bool) (c : ℕ) → IsCharacter c → (start ≡ true → u ≡ [])
+    → (u ≡ [] → start ≡ true) → IsSetOf rules u set → AreMarksOf set marks → IsSetOf rules (u ++ c ∷ []) (successor rules marks start c)
 successor_set rules u set marks start c is k l s m =
     let a = marks_of_set rules u set marks s m in
     let f = λ (p : ℕ). mark (all_next marks 0 start rules) p in
@@ -30,5 +31,6 @@ empty_set rules = record {
 }
 
 -- two texts have the same set exactly where they have the same positions
-pub set_unique : (rules : List Expression) (u v x y : List ℕ) → IsSetOf rules u x → IsSetOf rules v y → ((p : ℕ) → StandsAt rules p u → StandsAt rules p v) → ((p : ℕ) → StandsAt rules p v → StandsAt rules p u) → x ≡ y
+pub set_unique : (rules : List Expression) (u v x y : List ℕ) → IsSetOf rules u x → IsSetOf rules v y → ((p : ℕ) → StandsAt rules p u → StandsAt rules p v)
+    → ((p : ℕ) → StandsAt rules p v → StandsAt rules p u) → x ≡ y
 set_unique rules u v x y s t f g = same_set 0 x y s.rises t.rises (λ p h. t.every p (f p (s.only p h))) (λ p h. s.every p (g p (t.only p h)))

@@ -10,17 +10,21 @@ or_assoc true b c = refl
 or_assoc false b c = refl
 
 -- joining may be done in the second part
-pub joined_right : (c : Bool) (n m : ℕ) (p q : _) (a b last new : Tree) → IsCounted (Pair' c n p a q b) → IsJoined c b last new → m ≡ n + count last → IsJoined c (Pair' c n p a q b) last (Pair' c m p a q new)
+pub joined_right : (c : Bool) (n m : ℕ) (p q : _) (a b last new : Tree) → IsCounted (Pair' c n p a q b) → IsJoined c b last new
+    → m ≡ n + count last → IsJoined c (Pair' c n p a q b) last (Pair' c m p a q new)
 joined_right true n m p q a b last new k j is =
     record {
       many = is;
       counted = (omega (arith, is, k.0, j.many), k.1, j.counted);
       ends = λ marks o start.
           let at : o + count a + count b ≡ o + n = omega (arith, k.0) in
-          ap (λ x. tree_ends marks o start a || x) (j.ends marks (o + count a) start) ∙ or_assoc (tree_ends marks o start a) (tree_ends marks (o + count a) start b) (tree_ends marks (o + count a + count b) start last) ∙ ap (λ i. tree_ends marks o start (Pair' true n p a q b) || tree_ends marks i start last) at;
+          ap (λ x. tree_ends marks o start a || x) (j.ends marks (o + count a) start) ∙ or_assoc (tree_ends marks o start a) (tree_ends marks (o + count a) start b)
+          (tree_ends marks (o + count a + count b) start last) ∙ ap (λ i. tree_ends marks o start (Pair' true n p a q b) || tree_ends marks i start last) at;
       next = λ marks o start.
           let at : o + count a + count b ≡ o + n = omega (arith, k.0) in
-          ap (λ x. tree_next marks o start a ++ x) (j.next marks (o + count a) start) ∙ sym (append_assoc (tree_next marks o start a) (tree_next marks (o + count a) start b) (tree_next marks (o + count a + count b) start last)) ∙ ap (λ i. tree_next marks o start (Pair' true n p a q b) ++ tree_next marks i start last) at;
+          ap (λ x. tree_next marks o start a ++ x) (j.next marks (o + count a) start)
+          ∙ sym (append_assoc (tree_next marks o start a) (tree_next marks (o + count a) start b) (tree_next marks (o + count a + count b) start last))
+          ∙ ap (λ i. tree_next marks o start (Pair' true n p a q b) ++ tree_next marks i start last) at;
     }
 joined_right false n m p q a b last new k j is = record {
   many = is;
@@ -31,10 +35,13 @@ joined_right false n m p q a b last new k j is = record {
   next = λ marks o start.
       let s = tree_ends marks o start a in
       let at : o + count a + count b ≡ o + n = omega (arith, k.0) in
-      ap (λ x. tree_next marks o start a ++ x) (j.next marks (o + count a) s) ∙ sym (append_assoc (tree_next marks o start a) (tree_next marks (o + count a) s b) (tree_next marks (o + count a + count b) (tree_ends marks (o + count a) s b) last)) ∙ ap (λ i. tree_next marks o start (Pair' false n p a q b) ++ tree_next marks i (tree_ends marks (o + count a) s b) last) at;
+      ap (λ x. tree_next marks o start a ++ x) (j.next marks (o + count a) s)
+      ∙ sym (append_assoc (tree_next marks o start a) (tree_next marks (o + count a) s b) (tree_next marks (o + count a + count b) (tree_ends marks (o + count a) s b) last))
+      ∙ ap (λ i. tree_next marks o start (Pair' false n p a q b) ++ tree_next marks i (tree_ends marks (o + count a) s b) last) at;
 }
 
-pub joined_in : (c same : Bool) (n m : ℕ) (p q : _) (a b old last new whole : Tree) → same ≡ c → whole ≡ Pair' same n p a q b → old ≡ b → IsCounted whole → m ≡ count whole + count last → IsJoined c old last new → IsJoined c whole last (Pair' same m p a q new)
+pub joined_in : (c same : Bool) (n m : ℕ) (p q : _) (a b old last new whole : Tree) → same ≡ c → whole ≡ Pair' same n p a q b → old ≡ b → IsCounted whole
+    → m ≡ count whole + count last → IsJoined c old last new → IsJoined c whole last (Pair' same m p a q new)
 joined_in c same n m p q a b old last new whole e f g k is j =
     subst (λ x. IsJoined x whole last (Pair' same m p a q new)) e
     (subst (λ x. IsJoined same x last (Pair' same m p a q new)) (sym f)
@@ -49,7 +56,8 @@ any_mark-append marks o zero n =
 any_mark-append marks o (suc m) n =
     let e : suc m + n ≡ suc (m + n) = omega arith in
     let f : o + 1 + m ≡ o + suc m = omega arith in
-    ap (any_mark marks o) e ∙ ap (λ b. mark marks o || b) (any_mark-append marks (o + 1) m n) ∙ or_assoc (mark marks o) (any_mark marks (o + 1) m) (any_mark marks (o + 1 + m) n) ∙ ap (λ i. any_mark marks o (suc m) || any_mark marks i n) f
+    ap (any_mark marks o) e ∙ ap (λ b. mark marks o || b) (any_mark-append marks (o + 1) m n) ∙ or_assoc (mark marks o) (any_mark marks (o + 1) m)
+    (any_mark marks (o + 1 + m) n) ∙ ap (λ i. any_mark marks o (suc m) || any_mark marks i n) f
 
 -- no mark lies in either of two parts
 no_marks : (marks : List Bool) (o k m n : ℕ) → k ≡ m + n → any_mark marks o k ≡ false → (any_mark marks o m ≡ false) × (any_mark marks (o + m) n ≡ false)
@@ -78,7 +86,8 @@ no_next (Pair' true n p a q b) marks o k h =
     ap (λ x. x ++ tree_next marks (o + count a) false b) (no_next a marks o k.1 s.0) ∙ no_next b marks (o + count a) k.2 s.1
 no_next (Pair' false n p a q b) marks o k h =
     let s = no_marks marks o n (count a) (count b) k.0 h in
-    ap (λ x. x ++ tree_next marks (o + count a) (tree_ends marks o false a) b) (no_next a marks o k.1 s.0) ∙ ap (λ x. tree_next marks (o + count a) x b) (no_end a marks o k.1 s.0) ∙ no_next b marks (o + count a) k.2 s.1
+    ap (λ x. x ++ tree_next marks (o + count a) (tree_ends marks o false a) b) (no_next a marks o k.1 s.0)
+    ∙ ap (λ x. tree_next marks (o + count a) x b) (no_end a marks o k.1 s.0) ∙ no_next b marks (o + count a) k.2 s.1
 no_next (Plus' n p a) marks o k h =
     let none = fewer marks o n (count a) k.0 h in
     ap (λ x. tree_next marks o (x || false) a) (no_end a marks o k.1 none) ∙ no_next a marks o k.1 none
@@ -107,7 +116,8 @@ pair_ends c n e f marks o start = if c then e marks o start || f marks (o + n) s
 abbrev pub pair_nexts : Bool → ℕ → Ends → Nexts → Nexts → Nexts
 pair_nexts c n e x y marks o start = x marks o start ++ y marks (o + n) (if c then start else e marks o start)
 
-pub pair_tree : (c : Bool) (a b t : Tree) (n k : ℕ) (e f : Ends) (x y : Nexts) → IsTree a n e x → IsTree b k f y → ((marks : List Bool) (o : ℕ) (start : Bool) → length (x marks o start) ≡ n) → IsJoined c a b t → IsTree t (n + k) (pair_ends c n e f) (pair_nexts c n e x y)
+pub pair_tree : (c : Bool) (a b t : Tree) (n k : ℕ) (e f : Ends) (x y : Nexts) → IsTree a n e x → IsTree b k f y
+    → ((marks : List Bool) (o : ℕ) (start : Bool) → length (x marks o start) ≡ n) → IsJoined c a b t → IsTree t (n + k) (pair_ends c n e f) (pair_nexts c n e x y)
 pair_tree c a b t n k e f x y g h many j = record {
   many = j.many ∙ (λ i. g.many i + h.many i);
   counted = j.counted;
@@ -116,7 +126,8 @@ pair_tree c a b t n k e f x y g h many j = record {
       j.ends marks o start ∙ (λ i. if c then first i || h.ends marks (o + g.many i) start i else h.ends marks (o + g.many i) (first i) i);
   next = λ marks o start.
       let first = g.ends marks o start in
-      j.next marks o start ∙ (λ i. g.next marks o start i ++ h.next marks (o + g.many i) (if c then start else first i) i) ∙ sym (listed-append o n (x marks o start) (y marks (o + n) (if c then start else e marks o start)) (many marks o start));
+      j.next marks o start ∙ (λ i. g.next marks o start i ++ h.next marks (o + g.many i) (if c then start else first i) i)
+      ∙ sym (listed-append o n (x marks o start) (y marks (o + n) (if c then start else e marks o start)) (many marks o start));
 }
 
 -- the two parts as a node
@@ -129,24 +140,26 @@ literal_end-append marks o start (x ∷ xs) ys =
     let f : o + length (x ∷ xs) ≡ o + 1 + length xs = omega arith in
     ap (λ i. literal_end marks i (literal_end marks o start (x ∷ xs)) ys) f ∙ literal_end-append marks (o + 1) (mark marks o) xs ys
 
-literal_next-append : (marks : List Bool) (o : ℕ) (start : Bool) (xs ys : List ℕ) → literal_next marks o start xs ++ literal_next marks (o + length xs) (literal_end marks o start xs) ys ≡ literal_next marks o start (xs ++ ys)
+literal_next-append : (marks : List Bool) (o : ℕ) (start : Bool) (xs ys : List ℕ) → literal_next marks o start xs ++ literal_next marks
+    (o + length xs) (literal_end marks o start xs) ys ≡ literal_next marks o start (xs ++ ys)
 literal_next-append marks o start [] ys = let f : o + 0 ≡ o = omega arith in ap (λ i. literal_next marks i start ys) f
 literal_next-append marks o start (x ∷ xs) ys =
     let f : o + length (x ∷ xs) ≡ o + 1 + length xs = omega arith in
-    ap (λ i. start ∷ (literal_next marks (o + 1) (mark marks o) xs ++ literal_next marks i (literal_end marks o start (x ∷ xs)) ys)) f ∙ ap (λ l. start ∷ l) (literal_next-append marks (o + 1) (mark marks o) xs ys)
+    ap (λ i. start ∷ (literal_next marks (o + 1) (mark marks o) xs ++ literal_next marks i (literal_end marks o start (x ∷ xs)) ys)) f
+    ∙ ap (λ l. start ∷ l) (literal_next-append marks (o + 1) (mark marks o) xs ys)
 
 -- a literal of one character, and one of two parts
 literal_one : (x : ℕ) → IsLiteralTree (x ∷ []) Position
 literal_one x = record { many = refl; counted = tt; ends = λ marks o start. refl; next = λ marks o start. refl }
 
 pub literal_one_of : (xs : List ℕ) → length xs ≡ 1 → IsLiteralTree xs Position
-literal_one_of [] h = absurd (omega (arith, h))
 literal_one_of (x ∷ []) h = literal_one x
-literal_one_of (x ∷ (y ∷ xs)) h = absurd (omega (arith, h))
+literal_one_of d h = absurd (omega (arith, h))
 
 pub literal_parts : (xs ys all : List ℕ) (a b t : Tree) → xs ++ ys ≡ all → IsLiteralTree xs a → IsLiteralTree ys b → IsJoined false a b t → IsLiteralTree all t
 literal_parts xs ys all a b t e g h j =
-    let p = pair_tree false a b t (length xs) (length ys) (λ marks o start. literal_end marks o start xs) (λ marks o start. literal_end marks o start ys) (λ marks o start. literal_next marks o start xs) (λ marks o start. literal_next marks o start ys) g h (λ marks o start. length-literal_next marks o start xs) j in
+    let p = pair_tree false a b t (length xs) (length ys) (λ marks o start. literal_end marks o start xs) (λ marks o start. literal_end marks o start ys)
+    (λ marks o start. literal_next marks o start xs) (λ marks o start. literal_next marks o start ys) g h (λ marks o start. length-literal_next marks o start xs) j in
     subst (λ l. IsLiteralTree l t) e (record {
       many = p.many ∙ sym (length-append xs ys);
       counted = p.counted;
@@ -155,8 +168,11 @@ literal_parts xs ys all a b t e g h j =
     })
 
 -- two expressions, one after another or as a choice
-pub expression_pair : (c : Bool) (d e : Expression) (a b t : Tree) → IsTreeOf d a → IsTreeOf e b → IsJoined c a b t → IsTree t (positions d + positions e) (pair_ends c (positions d) (λ marks o start. ends marks o start d) (λ marks o start. ends marks o start e)) (pair_nexts c (positions d) (λ marks o start. ends marks o start d) (λ marks o start. next marks o start d) (λ marks o start. next marks o start e))
-expression_pair c d e a b t g h j = pair_tree c a b t (positions d) (positions e) (λ marks o start. ends marks o start d) (λ marks o start. ends marks o start e) (λ marks o start. next marks o start d) (λ marks o start. next marks o start e) g h (λ marks o start. length-next d marks o start) j
+pub expression_pair : (c : Bool) (d e : Expression) (a b t : Tree) → IsTreeOf d a → IsTreeOf e b → IsJoined c a b t → IsTree t (positions d + positions e)
+    (pair_ends c (positions d) (λ marks o start. ends marks o start d) (λ marks o start. ends marks o start e))
+    (pair_nexts c (positions d) (λ marks o start. ends marks o start d) (λ marks o start. next marks o start d) (λ marks o start. next marks o start e))
+expression_pair c d e a b t g h j = pair_tree c a b t (positions d) (positions e) (λ marks o start. ends marks o start d) (λ marks o start. ends marks o start e)
+    (λ marks o start. next marks o start d) (λ marks o start. next marks o start e) g h (λ marks o start. length-next d marks o start) j
 
 pub sequence_tree : (p q : Address) (e x y d f : Expression) (a b t : Tree) → e ≡ E.Sequence' p x q y → d ≡ x → f ≡ y → IsTreeOf d a → IsTreeOf f b → IsJoined false a b t → IsTreeOf e t
 sequence_tree p q e x y d f a b t is k l g h j =
@@ -193,11 +209,13 @@ rule_within [] i d lt = absurd (omega (arith, lt))
 rule_within (e ∷ es) zero d lt = omega arith
 rule_within (e ∷ es) (suc i) d lt = omega (arith, rule_within es i d (omega (arith, lt)))
 
-pub trees_next : (rules : List Expression) (trees : List Tree) (marks : List Bool) (o : ℕ) (start : Bool) → AreTreesOf rules trees → all_tree_next marks o start trees ≡ listed o (all_next marks o start rules)
+pub trees_next : (rules : List Expression) (trees : List Tree) (marks : List Bool) (o : ℕ) (start : Bool) → AreTreesOf rules trees
+    → all_tree_next marks o start trees ≡ listed o (all_next marks o start rules)
 trees_next [] [] marks o start a = refl
 trees_next [] (t ∷ ts) marks o start a = elim a [ ]
 trees_next (e ∷ es) [] marks o start a = elim a [ ]
-trees_next (e ∷ es) (t ∷ ts) marks o start a = (λ i. a.0.next marks o start i ++ trees_next es ts marks (o + a.0.many i) start a.1 i) ∙ sym (listed-append o (positions e) (next marks o start e) (all_next marks (o + positions e) start es) (length-next e marks o start))
+trees_next (e ∷ es) (t ∷ ts) marks o start a = (λ i. a.0.next marks o start i ++ trees_next es ts marks (o + a.0.many i) start a.1 i)
+    ∙ sym (listed-append o (positions e) (next marks o start e) (all_next marks (o + positions e) start es) (length-next e marks o start))
 
 pub trees_end : (rules : List Expression) (trees : List Tree) (marks : List Bool) (o k : ℕ) → AreTreesOf rules trees → first_tree_end marks o k trees ≡ first_end marks o k rules
 trees_end [] [] marks o k a = refl
@@ -205,10 +223,12 @@ trees_end [] (t ∷ ts) marks o k a = elim a [ ]
 trees_end (e ∷ es) [] marks o k a = elim a [ ]
 trees_end (e ∷ es) (t ∷ ts) marks o k a = (λ i. if a.0.ends marks o false i then Some k else trees_end es ts marks (o + a.0.many i) (k + 1) a.1 i)
 
-pub one_more_tree : (rules rest later : List Expression) (e : Expression) (trees new : List Tree) (t : Tree) → rest ≡ e ∷ later → new ≡ trees ++ t ∷ [] → IsTreeOf e t → ((more : List Tree) → AreTreesOf rest more → AreTreesOf rules (trees ++ more)) → (more : List Tree) → AreTreesOf later more → AreTreesOf rules (new ++ more)
+pub one_more_tree : (rules rest later : List Expression) (e : Expression) (trees new : List Tree) (t : Tree) → rest ≡ e ∷ later → new ≡ trees ++ t ∷ [] → IsTreeOf e t
+    → ((more : List Tree) → AreTreesOf rest more → AreTreesOf rules (trees ++ more)) → (more : List Tree) → AreTreesOf later more → AreTreesOf rules (new ++ more)
 one_more_tree rules rest later e trees new t here is of h more a =
     subst (AreTreesOf rules) (sym (ap (λ l. l ++ more) is ∙ append_assoc trees (t ∷ []) more)) (h (t ∷ more) (subst (λ l. AreTreesOf l (t ∷ more)) (sym here) (of, a)))
 
-pub all_trees : (rules : List Expression) (i : ℕ) (trees : List Tree) → length rules ≤ i → ((more : List Tree) → AreTreesOf (drop i rules) more → AreTreesOf rules (trees ++ more)) → AreTreesOf rules trees
+pub all_trees : (rules : List Expression) (i : ℕ) (trees : List Tree) → length rules ≤ i
+    → ((more : List Tree) → AreTreesOf (drop i rules) more → AreTreesOf rules (trees ++ more)) → AreTreesOf rules trees
 all_trees rules i trees le h =
     subst (AreTreesOf rules) (append-nil trees) (h [] (subst (λ l. AreTreesOf l []) (sym (drop_all i rules le)) tt))

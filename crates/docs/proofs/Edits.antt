@@ -7,9 +7,8 @@ use Rattle.docs.proofs.StoredReading.{reading_of, stacked_reading, stacked_trees
 -- ---- a last leaf is no node
 
 leaf_has_none : (x : List Kind) → all_branches (last_leaf x) ≡ 0
-leaf_has_none [] = refl
-leaf_has_none (k ∷ []) = refl
 leaf_has_none (j ∷ k ∷ x) = leaf_has_none (k ∷ x)
+leaf_has_none d = refl
 
 branches_before : (ts : List Tree) (x : List Kind) → all_branches (ts ++ last_leaf x) ≡ all_branches ts
 branches_before [] x = leaf_has_none x
@@ -127,12 +126,15 @@ next_later n m is fits = grind (arith, is, fits)
 pub number_after_edit : (d e : Doc) → e.parse.number ≡ min (d.parse.number + 1) 18_446_744_073_709_551_615 → e.parse.number ≡ number_after (last_edit d)
 number_after_edit d e number = number ∙ ap (λ n. min (n + 1) 18_446_744_073_709_551_615) (sym (shown_number d.parse.number d.tokens.scanned d.parse.built))
 
-pub same_edit : (encoding : Encoding) (text : List ℕ) (range : Option Range) (s : List ℕ) (away : ℕ × ℕ) (inserted reported number : ℕ) → away ≡ span encoding text range → inserted ≡ length s → reported ≡ number
+pub same_edit : (encoding : Encoding) (text : List ℕ) (range : Option Range) (s : List ℕ) (away : ℕ × ℕ) (inserted reported number : ℕ)
+    → away ≡ span encoding text range → inserted ≡ length s → reported ≡ number
     → record { at = away.0; removed = away.1 - away.0; inserted = inserted; number = reported } ≡ edit_of encoding text range s number
 same_edit encoding text range s away inserted reported number places long same =
     let first : Edit = record { at = away.0; removed = away.1 - away.0; inserted = inserted; number = reported } in
-    let place : first ≡ record { at = (span encoding text range).0; removed = (span encoding text range).1 - (span encoding text range).0; inserted = inserted; number = reported } = ap (λ (p : ℕ × ℕ). record { at = p.0; removed = p.1 - p.0; inserted = inserted; number = reported }) places in
-    place ∙ (ap (λ n. record { at = (span encoding text range).0; removed = (span encoding text range).1 - (span encoding text range).0; inserted = n; number = reported }) long ∙ ap (edit_of encoding text range s) same)
+    let place : first ≡ record { at = (span encoding text range).0; removed = (span encoding text range).1 - (span encoding text range).0; inserted = inserted; number = reported } =
+    ap (λ (p : ℕ × ℕ). record { at = p.0; removed = p.1 - p.0; inserted = inserted; number = reported }) places in
+    place ∙ (ap (λ n. record { at = (span encoding text range).0; removed = (span encoding text range).1 - (span encoding text range).0; inserted = n; number = reported }) long
+    ∙ ap (edit_of encoding text range s) same)
 
 -- a number is above every stamp of the nodes exactly where the counts of the last edit say so
 module _ (d : Doc) (number : ℕ) (ts : List Stamped) where
@@ -190,7 +192,8 @@ module _ (l : LanguageData) (d e : Doc) (current : IsCurrent l d) (current_next 
       let old : number_of (last_edit d) ≡ d.parse.number = shown_number d.parse.number d.tokens.scanned d.parse.built in
       let after : number_after (last_edit d) ≡ e.parse.number = sym (number_after_edit d e number) in
       let so : change ≡ edit_of encoding d.text range s (number_after (last_edit d)) = edit ∙ ap (edit_of encoding d.text range s) (sym after) in
-      let reading : IsReading l.file (changed encoding d.text range s) (reading_of e (stacked_trees l e current_next)) = subst (λ (t : List ℕ). IsReading l.file t (reading_of e (stacked_trees l e current_next))) text (stacked_reading l e current_next) in (
+      let reading : IsReading l.file (changed encoding d.text range s) (reading_of e (stacked_trees l e current_next)) =
+      subst (λ (t : List ℕ). IsReading l.file t (reading_of e (stacked_trees l e current_next))) text (stacked_reading l e current_next) in (
         record { number = e.parse.number; scanned = e.tokens.scanned; built = e.parse.built },
         shown_last e.parse.number e.tokens.scanned e.parse.built (next_positive d.parse.number e.parse.number number),
         record {
@@ -201,14 +204,21 @@ module _ (l : LanguageData) (d e : Doc) (current : IsCurrent l d) (current_next 
           makes = record {
             number = sym after;
             scanned = subst (λ (x : Edit). e.tokens.scanned ≡ length (made x (map plain_token d.tokens.items) (map plain_token e.tokens.items))) so scanned;
-            built = λ above. subst (λ (x : Splice). Built x (stacked_trees l d current) 0 (stacked_trees l e current_next) e.parse.built) (same ∙ ap (λ (x : Edit). splice l.file.skips x (map plain_token d.tokens.items) (map plain_token e.tokens.items)) so) (nodes_built spliced built (older_above d e.parse.number (all_trees d.store d.parse.stack) current.parse.older current.parse.built (subst (IsAbove (last_edit d)) after above)));
-            all_built = λ below. current_next.parse.built ∙ (all_made e.parse.number _ e.parse.stack (anew (λ older. below (subst (IsAbove (last_edit d)) (sym after) (above_older d e.parse.number (all_trees d.store d.parse.stack) current.parse.built (next_later d.parse.number e.parse.number number fits) (next_positive d.parse.number e.parse.number number) older)))) ∙ (ap all_branches current_next.parse.stop.stack.stack_is ∙ branches_before (stacked_trees l e current_next) (before e)));
+            built = λ above. subst (λ (x : Splice). Built x (stacked_trees l d current) 0 (stacked_trees l e current_next) e.parse.built)
+                (same ∙ ap (λ (x : Edit). splice l.file.skips x (map plain_token d.tokens.items) (map plain_token e.tokens.items)) so)
+                (nodes_built spliced built (older_above d e.parse.number (all_trees d.store d.parse.stack) current.parse.older current.parse.built (subst (IsAbove (last_edit d)) after above)));
+            all_built = λ below. current_next.parse.built
+                ∙ (all_made e.parse.number _ e.parse.stack
+                (anew (λ older. below (subst (IsAbove (last_edit d)) (sym after) (above_older d e.parse.number (all_trees d.store d.parse.stack) current.parse.built
+                (next_later d.parse.number e.parse.number number fits) (next_positive d.parse.number e.parse.number number) older))))
+                ∙ (ap all_branches current_next.parse.stop.stack.stack_is ∙ branches_before (stacked_trees l e current_next) (before e)));
           };
         },
       )
 
 -- what is reported of a document
-pub stats_are : (l : LanguageData) (d : Doc) → IsCurrent l d → (stats : Stats) → stats.edit ≡ d.parse.number → stats.scanned ≡ d.tokens.scanned → stats.tokens ≡ length d.tokens.items → stats.branches ≡ d.parse.branches → stats.built ≡ d.parse.built → stats.nodes ≡ length d.store
+pub stats_are : (l : LanguageData) (d : Doc) → IsCurrent l d → (stats : Stats) → stats.edit ≡ d.parse.number → stats.scanned ≡ d.tokens.scanned
+    → stats.tokens ≡ length d.tokens.items → stats.branches ≡ d.parse.branches → stats.built ≡ d.parse.built → stats.nodes ≡ length d.store
     → AreStats l.file (open_document d) stats
 stats_are l d current stats edit scanned tokens branches built nodes = record {
   reading = reading_of d (stacked_trees l d current);

@@ -27,13 +27,28 @@ module _ (was now s : List ℕ) (first both : Edit) (from to end : ℕ) (leads :
     fits = omega (arith, long, left, before, past, far, removed, leads.1)
 
     measured : both.inserted ≡ length piece
-    measured = omega (arith, inserted, ordered, inside, before, right, far, length-append (take (from - both.at) (drop both.at now) ++ s) (take (end - to) (drop to now)), length-append (take (from - both.at) (drop both.at now)) s, length-take (from - both.at) (drop both.at now), length-take (end - to) (drop to now), length-drop both.at now, length-drop to now)
+    measured = omega (
+      arith,
+      inserted,
+      ordered,
+      inside,
+      before,
+      right,
+      far,
+      length-append (take (from - both.at) (drop both.at now) ++ s) (take (end - to) (drop to now)),
+      length-append (take (from - both.at) (drop both.at now)) s,
+      length-take (from - both.at) (drop both.at now),
+      length-take (end - to) (drop to now),
+      length-drop both.at now,
+      length-drop to now,
+    )
 
     same_start : take both.at now ≡ take both.at was
     same_start =
         let at : length (take first.at was) ≡ first.at = omega (arith, length-take first.at was, leads.1) in
         let kept : take first.at now ≡ take first.at was =
-        ap (take first.at) (leads.3 ∙ append_assoc (take first.at was) leads.0 (drop (first.at + first.removed) was)) ∙ take_at (take first.at was) (leads.0 ++ drop (first.at + first.removed) was) first.at at in
+        ap (take first.at) (leads.3 ∙ append_assoc (take first.at was) leads.0 (drop (first.at + first.removed) was))
+        ∙ take_at (take first.at was) (leads.0 ++ drop (first.at + first.removed) was) first.at at in
         sym (take-take both.at first.at now left) ∙ (ap (take both.at) kept ∙ take-take both.at first.at was left)
 
     start : take from now ≡ take both.at was ++ take (from - both.at) (drop both.at now)
@@ -60,8 +75,13 @@ module _ (was now s : List ℕ) (first both : Edit) (from to end : ℕ) (leads :
 
     -- two edits in turn, from the first place that one of them touches to the last one
     pub leads_by_both : LeadsTo was both (edit now from to s)
-    leads_by_both =
-        (piece, fits, measured, ap (λ l. l ++ s ++ drop to now) start ∙ (ap (λ l. take both.at was ++ take (from - both.at) (drop both.at now) ++ s ++ l) finish ∙ assoc_all (take both.at was) (take (from - both.at) (drop both.at now)) (take (end - to) (drop to now)) (drop (both.at + both.removed) was)))
+    leads_by_both = (
+      piece,
+      fits,
+      measured,
+      ap (λ l. l ++ s ++ drop to now) start ∙ (ap (λ l. take both.at was ++ take (from - both.at) (drop both.at now) ++ s ++ l) finish
+          ∙ assoc_all (take both.at was) (take (from - both.at) (drop both.at now)) (take (end - to) (drop to now)) (drop (both.at + both.removed) was)),
+    )
 
 -- where nothing is pending, an edit that changes nothing leads to the text
 pub leads_first : (o : Option Edit) (was now : List ℕ) (nothing : Edit) → nothing.at ≤ length now → nothing.removed ≡ 0 → nothing.inserted ≡ 0 → MatchOption o (now ≡ was) (λ e. LeadsTo was e now)

@@ -37,7 +37,8 @@ line_first (b ∷ c ∷ line) rest h =
 lines_joined : (lines : List (List ℕ)) → All IsSingle lines → lines_of (joined lines) ≡ lines
 lines_joined [] h = refl
 lines_joined (line ∷ lines) h =
-    ap lines_of (append_assoc line line_end (joined lines)) ∙ line_first line (joined lines) (All-head IsSingle line lines h) ∙ ap (λ ls. line ∷ ls) (lines_joined lines (All-tail IsSingle line lines h))
+    ap lines_of (append_assoc line line_end (joined lines)) ∙ line_first line (joined lines) (All-head IsSingle line lines h)
+    ∙ ap (λ ls. line ∷ ls) (lines_joined lines (All-tail IsSingle line lines h))
 
 joined_before : (b c : ℕ) (lines : List (List ℕ)) (rest : List ℕ) → joined lines ≡ c ∷ rest → joined (onto_first_line b lines) ≡ b ∷ c ∷ rest
 joined_before b c [] rest h = cc
@@ -79,23 +80,25 @@ first_single bytes line lines h = by_size (through line_end bytes) refl
         let prefix : take (n - 2) bytes ≡ line = cc in
         ap (through line_end) (sym prefix) ∙ prefix_single bytes n e
 
-before_single : (b : ℕ) (lines : List (List ℕ)) → All IsSingle lines → ((line : List ℕ) (later : List (List ℕ)) → onto_first_line b lines ≡ line ∷ later → IsSingle line) → All IsSingle (onto_first_line b lines)
+before_single : (b : ℕ) (lines : List (List ℕ)) → All IsSingle lines → ((line : List ℕ) (later : List (List ℕ)) → onto_first_line b lines ≡ line ∷ later → IsSingle line)
+    → All IsSingle (onto_first_line b lines)
 before_single b [] h first = All-nil IsSingle
 before_single b (line ∷ lines) h first = All-cons IsSingle (b ∷ line) lines (first (b ∷ line) lines refl) (All-tail IsSingle line lines h)
 
-single_step : (b c : ℕ) (bytes : List ℕ) (t : Bool) → starts_with nat_eq (b ∷ c ∷ bytes) line_end ≡ t → All IsSingle (lines_of bytes) → All IsSingle (lines_of (c ∷ bytes)) → All IsSingle (lines_of (b ∷ c ∷ bytes))
+single_step : (b c : ℕ) (bytes : List ℕ) (t : Bool) → starts_with nat_eq (b ∷ c ∷ bytes) line_end ≡ t → All IsSingle (lines_of bytes)
+    → All IsSingle (lines_of (c ∷ bytes)) → All IsSingle (lines_of (b ∷ c ∷ bytes))
 single_step b c bytes true h after later = rw h (All-cons IsSingle [] (lines_of bytes) refl after)
 single_step b c bytes false h after later = rw h (before_single b (lines_of (c ∷ bytes)) later (λ line rest e. first_single (b ∷ c ∷ bytes) line rest (rw h e)))
 
 -- no line holds CR LF
 lines_single : (bytes : List ℕ) → All IsSingle (lines_of bytes)
-lines_single [] = All-nil IsSingle
-lines_single (b ∷ []) = All-nil IsSingle
 lines_single (b ∷ c ∷ bytes) = single_step b c bytes (starts_with nat_eq (b ∷ c ∷ bytes) line_end) refl (lines_single bytes) (lines_single (c ∷ bytes))
+lines_single d = All-nil IsSingle
 
 -- the prefix of a header part without the CR LF at its end
 longest_header_of : (bytes : List ℕ) → take (length (bytes ++ line_end) - 2) (bytes ++ line_end) ≡ bytes
-longest_header_of bytes = let e : length (bytes ++ line_end) - 2 ≡ length bytes = omega (arith, length-append bytes line_end) in ap (λ n. take n (bytes ++ line_end)) e ∙ take-append_seam bytes line_end
+longest_header_of bytes = let e : length (bytes ++ line_end) - 2 ≡ length bytes = omega (arith, length-append bytes line_end) in
+    ap (λ n. take n (bytes ++ line_end)) e ∙ take-append_seam bytes line_end
 
 -- a whole header part has them
 pub has_field_lines : (part : List ℕ) → IsWhole part → AreFieldLines part (lines_of (take (length part - 2) part))

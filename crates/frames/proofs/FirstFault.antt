@@ -62,13 +62,15 @@ no_or : (given new : Option ℕ) → option_or given new ≡ None → (given ≡
 no_or None new h = (refl, h)
 no_or (Some n) new h = cc
 
-here_or_later : (n : ℕ) (given : Option ℕ) (line : List ℕ) (lines : List (List ℕ)) → ((option_or given (line_length line) ≡ Some n) ⊎ ((option_or given (line_length line) ≡ None) × ShowsLength n lines)) → (given ≡ Some n) ⊎ ((given ≡ None) × ShowsLength n (line ∷ lines))
+here_or_later : (n : ℕ) (given : Option ℕ) (line : List ℕ) (lines : List (List ℕ))
+    → ((option_or given (line_length line) ≡ Some n) ⊎ ((option_or given (line_length line) ≡ None) × ShowsLength n lines)) → (given ≡ Some n) ⊎ ((given ≡ None) × ShowsLength n (line ∷ lines))
 here_or_later n None line lines (inl h) = inr (refl, (0, line, omega arith, refl, h))
 here_or_later n None line lines (inr h) = inr (refl, (suc h.1.0, h.1.1, omega (arith, h.1.2), h.1.3, h.1.4))
 here_or_later n (Some m) line lines (inl h) = inl h
 here_or_later n (Some m) line lines (inr h) = cc
 
-show_cons : (given : Option ℕ) (line : List ℕ) (lines : List (List ℕ)) (r : Result ℕ FrameFault) → line_fault (is_some given) line ≡ None → ShowAfter (option_or given (line_length line)) lines r → ShowAfter given (line ∷ lines) r
+show_cons : (given : Option ℕ) (line : List ℕ) (lines : List (List ℕ)) (r : Result ℕ FrameFault) → line_fault (is_some given) line ≡ None
+    → ShowAfter (option_or given (line_length line)) lines r → ShowAfter given (line ∷ lines) r
 show_cons given line lines (Ok n) here h =
     let P : Bool → Type 0 = λ t. AreFaultlessAfter t lines in
     (faultless_cons (is_some given) line lines here (subst P (shown_or given (line_length line)) h.0), here_or_later n given line lines h.1)
@@ -80,7 +82,8 @@ show_cons given line lines (Err fault) here (inr h) =
     let none = no_or given (line_length line) h.1 in
     inr (faultless_cons (is_some given) line lines here (subst P (shown_or given (line_length line)) h.0), none.0, (λ i. is_some (none.1 i) || h.2 i), h.3)
 
-show_step : (given : Option ℕ) (line : List ℕ) (lines : List (List ℕ)) (r : Result ℕ FrameFault) (o : Option FrameFault) → line_fault (is_some given) line ≡ o → ShowAfter (option_or given (line_length line)) lines r → ShowAfter given (line ∷ lines) (option_map_or (λ fault. Err fault) o r)
+show_step : (given : Option ℕ) (line : List ℕ) (lines : List (List ℕ)) (r : Result ℕ FrameFault) (o : Option FrameFault) → line_fault (is_some given) line ≡ o
+    → ShowAfter (option_or given (line_length line)) lines r → ShowAfter given (line ∷ lines) (option_map_or (λ fault. Err fault) o r)
 show_step given line lines r None e h = show_cons given line lines r e h
 show_step given line lines r (Some fault) e h = inl ([], lines, line, refl, none_faultless (is_some given), ap (λ t. line_fault t line) (or-false (is_some given)) ∙ e)
 
@@ -92,18 +95,22 @@ lines_show given (line ∷ lines) =
     show_step given line lines (lines_length now lines) (line_fault (is_some given) line) refl (lines_show now lines)
 
 -- the first faulty line decides
-first_fault : (given : Option ℕ) (before after : List (List ℕ)) (line : List ℕ) (fault : FrameFault) → AreFaultlessAfter (is_some given) before → line_fault (is_some given || has_length before) line ≡ Some fault → lines_length given (before ++ line ∷ after) ≡ Err fault
-first_fault given [] after line fault faultless h = ap (λ o. option_map_or (λ f. Err f) o (lines_length (option_or given (line_length line)) after)) (ap (λ t. line_fault t line) (sym (or-false (is_some given))) ∙ h)
+first_fault : (given : Option ℕ) (before after : List (List ℕ)) (line : List ℕ) (fault : FrameFault) → AreFaultlessAfter (is_some given) before
+    → line_fault (is_some given || has_length before) line ≡ Some fault → lines_length given (before ++ line ∷ after) ≡ Err fault
+first_fault given [] after line fault faultless h = ap (λ o. option_map_or (λ f. Err f) o (lines_length (option_or given (line_length line)) after))
+    (ap (λ t. line_fault t line) (sym (or-false (is_some given))) ∙ h)
 first_fault given (b ∷ before) after line fault faultless h =
     let now = option_or given (line_length b) in
     let rest = before ++ line ∷ after in
     let same = shown_or given (line_length b) in
     let P : Bool → Type 0 = λ t. AreFaultlessAfter t before in
     ap (λ o. option_map_or (λ f. Err f) o (lines_length now rest)) (faultless_head (is_some given) b before faultless)
-    ∙ first_fault now before after line fault (subst P (sym same) (faultless_tail (is_some given) b before faultless)) (ap (λ t. line_fault (t || has_length before) line) same ∙ fault_after (is_some given) b before line ∙ h)
+    ∙ first_fault now before after line fault (subst P (sym same) (faultless_tail (is_some given) b before faultless))
+    (ap (λ t. line_fault (t || has_length before) line) same ∙ fault_after (is_some given) b before line ∙ h)
 
 -- a line without a fault leaves it to those after it
-faultless_on : (given now : Option ℕ) (line : List ℕ) (lines : List (List ℕ)) → line_fault (is_some given) line ≡ None → option_or given (line_length line) ≡ now → lines_length given (line ∷ lines) ≡ lines_length now lines
+faultless_on : (given now : Option ℕ) (line : List ℕ) (lines : List (List ℕ)) → line_fault (is_some given) line ≡ None
+    → option_or given (line_length line) ≡ now → lines_length given (line ∷ lines) ≡ lines_length now lines
 faultless_on given now line lines h e = ap (λ o. option_map_or (λ f. Err f) o (lines_length (option_or given (line_length line)) lines)) h ∙ ap (λ t. lines_length t lines) e
 
 neither : (a b : Bool) → (a || b) ≡ false → (a ≡ false) × (b ≡ false)
@@ -147,7 +154,8 @@ one_length : (n : ℕ) (lines : List (List ℕ)) → AreFaultlessAfter true line
 one_length n [] faultless = refl
 one_length n (line ∷ lines) faultless = faultless_on (Some n) (Some n) line lines (faultless_head true line lines faultless) refl ∙ one_length n lines (faultless_tail true line lines faultless)
 
-shown_here : (o : Option ℕ) (n : ℕ) (line : List ℕ) (lines : List (List ℕ)) → line_length line ≡ o → AreFaultlessAfter false (line ∷ lines) → ShowsLength n (line ∷ lines) → (o ≡ Some n) ⊎ ((o ≡ None) × ShowsLength n lines)
+shown_here : (o : Option ℕ) (n : ℕ) (line : List ℕ) (lines : List (List ℕ)) → line_length line ≡ o → AreFaultlessAfter false (line ∷ lines)
+    → ShowsLength n (line ∷ lines) → (o ≡ Some n) ⊎ ((o ≡ None) × ShowsLength n lines)
 shown_here o n line lines e faultless (zero, l, short, is, h) = let same : line ≡ l = is in inl (sym e ∙ ap line_length same ∙ h)
 shown_here None n line lines e faultless (suc k, l, short, is, h) = inr (refl, (k, l, omega (arith, short), is, h))
 shown_here (Some m) n line lines e faultless (suc k, l, short, is, h) =

@@ -20,24 +20,34 @@ begins_stays bytes more content size f =
     let within = frame_within bytes content size f in
     record {
       header = start_stays bytes more (known bytes size (length content) f.header) ∙ f.header;
-      follows = ap (take (length content)) (drop-append-le size bytes more (omega (arith, within))) ∙ (take-append-le (length content) (drop size bytes) more (omega (arith, within, length-drop size bytes)) ∙ f.follows);
+      follows = ap (take (length content)) (drop-append-le size bytes more (omega (arith, within)))
+          ∙ (take-append-le (length content) (drop size bytes) more (omega (arith, within, length-drop size bytes)) ∙ f.follows);
     }
 
 -- what is split stays so, and the rest goes on with the piece
-pub goes_on : (bytes piece : List ℕ) (before contents : List (List ℕ)) (rest : List ℕ) (tail : Tail) → Splits bytes before (Open rest) → Splits (rest ++ piece) contents tail → Splits (bytes ++ piece) (before ++ contents) tail
+pub goes_on : (bytes piece : List ℕ) (before contents : List (List ℕ)) (rest : List ℕ) (tail : Tail) → Splits bytes before (Open rest)
+    → Splits (rest ++ piece) contents tail → Splits (bytes ++ piece) (before ++ contents) tail
 goes_on bytes piece [] contents rest tail s t = subst (λ (b : List ℕ). Splits (b ++ piece) contents tail) (sym s.0) t
 goes_on bytes piece (content ∷ before) contents rest tail s t =
     let k = s.0 + length content in
-    let within = frame_within bytes content s.0 s.1 in
-    (s.0, begins_stays bytes piece content s.0 s.1, subst (λ (b : List ℕ). Splits b (before ++ contents) tail) (sym (drop-append-le k bytes piece within)) (goes_on (drop k bytes) piece before contents rest tail s.2 t))
+    let within = frame_within bytes content s.0 s.1 in (
+      s.0,
+      begins_stays bytes piece content s.0 s.1,
+      subst (λ (b : List ℕ). Splits b (before ++ contents) tail)
+          (sym (drop-append-le k bytes piece within)) (goes_on (drop k bytes) piece before contents rest tail s.2 t),
+    )
 
 -- a fault stays
 pub fault_stays : (bytes piece : List ℕ) (before : List (List ℕ)) (fault : FrameFault) → Splits bytes before (Faulty fault) → Splits (bytes ++ piece) before (Faulty fault)
 fault_stays bytes piece [] fault s = start_stays bytes piece (faulty_known bytes fault s) ∙ s
 fault_stays bytes piece (content ∷ before) fault s =
     let k = s.0 + length content in
-    let within = frame_within bytes content s.0 s.1 in
-    (s.0, begins_stays bytes piece content s.0 s.1, subst (λ (b : List ℕ). Splits b before (Faulty fault)) (sym (drop-append-le k bytes piece within)) (fault_stays (drop k bytes) piece before fault s.2))
+    let within = frame_within bytes content s.0 s.1 in (
+      s.0,
+      begins_stays bytes piece content s.0 s.1,
+      subst (λ (b : List ℕ). Splits b before (Faulty fault))
+          (sym (drop-append-le k bytes piece within)) (fault_stays (drop k bytes) piece before fault s.2),
+    )
 
 -- a whole frame is neither begun nor faulty
 begun_not_whole : (bytes content rest : List ℕ) (size : ℕ) → BeginsWith bytes content size → IsTail bytes (Open rest) → ⊥
@@ -96,7 +106,8 @@ split_from bytes shorter (Announces size n) h = elim (cases_lt (length bytes) (s
   | inl few ↦ tail_splits bytes (Open bytes) (refl, subst (IsBegun bytes) (sym h) few)
   | inr room ↦
       let content = take n (drop size bytes) in
-      let left : length (drop (size + length content) bytes) < length bytes = omega (arith, length-drop (size + length content) bytes, content_long bytes size n room, start_low bytes size n h, room) in
+      let left : length (drop (size + length content) bytes) < length bytes =
+      omega (arith, length-drop (size + length content) bytes, content_long bytes size n room, start_low bytes size n h, room) in
       frame_splits bytes content size (announced bytes size n h room) (shorter (drop (size + length content) bytes) left)
 ]
 

@@ -27,7 +27,8 @@ through_bounds needle (b ∷ xs) n h = elim (at_step (starts_with nat_eq (b ∷ 
 pub through_stays : (needle xs ys : List ℕ) (n : ℕ) → through needle xs ≡ Some n → through needle (xs ++ ys) ≡ Some n
 through_stays needle [] ys n h = cc
 through_stays needle (b ∷ xs) ys n h = elim (at_step (starts_with nat_eq (b ∷ xs) needle) (length needle) n (through needle xs) h) [
-  | inl p ↦ subst (λ t. cond t (Some (length needle)) (option_map suc (through needle (xs ++ ys))) ≡ Some n) (sym (prefix_stays (b ∷ xs) ys needle (prefix_long (b ∷ xs) needle p.0) ∙ p.0)) (ap (λ (k : ℕ). Some k) (sym p.1))
+  | inl p ↦ subst (λ t. cond t (Some (length needle)) (option_map suc (through needle (xs ++ ys))) ≡ Some n)
+      (sym (prefix_stays (b ∷ xs) ys needle (prefix_long (b ∷ xs) needle p.0) ∙ p.0)) (ap (λ (k : ℕ). Some k) (sym p.1))
   | inr q ↦
       let r = through_bounds needle xs q.1 q.2 in
       subst (λ t. cond t (Some (length needle)) (option_map suc (through needle (xs ++ ys))) ≡ Some n) (sym (prefix_stays (b ∷ xs) ys needle (omega (arith, r.0, r.1)) ∙ q.0))
@@ -84,7 +85,8 @@ unfinished_stays bytes more h many =
     let prefix = take 4096 bytes in
     let e = take-append-le 4096 bytes more many in
     let long : 4096 ≤ length (bytes ++ more) = omega (arith, length-append bytes more) in
-    ap (start_at (take 4096 (bytes ++ more)) (length (bytes ++ more))) (ap header_size e ∙ h) ∙ ap (λ t. cond t NeedsMore (Fails LongHeader)) (le-ltb _ _ long ∙ sym (le-ltb _ _ many)) ∙ sym (ap (start_at prefix (length bytes)) h)
+    ap (start_at (take 4096 (bytes ++ more)) (length (bytes ++ more))) (ap header_size e ∙ h) ∙ ap (λ t. cond t NeedsMore (Fails LongHeader))
+    (le-ltb _ _ long ∙ sym (le-ltb _ _ many)) ∙ sym (ap (start_at prefix (length bytes)) h)
 
 -- once the start is known, it stays the same
 pub start_stays : (bytes more : List ℕ) → start_of bytes ≢ NeedsMore → start_of (bytes ++ more) ≡ start_of bytes

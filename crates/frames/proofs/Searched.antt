@@ -19,7 +19,8 @@ found_before bytes lines searched n near prefix before =
     let r = blank_line_found (take searched bytes) lines n (take-take n searched bytes near ∙ prefix) in
     (let f : Some r.0 ≡ None = sym r.1 ∙ before in cc)
 
-found_twice : (bytes : List ℕ) (searched n : ℕ) → HoldsNone bytes searched → through blank_line (drop (searched - 3) bytes) ≡ None → n ≤ length bytes → (lines : List ℕ) × (take n bytes ≡ lines ++ blank_line) → ⊥
+found_twice : (bytes : List ℕ) (searched n : ℕ) → HoldsNone bytes searched → through blank_line (drop (searched - 3) bytes) ≡ None
+    → n ≤ length bytes → (lines : List ℕ) × (take n bytes ≡ lines ++ blank_line) → ⊥
 found_twice bytes searched n before after within prefix = elim (cases_lt searched n) [
   | inl further ↦
       let long : length prefix.0 + 4 ≡ n = omega (arith, within, length-take n bytes, ap length prefix.1, length-append prefix.0 blank_line) in
@@ -35,7 +36,8 @@ none_further bytes searched before after = by_size (through blank_line bytes) re
     by_size None h = h
     by_size (Some n) h = absurd (found_twice bytes searched n before after (through_bounds blank_line bytes n h).1 (through_ends blank_line bytes n h))
 
-pub needs_more_is : (bytes : List ℕ) (searched : ℕ) → length bytes < 4096 → starts_with nat_eq bytes line_end ≡ false → HoldsNone bytes searched → through blank_line (drop (searched - 3) bytes) ≡ None → (start_of bytes ≡ NeedsMore) × HoldsNone bytes (length bytes)
+pub needs_more_is : (bytes : List ℕ) (searched : ℕ) → length bytes < 4096 → starts_with nat_eq bytes line_end ≡ false → HoldsNone bytes searched
+    → through blank_line (drop (searched - 3) bytes) ≡ None → (start_of bytes ≡ NeedsMore) × HoldsNone bytes (length bytes)
 needs_more_is bytes searched few no_end before after =
     let none = none_further bytes searched before after in
     let all : take 4096 bytes ≡ bytes = take_all 4096 bytes (omega (arith, few)) in
@@ -48,7 +50,9 @@ none_of None b e h = refl
 none_of (Some n) true e h = cc
 none_of (Some n) false e h = let f : false ≡ true = h in cc
 
-pub needs_more_shown : (bytes rest : List ℕ) (searched from : ℕ) (o : Option ℕ) (b : Bool) → length bytes < 4096 → starts_with nat_eq bytes line_end ≡ false → HoldsNone bytes searched → from ≡ searched - 3 → rest ≡ drop from bytes → o ≡ through blank_line rest → is_some o ≡ not b → IsTrue b → (start_of bytes ≡ NeedsMore) × HoldsNone bytes (length bytes)
+pub needs_more_shown : (bytes rest : List ℕ) (searched from : ℕ) (o : Option ℕ) (b : Bool) → length bytes < 4096 → starts_with nat_eq bytes line_end ≡ false
+    → HoldsNone bytes searched → from ≡ searched - 3 → rest ≡ drop from bytes → o ≡ through blank_line rest → is_some o ≡ not b
+    → IsTrue b → (start_of bytes ≡ NeedsMore) × HoldsNone bytes (length bytes)
 needs_more_shown bytes rest searched from o b few no_end before place is_rest given some h =
     needs_more_is bytes searched few no_end before (ap (λ k. through blank_line (drop k bytes)) (sym place) ∙ ap (through blank_line) (sym is_rest) ∙ sym given ∙ none_of o b some h)
 
@@ -67,7 +71,8 @@ none_dropped bytes k none = by_size (through blank_line (drop k bytes)) refl
         let prefix = through_ends blank_line (drop k bytes) n h in
         let rest = drop n (drop k bytes) in
         let after : prefix.0 ++ (blank_line ++ rest) ≡ drop k bytes = sym (append_assoc prefix.0 blank_line rest) ∙ ap (λ l. l ++ rest) (sym prefix.1) ∙ take-append-drop n (drop k bytes) in
-        let all : (take k bytes ++ prefix.0) ++ (blank_line ++ rest) ≡ bytes = append_assoc (take k bytes) prefix.0 (blank_line ++ rest) ∙ ap (λ l. take k bytes ++ l) after ∙ take-append-drop k bytes in
+        let all : (take k bytes ++ prefix.0) ++ (blank_line ++ rest) ≡ bytes = append_assoc (take k bytes) prefix.0 (blank_line ++ rest)
+        ∙ ap (λ l. take k bytes ++ l) after ∙ take-append-drop k bytes in
         let r = finds 13 (10 ∷ 13 ∷ 10 ∷ []) (take k bytes ++ prefix.0) rest in
         (let f : Some r.0 ≡ None = sym (ap (through blank_line) (sym all) ∙ r.1) ∙ none in cc)
 

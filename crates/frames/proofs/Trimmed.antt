@@ -23,11 +23,13 @@ of_reverse (x ∷ xs) h =
 
 of_drop : (n : ℕ) (xs : List ℕ) → list_all is_value_byte xs ≡ true → list_all is_value_byte (drop n xs) ≡ true
 of_drop n xs h =
-    let whole : (list_all is_value_byte (take n xs) && list_all is_value_byte (drop n xs)) ≡ true = sym (list_all-append is_value_byte (take n xs) (drop n xs)) ∙ ap (list_all is_value_byte) (take-append-drop n xs) ∙ h in
+    let whole : (list_all is_value_byte (take n xs) && list_all is_value_byte (drop n xs)) ≡ true = sym (list_all-append is_value_byte (take n xs) (drop n xs))
+    ∙ ap (list_all is_value_byte) (take-append-drop n xs) ∙ h in
     (both (list_all is_value_byte (take n xs)) (list_all is_value_byte (drop n xs)) whole).1
 
 -- the value without all its white space at the ends is the one without spaces and tabs
-pub trimmed_is : (value : List ℕ) → list_all is_value_byte value ≡ true → (let rest = drop (prefix_len is_ascii_whitespace value) value in take (length rest - suffix_len is_ascii_whitespace rest) rest) ≡ trim value
+pub trimmed_is : (value : List ℕ) → list_all is_value_byte value ≡ true
+    → (let rest = drop (prefix_len is_ascii_whitespace value) value in take (length rest - suffix_len is_ascii_whitespace rest) rest) ≡ trim value
 trimmed_is value h =
     let rest = drop (prefix_len is_ascii_whitespace value) value in
     let prefix : rest ≡ drop (prefix_len is_blank value) value = ap (λ n. drop n value) (prefix_agrees value h) in

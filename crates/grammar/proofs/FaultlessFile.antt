@@ -9,7 +9,8 @@ use Rattle.grammar.proofs.WrittenOut.{rules_written, few_nonterminals, few_produ
 pub shown_of_file : (text : List ℕ) (f : GrammarFault) → Reports f (IsFileFault text) → Reports f (IsFault text)
 shown_of_file text f shows = IfSome_then _ shows (file_fault f.line)
 
-pub productions_are : (names : Names) (ss : List Statement) (ps : List Production') → AreNames names ss → ps ≡ map (production_of names.nonterminals (map (λ r. r.name) names.rules)) (productions ss) → ps ≡ (grammar_of ss).productions
+pub productions_are : (names : Names) (ss : List Statement) (ps : List Production') → AreNames names ss
+    → ps ≡ map (production_of names.nonterminals (map (λ r. r.name) names.rules)) (productions ss) → ps ≡ (grammar_of ss).productions
 productions_are names ss ps named are =
     are
     ∙ ap (λ x. map (production_of x (map (λ r. r.name) names.rules)) (productions ss)) named.nonterminals
@@ -25,13 +26,15 @@ module _ (ss : List Statement) (names : List (Bor (List ℕ))) (ps : List Produc
   pub productive : AllProductiveIn ps (length names) → AreProductive ss
   productive all n within = all (grammar_of ss) n (sym are) (omega (arith, within, count_is))
 
-  pub unproductive_is : (line : ℕ) (c : Cause) → (n : ℕ) × ((w : Word) × (slice_get (texts names) n ≡ Some w) × (c ≡ Unproductive w) × IsUnproductiveIn ps n × IsFirstProduction ss w line) → IsUnproductive ss line c
+  pub unproductive_is : (line : ℕ) (c : Cause) → (n : ℕ) × ((w : Word) × (slice_get (texts names) n ≡ Some w) × (c ≡ Unproductive w) × IsUnproductiveIn ps n × IsFirstProduction ss w line)
+      → IsUnproductive ss line c
   unproductive_is line c h =
       let (n, named) = h in
       let (w, there, is, at, first) = named in
       (n, (w, ap (λ ws. slice_get ws n) (sym same) ∙ there, is, record { unproductive = at.unproductive (grammar_of ss) (sym are); before = λ m l. at.before (grammar_of ss) m (sym are) l }, first))
 
-module _ (text : List ℕ) (file : File) (whole : IsWhole text) (read : IsWrittenOut file (statements text)) (refers : HaveReferents (statements text) (statements text)) (ns : List Numbered) (same : ns ≡ file.statements.items) where
+module _ (text : List ℕ) (file : File) (whole : IsWhole text) (read : IsWrittenOut file (statements text)) (refers : HaveReferents (statements text) (statements text))
+    (ns : List Numbered) (same : ns ≡ file.statements.items) where
   abbrev own : List Statement
   own = statements text
 
@@ -52,7 +55,8 @@ module _ (text : List ℕ) (file : File) (whole : IsWhole text) (read : IsWritte
       (subst (λ (rs : List RuleLine). ArePatterns rs file.patterns.items) (sym (rules_written own)) read.patterns)
       (subst AreProductive line_view all) (known own (flat_map added (marked own)) file.patterns.items (defined own))))
 
-  pub is_meant : (r : Result FileGrammar GrammarFault) → IfOk r (λ f. AreProductive (lines_view ns)) → IfOk r (λ f. f ≡ grammar_with (lines_view ns) file.patterns.items file.defined.items) → IfOk r (λ f. IsGrammarOf text f)
+  pub is_meant : (r : Result FileGrammar GrammarFault) → IfOk r (λ f. AreProductive (lines_view ns))
+      → IfOk r (λ f. f ≡ grammar_with (lines_view ns) file.patterns.items file.defined.items) → IfOk r (λ f. IsGrammarOf text f)
   is_meant (Ok f) all is =
       let of_file : f ≡ file_grammar own file.patterns.items = is ∙ (λ i. grammar_with (line_view i) file.patterns.items (read.defined i)) in
       subst (λ (g : FileGrammar). IsGrammarOf text g) (sym of_file)
@@ -71,12 +75,30 @@ module _ (text : List ℕ) (file : File) (whole : IsWhole text) (read : IsWritte
 module _ (f : FileGrammar) (parts : Parts) (ps : List Production') (sound : IsGrammar f) (has : AreParts parts f) (same : ps ≡ f.grammar.productions) where
   -- the grammar of these parts
   abbrev pub of_parts : FileGrammar
-  of_parts = record { names = parts.names.items; patterns = f.patterns; skips = parts.skips.items; nonterminals = parts.nonterminals.items; folds = parts.folds.items; grammar = record { start = parts.start; rules = length parts.names.items; productions = ps }; defined = f.defined }
+  of_parts = record {
+    names = parts.names.items;
+    patterns = f.patterns;
+    skips = parts.skips.items;
+    nonterminals = parts.nonterminals.items;
+    folds =
+        parts.folds.items;
+    grammar = record { start = parts.start; rules = length parts.names.items; productions = ps };
+    defined = f.defined;
+  }
 
   pub same_parts : of_parts ≡ f
   same_parts =
       let rules : length parts.names.items ≡ f.grammar.rules = ap length has.names ∙ sym sound.rules in
-      λ i. record { names = has.names i; patterns = f.patterns; skips = has.skips i; nonterminals = has.nonterminals i; folds = has.folds i; grammar = record { start = has.start i; rules = rules i; productions = same i }; defined = f.defined }
+      λ i. record {
+        names = has.names i;
+        patterns = f.patterns;
+        skips = has.skips i;
+        nonterminals = has.nonterminals i;
+        folds = has.folds i;
+        grammar =
+            record { start = has.start i; rules = rules i; productions = same i };
+        defined = f.defined;
+      }
 
   pub made : IsGrammar of_parts
   made = subst (λ (x : FileGrammar). IsGrammar x) (sym same_parts) sound

@@ -58,6 +58,7 @@ text_at [] n d within = absurd (omega arith)
 text_at (w ∷ ws) zero d within = refl
 text_at (w ∷ ws) (suc n) d within = text_at ws n d (omega arith)
 
-pub named_has_production : (ws : List (Bor (List ℕ))) (ss : List Statement) (n : ℕ) (d : Bor (List ℕ)) → texts ws ≡ nonterminals ss → n < length ws → list_any (λ s. is_production_of (get_or ws n d).now s.says) ss ≡ true
+pub named_has_production : (ws : List (Bor (List ℕ))) (ss : List Statement) (n : ℕ) (d : Bor (List ℕ)) → texts ws ≡ nonterminals ss
+    → n < length ws → list_any (λ s. is_production_of (get_or ws n d).now s.says) ss ≡ true
 named_has_production ws ss n d same within =
     has_production_of (get_or ws n d).now ss (among_at (nonterminals ss) n (get_or ws n d).now (ap (λ (xs : List (List ℕ)). slice_get xs n) (sym same) ∙ text_at ws n d within))

@@ -20,7 +20,8 @@ and-right true b h = h
 and-right false b h = absurd (cc)
 
 -- a forest over productive symbols
-forest_over : (ps : List Production) (marks : List Bool) (g : Grammar) (right : List Symbol) → AreSound ps marks → g.productions ≡ ps → are_marked marks right ≡ true → (ts : Forest) × AreTrees g ts right
+forest_over : (ps : List Production) (marks : List Bool) (g : Grammar) (right : List Symbol) → AreSound ps marks
+    → g.productions ≡ ps → are_marked marks right ≡ true → (ts : Forest) × AreTrees g ts right
 forest_over ps marks g [] sound same marked = (Nil, tt)
 forest_over ps marks g (Terminal k ∷ right) sound same marked =
     let rest = forest_over ps marks g right sound same marked in
@@ -87,11 +88,13 @@ not_ready true true unready both = refl
 not_ready true false unready both = absurd (cc)
 not_ready false b unready both = absurd (cc)
 
-pub closed_more : (ps : List Production) (marks : List Bool) (i : ℕ) (x : Production) → i < length ps → x ≡ get_or ps i x → IsClosed (take i ps) marks → is_ready marks x ≡ false → IsClosed (take (i + 1) ps) marks
+pub closed_more : (ps : List Production) (marks : List Bool) (i : ℕ) (x : Production) → i < length ps → x ≡ get_or ps i x
+    → IsClosed (take i ps) marks → is_ready marks x ≡ false → IsClosed (take (i + 1) ps) marks
 closed_more ps marks i x within is before unready =
     let e : take (i + 1) ps ≡ take i ps ++ x ∷ [] = take_more ps i x within ∙ ap (λ y. take i ps ++ y ∷ []) (sym is) in
     subst (λ (qs : List Production). IsClosed qs marks) (sym e)
-    (push_at (λ p y. are_marked marks y.right ≡ true → slice_index_or marks y.left false ≡ true) (take i ps) x before (not_ready (are_marked marks x.right) (slice_index_or marks x.left false) unready))
+    (push_at (λ p y. are_marked marks y.right ≡ true → slice_index_or marks y.left false ≡ true) (take i ps) x before
+    (not_ready (are_marked marks x.right) (slice_index_or marks x.left false) unready))
 
 pub next_within : (ps : List Production) (marks : List Bool) (n count : ℕ) → AreBelow ps count → IsNext ps marks n → n < count
 next_within ps marks n count below next = let P : ℕ → Type 0 = λ k. k < count in subst P next.left_is (below next.number next.production next.there)

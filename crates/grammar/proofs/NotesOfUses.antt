@@ -49,7 +49,8 @@ both_true false b h e = cc
 abbrev pub uses : ℕ → List Bool → Production → Bool
 uses k marks x = slice_index_or marks x.left false && has_rule k x.right
 
-used_by : (g : Grammar) (ps : List Production) (marks : List Bool) (k : ℕ) → g.productions ≡ ps → AreUsed g.start ps marks → (s : Symbol) → IsUsed g s → s ≡ Terminal k → list_any (uses k marks) ps ≡ true
+used_by : (g : Grammar) (ps : List Production) (marks : List Bool) (k : ℕ) → g.productions ≡ ps → AreUsed g.start ps marks
+    → (s : Symbol) → IsUsed g s → s ≡ Terminal k → list_any (uses k marks) ps ≡ true
 used_by g ps marks k same all s The_start e = cc
 used_by g ps marks k same all s (On_right p n before after u has) e =
     let left : slice_index_or marks n false ≡ true = all.all g n refl same u in

@@ -97,7 +97,8 @@ pub comes_from : {X Y : Type 0} (h : X → Option Y) (xs : List X) (q : ℕ) (y 
 comes_from h [] q y e = cc
 comes_from {X} {Y} h (x ∷ xs) q y e = go (h x) refl q e (λ k f. comes_from h xs k y f)
   where
-    go : (o : Option Y) → h x ≡ o → (n : ℕ) → slice_get (cons_option o (filter_map h xs)) n ≡ Some y → ((k : ℕ) → slice_get (filter_map h xs) k ≡ Some y → ComesFrom h xs k y) → ComesFrom h (x ∷ xs) n y
+    go : (o : Option Y) → h x ≡ o → (n : ℕ) → slice_get (cons_option o (filter_map h xs)) n ≡ Some y
+        → ((k : ℕ) → slice_get (filter_map h xs) k ≡ Some y → ComesFrom h xs k y) → ComesFrom h (x ∷ xs) n y
     go None is n found later =
         let c = later n found in
         record { place = suc c.place; item = c.item; there = c.there; gives = c.gives; before = ap (λ o. length (cons_option o (filter_map h (take c.place xs)))) is ∙ c.before }
@@ -148,10 +149,12 @@ said_again l x e =
     ap (is_production x.left x.right) e ∙ ap (λ b. b && pointwise bytes_eq x.right x.right) (bytes_eq_same x.left) ∙ same_words x.right
 
 -- no line says a production that an earlier one says
-earlier : (ss : List Statement) → AreFaultless ss → (i j : ℕ) (s r : Statement) (x : ProductionLine) → slice_get ss i ≡ Some s → slice_get ss j ≡ Some r → s.says ≡ Production x.left x.right → r.says ≡ Production x.left x.right → i < j → ⊥
+earlier : (ss : List Statement) → AreFaultless ss → (i j : ℕ) (s r : Statement) (x : ProductionLine) → slice_get ss i ≡ Some s → slice_get ss j ≡ Some r
+    → s.says ≡ Production x.left x.right → r.says ≡ Production x.left x.right → i < j → ⊥
 earlier ss free i j s r x a b e f l =
     let early : early_fault (take j ss) (Production x.left x.right) ≡ None = subst (λ y. early_fault (take j ss) y ≡ None) f (free j r b).early in
-    let both : (has_rule (take j ss) x.left || has_production (take j ss) x.left x.right) ≡ false = not_shown (has_rule (take j ss) x.left || has_production (take j ss) x.left x.right) (DefinedTwice x.left) (neither (reserved (x.left ∷ map plain x.right)) (cause_if (has_rule (take j ss) x.left || has_production (take j ss) x.left x.right) (DefinedTwice x.left)) early).1 in
+    let both : (has_rule (take j ss) x.left || has_production (take j ss) x.left x.right) ≡ false = not_shown (has_rule (take j ss) x.left || has_production (take j ss) x.left x.right)
+    (DefinedTwice x.left) (neither (reserved (x.left ∷ map plain x.right)) (cause_if (has_rule (take j ss) x.left || has_production (take j ss) x.left x.right) (DefinedTwice x.left)) early).1 in
     let twice : has_production (take j ss) x.left x.right ≡ false = (or_false (has_rule (take j ss) x.left) (has_production (take j ss) x.left x.right) both).1 in
     let found : has_production (take j ss) x.left x.right ≡ true = any_at (λ y. is_production x.left x.right y.says) (take j ss) i s (get_take ss i j s l a) (said_again s.says x e) in
     true_not_false (sym found ∙ twice)

@@ -35,19 +35,20 @@ module _ (es : List Expression) (symbols : List Symbol) (all : List Statement) w
   known_nonterminal n below = omega (arith, below, length-map (nonterminals all) chars)
 
   -- what a line defines after some lines, where all have no fewer names than these with it
-  known_line : (before after : List Statement) (l : Line) (xs : List Symbol) → rules after ≡ with_rule (rules before) l → nonterminals after ≡ with_left (nonterminals before) l → length (rules after) ≤ length (rules all) → length (nonterminals after) ≤ length (nonterminals all) → AreKnown xs → AreKnown (cons_option (defines before l) xs)
-  known_line before after Nothing xs rs ns few fewer known = known
+  known_line : (before after : List Statement) (l : Line) (xs : List Symbol) → rules after ≡ with_rule (rules before) l → nonterminals after ≡ with_left (nonterminals before) l
+      → length (rules after) ≤ length (rules all) → length (nonterminals after) ≤ length (nonterminals all) → AreKnown xs → AreKnown (cons_option (defines before l) xs)
   known_line before after (Production left right) xs rs ns few fewer known =
       go (is_among left (nonterminals before)) (ap length ns)
     where
-      go : (b : Bool) → length (nonterminals after) ≡ length (if b then nonterminals before else nonterminals before ++ left ∷ []) → AreKnown (cons_option (if b then None else Some (Nonterminal (length (nonterminals before)))) xs)
+      go : (b : Bool) → length (nonterminals after) ≡ length (if b then nonterminals before else nonterminals before ++ left ∷ [])
+          → AreKnown (cons_option (if b then None else Some (Nonterminal (length (nonterminals before)))) xs)
       go true e = known
-      go false e = All-cons (IsKnown (grammar_with all es symbols)) (Nonterminal (length (nonterminals before))) xs (known_nonterminal (length (nonterminals before)) (omega (arith, e, fewer, length-append (nonterminals before) (left ∷ [])))) known
+      go false e = All-cons (IsKnown (grammar_with all es symbols)) (Nonterminal (length (nonterminals before))) xs
+          (known_nonterminal (length (nonterminals before)) (omega (arith, e, fewer, length-append (nonterminals before) (left ∷ [])))) known
   known_line before after (Rule skip name pattern) xs rs ns few fewer known =
-      All-cons (IsKnown (grammar_with all es symbols)) (Terminal (length (rules before))) xs (known_rule (length (rules before)) (omega (arith, ap length rs, few, length-append (rules before) (record { skip = skip; name = name; pattern = pattern } ∷ [])))) known
-  known_line before after (Start name) xs rs ns few fewer known = known
-  known_line before after (Fold name) xs rs ns few fewer known = known
-  known_line before after Bad xs rs ns few fewer known = known
+      All-cons (IsKnown (grammar_with all es symbols)) (Terminal (length (rules before))) xs
+      (known_rule (length (rules before)) (omega (arith, ap length rs, few, length-append (rules before) (record { skip = skip; name = name; pattern = pattern } ∷ [])))) known
+  known_line before after d xs rs ns few fewer known = known
 
   known_after : (before ss rest : List Statement) → all ≡ before ++ (ss ++ rest) → AreKnown (defined_after before ss)
   known_after before [] rest e = All-nil (IsKnown (grammar_with all es symbols))

@@ -147,7 +147,8 @@ module _ (ss : List Statement) (es : List Expression) (symbols : List Symbol) wh
   many_nonterminals = length-map (nonterminals ss) chars
 
   usable : (w : Word) → IsFine ss w → IsUsable f (symbol_of (nonterminals ss) (rule_names ss) w)
-  usable w (Of_nonterminal a) = subst (IsUsable f) (sym (nonterminal_is (nonterminals ss) (rule_names ss) w a)) (let below : number_of w (nonterminals ss) < length (nonterminals ss) = number_below w (nonterminals ss) a in omega (arith, below, many_nonterminals))
+  usable w (Of_nonterminal a) = subst (IsUsable f) (sym (nonterminal_is (nonterminals ss) (rule_names ss) w a))
+      (let below : number_of w (nonterminals ss) < length (nonterminals ss) = number_below w (nonterminals ss) a in omega (arith, below, many_nonterminals))
   usable w (Of_rule a b c) = subst (IsUsable f) (sym (terminal_is (nonterminals ss) (rule_names ss) w a)) (
     (let below : number_of w (rule_names ss) < length (rule_names ss) = number_below w (rule_names ss) c in omega (arith, below, length-map (rule_names ss) chars)),
     not_skipped_at (rules ss) w (number_of w (rule_names ss)) b (number_at w (rule_names ss) c),
@@ -157,8 +158,11 @@ module _ (ss : List Statement) (es : List Expression) (symbols : List Symbol) wh
   all_usable [] fine = All-nil (IsUsable f)
   all_usable (w ∷ ws) fine = All-cons (IsUsable f) (symbol_of (nonterminals ss) (rule_names ss) w) (map (symbol_of (nonterminals ss) (rule_names ss)) ws) (usable w fine.0) (all_usable ws fine.1)
 
-  module _ (once : AreOnce ss) (fine : AreFine ss) (short : AreShort ss) (started : is_among (first_of (starts ss)) (nonterminals ss) ≡ true) (few_rules : length (rules ss) ≤ 256) (few_nonterminals : length (nonterminals ss) ≤ 256) (few_productions : length (productions ss) ≤ 1024) (patterned : ArePatterns (rules ss) es) (productive : (n : ℕ) → n < length (nonterminals ss) → IsProductive (grammar_of ss) (Nonterminal n)) (are_known : All (IsKnown f) symbols) where
-    from_line : (p n : ℕ) (right : List Symbol) → HasProduction (grammar_of ss) p n right → IsMadeFrom (production_of (nonterminals ss) (rule_names ss)) (productions ss) p (record { left = n; right = right })
+  module _ (once : AreOnce ss) (fine : AreFine ss) (short : AreShort ss) (started : is_among (first_of (starts ss)) (nonterminals ss) ≡ true)
+      (few_rules : length (rules ss) ≤ 256) (few_nonterminals : length (nonterminals ss) ≤ 256) (few_productions : length (productions ss) ≤ 1024)
+      (patterned : ArePatterns (rules ss) es) (productive : (n : ℕ) → n < length (nonterminals ss) → IsProductive (grammar_of ss) (Nonterminal n)) (are_known : All (IsKnown f) symbols) where
+    from_line : (p n : ℕ) (right : List Symbol) → HasProduction (grammar_of ss) p n right
+        → IsMadeFrom (production_of (nonterminals ss) (rule_names ss)) (productions ss) p (record { left = n; right = right })
     from_line p n right h = made_from (production_of (nonterminals ss) (rule_names ss)) (productions ss) p (record { left = n; right = right }) h
 
     pub is_grammar : IsGrammar f
@@ -170,7 +174,8 @@ module _ (ss : List Statement) (es : List Expression) (symbols : List Symbol) wh
       few_rules = omega (arith, few_rules, many_rules);
       few_nonterminals = omega (arith, few_nonterminals, many_nonterminals);
       few_productions = omega (arith, few_productions, length-map (productions ss) (production_of (nonterminals ss) (rule_names ss)));
-      start = let below : number_of (first_of (starts ss)) (nonterminals ss) < length (nonterminals ss) = number_below (first_of (starts ss)) (nonterminals ss) started in omega (arith, below, many_nonterminals);
+      start = let below : number_of (first_of (starts ss)) (nonterminals ss) < length (nonterminals ss) =
+          number_below (first_of (starts ss)) (nonterminals ss) started in omega (arith, below, many_nonterminals);
       left = λ p n right h.
           let m = from_line p n right h in
           let below : number_of m.item.left (nonterminals ss) < length (nonterminals ss) = number_below m.item.left (nonterminals ss) (left_among ss p m.item m.there) in

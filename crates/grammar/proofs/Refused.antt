@@ -15,12 +15,8 @@ either : (o : Option Cause) (c : Cause) → o ≡ Some c → o ≡ None → ⊥
 either o c some none = cc
 
 no_pattern_fault : (l : Line) (f : PatternFault) → HasPatternFault l f → HasPattern l → ⊥
-no_pattern_fault Nothing f fault has = fault
-no_pattern_fault (Production left right) f fault has = fault
 no_pattern_fault (Rule skip name pattern) f fault has = refused (chars pattern) f fault has.0 has.1
-no_pattern_fault (Start name) f fault has = fault
-no_pattern_fault (Fold name) f fault has = fault
-no_pattern_fault Bad f fault has = fault
+no_pattern_fault d f fault has = fault
 
 no_line_fault : (ss : List Statement) (l : Line) (c : Cause) → IsFaultless ss l → IsLineFault ss l c → ⊥
 no_line_fault ss l c free (inl early) = either _ c early free.early

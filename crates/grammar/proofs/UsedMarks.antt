@@ -10,7 +10,8 @@ all_push marks (x ∷ xs) s h e =
     ap (λ b. b && are_marked marks (xs ++ s ∷ [])) (and-left (is_marked marks x) (are_marked marks xs) h)
     ∙ all_push marks xs s (and-right (is_marked marks x) (are_marked marks xs) h) e
 
-pub spread_more : (ps : List Production) (marks : List Bool) (i : ℕ) (x : Production) → i < length ps → x ≡ get_or ps i x → IsSpread (take i ps) marks → (slice_index_or marks x.left false ≡ true → are_marked marks x.right ≡ true) → IsSpread (take (i + 1) ps) marks
+pub spread_more : (ps : List Production) (marks : List Bool) (i : ℕ) (x : Production) → i < length ps → x ≡ get_or ps i x → IsSpread (take i ps) marks
+    → (slice_index_or marks x.left false ≡ true → are_marked marks x.right ≡ true) → IsSpread (take (i + 1) ps) marks
 spread_more ps marks i x within is before here =
     let e : take (i + 1) ps ≡ take i ps ++ x ∷ [] = take_more ps i x within ∙ ap (λ y. take i ps ++ y ∷ []) (sym is) in
     subst (λ (qs : List Production). IsSpread qs marks) (sym e) (push_at (λ p y. slice_index_or marks y.left false ≡ true → are_marked marks y.right ≡ true) (take i ps) x before here)
@@ -40,7 +41,8 @@ middle : (marks : List Bool) (before : List Symbol) (s : Symbol) (after : List S
 middle marks [] s after h = and-left (is_marked marks s) (are_marked marks after) h
 middle marks (x ∷ before) s after h = middle marks before s after (and-right (is_marked marks x) (are_marked marks (before ++ (s ∷ after))) h)
 
-used_marked : (start : ℕ) (ps : List Production) (marks : List Bool) (g : Grammar) → g.start ≡ start → g.productions ≡ ps → slice_index_or marks start false ≡ true → IsSpread ps marks → (s : Symbol) → IsUsed g s → is_marked marks s ≡ true
+used_marked : (start : ℕ) (ps : List Production) (marks : List Bool) (g : Grammar) → g.start ≡ start → g.productions ≡ ps → slice_index_or marks start false ≡ true
+    → IsSpread ps marks → (s : Symbol) → IsUsed g s → is_marked marks s ≡ true
 used_marked start ps marks g begins same first spread s The_start = ap (λ n. slice_index_or marks n false) begins ∙ first
 used_marked start ps marks g begins same first spread s (On_right p n before after u has) =
     let left : slice_index_or marks n false ≡ true = used_marked start ps marks g begins same first spread (Nonterminal n) u in

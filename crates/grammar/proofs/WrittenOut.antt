@@ -125,9 +125,7 @@ fold_adds_any w names (x ∷ ws) h = elim (either_there (bytes_eq x w) (is_among
 
 own_left : (m : Mark) (w x : Word) → is_mark m ≡ true → is_among w (lefts (lines_for w (right_sides m w x))) ≡ true
 own_left Once w x h = cc
-own_left Any w x h = first_there (bytes_eq w w) _ (bytes_eq_same w)
-own_left AtLeastOnce w x h = first_there (bytes_eq w w) _ (bytes_eq_same w)
-own_left AtMostOnce w x h = first_there (bytes_eq w w) _ (bytes_eq_same w)
+own_left d w x h = first_there (bytes_eq w w) _ (bytes_eq_same w)
 
 among_added : (w : Word) (ws : List Word) → is_marked w ≡ true → is_among w ws ≡ true → is_among w (lefts (flat_map added_lines ws)) ≡ true
 among_added w [] m h = cc
@@ -135,7 +133,8 @@ among_added w (v ∷ vs) m h =
     ap (is_among w) (map-append (λ p. p.left) (added_lines v) (flat_map added_lines vs))
     ∙ list_any-append (λ u. bytes_eq u w) (lefts (added_lines v)) (lefts (flat_map added_lines vs))
     ∙ elim (either_there (bytes_eq v w) (is_among w vs) h) [
-      | inl e ↦ first_there (is_among w (lefts (added_lines v))) (is_among w (lefts (flat_map added_lines vs))) (subst (λ u. is_among w (lefts (added_lines u)) ≡ true) (sym (same_bytes v w e)) (own_left (mark_of w) w (plain w) m))
+      | inl e ↦ first_there (is_among w (lefts (added_lines v))) (is_among w (lefts (flat_map added_lines vs)))
+          (subst (λ u. is_among w (lefts (added_lines u)) ≡ true) (sym (same_bytes v w e)) (own_left (mark_of w) w (plain w) m))
       | inr t ↦ then_there (is_among w (lefts (added_lines v))) (is_among w (lefts (flat_map added_lines vs))) (among_added w vs m t)
     ]
 
@@ -146,7 +145,8 @@ in_filter w (v ∷ vs) h = go (is_marked v) refl (λ t. in_filter w vs t) h
     later : (is_marked w ≡ true) × (is_among w vs ≡ true) → (is_marked w ≡ true) × (is_among w (v ∷ vs) ≡ true)
     later two = (two.0, then_there (bytes_eq v w) (is_among w vs) two.1)
 
-    go : (b : Bool) → is_marked v ≡ b → (is_among w (filter is_marked vs) ≡ true → (is_marked w ≡ true) × (is_among w vs ≡ true)) → is_among w (if b then v ∷ filter is_marked vs else filter is_marked vs) ≡ true → (is_marked w ≡ true) × (is_among w (v ∷ vs) ≡ true)
+    go : (b : Bool) → is_marked v ≡ b → (is_among w (filter is_marked vs) ≡ true → (is_marked w ≡ true) × (is_among w vs ≡ true))
+        → is_among w (if b then v ∷ filter is_marked vs else filter is_marked vs) ≡ true → (is_marked w ≡ true) × (is_among w (v ∷ vs) ≡ true)
     go true m f t = elim (either_there (bytes_eq v w) (is_among w (filter is_marked vs)) t) [
       | inl e ↦ (subst (λ u. is_marked u ≡ true) (same_bytes v w e) m, first_there (bytes_eq v w) (is_among w vs) e)
       | inr r ↦ later (f r)
@@ -240,7 +240,8 @@ module _ (ss : List Statement) (refers : HaveReferents ss ss) where
         | inr t ↦ free_in w vs two.1 t
       ]
 
-  free_among : (w : Word) (ps : List ProductionLine) → ((p : ℕ) (x : ProductionLine) → slice_get ps p ≡ Some x → right_fault ss (map plain x.right) ≡ None) → is_among w (flat_map (λ y. y.right) ps) ≡ true → symbol_fault ss (plain w) ≡ None
+  free_among : (w : Word) (ps : List ProductionLine) → ((p : ℕ) (x : ProductionLine) → slice_get ps p ≡ Some x → right_fault ss (map plain x.right) ≡ None)
+      → is_among w (flat_map (λ y. y.right) ps) ≡ true → symbol_fault ss (plain w) ≡ None
   free_among w [] free h = cc
   free_among w (y ∷ ps) free h =
       elim (either_there (is_among w y.right) (is_among w (flat_map (λ z. z.right) ps)) (sym (list_any-append (λ u. bytes_eq u w) y.right (flat_map (λ z. z.right) ps)) ∙ h)) [
@@ -250,17 +251,17 @@ module _ (ss : List Statement) (refers : HaveReferents ss ss) where
 
   fine_sides : (m : Mark) (w x : Word) → IsFine all w → IsFine all x → (p : ℕ) (y : ProductionLine) → slice_get (lines_for w (right_sides m w x)) p ≡ Some y → AllFine all y.right
   fine_sides Once w x a b p y e = cc
-  fine_sides Any w x a b zero y e = subst (λ (z : ProductionLine). AllFine all z.right) (some_is _ y e) tt
   fine_sides Any w x a b (suc zero) y e = subst (λ (z : ProductionLine). AllFine all z.right) (some_is _ y e) (a, (b, tt))
   fine_sides Any w x a b (suc (suc p)) y e = cc
   fine_sides AtLeastOnce w x a b zero y e = subst (λ (z : ProductionLine). AllFine all z.right) (some_is _ y e) (b, tt)
   fine_sides AtLeastOnce w x a b (suc zero) y e = subst (λ (z : ProductionLine). AllFine all z.right) (some_is _ y e) (a, (b, tt))
   fine_sides AtLeastOnce w x a b (suc (suc p)) y e = cc
-  fine_sides AtMostOnce w x a b zero y e = subst (λ (z : ProductionLine). AllFine all z.right) (some_is _ y e) tt
   fine_sides AtMostOnce w x a b (suc zero) y e = subst (λ (z : ProductionLine). AllFine all z.right) (some_is _ y e) (b, tt)
   fine_sides AtMostOnce w x a b (suc (suc p)) y e = cc
+  fine_sides d w x a b zero y e = subst (λ (z : ProductionLine). AllFine all z.right) (some_is _ y e) tt
 
-  fine_added : (ws : List Word) → ((w : Word) → is_among w ws ≡ true → is_among w (marked ss) ≡ true) → (p : ℕ) (y : ProductionLine) → slice_get (flat_map added_lines ws) p ≡ Some y → AllFine all y.right
+  fine_added : (ws : List Word) → ((w : Word) → is_among w ws ≡ true → is_among w (marked ss) ≡ true) → (p : ℕ) (y : ProductionLine)
+      → slice_get (flat_map added_lines ws) p ≡ Some y → AllFine all y.right
   fine_added [] among p y e = cc
   fine_added (w ∷ ws) among p y e = elim (met_in (added_lines w) (flat_map added_lines ws) p y e) [
     | inl there ↦
@@ -378,7 +379,8 @@ once_added (w ∷ ws) d p q y a b =
     elim (met_in (added_lines w) (flat_map added_lines ws) p y a) [
       | inl here ↦ elim (met_in (added_lines w) (flat_map added_lines ws) q y b) [
         | inl there ↦ once_sides (mark_of w) w (plain w) p q y here there
-        | inr h ↦ let (k, is, there) = h in absurd (not_both (is_among w ws) (subst (λ u. is_among u ws ≡ true) (sym (left_of_line w (right_sides (mark_of w) w (plain w)) p y here)) (left_of_added ws k y there)) d.0)
+        | inr h ↦ let (k, is, there) = h in
+            absurd (not_both (is_among w ws) (subst (λ u. is_among u ws ≡ true) (sym (left_of_line w (right_sides (mark_of w) w (plain w)) p y here)) (left_of_added ws k y there)) d.0)
       ]
       | inr g ↦ let (j, at, here) = g in elim (met_in (added_lines w) (flat_map added_lines ws) q y b) [
         | inl there ↦ absurd (not_both (is_among w ws) (subst (λ u. is_among u ws ≡ true) (sym (left_of_line w (right_sides (mark_of w) w (plain w)) q y there)) (left_of_added ws j y here)) d.0)
@@ -407,24 +409,23 @@ plain_production v a ws = go (is_name a) refl (list_all (is_right_word v) ws)
     go false e t = refl
 
 plain_statement : (a b : Word) (ws : List Word) (pattern : Word) → has_plain_left (statement a b ws pattern) ≡ true
-plain_statement a b [] pattern = plain_if (is_name b && bytes_eq a (codes "start")) (Start b) (if is_name b && bytes_eq a (codes "fold") then Fold b else Bad) refl (plain_if (is_name b && bytes_eq a (codes "fold")) (Fold b) Bad refl refl)
+plain_statement a b [] pattern = plain_if (is_name b && bytes_eq a (codes "start")) (Start b) (if is_name b && bytes_eq a (codes "fold") then Fold b else Bad) refl
+    (plain_if (is_name b && bytes_eq a (codes "fold")) (Fold b) Bad refl refl)
 plain_statement a b (c ∷ ws) pattern =
     plain_if (bytes_eq c (codes "=")) (rule a b pattern) Bad
-    (plain_if (is_name b && bytes_eq a (codes "token")) (Rule false b pattern) (if is_name b && bytes_eq a (codes "skip") then Rule true b pattern else Bad) refl (plain_if (is_name b && bytes_eq a (codes "skip")) (Rule true b pattern) Bad refl refl))
+    (plain_if (is_name b && bytes_eq a (codes "token")) (Rule false b pattern) (if is_name b && bytes_eq a (codes "skip") then Rule true b pattern else Bad) refl
+    (plain_if (is_name b && bytes_eq a (codes "skip")) (Rule true b pattern) Bad refl refl))
     refl
 
 plain_words : (v : Version) (ws : List Word) (pattern : Word) → has_plain_left (line_of_words v ws pattern) ≡ true
 plain_words v [] pattern = refl
 plain_words v (a ∷ []) pattern = plain_if (is_comment a) Nothing Bad refl refl
-plain_words v (a ∷ b ∷ ws) pattern = plain_if (is_comment a) Nothing (longer_line v a b ws pattern) refl (plain_if (bytes_eq b (codes "=")) (production v a ws) (statement a b ws pattern) (plain_production v a ws) (plain_statement a b ws pattern))
+plain_words v (a ∷ b ∷ ws) pattern = plain_if (is_comment a) Nothing (longer_line v a b ws pattern) refl
+    (plain_if (bytes_eq b (codes "=")) (production v a ws) (statement a b ws pattern) (plain_production v a ws) (plain_statement a b ws pattern))
 
 says_numbered : (n : ℕ) (l : Line) (s : Statement) → numbered n l ≡ Some s → l ≡ s.says
 says_numbered n Nothing s e = cc
-says_numbered n (Production left right) s e = ap (λ (t : Statement). t.says) (some_is _ s e)
-says_numbered n (Rule skip name pattern) s e = ap (λ (t : Statement). t.says) (some_is _ s e)
-says_numbered n (Start name) s e = ap (λ (t : Statement). t.says) (some_is _ s e)
-says_numbered n (Fold name) s e = ap (λ (t : Statement). t.says) (some_is _ s e)
-says_numbered n Bad s e = ap (λ (t : Statement). t.says) (some_is _ s e)
+says_numbered n d s e = ap (λ (t : Statement). t.says) (some_is _ s e)
 
 plain_lefts_in : (v : Version) (texts : List (List ℕ)) → HavePlainLefts (statements_in v texts)
 plain_lefts_in v texts k s e =

@@ -14,16 +14,19 @@ rest_texts : (v : List (Bor (List ℕ))) → texts (drop 1 v) ≡ drop 1 (texts 
 rest_texts [] = refl
 rest_texts (w ∷ ws) = refl
 
-pub statements_are : (v xs ys : List (Bor (List ℕ))) (t : List ℕ) (version : Version) → ys ≡ drop 1 v → v ≡ xs → texts xs ≡ lines t → version_of (lines t) ≡ Some version → statements_in version (texts ys) ≡ statements t
+pub statements_are : (v xs ys : List (Bor (List ℕ))) (t : List ℕ) (version : Version) → ys ≡ drop 1 v → v ≡ xs → texts xs ≡ lines t
+    → version_of (lines t) ≡ Some version → statements_in version (texts ys) ≡ statements t
 statements_are v xs ys t version rest same all is =
     ap (λ y. statements_in version (texts y)) rest
     ∙ ap (statements_in version) (rest_texts v ∙ ap (λ y. drop 1 (texts y)) same ∙ ap (λ y. drop 1 y) all)
     ∙ ap (λ o. statements_in (unwrap_or o One) (drop 1 (lines t))) (sym is)
 
-pub line_fault : (t : List ℕ) (ss : List Statement) (f : GrammarFault) → length t ≤ 65536 → is_headed (lines t) ≡ true → ss ≡ statements t → Reports f (IsFirstLineFault ss) → Reports f (IsFileFault t)
+pub line_fault : (t : List ℕ) (ss : List Statement) (f : GrammarFault) → length t ≤ 65536 → is_headed (lines t) ≡ true
+    → ss ≡ statements t → Reports f (IsFirstLineFault ss) → Reports f (IsFileFault t)
 line_fault t ss f small headed same shows = IfSome_then _ shows (λ c h. line f.line c small headed (subst (λ (xs : List Statement). IsFirstLineFault xs f.line c) same h))
 
-pub no_start_fault : (t : List ℕ) (ss : List Statement) (f : File) → length t ≤ 65536 → is_headed (lines t) ≡ true → ss ≡ statements t → IsRead f ss → f.names.started ≡ false → IsFileFault t 0 NoStart
+pub no_start_fault : (t : List ℕ) (ss : List Statement) (f : File) → length t ≤ 65536 → is_headed (lines t) ≡ true
+    → ss ≡ statements t → IsRead f ss → f.names.started ≡ false → IsFileFault t 0 NoStart
 no_start_fault t ss f small headed same read none =
     let whole = subst (λ (xs : List Statement). IsRead f xs) same read in
     no_start small headed whole.faultless (sym whole.names.started ∙ none)

@@ -6,13 +6,9 @@ use Rattle.grammar_file.proofs.Sets.{skips-step, sides-step}
 use Rattle.grammar_file.specs.Contents as of
 
 pub has_pattern : (l : Line) (p : Option Expression) → IsPatternOf l p → HasPattern l
-has_pattern Nothing p h = tt
-has_pattern (Production left right) p h = tt
 has_pattern (Rule skip name pattern) None h = absurd h
 has_pattern (Rule skip name pattern) (Some e) h = (e, h)
-has_pattern (Start name) p h = tt
-has_pattern (Fold name) p h = tt
-has_pattern Bad p h = tt
+has_pattern d p h = tt
 
 pub after_more : (before ss : List Statement) (s : Statement) → of.defined_after before (ss ++ s ∷ []) ≡ of.defined_after before ss ++ cons_option (of.defines (before ++ ss) s.says) []
 after_more before [] s = ap (λ prefix. cons_option (of.defines prefix s.says) []) (sym (append-nil before))
@@ -33,12 +29,8 @@ rules-step ss n (Fold name) = filter_map-append (λ s. of.as_rule s.says) ss (at
 rules-step ss n Bad = filter_map-append (λ s. of.as_rule s.says) ss (at n Bad ∷ []) ∙ append-nil (of.rules ss)
 
 abbrev pub with_line : List of.ProductionLine → Line → List of.ProductionLine
-with_line ps Nothing = ps
 with_line ps (Production left right) = ps ++ record { left = left; right = right } ∷ []
-with_line ps (Rule skip name pattern) = ps
-with_line ps (Start name) = ps
-with_line ps (Fold name) = ps
-with_line ps Bad = ps
+with_line ps d = ps
 
 pub productions-step : (ss : List Statement) (n : ℕ) (l : Line) → of.productions (ss ++ at n l ∷ []) ≡ with_line (of.productions ss) l
 productions-step ss n Nothing = filter_map-append (λ s. of.as_production s.says) ss (at n Nothing ∷ []) ∙ append-nil (of.productions ss)
@@ -53,25 +45,17 @@ abbrev pub lefts : List of.ProductionLine → List (List ℕ)
 lefts ps = fold of.with_name [] (map (λ p. p.left) ps)
 
 lefts-step : (ps : List of.ProductionLine) (l : Line) → lefts (with_line ps l) ≡ with_left (lefts ps) l
-lefts-step ps Nothing = refl
 lefts-step ps (Production left right) =
     ap (λ ws. fold of.with_name [] ws) (map-append (λ p. p.left) ps (record { left = left; right = right } ∷ []))
     ∙ fold-append of.with_name [] (map (λ p. p.left) ps) (left ∷ [])
-lefts-step ps (Rule skip name pattern) = refl
-lefts-step ps (Start name) = refl
-lefts-step ps (Fold name) = refl
-lefts-step ps Bad = refl
+lefts-step ps d = refl
 
 pub nonterminals-step : (ss : List Statement) (n : ℕ) (l : Line) → of.nonterminals (ss ++ at n l ∷ []) ≡ with_left (of.nonterminals ss) l
 nonterminals-step ss n l = ap lefts (productions-step ss n l) ∙ lefts-step (of.productions ss) l
 
 counts-step : (ps : List of.ProductionLine) (l : Line) → length (with_line ps l) ≡ with_production (length ps) l
-counts-step ps Nothing = refl
 counts-step ps (Production left right) = length-append ps _
-counts-step ps (Rule skip name pattern) = refl
-counts-step ps (Start name) = refl
-counts-step ps (Fold name) = refl
-counts-step ps Bad = refl
+counts-step ps d = refl
 
 pub count-step : (ss : List Statement) (n : ℕ) (l : Line) → length (of.productions (ss ++ at n l ∷ [])) ≡ with_production (length (of.productions ss)) l
 count-step ss n l = ap length (productions-step ss n l) ∙ counts-step (of.productions ss) l
@@ -84,14 +68,10 @@ pub with_marked-append : (names ws vs : List Word) → with_marked names (ws ++ 
 with_marked-append names ws vs = ap (λ xs. fold of.with_name names xs) (filter-append is_marked ws vs) ∙ fold-append of.with_name names (filter is_marked ws) (filter is_marked vs)
 
 marks-step : (ps : List of.ProductionLine) (l : Line) → marks (with_line ps l) ≡ with_right (marks ps) l
-marks-step ps Nothing = refl
 marks-step ps (Production left right) =
     ap (with_marked []) (flat_map-append (λ p. p.right) ps (record { left = left; right = right } ∷ []) ∙ ap (λ ws. flat_map (λ p. p.right) ps ++ ws) (append-nil right))
     ∙ with_marked-append [] (flat_map (λ p. p.right) ps) right
-marks-step ps (Rule skip name pattern) = refl
-marks-step ps (Start name) = refl
-marks-step ps (Fold name) = refl
-marks-step ps Bad = refl
+marks-step ps d = refl
 
 pub marked-step : (ss : List Statement) (n : ℕ) (l : Line) → marked (ss ++ at n l ∷ []) ≡ with_right (marked ss) l
 marked-step ss n l = ap marks (productions-step ss n l) ∙ marks-step (of.productions ss) l
@@ -112,7 +92,9 @@ start-step ss n (Start name) = ap (λ ws. nat_lt 0 (length ws)) (filter_map-appe
 start-step ss n (Fold name) = starts_with_none ss n (Fold name) refl
 start-step ss n Bad = starts_with_none ss n Bad refl
 
-pub names-step : (names names' : Names) (ss : List Statement) (n : ℕ) (l : Line) → AreNames names ss → names'.rules ≡ with_rule names.rules l → names'.skips ≡ with_skip names.skips l → names'.nonterminals ≡ with_left names.nonterminals l → names'.marked ≡ with_right names.marked l → names'.sides ≡ with_sides names.sides l → names'.productions ≡ with_production names.productions l → names'.started ≡ with_start names.started l → AreNames names' (ss ++ at n l ∷ [])
+pub names-step : (names names' : Names) (ss : List Statement) (n : ℕ) (l : Line) → AreNames names ss → names'.rules ≡ with_rule names.rules l
+    → names'.skips ≡ with_skip names.skips l → names'.nonterminals ≡ with_left names.nonterminals l → names'.marked ≡ with_right names.marked l
+    → names'.sides ≡ with_sides names.sides l → names'.productions ≡ with_production names.productions l → names'.started ≡ with_start names.started l → AreNames names' (ss ++ at n l ∷ [])
 names-step names names' ss n l are rs ks ns ms bs ps st = record {
   rules = rs ∙ ap (λ x. with_rule x l) are.rules ∙ sym (rules-step ss n l);
   skips = λ w. ap (of.is_among w) ks ∙ skips-step names.skips (of.rules ss) l are.skips w ∙ ap (list_any (is_skip_rule w)) (sym (rules-step ss n l));
@@ -130,18 +112,14 @@ patterns-step (q ∷ rs) [] r e are is = absurd are
 patterns-step (q ∷ rs) (d ∷ es) r e are is = (are.0, patterns-step rs es r e are.1 is)
 
 pub all_patterns-step : (rs : List of.RuleLine) (es : List Expression) (l : Line) (p : Option Expression) → ArePatterns rs es → IsPatternOf l p → ArePatterns (with_rule rs l) (with_pattern es p)
-all_patterns-step rs es Nothing None are is = are
 all_patterns-step rs es Nothing (Some e) are is = absurd (cc)
-all_patterns-step rs es (Production left right) None are is = are
 all_patterns-step rs es (Production left right) (Some e) are is = absurd (cc)
 all_patterns-step rs es (Rule skip name pattern) None are is = absurd is
 all_patterns-step rs es (Rule skip name pattern) (Some e) are is = patterns-step rs es (record { skip = skip; name = name; pattern = pattern }) e are is
-all_patterns-step rs es (Start name) None are is = are
 all_patterns-step rs es (Start name) (Some e) are is = absurd (cc)
-all_patterns-step rs es (Fold name) None are is = are
 all_patterns-step rs es (Fold name) (Some e) are is = absurd (cc)
-all_patterns-step rs es Bad None are is = are
 all_patterns-step rs es Bad (Some e) are is = absurd (cc)
+all_patterns-step rs es d None are is = are
 
 pub faultless-step : (ss : List Statement) (n : ℕ) (l : Line) → AreFaultless ss → IsFaultless ss l → AreFaultless (ss ++ at n l ∷ [])
 faultless-step ss n l before is k s found =
@@ -165,12 +143,8 @@ abbrev pub AreShort : List of.ProductionLine → Type 0
 AreShort ps = (k : ℕ) (p : of.ProductionLine) → slice_get ps k ≡ Some p → length p.right ≤ 16
 
 short-step : (ss : List Statement) (ps : List of.ProductionLine) (l : Line) → AreShort ps → line_limit ss l ≡ None → AreShort (with_line ps l)
-short-step ss ps Nothing short late = short
 short-step ss ps (Production left right) short late = push_at (λ k p. length p.right ≤ 16) ps (record { left = left; right = right }) short (not_above 16 (length right) (cause_if-none _ _ late))
-short-step ss ps (Rule skip name pattern) short late = short
-short-step ss ps (Start name) short late = short
-short-step ss ps (Fold name) short late = short
-short-step ss ps Bad short late = short
+short-step ss ps d short late = short
 
 -- the limits that are kept
 pub few-step : (ss : List Statement) (n : ℕ) (l : Line) → AreFew ss → line_limit ss l ≡ None → limit_fault (ss ++ at n l ∷ []) ≡ None → AreFew (ss ++ at n l ∷ [])
@@ -205,10 +179,14 @@ late-of ss n l o none is = then_this (line_limit ss l) (limit_fault (ss ++ at 0 
 pub late-own : (ss : List Statement) (l : Line) (c : Cause) → line_limit ss l ≡ Some c → late_fault ss l ≡ Some c
 late-own ss l c is = first_this (line_limit ss l) (limit_fault (ss ++ at 0 l ∷ [])) c is
 
-pub is_faultless : (ss : List Statement) (n : ℕ) (l : Line) (p : Option Expression) → early_fault ss l ≡ None → IsPatternOf l p → line_limit ss l ≡ None → limit_fault (ss ++ at n l ∷ []) ≡ None → IsFaultless ss l
+pub is_faultless : (ss : List Statement) (n : ℕ) (l : Line) (p : Option Expression) → early_fault ss l ≡ None → IsPatternOf l p
+    → line_limit ss l ≡ None → limit_fault (ss ++ at n l ∷ []) ≡ None → IsFaultless ss l
 is_faultless ss n l p early pattern short none = record { early = early; pattern = has_pattern l p pattern; late = late-of ss n l None short none }
 
-pub read-step : (f g : File) (ss : List Statement) (n : ℕ) (l : Line) (p : Option Expression) (symbol : Option Symbol) → IsRead f ss → early_fault ss l ≡ None → IsPatternOf l p → line_limit ss l ≡ None → limit_fault (ss ++ at n l ∷ []) ≡ None → lines_view g.statements.items ≡ lines_view f.statements.items ++ at n l ∷ [] → AreNames g.names (ss ++ at n l ∷ []) → g.patterns.items ≡ with_pattern f.patterns.items p → symbol ≡ of.defines ss l → g.defined.items ≡ f.defined.items ++ cons_option symbol [] → IsRead g (ss ++ at n l ∷ [])
+pub read-step : (f g : File) (ss : List Statement) (n : ℕ) (l : Line) (p : Option Expression) (symbol : Option Symbol) → IsRead f ss → early_fault ss l ≡ None
+    → IsPatternOf l p → line_limit ss l ≡ None → limit_fault (ss ++ at n l ∷ []) ≡ None → lines_view g.statements.items ≡ lines_view f.statements.items ++ at n l ∷ []
+    → AreNames g.names (ss ++ at n l ∷ []) → g.patterns.items ≡ with_pattern f.patterns.items p → symbol ≡ of.defines ss l
+    → g.defined.items ≡ f.defined.items ++ cons_option symbol [] → IsRead g (ss ++ at n l ∷ [])
 read-step f g ss n l p symbol read early pattern short none statements names patterns is defined = record {
   statements = statements ∙ ap (λ x. x ++ at n l ∷ []) read.statements;
   names = names;
@@ -222,5 +200,6 @@ read-step f g ss n l p symbol read early pattern short none statements names pat
 }
 
 -- a limit that the lines pass with this one
-pub limit_line_fault : (ss ts : List Statement) (number : ℕ) (l : Line) (p : Option Expression) (c : Cause) → ts ≡ ss ++ at number l ∷ [] → early_fault ss l ≡ None → IsPatternOf l p → line_limit ss l ≡ None → limit_fault ts ≡ Some c → IsLineFault ss l c
+pub limit_line_fault : (ss ts : List Statement) (number : ℕ) (l : Line) (p : Option Expression) (c : Cause) → ts ≡ ss ++ at number l ∷ [] → early_fault ss l ≡ None
+    → IsPatternOf l p → line_limit ss l ≡ None → limit_fault ts ≡ Some c → IsLineFault ss l c
 limit_line_fault ss ts number l p c same early pattern short is = late_line_fault ss l p c early pattern (late-of ss number l (Some c) short (ap limit_fault (sym same) ∙ is))

@@ -92,7 +92,8 @@ numbers-new names es k n long are w =
     ∙ sym (position-push (λ v. bytes_eq v w) names k.now)
 
 -- a name that has one keeps it
-pub numbers-again : (names : List Word) (es : List (Bor (List ℕ) × ℕ)) (k : Bor (List ℕ)) → is_some (lookup (λ x. bytes_eq k.now x.now) es) ≡ true → AreNumbers names es → AreNumbers (names ++ k.now ∷ []) es
+pub numbers-again : (names : List Word) (es : List (Bor (List ℕ) × ℕ)) (k : Bor (List ℕ)) → is_some (lookup (λ x. bytes_eq k.now x.now) es) ≡ true
+    → AreNumbers names es → AreNumbers (names ++ k.now ∷ []) es
 numbers-again names es k there are w = are w ∙ sym (position-push (λ v. bytes_eq v w) names k.now ∙ go (bytes_eq k.now w) refl)
   where
     keeps : (o r : Option ℕ) → is_some o ≡ true → two o r ≡ o

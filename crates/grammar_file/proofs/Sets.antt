@@ -14,7 +14,8 @@ or-some true = refl
 or-some false = refl
 
 -- what is in a list that had an item added unless it was there
-any-with : {X : Type 0} (eq : X → X → Bool) → ((x y : X) → eq x y ≡ true → x ≡ y) → (xs : List X) (v w : X) → list_any (λ x. eq x w) (if list_any (λ x. eq x v) xs then xs else xs ++ v ∷ []) ≡ (list_any (λ x. eq x w) xs || eq v w)
+any-with : {X : Type 0} (eq : X → X → Bool) → ((x y : X) → eq x y ≡ true → x ≡ y) → (xs : List X) (v w : X)
+    → list_any (λ x. eq x w) (if list_any (λ x. eq x v) xs then xs else xs ++ v ∷ []) ≡ (list_any (λ x. eq x w) xs || eq v w)
 any-with eq same xs v w = go (list_any (λ x. eq x v) xs) refl (eq v w) refl
   where
     go : (b : Bool) → list_any (λ x. eq x v) xs ≡ b → (d : Bool) → eq v w ≡ d → list_any (λ x. eq x w) (if b then xs else xs ++ v ∷ []) ≡ (list_any (λ x. eq x w) xs || eq v w)
@@ -39,29 +40,23 @@ turned_words [] (w ∷ ws) = refl
 turned_words (v ∷ vs) [] = refl
 turned_words (v ∷ vs) (w ∷ ws) = λ i. turned v w i && turned_words vs ws i
 
-pub skips-step : (names : List Word) (rs : List RuleLine) (l : Line) → ((w : Word) → is_among w names ≡ list_any (is_skip_rule w) rs) → (w : Word) → is_among w (with_skip names l) ≡ list_any (is_skip_rule w) (with_rule rs l)
-skips-step names rs Nothing are w = are w
-skips-step names rs (Production left right) are w = are w
+pub skips-step : (names : List Word) (rs : List RuleLine) (l : Line) → ((w : Word) → is_among w names ≡ list_any (is_skip_rule w) rs)
+    → (w : Word) → is_among w (with_skip names l) ≡ list_any (is_skip_rule w) (with_rule rs l)
 skips-step names rs (Rule true name pattern) are w =
     any-with bytes_eq (λ x y. (bytes_decides x y).0) names name w
     ∙ (λ i. are w i || sym (or-none (bytes_eq name w)) i)
     ∙ sym (list_any-append (is_skip_rule w) rs (record { skip = true; name = name; pattern = pattern } ∷ []))
 skips-step names rs (Rule false name pattern) are w =
     are w ∙ sym (list_any-append (is_skip_rule w) rs (record { skip = false; name = name; pattern = pattern } ∷ []) ∙ or-none (list_any (is_skip_rule w) rs))
-skips-step names rs (Start name) are w = are w
-skips-step names rs (Fold name) are w = are w
-skips-step names rs Bad are w = are w
+skips-step names rs d are w = are w
 
 -- what one line adds to the productions that there are
 one_more : (all : List (List Word)) (l : Line) (left : Word) (right : List Word) → are_among (left ∷ right) (with_sides all l) ≡ (are_among (left ∷ right) all || is_production left right l)
-one_more all Nothing left right = sym (or-none (are_among (left ∷ right) all))
 one_more all (Production other others) left right = any-with (pointwise bytes_eq) same_words all (other ∷ others) (left ∷ right)
-one_more all (Rule skip name pattern) left right = sym (or-none (are_among (left ∷ right) all))
-one_more all (Start name) left right = sym (or-none (are_among (left ∷ right) all))
-one_more all (Fold name) left right = sym (or-none (are_among (left ∷ right) all))
-one_more all Bad left right = sym (or-none (are_among (left ∷ right) all))
+one_more all d left right = sym (or-none (are_among (left ∷ right) all))
 
-pub sides-step : (all : List (List Word)) (ss : List Statement) (n : ℕ) (l : Line) → ((left : Word) (right : List Word) → are_among (left ∷ right) all ≡ has_production ss left right) → (left : Word) (right : List Word) → are_among (left ∷ right) (with_sides all l) ≡ has_production (ss ++ at n l ∷ []) left right
+pub sides-step : (all : List (List Word)) (ss : List Statement) (n : ℕ) (l : Line) → ((left : Word) (right : List Word) → are_among (left ∷ right) all ≡ has_production ss left right)
+    → (left : Word) (right : List Word) → are_among (left ∷ right) (with_sides all l) ≡ has_production (ss ++ at n l ∷ []) left right
 sides-step all ss n l are left right =
     one_more all l left right
     ∙ (λ i. are left right i || sym (or-none (is_production left right l)) i)
@@ -77,7 +72,8 @@ module _ {X : Type 0} (names : X → List (Bor (List ℕ))) where
   among-keys ws (k ∷ ks) = λ i. same_texts ws (names k) i || among-keys ws ks i
 
   -- the keys with one that is new
-  pub keys-with : (k : X) (ks : List X) → map (λ x. texts (names x)) (if list_any (λ x. pointwise (λ a b. bytes_eq a.now b.now) (names k) (names x)) ks then ks else ks ++ k ∷ []) ≡ with_names (map (λ x. texts (names x)) ks) (texts (names k))
+  pub keys-with : (k : X) (ks : List X) → map (λ x. texts (names x)) (if list_any (λ x. pointwise (λ a b. bytes_eq a.now b.now) (names k) (names x)) ks then ks else ks ++ k ∷ [])
+      ≡ with_names (map (λ x. texts (names x)) ks) (texts (names k))
   keys-with k ks =
       go (list_any (λ x. pointwise (λ a b. bytes_eq a.now b.now) (names k) (names x)) ks)
       ∙ ap (λ b. if b then map (λ x. texts (names x)) ks else map (λ x. texts (names x)) ks ++ texts (names k) ∷ []) (among-keys (names k) ks)

@@ -3,7 +3,8 @@ use Rattle.std.proofs.Common.{◌≡◌, ◌≢◌, ℕ, suc, ◌+◌, ◌<◌, 
 use Rattle.grammar_file.proofs.Common.{filter_map, cons_option, enumerate_from, map-append, take_more, take-append-drop, length-take-le, Version, Numbered, Statement, Line, Nothing, Production, Rule, Start, Fold, Bad, at, line_of, numbered, statements_in, filter_map-append, ProductionLine, productions, as_production, Cause, HaveReferents, reference_fault, IsLineFault, IsFirstLineFault, IsFirstReferenceFault, texts, statement_of, lines_view, IsRead, File}
 use Rattle.grammar_file.proofs.OneMoreItem.{push_at, cons_option-append}
 
-numbered-split : {Y : Type 0} (h : (ℕ × List ℕ) → Option Y) (xs : List (List ℕ)) (y : List ℕ) (zs : List (List ℕ)) (n m : ℕ) → m ≡ n + length xs → filter_map h (enumerate_from n (xs ++ y ∷ zs)) ≡ filter_map h (enumerate_from n xs) ++ cons_option (h (m, y)) (filter_map h (enumerate_from (m + 1) zs))
+numbered-split : {Y : Type 0} (h : (ℕ × List ℕ) → Option Y) (xs : List (List ℕ)) (y : List ℕ) (zs : List (List ℕ)) (n m : ℕ) → m ≡ n + length xs
+    → filter_map h (enumerate_from n (xs ++ y ∷ zs)) ≡ filter_map h (enumerate_from n xs) ++ cons_option (h (m, y)) (filter_map h (enumerate_from (m + 1) zs))
 numbered-split h [] y zs n m e =
     let same : n ≡ m = omega arith in
     ap (λ k. cons_option (h (k, y)) (filter_map h (enumerate_from (k + 1) zs))) same
@@ -25,14 +26,16 @@ length-prefix lines i within =
     omega arith
 
 -- what one more line says
-pub statements_more : (v : Version) (lines : List (Bor (List ℕ))) (i : ℕ) (d : Bor (List ℕ)) → i < length lines → statements_in v (texts (take (i + 1) lines)) ≡ statements_in v (texts (take i lines)) ++ cons_option (numbered (i + 2) (line_of v (get_or lines i d).now)) []
+pub statements_more : (v : Version) (lines : List (Bor (List ℕ))) (i : ℕ) (d : Bor (List ℕ)) → i < length lines → statements_in v (texts (take (i + 1) lines))
+    ≡ statements_in v (texts (take i lines)) ++ cons_option (numbered (i + 2) (line_of v (get_or lines i d).now)) []
 statements_more v lines i d within =
     ap (λ prefix. statements_in v (texts prefix)) (take_more lines i d within)
     ∙ ap (statements_in v) (map-append (λ w. w.now) (take i lines) (get_or lines i d ∷ []))
     ∙ numbered-split (λ t. numbered t.0 (line_of v t.1)) (texts (take i lines)) (get_or lines i d).now [] 2 (i + 2) (length-prefix lines i within)
 
 -- and what all of them say, of which one says something
-pub statements_split : (v : Version) (lines : List (Bor (List ℕ))) (i : ℕ) (d : Bor (List ℕ)) → i < length lines → (after : List Statement) × (statements_in v (texts lines) ≡ statements_in v (texts (take i lines)) ++ cons_option (numbered (i + 2) (line_of v (get_or lines i d).now)) after)
+pub statements_split : (v : Version) (lines : List (Bor (List ℕ))) (i : ℕ) (d : Bor (List ℕ)) → i < length lines → (after : List Statement)
+    × (statements_in v (texts lines) ≡ statements_in v (texts (take i lines)) ++ cons_option (numbered (i + 2) (line_of v (get_or lines i d).now)) after)
 statements_split v lines i d within = (
   filter_map (λ t. numbered t.0 (line_of v t.1)) (enumerate_from (i + 2 + 1) (texts (drop (i + 1) lines))),
   ap (λ all. statements_in v (texts all)) (cut lines i d within)
@@ -46,26 +49,26 @@ said_more ns i x within is =
 
 pub said_split : (ns : List Numbered) (i : ℕ) (x : Numbered) → i < length ns → x ≡ get_or ns i x → lines_view ns ≡ lines_view (take i ns) ++ statement_of x ∷ lines_view (drop (i + 1) ns)
 said_split ns i x within is =
-    ap lines_view (cut ns i x within) ∙ map-append statement_of (take i ns) (get_or ns i x ∷ drop (i + 1) ns) ∙ ap (λ y. lines_view (take i ns) ++ statement_of y ∷ lines_view (drop (i + 1) ns)) (sym is)
+    ap lines_view (cut ns i x within) ∙ map-append statement_of (take i ns) (get_or ns i x ∷ drop (i + 1) ns)
+    ∙ ap (λ y. lines_view (take i ns) ++ statement_of y ∷ lines_view (drop (i + 1) ns)) (sym is)
 
-pub referents_more : (ss : List Statement) (ns : List Numbered) (i : ℕ) (x : Numbered) → i < length ns → x ≡ get_or ns i x → HaveReferents ss (lines_view (take i ns)) → reference_fault ss (statement_of x).says ≡ None → HaveReferents ss (lines_view (take (i + 1) ns))
+pub referents_more : (ss : List Statement) (ns : List Numbered) (i : ℕ) (x : Numbered) → i < length ns → x ≡ get_or ns i x → HaveReferents ss (lines_view (take i ns))
+    → reference_fault ss (statement_of x).says ≡ None → HaveReferents ss (lines_view (take (i + 1) ns))
 referents_more ss ns i x within is before at =
     subst (λ (some : List Statement). HaveReferents ss some) (sym (said_more ns i x within is)) (push_at (λ k s. reference_fault ss s.says ≡ None) (lines_view (take i ns)) (statement_of x) before at)
 
 -- the first line that uses a name wrongly
-pub first_reference_fault : (ns : List Numbered) (i : ℕ) (x : Numbered) (c : Cause) → i < length ns → x ≡ get_or ns i x → HaveReferents (lines_view ns) (lines_view (take i ns)) → reference_fault (lines_view ns) (statement_of x).says ≡ Some c → IsFirstReferenceFault (lines_view ns) x.number c
+pub first_reference_fault : (ns : List Numbered) (i : ℕ) (x : Numbered) (c : Cause) → i < length ns → x ≡ get_or ns i x → HaveReferents (lines_view ns) (lines_view (take i ns))
+    → reference_fault (lines_view ns) (statement_of x).says ≡ Some c → IsFirstReferenceFault (lines_view ns) x.number c
 first_reference_fault ns i x c within is before fault = (lines_view (take i ns), lines_view (drop (i + 1) ns), (statement_of x, said_split ns i x within is, refl, before, fault))
 
 numbered-some : (n : ℕ) (l : Line) → l ≢ Nothing → numbered n l ≡ Some (at n l)
 numbered-some n Nothing says = absurd (says refl)
-numbered-some n (Production left right) says = refl
-numbered-some n (Rule skip name pattern) says = refl
-numbered-some n (Start name) says = refl
-numbered-some n (Fold name) says = refl
-numbered-some n Bad says = refl
+numbered-some n d says = refl
 
 -- what is read of one more line
-pub read_more : (v : Version) (f g : File) (lines : List (Bor (List ℕ))) (i : ℕ) (d : Bor (List ℕ)) (l : Line) → i < length lines → IsRead f (statements_in v (texts (take i lines))) → l ≡ line_of v (get_or lines i d).now → IsRead g (lines_view f.statements.items ++ cons_option (numbered (i + 2) l) []) → IsRead g (statements_in v (texts (take (i + 1) lines)))
+pub read_more : (v : Version) (f g : File) (lines : List (Bor (List ℕ))) (i : ℕ) (d : Bor (List ℕ)) (l : Line) → i < length lines → IsRead f (statements_in v (texts (take i lines)))
+    → l ≡ line_of v (get_or lines i d).now → IsRead g (lines_view f.statements.items ++ cons_option (numbered (i + 2) l) []) → IsRead g (statements_in v (texts (take (i + 1) lines)))
 read_more v f g lines i d l within before is read =
     let earlier : List Statement = lines_view f.statements.items in
     let e : earlier ++ cons_option (numbered (i + 2) l) [] ≡ statements_in v (texts (take (i + 1) lines)) =
@@ -75,7 +78,9 @@ read_more v f g lines i d l within before is read =
     subst (λ (ss : List Statement). IsRead g ss) e read
 
 -- the first line that has a fault
-pub first_line_fault : (v : Version) (f : File) (lines : List (Bor (List ℕ))) (i : ℕ) (d : Bor (List ℕ)) (l : Line) (c : Cause) → i < length lines → IsRead f (statements_in v (texts (take i lines))) → l ≡ line_of v (get_or lines i d).now → l ≢ Nothing → IsLineFault (lines_view f.statements.items) l c → IsFirstLineFault (statements_in v (texts lines)) (i + 2) c
+pub first_line_fault : (v : Version) (f : File) (lines : List (Bor (List ℕ))) (i : ℕ) (d : Bor (List ℕ)) (l : Line) (c : Cause) → i < length lines
+    → IsRead f (statements_in v (texts (take i lines))) → l ≡ line_of v (get_or lines i d).now → l ≢ Nothing
+    → IsLineFault (lines_view f.statements.items) l c → IsFirstLineFault (statements_in v (texts lines)) (i + 2) c
 first_line_fault v f lines i d l c within before is says fault =
     let split = statements_split v lines i d within in
     let prefix : List Statement = statements_in v (texts (take i lines)) in
@@ -96,7 +101,8 @@ made_of f None = refl
 made_of f (Some x) = refl
 
 -- the productions of one more line
-pub productions_more : {Y : Type 0} (f : ProductionLine → Y) (ns : List Numbered) (i : ℕ) (x : Numbered) → i < length ns → x ≡ get_or ns i x → map f (productions (lines_view (take (i + 1) ns))) ≡ map f (productions (lines_view (take i ns))) ++ cons_option (option_map f (as_production (statement_of x).says)) []
+pub productions_more : {Y : Type 0} (f : ProductionLine → Y) (ns : List Numbered) (i : ℕ) (x : Numbered) → i < length ns → x ≡ get_or ns i x
+    → map f (productions (lines_view (take (i + 1) ns))) ≡ map f (productions (lines_view (take i ns))) ++ cons_option (option_map f (as_production (statement_of x).says)) []
 productions_more f ns i x within is =
     ap (λ ss. map f (productions ss)) (said_more ns i x within is)
     ∙ ap (map f) (filter_map-append (λ s. as_production s.says) (lines_view (take i ns)) (statement_of x ∷ []))

@@ -3,7 +3,8 @@ use Rattle.std.proofs.Common.{◌≡◌, ℕ, ◌+◌, ◌<◌, List, [], ◌∷
 use Rattle.grammar_file.proofs.Common.{flat_map, take_more, flat_map_more, map-append, Statement, added, texts}
 
 -- the statements with what is added for one more word
-pub added_more : (ss ts us : List Statement) (ws : List (Bor (List ℕ))) (i : ℕ) (d : Bor (List ℕ)) → i < length ws → ts ≡ ss ++ flat_map added (texts (take i ws)) → us ≡ ts ++ added (get_or ws i d).now → us ≡ ss ++ flat_map added (texts (take (i + 1) ws))
+pub added_more : (ss ts us : List Statement) (ws : List (Bor (List ℕ))) (i : ℕ) (d : Bor (List ℕ)) → i < length ws → ts ≡ ss ++ flat_map added (texts (take i ws))
+    → us ≡ ts ++ added (get_or ws i d).now → us ≡ ss ++ flat_map added (texts (take (i + 1) ws))
 added_more ss ts us ws i d within before more =
     more
     ∙ ap (λ xs. xs ++ added (get_or ws i d).now) before

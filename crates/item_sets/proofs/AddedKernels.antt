@@ -37,7 +37,8 @@ module _ (g : Shape) where
     same = λ s l. ap (λ x. kernel_at x s) k ∙ get_or_append_left old.kernels (kernel ∷ []) [] s l;
   }
 
-  module _ (old : Found) (h : AreStates g old) (kernel : List Item) (from : ℕ) (symbol : Symbol) (in_range : from < length old.kernels) (ordered : IsOrdered g kernel) (leads : (prefix : List Symbol) → HasKernel g.grammar (kernel_at old.kernels from) prefix → HasKernel g.grammar kernel (prefix ++ symbol ∷ [])) (nonempty : 0 < length kernel) where
+  module _ (old : Found) (h : AreStates g old) (kernel : List Item) (from : ℕ) (symbol : Symbol) (in_range : from < length old.kernels) (ordered : IsOrdered g kernel)
+      (leads : (prefix : List Symbol) → HasKernel g.grammar (kernel_at old.kernels from) prefix → HasKernel g.grammar kernel (prefix ++ symbol ∷ [])) (nonempty : 0 < length kernel) where
     reached_next : IsReached g.grammar kernel
     reached_next =
         let r = h.reached from in_range in
@@ -74,15 +75,21 @@ module _ (g : Shape) where
               let e = x.earlier in
               record {
                 earlier = subst (λ y. y.from < s) (sym o) x.earlier;
-                leads = λ prefix k. subst (λ y. HasKernel g.grammar y (prefix ++ (origin_at more.origins s).symbol ∷ [])) (sym (stays s b)) (subst (λ y. HasKernel g.grammar (kernel_at old.kernels s) (prefix ++ y.symbol ∷ [])) (sym o) (x.leads prefix (subst (λ y. HasKernel g.grammar y prefix) (stays (origin_at old.origins s).from (omega (arith, e, b))) (subst (λ y. HasKernel g.grammar (kernel_at more.kernels y.from) prefix) o k))));
+                leads = λ prefix k. subst (λ y. HasKernel g.grammar y (prefix ++ (origin_at more.origins s).symbol ∷ [])) (sym (stays s b))
+                    (subst (λ y. HasKernel g.grammar (kernel_at old.kernels s) (prefix ++ y.symbol ∷ [])) (sym o)
+                    (x.leads prefix (subst (λ y. HasKernel g.grammar y prefix) (stays (origin_at old.origins s).from (omega (arith, e, b)))
+                    (subst (λ y. HasKernel g.grammar (kernel_at more.kernels y.from) prefix) o k))));
               }
           | inr b ↦
               let at : s ≡ length old.origins = omega (arith, l, n, b, long) in
-              let o : origin_at more.origins s ≡ record { from = from; symbol = symbol } = ap (origin_at more.origins) at ∙ get_or-append_seam old.origins (record { from = from; symbol = symbol }) [] none in
+              let o : origin_at more.origins s ≡ record { from = from; symbol = symbol } = ap (origin_at more.origins) at
+              ∙ get_or-append_seam old.origins (record { from = from; symbol = symbol }) [] none in
               let here : kernel_at more.kernels s ≡ kernel = ap (kernel_at more.kernels) (at ∙ long) ∙ seam in
               record {
                 earlier = subst (λ y. y.from < s) (sym o) (omega (arith, in_range, b));
-                leads = λ prefix k. subst (λ y. HasKernel g.grammar y (prefix ++ (origin_at more.origins s).symbol ∷ [])) (sym here) (subst (λ y. HasKernel g.grammar kernel (prefix ++ y.symbol ∷ [])) (sym o) (leads prefix (subst (λ y. HasKernel g.grammar y prefix) (stays from in_range) (subst (λ y. HasKernel g.grammar (kernel_at more.kernels y.from) prefix) o k))));
+                leads = λ prefix k. subst (λ y. HasKernel g.grammar y (prefix ++ (origin_at more.origins s).symbol ∷ [])) (sym here)
+                    (subst (λ y. HasKernel g.grammar kernel (prefix ++ y.symbol ∷ [])) (sym o)
+                    (leads prefix (subst (λ y. HasKernel g.grammar y prefix) (stays from in_range) (subst (λ y. HasKernel g.grammar (kernel_at more.kernels y.from) prefix) o k))));
               }
         ]
 
@@ -91,7 +98,8 @@ module _ (g : Shape) where
         let n = length-append old.kernels (kernel ∷ []) in
         elim (cases_lt s (length old.kernels)) [
           | inl b ↦ h.distinct s b r m (sym (stays r (omega (arith, m, b))) ∙ e ∙ stays s b)
-          | inr b ↦ let at : s ≡ length old.kernels = omega (arith, l, n, b) in let rb : r < length old.kernels = omega (arith, m, at) in absent r rb (sym (stays r rb) ∙ e ∙ ap (kernel_at more.kernels) at ∙ seam)
+          | inr b ↦ let at : s ≡ length old.kernels = omega (arith, l, n, b) in let rb : r < length old.kernels =
+              omega (arith, m, at) in absent r rb (sym (stays r rb) ∙ e ∙ ap (kernel_at more.kernels) at ∙ seam)
         ]
 
     more_states : IsAbsent old.kernels kernel → AreStates g more
@@ -131,6 +139,7 @@ no_item g kernel prefix empty h (i, v) =
     let l = c.1.1 in
     absurd (omega (arith, l, empty))
 
-pub first_placed : (old new : List (List Item)) (kernel : List Item) (s : ℕ) → old ≡ [] → kernel ≡ start_item ∷ [] → (new ≡ old) ⊎ ((new ≡ old ++ kernel ∷ []) × IsAbsent old kernel) → s < length new → new ≡ (start_item ∷ []) ∷ []
+pub first_placed : (old new : List (List Item)) (kernel : List Item) (s : ℕ) → old ≡ [] → kernel ≡ start_item ∷ [] → (new ≡ old)
+    ⊎ ((new ≡ old ++ kernel ∷ []) × IsAbsent old kernel) → s < length new → new ≡ (start_item ∷ []) ∷ []
 first_placed old new kernel s e k (inl f) l = let n = ap length (f ∙ e) in absurd (omega (arith, l, n))
 first_placed old new kernel s e k (inr (f, a)) l = f ∙ (λ i. e i ++ k i ∷ [])

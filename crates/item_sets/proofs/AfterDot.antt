@@ -27,24 +27,30 @@ module _ (g : Grammar) where
     step_valid : (j : Item) → Contains items j → first (after_dot g j) ≡ Some s → IsValid g (prefix ++ (s ∷ [])) (item_of g (step j))
     step_valid j c f =
         let p = parts j.at (side g j.production) s f in
-        let r = subst (λ y. ByRules g prefix (record { production = j.production; before = take j.at (side g j.production); after = y; look = j.look })) p.here (valid_rules g prefix (item_of g j) (set.sound j c)) in
+        let r = subst (λ y. ByRules g prefix (record { production = j.production; before = take j.at (side g j.production); after = y; look = j.look })) p.here
+        (valid_rules g prefix (item_of g j) (set.sound j c)) in
         let n = one_more j.at in
-        let before : take (j.at + 1) (side g j.production) ≡ take j.at (side g j.production) ++ (s ∷ []) = subst (λ m. take m (side g j.production) ≡ take j.at (side g j.production) ++ (s ∷ [])) n p.before in
+        let before : take (j.at + 1) (side g j.production) ≡ take j.at (side g j.production) ++ (s ∷ []) =
+        subst (λ m. take m (side g j.production) ≡ take j.at (side g j.production) ++ (s ∷ [])) n p.before in
         let after : drop (j.at + 1) (side g j.production) ≡ p.rest = subst (λ m. drop m (side g j.production) ≡ p.rest) n p.after in
-        rules_valid g (subst (λ y. ByRules g (prefix ++ (s ∷ [])) (record { production = j.production; before = y; after = drop (j.at + 1) (side g j.production); look = j.look })) (sym before) (subst (λ y. ByRules g (prefix ++ (s ∷ [])) (record { production = j.production; before = take j.at (side g j.production) ++ (s ∷ []); after = y; look = j.look })) (sym after) (Goto r)))
+        rules_valid g (subst (λ y. ByRules g (prefix ++ (s ∷ [])) (record { production = j.production; before = y; after = drop (j.at + 1) (side g j.production); look = j.look }))
+        (sym before) (subst (λ y. ByRules g (prefix ++ (s ∷ [])) (record { production = j.production; before = take j.at (side g j.production) ++ (s ∷ []); after = y; look = j.look }))
+        (sym after) (Goto r)))
 
     step_is : (k : LrItem) (b : Back g prefix s k) (j : Item) → item_of g j ≡ b.from → first (after_dot g j) ≡ Some s → item_of g (step j) ≡ k
     step_is k b j e f =
         let p = parts j.at (side g j.production) s f in
         let n = one_more j.at in
-        let before : take (j.at + 1) (side g j.production) ≡ take j.at (side g j.production) ++ (s ∷ []) = subst (λ m. take m (side g j.production) ≡ take j.at (side g j.production) ++ (s ∷ [])) n p.before in
+        let before : take (j.at + 1) (side g j.production) ≡ take j.at (side g j.production) ++ (s ∷ []) =
+        subst (λ m. take m (side g j.production) ≡ take j.at (side g j.production) ++ (s ∷ [])) n p.before in
         let after : drop (j.at + 1) (side g j.production) ≡ p.rest = subst (λ m. drop m (side g j.production) ≡ p.rest) n p.after in
         let rest : p.rest ≡ b.rest = tail-eq_of_cons-eq (sym p.here ∙ ap (λ y. y.after) e ∙ b.after) in
         let production : j.production ≡ b.from.production = ap (λ y. y.production) e in
         let fore : take (j.at + 1) (side g j.production) ≡ b.from.before ++ (s ∷ []) = before ∙ ap (λ y. y.before ++ (s ∷ [])) e in
         let back : drop (j.at + 1) (side g j.production) ≡ b.rest = after ∙ rest in
         let look : j.look ≡ b.from.look = ap (λ y. y.look) e in
-        let same : item_of g (step j) ≡ record { production = b.from.production; before = b.from.before ++ (s ∷ []); after = b.rest; look = b.from.look } = λ i. record { production = production i; before = fore i; after = back i; look = look i } in
+        let same : item_of g (step j) ≡ record { production = b.from.production; before = b.from.before ++ (s ∷ []); after = b.rest; look = b.from.look } =
+        λ i. record { production = production i; before = fore i; after = back i; look = look i } in
         same ∙ b.is
 
     pub moved : HasKernel g kernel (prefix ++ (s ∷ []))

@@ -19,7 +19,8 @@ module _ (g : Grammar) where
   }
 
   one_way : (kernel : List Item) (one two : List Symbol) → HasKernel g kernel one → HasKernel g kernel two → (k : LrItem) → IsValid g one k → IsValid g two k
-  one_way kernel one two h j k v = rules_valid g (kernel_shows g two (valid_rules g one k v) (λ m is r. let x = h.complete m is (rules_valid g r) in valid_rules g two m (subst (IsValid g two) x.2 (j.sound x.0 x.1))))
+  one_way kernel one two h j k v =
+      rules_valid g (kernel_shows g two (valid_rules g one k v) (λ m is r. let x = h.complete m is (rules_valid g r) in valid_rules g two m (subst (IsValid g two) x.2 (j.sound x.0 x.1))))
 
   -- prefixes with one kernel have one set
   pub same_sets : (kernel : List Item) (one two : List Symbol) → HasKernel g kernel one → HasKernel g kernel two → HaveSameItems g one two

@@ -17,5 +17,8 @@ module _ (g : Grammar) where
   )
 
   -- a row, and one step more
-  pub steps_more : (old new : List (List Item)) (s : ℕ) (row : List (Option ℕ)) (to : Option ℕ) → GoesOn old new → s < length old → ((j : ℕ) → j < length row → IsStep g old s (symbol_of g j) (slice_index_or row j None)) → IsStep g new s (symbol_of g (length row)) to → (j : ℕ) → j < length (row ++ to ∷ []) → IsStep g new s (symbol_of g j) (slice_index_or (row ++ to ∷ []) j None)
-  steps_more old new s row to e l each step = each_more (λ j o. IsStep g new s (symbol_of g j) o) row to None (λ j b. step_goes_on old new s (symbol_of g j) (slice_index_or row j None) e l (each j b)) step
+  pub steps_more : (old new : List (List Item)) (s : ℕ) (row : List (Option ℕ)) (to : Option ℕ) → GoesOn old new → s < length old
+      → ((j : ℕ) → j < length row → IsStep g old s (symbol_of g j) (slice_index_or row j None)) → IsStep g new s (symbol_of g (length row)) to → (j : ℕ)
+      → j < length (row ++ to ∷ []) → IsStep g new s (symbol_of g j) (slice_index_or (row ++ to ∷ []) j None)
+  steps_more old new s row to e l each step = each_more (λ j o. IsStep g new s (symbol_of g j) o) row to None
+      (λ j b. step_goes_on old new s (symbol_of g j) (slice_index_or row j None) e l (each j b)) step

@@ -30,13 +30,15 @@ module _ (g : Shape) (sound : IsSound g) where
         record { production = l; at = omega arith; look = may_known g sound rest i.look a m (rest_known i x n rest e) x.look }
 
     -- what may follow a nonterminal after an item's dot is called for, in its column
-    called_at : {i : Item} (n : ℕ) (rest : List Symbol) (a : Option ℕ) → IsIn g.grammar kernel i → after_dot g.grammar i ≡ Nonterminal n ∷ rest → MayFollow g.grammar rest i.look a → (k : ℕ) × (k < g.grammar.rules + 1) × (lookahead_at k ≡ a) × CallFor g.grammar (after_dot g.grammar i) i.look n k
+    called_at : {i : Item} (n : ℕ) (rest : List Symbol) (a : Option ℕ) → IsIn g.grammar kernel i → after_dot g.grammar i ≡ Nonterminal n ∷ rest
+        → MayFollow g.grammar rest i.look a → (k : ℕ) × (k < g.grammar.rules + 1) × (lookahead_at k ≡ a) × CallFor g.grammar (after_dot g.grammar i) i.look n k
     called_at {i = i} n rest a x e m =
         let is = in_known x in
         let k = column_there g.grammar.rules a (may_known g sound rest i.look a m (rest_known i is n rest e) is.look) in
         (k.0, k.1, k.2, (rest, e, subst (λ y. MayFollow g.grammar rest i.look y) (sym k.2) m))
 
-    module _ (rows : List (List Bool)) (begun : All (λ i. AreMarked g rows (CallFor g.grammar (after_dot g.grammar i) i.look)) kernel) (closed : (n k : ℕ) → marked rows n k ≡ true → AreMarked g rows (IsExpanded g.grammar n k)) where
+    module _ (rows : List (List Bool)) (begun : All (λ i. AreMarked g rows (CallFor g.grammar (after_dot g.grammar i) i.look)) kernel)
+        (closed : (n k : ℕ) → marked rows n k ≡ true → AreMarked g rows (IsExpanded g.grammar n k)) where
       calls_marked : {i : Item} → IsIn g.grammar kernel i → AreMarked g rows (CallFor g.grammar (after_dot g.grammar i) i.look)
       calls_marked (Kernel {i = i} c) = subst (λ j. AreMarked g rows (CallFor g.grammar (after_dot g.grammar j) j.look)) c.2 (begun c.0 i c.1)
       calls_marked (Closed {i = i} n rest p a x e l s m) =

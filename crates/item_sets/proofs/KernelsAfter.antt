@@ -22,8 +22,10 @@ module _ (g : Grammar) (items : List Item) (at : ℕ) (z : Item) (below : at < l
     shifts_more : IsRising items → first (after_dot g item) ≡ Some s → ShiftsUpTo g items (at + 1) s (kernel ++ step item ∷ [])
     shifts_more rising stands = record {
       rising = rising_step items kernel at z rising below h.rising from;
-      each = λ i c. ⊎_elim (later i) (λ e. (at, omega arith, below, subst (λ y. first (after_dot g y) ≡ Some s) (sym (here at i refl)) stands, ap step (here at i refl) ∙ e)) (Contains-push_cases kernel (step item) i c);
-      all = λ k d l f. ⊎_elim (λ e. subst (λ y. Contains (kernel ++ step item ∷ []) (step y)) (sym (here k d e)) (Contains-push kernel (step item))) (λ o. Contains-append_left kernel (step item ∷ []) (step (slice_index_or items k d)) (h.all k d (omega (arith, l, o)) f)) (cases_eq k at);
+      each = λ i c. ⊎_elim (later i) (λ e. (at, omega arith, below, subst (λ y. first (after_dot g y) ≡ Some s) (sym (here at i refl)) stands, ap step (here at i refl) ∙ e))
+          (Contains-push_cases kernel (step item) i c);
+      all = λ k d l f. ⊎_elim (λ e. subst (λ y. Contains (kernel ++ step item ∷ []) (step y)) (sym (here k d e)) (Contains-push kernel (step item)))
+          (λ o. Contains-append_left kernel (step item ∷ []) (step (slice_index_or items k d)) (h.all k d (omega (arith, l, o)) f)) (cases_eq k at);
     }
 
     -- one that does not
@@ -34,8 +36,10 @@ module _ (g : Grammar) (items : List Item) (at : ℕ) (z : Item) (below : at < l
       all = λ k d l f. ⊎_elim (λ e. absurd (apart (subst (λ y. first (after_dot g y) ≡ Some s) (here k d e) f))) (λ o. h.all k d (omega (arith, l, o)) f) (cases_eq k at);
     }
 
-module _ (g : Shape) (items : List Item) (at : ℕ) (z : Item) (below : at < length items) (kernels : List (List Item)) (h : (k : ℕ) → k < length kernels → ShiftsUpTo g.grammar items at (symbol_of g.grammar k) (slice_index_or kernels k [])) where
-  module _ (rising : IsRising items) (s : Symbol) (known : IsKnown g s) (stands : first (after_dot g.grammar (slice_index_or items at z)) ≡ Some s) (within : number g.grammar s < length kernels) where
+module _ (g : Shape) (items : List Item) (at : ℕ) (z : Item) (below : at < length items) (kernels : List (List Item))
+    (h : (k : ℕ) → k < length kernels → ShiftsUpTo g.grammar items at (symbol_of g.grammar k) (slice_index_or kernels k [])) where
+  module _ (rising : IsRising items) (s : Symbol) (known : IsKnown g s) (stands : first (after_dot g.grammar (slice_index_or items at z)) ≡ Some s)
+      (within : number g.grammar s < length kernels) where
     abbrev n : ℕ
     n = number g.grammar s
 
@@ -46,7 +50,8 @@ module _ (g : Shape) (items : List Item) (at : ℕ) (z : Item) (below : at < len
     after = slice_set kernels n more
 
     theirs : ShiftsUpTo g.grammar items (at + 1) (symbol_of g.grammar n) (slice_index_or after n [])
-    theirs = subst (ShiftsUpTo g.grammar items (at + 1) (symbol_of g.grammar n)) (sym (get_or-set_same kernels n more [] within)) (shifts_more g.grammar items at z below (symbol_of g.grammar n) (slice_index_or kernels n []) (h n within) rising (stands ∙ ap (λ x. Some x) (sym (symbol_of-number g s known))))
+    theirs = subst (ShiftsUpTo g.grammar items (at + 1) (symbol_of g.grammar n)) (sym (get_or-set_same kernels n more [] within))
+        (shifts_more g.grammar items at z below (symbol_of g.grammar n) (slice_index_or kernels n []) (h n within) rising (stands ∙ ap (λ x. Some x) (sym (symbol_of-number g s known))))
 
     same_number : (k : ℕ) → first (after_dot g.grammar (slice_index_or items at z)) ≡ Some (symbol_of g.grammar k) → k ≡ n
     same_number k f = let same : symbol_of g.grammar k ≡ s = cc (f, stands) in sym (number-symbol_of g.grammar k) ∙ ap (number g.grammar) same
@@ -57,11 +62,13 @@ module _ (g : Shape) (items : List Item) (at : ℕ) (z : Item) (below : at < len
         let b : k < length kernels = subst (λ m. k < m) (length-set kernels n more) l in
         ⊎_elim
         (λ e. subst (λ m. ShiftsUpTo g.grammar items (at + 1) (symbol_of g.grammar m) (slice_index_or after m [])) (sym e) theirs)
-        (λ o. subst (ShiftsUpTo g.grammar items (at + 1) (symbol_of g.grammar k)) (sym (get_or-set_other kernels n k more [] o)) (shifts_same g.grammar items at z below (symbol_of g.grammar k) (slice_index_or kernels k []) (h k b) (λ f. o (same_number k f))))
+        (λ o. subst (ShiftsUpTo g.grammar items (at + 1) (symbol_of g.grammar k)) (sym (get_or-set_other kernels n k more [] o))
+        (shifts_same g.grammar items at z below (symbol_of g.grammar k) (slice_index_or kernels k []) (h k b) (λ f. o (same_number k f))))
         (cases_eq k n)
 
   -- an item at its end is put into none
-  pub kernels_same : ((s : Symbol) → first (after_dot g.grammar (slice_index_or items at z)) ≡ Some s → ⊥) → (k : ℕ) → k < length kernels → ShiftsUpTo g.grammar items (at + 1) (symbol_of g.grammar k) (slice_index_or kernels k [])
+  pub kernels_same : ((s : Symbol) → first (after_dot g.grammar (slice_index_or items at z)) ≡ Some s → ⊥) → (k : ℕ) → k < length kernels
+      → ShiftsUpTo g.grammar items (at + 1) (symbol_of g.grammar k) (slice_index_or kernels k [])
   kernels_same quiet k l = shifts_same g.grammar items at z below (symbol_of g.grammar k) (slice_index_or kernels k []) (h k l) (quiet (symbol_of g.grammar k))
 
 -- no item so far
@@ -75,8 +82,10 @@ shifts_none g items s = record {
 -- all items that stand before the symbol are the kernel after it
 pub kernel_after : (g : Shape) (items kernel : List Item) (at : ℕ) (s : Symbol) → All (IsItem g) items → length items ≤ at → ShiftsUpTo g.grammar items at s kernel → IsKernelAfter g items s kernel
 kernel_after g items kernel at s known end h =
-    let each : (i : Item) → Contains kernel i → (j : Item) × Contains items j × (first (after_dot g.grammar j) ≡ Some s) × (step j ≡ i) = λ i c. let x = h.each i c in (slice_index_or items x.0 i, Contains-get_or items x.0 i x.2, x.3, x.4) in
-    let all : (j : Item) → Contains items j → first (after_dot g.grammar j) ≡ Some s → Contains kernel (step j) = λ j c f. let l = c.1 in subst (λ x. Contains kernel (step x)) c.2 (h.all c.0 j (omega (arith, l, end)) (subst (λ x. first (after_dot g.grammar x) ≡ Some s) (sym c.2) f)) in
+    let each : (i : Item) → Contains kernel i → (j : Item) × Contains items j × (first (after_dot g.grammar j) ≡ Some s) × (step j ≡ i) = λ i c. let x =
+    h.each i c in (slice_index_or items x.0 i, Contains-get_or items x.0 i x.2, x.3, x.4) in
+    let all : (j : Item) → Contains items j → first (after_dot g.grammar j) ≡ Some s → Contains kernel (step j) = λ j c f. let l = c.1 in
+    subst (λ x. Contains kernel (step x)) c.2 (h.all c.0 j (omega (arith, l, end)) (subst (λ x. first (after_dot g.grammar x) ≡ Some s) (sym c.2) f)) in
     let in_range : (i : Item) → Contains kernel i → IsItem g i = λ i c. let x = each i c in subst (IsItem g) x.3 (step_known g x.0 s (subst (IsItem g) x.1.2 (known x.1.0 x.0 x.1.1)) x.2) in
     let inside : (i : Item) → Contains kernel i → IsInside i = λ i c. let x = each i c in subst IsInside x.3 (inr (omega arith)) in
     record {

@@ -27,8 +27,11 @@ below_step i j (inl l) = inl (omega (arith, l))
 below_step i j (inr (e, r)) = inr (ap (λ n. n + 1) e, r)
 
 -- what comes of an earlier item stays before what comes of a later one
-pub rising_step : (items kernel : List Item) (at : ℕ) (z : Item) → IsRising items → at < length items → IsRising kernel → ((i : Item) → Contains kernel i → (k : ℕ) × (k < at) × (step (slice_index_or items k z) ≡ i)) → IsRising (kernel ++ step (slice_index_or items at z) ∷ [])
-rising_step items kernel at z rising below h from = all_pairs_push Below kernel (step (slice_index_or items at z)) h (λ j d l. let x = from (slice_index_or kernel j d) (Contains-get_or kernel j d l) in subst (λ y. Below y (step (slice_index_or items at z))) x.2 (below_step (slice_index_or items x.0 z) (slice_index_or items at z) (rising x.0 at z x.1 below)))
+pub rising_step : (items kernel : List Item) (at : ℕ) (z : Item) → IsRising items → at < length items → IsRising kernel
+    → ((i : Item) → Contains kernel i → (k : ℕ) × (k < at) × (step (slice_index_or items k z) ≡ i)) → IsRising (kernel ++ step (slice_index_or items at z) ∷ [])
+rising_step items kernel at z rising below h from = all_pairs_push Below kernel (step (slice_index_or items at z)) h
+    (λ j d l. let x = from (slice_index_or kernel j d) (Contains-get_or kernel j d l) in subst (λ y. Below y (step (slice_index_or items at z))) x.2
+    (below_step (slice_index_or items x.0 z) (slice_index_or items at z) (rising x.0 at z x.1 below)))
 
 -- no two items are each before the other
 opposed : (i j : Item) → Below i j → Below j i → ⊥
@@ -65,6 +68,7 @@ rising_same [] [] h k to from = refl
 rising_same [] (y ∷ ys) h k to from = let l = (from y (here y ys)).1 in absurd (omega (arith, l))
 rising_same (x ∷ xs) [] h k to from = let l = (to x (here x xs)).1 in absurd (omega (arith, l))
 rising_same (x ∷ xs) (y ∷ ys) h k to from =
-    let heads : x ≡ y = ⊎_elim (λ e. sym e) (λ c. let b = rising_head y ys k x c in ⊎_elim (λ e. e) (λ d. absurd (opposed y x b (rising_head x xs h y d))) (Contains-cases x xs y (from y (here y ys)))) (Contains-cases y ys x (to x (here x xs))) in
+    let heads : x ≡ y = ⊎_elim (λ e. sym e) (λ c. let b = rising_head y ys k x c in ⊎_elim (λ e. e) (λ d. absurd (opposed y x b (rising_head x xs h y d)))
+    (Contains-cases x xs y (from y (here y ys)))) (Contains-cases y ys x (to x (here x xs))) in
     let tails : xs ≡ ys = rising_same xs ys (rising_tail x xs h) (rising_tail y ys k) (tail_within x y xs ys h heads to) (tail_within y x ys xs k (sym heads) from) in
     λ i. heads i ∷ tails i

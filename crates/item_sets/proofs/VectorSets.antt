@@ -11,7 +11,8 @@ option_same (Some a) (Some b) = (λ e. ap (λ n. Some n) ((Decides-eqb a b).0 e)
 
 item_same : (a b : Item) → Decides (ghosts.eq a b) (a ≡ b)
 item_same a b =
-    let d = Decides-and (option_eq eqb a.production b.production) (eqb a.at b.at && option_eq eqb a.look b.look) (option_same a.production b.production) (Decides-and (eqb a.at b.at) (option_eq eqb a.look b.look) (Decides-eqb a.at b.at) (option_same a.look b.look)) in
+    let d = Decides-and (option_eq eqb a.production b.production) (eqb a.at b.at && option_eq eqb a.look b.look) (option_same a.production b.production)
+    (Decides-and (eqb a.at b.at) (option_eq eqb a.look b.look) (Decides-eqb a.at b.at) (option_same a.look b.look)) in
     (λ e. let h = d.0 e in λ i. record { production = h.0 i; at = h.1.0 i; look = h.1.1 i }, λ e. d.1 (ap (λ x. x.production) e, (ap (λ x. x.at) e, ap (λ x. x.look) e)))
 
 abbrev pub items_of : Vec Item Global → List Item
@@ -27,7 +28,8 @@ found_items ks v x s l e t =
     get_or-map items_of ks s x [] l ∙ ap items_of at ∙ sym ((slice_eq-Decides item_same v.items x.items (same_items v x) refl).0 t)
 
 -- the lists of items after one more vector
-pub list_after : (ks : List (Vec Item Global)) (v : Vec Item Global) (b : Bool) → list_any (same_items v) ks ≡ b → (map items_of (if b then ks else ks ++ v ∷ []) ≡ map items_of ks) ⊎ ((map items_of (if b then ks else ks ++ v ∷ []) ≡ map items_of ks ++ v.items ∷ []) × IsAbsent (map items_of ks) v.items)
+pub list_after : (ks : List (Vec Item Global)) (v : Vec Item Global) (b : Bool) → list_any (same_items v) ks ≡ b → (map items_of (if b then ks else ks ++ v ∷ []) ≡ map items_of ks)
+    ⊎ ((map items_of (if b then ks else ks ++ v ∷ []) ≡ map items_of ks ++ v.items ∷ []) × IsAbsent (map items_of ks) v.items)
 list_after ks v true e = inl refl
 list_after ks v false e = inr (map-append items_of ks (v ∷ []), absent)
   where
@@ -41,7 +43,8 @@ list_after ks v false e = inr (map-append items_of ks (v ∷ []), absent)
         cc (any, e)
 
 -- the place that is found of some items has them
-pub found_place : (ks : List (Vec Item Global)) (items : List Item) (s : ℕ) → position (λ k. pointwise ghosts.eq items k.items) ks ≡ Some s → (s < length (map items_of ks)) × (slice_index_or (map items_of ks) s [] ≡ items)
+pub found_place : (ks : List (Vec Item Global)) (items : List Item) (s : ℕ) → position (λ k. pointwise ghosts.eq items k.items) ks ≡ Some s
+    → (s < length (map items_of ks)) × (slice_index_or (map items_of ks) s [] ≡ items)
 found_place [] items s e = absurd (cc e)
 found_place (x ∷ ks) items s e =
     let p = position-Some (λ k. pointwise ghosts.eq items k.items) (x ∷ ks) s x e in

@@ -32,7 +32,8 @@ module _ (lexicon : Lexicon) (e : Edit) (items : List Token) (u : List ℕ) (h :
       (prefix_leads lexicon.patterns h.text h.piece e (plain_all items) h.inside h.tokens.tokens))
 
   pub prefix_inside : prefix_end e items ≤ length u
-  prefix_inside = subst (λ n. n ≤ length u) (chars-plain (take (kept_before e (plain_all items)) items)) (leads_inside lexicon.patterns u (plain_all (take (kept_before e (plain_all items)) items)) prefix_all)
+  prefix_inside = subst (λ n. n ≤ length u) (chars-plain (take (kept_before e (plain_all items)) items))
+      (leads_inside lexicon.patterns u (plain_all (take (kept_before e (plain_all items)) items)) prefix_all)
 
   pub kept_before-le : kept_before e (plain_all items) ≤ length items
   kept_before-le = omega (arith, prefix_len-le-length {X = Placed}, length-placed 0 (plain_all items), length-plain items)
@@ -44,18 +45,22 @@ module _ (lexicon : Lexicon) (e : Edit) (items : List Token) (u : List ℕ) (h :
       let start = boundary_at items j 0 (omega (arith, kept_before-le)) in
       omega (arith, prefix_before lexicon.patterns h.text e (plain_all items) j h.tokens.tokens inside, start)
 
-  pub all_lead : (made : List Token) → Leads lexicon.patterns (drop (prefix_end e items) u) (plain_all made) → Leads lexicon.patterns u (plain_all (take (kept_before e (plain_all items)) items) ++ plain_all made)
-  all_lead made m = leads_join lexicon.patterns u (plain_all (take (kept_before e (plain_all items)) items)) (plain_all made) prefix_all (subst (λ n. Leads lexicon.patterns (drop n u) (plain_all made)) (sym (chars-plain (take (kept_before e (plain_all items)) items))) m)
+  pub all_lead : (made : List Token) → Leads lexicon.patterns (drop (prefix_end e items) u) (plain_all made)
+      → Leads lexicon.patterns u (plain_all (take (kept_before e (plain_all items)) items) ++ plain_all made)
+  all_lead made m = leads_join lexicon.patterns u (plain_all (take (kept_before e (plain_all items)) items)) (plain_all made) prefix_all
+      (subst (λ n. Leads lexicon.patterns (drop n u) (plain_all made)) (sym (chars-plain (take (kept_before e (plain_all items)) items))) m)
 
   pub end_rejoins : is_rejoined e (plain_all items) (length u) ≡ true
   end_rejoins =
-      let long : length u + (e.at + e.removed) ≡ length h.text + e.at + length h.piece = ap (λ v. length v + (e.at + e.removed)) h.new_text ∙ length-edit h.text h.piece e.at (e.at + e.removed) (omega arith) h.inside in
+      let long : length u + (e.at + e.removed) ≡ length h.text + e.at + length h.piece = ap (λ v. length v + (e.at + e.removed)) h.new_text
+      ∙ length-edit h.text h.piece e.at (e.at + e.removed) (omega arith) h.inside in
       let sum : characters (take (length items) items) ≡ length h.text = ap characters (take_all (length items) items (omega arith)) ∙ tokens_length lexicon.patterns h.text items h.tokens.tokens in
       is_rejoined_at e items (length u) (length items) (omega (arith, long, h.inserted, h.inside)) (omega arith) (omega (arith, long, sum, h.inserted))
 
   pub end_moved : characters (take (length items) items) + e.inserted ≡ length u + e.removed
   end_moved =
-      let long : length u + (e.at + e.removed) ≡ length h.text + e.at + length h.piece = ap (λ v. length v + (e.at + e.removed)) h.new_text ∙ length-edit h.text h.piece e.at (e.at + e.removed) (omega arith) h.inside in
+      let long : length u + (e.at + e.removed) ≡ length h.text + e.at + length h.piece = ap (λ v. length v + (e.at + e.removed)) h.new_text
+      ∙ length-edit h.text h.piece e.at (e.at + e.removed) (omega arith) h.inside in
       let sum : characters (take (length items) items) ≡ length h.text = ap characters (take_all (length items) items (omega arith)) ∙ tokens_length lexicon.patterns h.text items h.tokens.tokens in
       omega (arith, long, sum, h.inserted)
 
@@ -110,7 +115,8 @@ module _ (lexicon : Lexicon) (e : Edit) (items : List Token) (u : List ℕ) (h :
         sum : chars (plain_all kept ++ plain_all made) ≡ prefix_end e items + characters made
         sum = ap chars (sym joined) ∙ chars-plain (kept ++ made) ∙ sum_by-append (λ x. x.length) kept made
 
-        go : (rest : List PlainToken) → new ≡ (plain_all kept ++ plain_all made) ++ rest → AreTokens lexicon.patterns (drop (chars (plain_all kept ++ plain_all made)) u) rest → IsReachedByMade e (plain_all items) new i
+        go : (rest : List PlainToken) → new ≡ (plain_all kept ++ plain_all made) ++ rest → AreTokens lexicon.patterns
+            (drop (chars (plain_all kept ++ plain_all made)) u) rest → IsReachedByMade e (plain_all items) new i
         go [] is q = absurd (omega (arith, ap length q, length-drop (chars (plain_all kept ++ plain_all made)) u, sum, lt))
         go (y ∷ ys) is q =
             let at : IsToken lexicon.patterns (drop (prefix_end e items + characters made) u) y = subst (λ n. IsToken lexicon.patterns (drop n u) y) sum q.0 in
@@ -123,7 +129,15 @@ module _ (lexicon : Lexicon) (e : Edit) (items : List Token) (u : List ℕ) (h :
               before_rejoin e (plain_all items) new k (omega (arith, length-boundaries 0 new, long)) (λ j l.
                   let fits : j ≤ length (plain_all kept ++ plain_all made) = l in
                   let value : slice_index_or (boundaries 0 new) j 0 ≡ characters (take j (kept ++ made)) =
-                  chars_from 0 new j 0 (omega (arith, long)) ∙ omega (arith, ap (λ v. chars (take j v)) is, ap chars (take-append-le j (plain_all kept ++ plain_all made) (y ∷ ys) fits), ap (λ v. chars (take j v)) (sym joined), ap chars (sym (plain-take j (kept ++ made))), chars-plain (take j (kept ++ made))) in
+                  chars_from 0 new j 0 (omega (arith, long))
+                  ∙ omega (
+                    arith,
+                    ap (λ v. chars (take j v)) is,
+                    ap chars (take-append-le j (plain_all kept ++ plain_all made) (y ∷ ys) fits),
+                    ap (λ v. chars (take j v)) (sym joined),
+                    ap chars (sym (plain-take j (kept ++ made))),
+                    chars-plain (take j (kept ++ made)),
+                  ) in
                   subst (λ n. is_rejoined e (plain_all items) n ≡ false) (sym value) (not_here j (omega (arith, size)))),
               subst (λ v. IsSomeAnd (slice_get (placed 0 v) k) (λ x. i < x.start + x.token.reach)) (sym is)
                   (placed_at 0 (plain_all kept ++ plain_all made) y ys (λ x. i < x.start + x.token.reach) (omega (arith, sum, past))),

@@ -36,26 +36,33 @@ module _ (lexicon : Lexicon) (e : Edit) (items : List Token) (u : List ℕ) (h :
       let k = prefix_end e items + characters made - (e.at + e.inserted) in
       let here : prefix_end e items + characters made ≡ e.at + length h.piece + k = omega (arith, past, h.inserted) in
       let there : e.at + e.removed + k ≡ characters (take to items) = omega (arith, past, r.moved) in
-      ap (λ v. drop (prefix_end e items + characters made) v) h.new_text ∙ ap (λ n. drop n (edit h.text e.at (e.at + e.removed) h.piece)) here ∙ drop-edit h.text h.piece e.at (e.at + e.removed) k (omega (arith, h.inside)) ∙ ap (λ n. drop n h.text) there
+      ap (λ v. drop (prefix_end e items + characters made) v) h.new_text ∙ ap (λ n. drop n (edit h.text e.at (e.at + e.removed) h.piece)) here
+      ∙ drop-edit h.text h.piece e.at (e.at + e.removed) k (omega (arith, h.inside)) ∙ ap (λ n. drop n h.text) there
 
   tail_tokens : AreTokens lexicon.patterns (drop (prefix_end e items + characters made) u) (plain_all (drop to items))
   tail_tokens =
-      let old : AreTokens lexicon.patterns (drop (slice_index_or (boundaries 0 (plain_all items)) to 0) h.text) (drop to (plain_all items)) = AreTokens-drop lexicon.patterns h.text 0 0 to (plain_all items) h.tokens.tokens (omega (arith, length-plain items, r.within)) in
-      let placed : AreTokens lexicon.patterns (drop (characters (take to items)) h.text) (drop to (plain_all items)) = subst (λ n. AreTokens lexicon.patterns (drop n h.text) (drop to (plain_all items))) (boundary_at items to 0 r.within) old in
-      subst (λ v. AreTokens lexicon.patterns v (plain_all (drop to items))) (sym same_tail) (subst (λ xs. AreTokens lexicon.patterns (drop (characters (take to items)) h.text) xs) (sym (plain-drop to items)) placed)
+      let old : AreTokens lexicon.patterns (drop (slice_index_or (boundaries 0 (plain_all items)) to 0) h.text) (drop to (plain_all items)) =
+      AreTokens-drop lexicon.patterns h.text 0 0 to (plain_all items) h.tokens.tokens (omega (arith, length-plain items, r.within)) in
+      let placed : AreTokens lexicon.patterns (drop (characters (take to items)) h.text) (drop to (plain_all items)) =
+      subst (λ n. AreTokens lexicon.patterns (drop n h.text) (drop to (plain_all items))) (boundary_at items to 0 r.within) old in
+      subst (λ v. AreTokens lexicon.patterns v (plain_all (drop to items))) (sym same_tail)
+      (subst (λ xs. AreTokens lexicon.patterns (drop (characters (take to items)) h.text) xs) (sym (plain-drop to items)) placed)
 
   -- they are the tokens of the new text
   pub remade_tokens : AreTokens lexicon.patterns u (plain_all new)
   remade_tokens =
       let parts : (plain_all kept ++ plain_all made) ++ plain_all (drop to items) ≡ plain_all new =
-      append_assoc (plain_all kept) (plain_all made) (plain_all (drop to items)) ∙ ap (λ ys. plain_all kept ++ ys) (sym (map-append plain made (drop to items))) ∙ sym (map-append plain kept (made ++ drop to items)) in
+      append_assoc (plain_all kept) (plain_all made) (plain_all (drop to items)) ∙ ap (λ ys. plain_all kept ++ ys) (sym (map-append plain made (drop to items)))
+      ∙ sym (map-append plain kept (made ++ drop to items)) in
       subst (λ xs. AreTokens lexicon.patterns u xs) parts
-      (leads_tokens lexicon.patterns u (plain_all kept ++ plain_all made) (plain_all (drop to items)) (all_lead lexicon e items u h made r.leads) (subst (λ n. AreTokens lexicon.patterns (drop n u) (plain_all (drop to items))) (sym sum) tail_tokens))
+      (leads_tokens lexicon.patterns u (plain_all kept ++ plain_all made) (plain_all (drop to items)) (all_lead lexicon e items u h made r.leads)
+      (subst (λ n. AreTokens lexicon.patterns (drop n u) (plain_all (drop to items))) (sym sum) tail_tokens))
 
   pub remade_marked : All (λ x. x.skipped ≡ is_skipped lexicon.skips (kind_in x)) new
   remade_marked =
       let P = λ (x : Token). x.skipped ≡ is_skipped lexicon.skips (kind_in x) in
-      All-append P kept (made ++ drop to items) (All-take P (kept_before e (plain_all items)) items h.tokens.marked) (All-append P made (drop to items) r.anew.marked (All-drop P to items h.tokens.marked))
+      All-append P kept (made ++ drop to items) (All-take P (kept_before e (plain_all items)) items h.tokens.marked)
+      (All-append P made (drop to items) r.anew.marked (All-drop P to items h.tokens.marked))
 
   split_new : new ≡ (kept ++ made) ++ drop to items
   split_new = sym (append_assoc kept made (drop to items))
@@ -72,15 +79,23 @@ module _ (lexicon : Lexicon) (e : Edit) (items : List Token) (u : List ℕ) (h :
       long : length (kept ++ made) < length (boundaries 0 (plain_all new))
       long = omega (arith, length-boundaries 0 (plain_all new), length-plain new, ap length split_new, length-append (kept ++ made) (drop to items))
 
-      go : (rejoin e (plain_all items) (plain_all new) < length (kept ++ made)) ⊎ (length (kept ++ made) ≤ rejoin e (plain_all items) (plain_all new)) → (length (kept ++ made) < rejoin e (plain_all items) (plain_all new)) ⊎ (rejoin e (plain_all items) (plain_all new) ≤ length (kept ++ made)) → rejoin e (plain_all items) (plain_all new) ≡ length (kept ++ made)
+      go : (rejoin e (plain_all items) (plain_all new) < length (kept ++ made)) ⊎ (length (kept ++ made) ≤ rejoin e (plain_all items) (plain_all new))
+          → (length (kept ++ made) < rejoin e (plain_all items) (plain_all new)) ⊎ (rejoin e (plain_all items) (plain_all new) ≤ length (kept ++ made))
+          → rejoin e (plain_all items) (plain_all new) ≡ length (kept ++ made)
       go (inl lt) _ =
-          let found : is_rejoined e (plain_all items) (slice_index_or (boundaries 0 (plain_all new)) (rejoin e (plain_all items) (plain_all new)) 0) ≡ true = passes_at_first (is_rejoined e (plain_all items)) (boundaries 0 (plain_all new)) 0 (omega (arith, long)) in
-          let none : is_rejoined e (plain_all items) (slice_index_or (boundaries 0 (plain_all new)) (rejoin e (plain_all items) (plain_all new)) 0) ≡ false = subst (λ n. is_rejoined e (plain_all items) n ≡ false) (sym (boundary_new (rejoin e (plain_all items) (plain_all new)) (omega arith))) (not_before lexicon e items u h made r.earlier (rejoin e (plain_all items) (plain_all new)) lt) in
+          let found : is_rejoined e (plain_all items) (slice_index_or (boundaries 0 (plain_all new)) (rejoin e (plain_all items) (plain_all new)) 0) ≡ true =
+          passes_at_first (is_rejoined e (plain_all items)) (boundaries 0 (plain_all new)) 0 (omega (arith, long)) in
+          let none : is_rejoined e (plain_all items) (slice_index_or (boundaries 0 (plain_all new)) (rejoin e (plain_all items) (plain_all new)) 0) ≡ false =
+          subst (λ n. is_rejoined e (plain_all items) n ≡ false) (sym (boundary_new (rejoin e (plain_all items) (plain_all new)) (omega arith)))
+          (not_before lexicon e items u h made r.earlier (rejoin e (plain_all items) (plain_all new)) lt) in
           absurd (false≢true (sym none ∙ found))
       go (inr _) (inl lt) =
-          let none : is_rejoined e (plain_all items) (slice_index_or (boundaries 0 (plain_all new)) (length (kept ++ made)) 0) ≡ false = fails_before_first (is_rejoined e (plain_all items)) (boundaries 0 (plain_all new)) (length (kept ++ made)) 0 lt in
-          let whole : characters (take (length (kept ++ made)) (kept ++ made)) ≡ prefix_end e items + characters made = ap characters (take_all (length (kept ++ made)) (kept ++ made) (omega arith)) ∙ sum_by-append (λ x. x.length) kept made in
-          let found : is_rejoined e (plain_all items) (slice_index_or (boundaries 0 (plain_all new)) (length (kept ++ made)) 0) ≡ true = subst (λ n. is_rejoined e (plain_all items) n ≡ true) (sym (boundary_new (length (kept ++ made)) (omega arith) ∙ whole)) r.rejoins in
+          let none : is_rejoined e (plain_all items) (slice_index_or (boundaries 0 (plain_all new)) (length (kept ++ made)) 0) ≡ false =
+          fails_before_first (is_rejoined e (plain_all items)) (boundaries 0 (plain_all new)) (length (kept ++ made)) 0 lt in
+          let whole : characters (take (length (kept ++ made)) (kept ++ made)) ≡ prefix_end e items + characters made =
+          ap characters (take_all (length (kept ++ made)) (kept ++ made) (omega arith)) ∙ sum_by-append (λ x. x.length) kept made in
+          let found : is_rejoined e (plain_all items) (slice_index_or (boundaries 0 (plain_all new)) (length (kept ++ made)) 0) ≡ true =
+          subst (λ n. is_rejoined e (plain_all items) n ≡ true) (sym (boundary_new (length (kept ++ made)) (omega arith) ∙ whole)) r.rejoins in
           absurd (false≢true (sym none ∙ found))
       go (inr a) (inr b) = omega arith
 
@@ -101,7 +116,8 @@ module _ (lexicon : Lexicon) (e : Edit) (items : List Token) (u : List ℕ) (h :
   range_made =
       let after_prefix : drop (kept_before e (plain_all items)) new ≡ made ++ drop to items = drop_at kept (made ++ drop to items) (kept_before e (plain_all items)) many in
       let n : length made ≡ rejoin e (plain_all items) (plain_all new) - kept_before e (plain_all items) = omega (arith, rejoin_is, length-append kept made, many) in
-      ap (take (rejoin e (plain_all items) (plain_all new) - kept_before e (plain_all items))) after_prefix ∙ take_at made (drop to items) (rejoin e (plain_all items) (plain_all new) - kept_before e (plain_all items)) n
+      ap (take (rejoin e (plain_all items) (plain_all new) - kept_before e (plain_all items))) after_prefix
+      ∙ take_at made (drop to items) (rejoin e (plain_all items) (plain_all new) - kept_before e (plain_all items)) n
 
   pub remade_kept : AreRescanned e items new
   remade_kept = record {
@@ -120,13 +136,23 @@ module _ (lexicon : Lexicon) (e : Edit) (items : List Token) (u : List ℕ) (h :
         All-append P kept (made ++ drop to items) (All-take P (kept_before e (plain_all items)) items f.nonempty) (All-append P made (drop to items) r.anew.nonempty (All-drop P to items f.nonempty));
     near =
         let P = λ (x : Token). x.reach ≤ 2 ^ 30 in
-        All-append P kept (made ++ drop to items) (All-take P (kept_before e (plain_all items)) items f.near) (All-append P made (drop to items) (λ k d m. let q : (slice_index_or made k d).reach ≤ 1048577 = r.anew.near k d m in omega arith) (All-drop P to items f.near));
+        All-append P kept (made ++ drop to items) (All-take P (kept_before e (plain_all items)) items f.near)
+        (All-append P made (drop to items) (λ k d m. let q : (slice_index_or made k d).reach ≤ 1048577 = r.anew.near k d m in omega arith) (All-drop P to items f.near));
   }
 
   pub scanned_is : length made ≡ length (slice_range (plain_all new) (kept_before e (plain_all items)) (rejoin e (plain_all items) (plain_all new)))
   scanned_is =
       sym (length-take (rejoin e (plain_all items) (plain_all new) - kept_before e (plain_all items)) (drop (kept_before e (plain_all items)) (plain_all new))
-      ∙ omega (arith, length-drop (kept_before e (plain_all items)) (plain_all new), rejoin_is, length-plain new, ap length split_new, length-append (kept ++ made) (drop to items), length-append kept made, many))
+      ∙ omega (
+        arith,
+        length-drop (kept_before e (plain_all items)) (plain_all new),
+        rejoin_is,
+        length-plain new,
+        ap length split_new,
+        length-append (kept ++ made) (drop to items),
+        length-append kept made,
+        many,
+      ))
 
   -- the kinds of the tokens gone give way to those of the tokens made
   pub spliced : Fits items → change items (kept_before e (plain_all items)) to (significant_kinds made) ≡ splice lexicon.skips e (plain_all items) (plain_all new)
@@ -149,8 +175,10 @@ module _ (lexicon : Lexicon) (e : Edit) (items : List Token) (u : List ℕ) (h :
       omega (arith, from, ap length before, count_range items place to (prefix_to f)) in
       ap (λ n. replaced n (count_by is_significant (take to items)) (significant_kinds (slice_range items place to)) (significant_kinds made)) (sym from)
       ∙ ap (λ n. replaced (length (kinds lexicon.skips (take place (plain_all items)))) n (significant_kinds (slice_range items place to)) (significant_kinds made)) sum
-      ∙ ap (λ ks. replaced (length (kinds lexicon.skips (take place (plain_all items)))) (length (kinds lexicon.skips (take place (plain_all items))) + length (kinds lexicon.skips (gone e (plain_all items) (plain_all new)))) ks (significant_kinds made)) (sym before)
-      ∙ ap (λ ks. replaced (length (kinds lexicon.skips (take place (plain_all items)))) (length (kinds lexicon.skips (take place (plain_all items))) + length (kinds lexicon.skips (gone e (plain_all items) (plain_all new)))) (kinds lexicon.skips (gone e (plain_all items) (plain_all new))) ks) (sym after)
+      ∙ ap (λ ks. replaced (length (kinds lexicon.skips (take place (plain_all items)))) (length (kinds lexicon.skips (take place (plain_all items))) + length
+      (kinds lexicon.skips (gone e (plain_all items) (plain_all new)))) ks (significant_kinds made)) (sym before)
+      ∙ ap (λ ks. replaced (length (kinds lexicon.skips (take place (plain_all items)))) (length (kinds lexicon.skips (take place (plain_all items))) + length
+      (kinds lexicon.skips (gone e (plain_all items) (plain_all new)))) (kinds lexicon.skips (gone e (plain_all items) (plain_all new))) ks) (sym after)
 
   -- so they are the tokens after the edit
   pub remade_after : (n : ℕ) (s : Splice) → Fits items → s ≡ change items (kept_before e (plain_all items)) to (significant_kinds made)

@@ -31,7 +31,8 @@ made_join skips born xs ys h k = record {
 one : (P : Token → Type 0) (x : Token) → P x → All P (x ∷ [])
 one P x p = All-cons P x [] p (All-nil P)
 
-pub made_more : (skips : List Bool) (born : ℕ) (xs : List Token) (x : Token) → AreMade skips born xs → x.skipped ≡ is_skipped skips (kind_in x) → x.born ≡ born → 1 ≤ x.length → x.reach ≤ 1048577 → AreMade skips born (xs ++ x ∷ [])
+pub made_more : (skips : List Bool) (born : ℕ) (xs : List Token) (x : Token) → AreMade skips born xs → x.skipped ≡ is_skipped skips (kind_in x)
+    → x.born ≡ born → 1 ≤ x.length → x.reach ≤ 1048577 → AreMade skips born (xs ++ x ∷ [])
 made_more skips born xs x h a b c d =
     made_join skips born xs (x ∷ []) h
     (record {
@@ -49,13 +50,15 @@ place : (t : List ℕ) (from at : ℕ) (xs : List Token) → at ≡ from + chara
 place t from at xs is = ap (λ n. drop n t) (is ∙ ap (λ n. from + n) (sym (chars-plain xs))) ∙ sym (drop-drop (chars (map plain xs)) from t)
 
 -- one more token made
-pub lead_one : (rules : List Expression) (t : List ℕ) (from at : ℕ) (made : List Token) (x : Token) → at ≡ from + characters made → Leads rules (drop from t) (map plain made) → IsToken rules (drop at t) (plain x) → Leads rules (drop from t) (map plain (made ++ x ∷ []))
+pub lead_one : (rules : List Expression) (t : List ℕ) (from at : ℕ) (made : List Token) (x : Token) → at ≡ from + characters made → Leads rules (drop from t) (map plain made)
+    → IsToken rules (drop at t) (plain x) → Leads rules (drop from t) (map plain (made ++ x ∷ []))
 lead_one rules t from at made x is l p =
     subst (λ xs. Leads rules (drop from t) xs) (sym (map-append plain made (x ∷ [])))
     (leads_more rules (drop from t) (map plain made) (plain x) l (subst (λ v. IsToken rules v (plain x)) (place t from at made is) p))
 
 module _ (lexicon : Lexicon) (t : List ℕ) where
-  pub next_one : (from at : ℕ) (xs : List Token) (x : Token) → AreNext lexicon t from xs at → IsToken lexicon.patterns (drop at t) (plain x) → AreMade lexicon.skips 0 (xs ++ x ∷ []) → at + x.length ≤ length t → AreNext lexicon t from (xs ++ x ∷ []) (at + x.length)
+  pub next_one : (from at : ℕ) (xs : List Token) (x : Token) → AreNext lexicon t from xs at → IsToken lexicon.patterns (drop at t) (plain x)
+      → AreMade lexicon.skips 0 (xs ++ x ∷ []) → at + x.length ≤ length t → AreNext lexicon t from (xs ++ x ∷ []) (at + x.length)
   next_one from at xs x h p made l = record {
     leads = lead_one lexicon.patterns t from at xs x h.end_is h.leads p;
     made = made;

@@ -4,7 +4,8 @@ use Rattle.lexer.proofs.Common.{append_assoc, drop_at, drop-take, length-map, ma
 use Rattle.lexer.proofs.Totals.{count-cons}
 
 -- the kind of the significant token that has k before it
-kind_from : (xs : List Token) (p k : ℕ) (x : Token) → slice_get xs p ≡ Some x → count_by is_significant (take p xs) ≡ k → count_by is_significant (take (suc p) xs) ≡ k + 1 → slice_index_or (significant_kinds xs) k Invalid ≡ kind_in x
+kind_from : (xs : List Token) (p k : ℕ) (x : Token) → slice_get xs p ≡ Some x → count_by is_significant (take p xs) ≡ k
+    → count_by is_significant (take (suc p) xs) ≡ k + 1 → slice_index_or (significant_kinds xs) k Invalid ≡ kind_in x
 kind_from [] p k x is a b = absurd (omega arith)
 kind_from (y ∷ xs) zero k x is a b = go y.skipped refl
   where
@@ -20,18 +21,24 @@ kind_from (y ∷ xs) (suc p) k x is a b = go y.skipped refl k a b (λ j c d. kin
         → ((j : ℕ) → count_by is_significant (take p xs) ≡ j → count_by is_significant (take (suc p) xs) ≡ j + 1 → slice_index_or (significant_kinds xs) j Invalid ≡ kind_in x)
         → slice_index_or (significant_kinds (y ∷ xs)) k Invalid ≡ kind_in x
     go true e k a b later =
-        let one : count_by is_significant (y ∷ take p xs) ≡ 0 + count_by is_significant (take p xs) = subst (λ s. count_by is_significant (y ∷ take p xs) ≡ (if s then 0 else 1) + count_by is_significant (take p xs)) e (count-cons y (take p xs)) in
-        let two : count_by is_significant (y ∷ take (suc p) xs) ≡ 0 + count_by is_significant (take (suc p) xs) = subst (λ s. count_by is_significant (y ∷ take (suc p) xs) ≡ (if s then 0 else 1) + count_by is_significant (take (suc p) xs)) e (count-cons y (take (suc p) xs)) in
+        let one : count_by is_significant (y ∷ take p xs) ≡ 0 + count_by is_significant (take p xs) =
+        subst (λ s. count_by is_significant (y ∷ take p xs) ≡ (if s then 0 else 1) + count_by is_significant (take p xs)) e (count-cons y (take p xs)) in
+        let two : count_by is_significant (y ∷ take (suc p) xs) ≡ 0 + count_by is_significant (take (suc p) xs) =
+        subst (λ s. count_by is_significant (y ∷ take (suc p) xs) ≡ (if s then 0 else 1) + count_by is_significant (take (suc p) xs)) e (count-cons y (take (suc p) xs)) in
         rw e (later k (omega (arith, one, a)) (omega (arith, two, b)))
     go false e zero a b later =
-        let one : count_by is_significant (y ∷ take p xs) ≡ 1 + count_by is_significant (take p xs) = subst (λ s. count_by is_significant (y ∷ take p xs) ≡ (if s then 0 else 1) + count_by is_significant (take p xs)) e (count-cons y (take p xs)) in
+        let one : count_by is_significant (y ∷ take p xs) ≡ 1 + count_by is_significant (take p xs) =
+        subst (λ s. count_by is_significant (y ∷ take p xs) ≡ (if s then 0 else 1) + count_by is_significant (take p xs)) e (count-cons y (take p xs)) in
         absurd (omega (arith, one, a))
     go false e (suc k) a b later =
-        let one : count_by is_significant (y ∷ take p xs) ≡ 1 + count_by is_significant (take p xs) = subst (λ s. count_by is_significant (y ∷ take p xs) ≡ (if s then 0 else 1) + count_by is_significant (take p xs)) e (count-cons y (take p xs)) in
-        let two : count_by is_significant (y ∷ take (suc p) xs) ≡ 1 + count_by is_significant (take (suc p) xs) = subst (λ s. count_by is_significant (y ∷ take (suc p) xs) ≡ (if s then 0 else 1) + count_by is_significant (take (suc p) xs)) e (count-cons y (take (suc p) xs)) in
+        let one : count_by is_significant (y ∷ take p xs) ≡ 1 + count_by is_significant (take p xs) =
+        subst (λ s. count_by is_significant (y ∷ take p xs) ≡ (if s then 0 else 1) + count_by is_significant (take p xs)) e (count-cons y (take p xs)) in
+        let two : count_by is_significant (y ∷ take (suc p) xs) ≡ 1 + count_by is_significant (take (suc p) xs) =
+        subst (λ s. count_by is_significant (y ∷ take (suc p) xs) ≡ (if s then 0 else 1) + count_by is_significant (take (suc p) xs)) e (count-cons y (take (suc p) xs)) in
         rw e (later k (omega (arith, one, a)) (omega (arith, two, b)))
 
-pub kind_at : (xs : List Token) (p k : ℕ) (x : Token) → slice_get xs p ≡ Some x → count_by is_significant (take p xs) ≡ k → count_by is_significant (take (p + 1) xs) ≡ k + 1 → slice_index_or (significant_kinds xs) k Invalid ≡ kind_in x
+pub kind_at : (xs : List Token) (p k : ℕ) (x : Token) → slice_get xs p ≡ Some x → count_by is_significant (take p xs) ≡ k
+    → count_by is_significant (take (p + 1) xs) ≡ k + 1 → slice_index_or (significant_kinds xs) k Invalid ≡ kind_in x
 kind_at xs p k x is a b =
     let e : p + 1 ≡ suc p = omega arith in
     kind_from xs p k x is a (subst (λ n. count_by is_significant (take n xs) ≡ k + 1) e b)
@@ -47,7 +54,8 @@ get_none (x ∷ xs) (suc p) l e = get_none xs p (omega arith) e
 -- where the marks are right these are the kinds of the tokens without their marks
 pub kinds_plain : (skips : List Bool) (xs : List Token) → All (λ x. x.skipped ≡ is_skipped skips (kind_in x)) xs → kinds skips (plain_all xs) ≡ significant_kinds xs
 kinds_plain skips [] h = refl
-kinds_plain skips (x ∷ xs) h = go x.skipped refl (sym (All-head (λ x. x.skipped ≡ is_skipped skips (kind_in x)) x xs h)) (kinds_plain skips xs (All-tail (λ x. x.skipped ≡ is_skipped skips (kind_in x)) x xs h))
+kinds_plain skips (x ∷ xs) h = go x.skipped refl (sym (All-head (λ x. x.skipped ≡ is_skipped skips (kind_in x)) x xs h))
+    (kinds_plain skips xs (All-tail (λ x. x.skipped ≡ is_skipped skips (kind_in x)) x xs h))
   where
     go : (b : Bool) → x.skipped ≡ b → is_skipped skips (kind_in x) ≡ x.skipped → kinds skips (plain_all xs) ≡ significant_kinds xs → kinds skips (plain_all (x ∷ xs)) ≡ significant_kinds (x ∷ xs)
     go true e m rest = let k : is_skipped skips (kind_in x) ≡ true = m ∙ e in rw (k, e) rest
@@ -124,12 +132,14 @@ module _ (xs made : List Token) (kept_before to : ℕ) (ordered : kept_before �
     new_is = new ∙ ap (λ ks. a ++ (ks ++ b)) (sym e) ∙ sym whole ∙ sym (take-append-drop from (significant_kinds xs));
   }
 
-  other : IsSpliced (record { from = from; to = count_by is_significant (take to xs); kinds = significant_kinds made }) (significant_kinds xs) (significant_kinds (take kept_before xs ++ (made ++ drop to xs)))
+  other : IsSpliced (record { from = from; to = count_by is_significant (take to xs); kinds = significant_kinds made })
+      (significant_kinds xs) (significant_kinds (take kept_before xs ++ (made ++ drop to xs)))
   other =
       let many = count_range xs kept_before to ordered in
       let prefix_kinds : take from (significant_kinds xs) ≡ a = ap (take from) whole ∙ take_at a (m ++ b) from (length-kinds (take kept_before xs)) in
       let rest_kinds : drop (count_by is_significant (take to xs)) (significant_kinds xs) ≡ b =
-      ap (drop (count_by is_significant (take to xs))) (whole ∙ sym (append_assoc a m b)) ∙ drop_at (a ++ m) b (count_by is_significant (take to xs)) (omega (arith, length-append a m, length-kinds (take kept_before xs), many)) in
+      ap (drop (count_by is_significant (take to xs))) (whole ∙ sym (append_assoc a m b)) ∙ drop_at (a ++ m) b (count_by is_significant (take to xs))
+      (omega (arith, length-append a m, length-kinds (take kept_before xs), many)) in
       record {
         ordered = omega (arith, many);
         inside = omega (arith, ap length whole, length-append a (m ++ b), length-append m b, length-kinds (take kept_before xs), many);
@@ -139,7 +149,8 @@ module _ (xs made : List Token) (kept_before to : ℕ) (ordered : kept_before �
   pub spliced_kinds : IsSpliced (change xs kept_before to (significant_kinds made)) (significant_kinds xs) (significant_kinds (take kept_before xs ++ (made ++ drop to xs)))
   spliced_kinds = by (same_kinds m (significant_kinds made)) refl
     where
-      by : (t : Bool) → same_kinds m (significant_kinds made) ≡ t → IsSpliced (change xs kept_before to (significant_kinds made)) (significant_kinds xs) (significant_kinds (take kept_before xs ++ (made ++ drop to xs)))
+      by : (t : Bool) → same_kinds m (significant_kinds made) ≡ t → IsSpliced (change xs kept_before to (significant_kinds made))
+          (significant_kinds xs) (significant_kinds (take kept_before xs ++ (made ++ drop to xs)))
       by true e = rw e (same (same_list m (significant_kinds made) e))
       by false e = rw e other
 

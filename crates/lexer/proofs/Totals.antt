@@ -24,7 +24,8 @@ total_significant [] h = refl
 total_significant (x ∷ xs) h =
     let few : count_by is_significant xs ≤ length xs = count_by-le-length is_significant xs in
     let rest : (tot xs).significant ≡ count_by is_significant xs = total_significant xs (one_more (length xs) most (omega arith)) in
-    ap (saturated most (if x.skipped then 0 else 1)) rest ∙ saturated-exact most (if x.skipped then 0 else 1) (count_by is_significant xs) (omega (arith, at_most_one x.skipped)) ∙ sym (count-cons x xs)
+    ap (saturated most (if x.skipped then 0 else 1)) rest ∙ saturated-exact most (if x.skipped then 0 else 1)
+    (count_by is_significant xs) (omega (arith, at_most_one x.skipped)) ∙ sym (count-cons x xs)
 
 pub characters-cons : (x : Token) (xs : List Token) → characters (x ∷ xs) ≡ x.length + characters xs
 characters-cons x xs = sum_by-cons (λ x. x.length) x xs
@@ -78,7 +79,8 @@ counts_one_more xs p =
     subst (λ n. count_by is_significant (take n xs) ≤ count_by is_significant (take p xs) + 1) e (counts_one xs p)
 
 -- the significant tokens before the place found for k
-module _ (xs : List Token) (k p : ℕ) (f : Fits xs) (l : k < count_by is_significant xs) (m : p ≤ length xs) (before : (i : ℕ) → i < p → nat_lt k (tot (take (i + 1) xs)).significant ≡ false) (at : p < length xs → IsTrue (nat_lt k (tot (take (p + 1) xs)).significant)) where
+module _ (xs : List Token) (k p : ℕ) (f : Fits xs) (l : k < count_by is_significant xs) (m : p ≤ length xs) (before : (i : ℕ) → i < p → nat_lt k (tot (take (i + 1) xs)).significant ≡ false)
+    (at : p < length xs → IsTrue (nat_lt k (tot (take (p + 1) xs)).significant)) where
   not_past : (n : ℕ) → n ≡ p → count_by is_significant (take n xs) ≤ k
   not_past zero e = omega arith
   not_past (suc n) e =

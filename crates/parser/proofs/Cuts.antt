@@ -54,7 +54,15 @@ opened_aside p us ts two n some less h lefts t (Past {lefts = inner} w) k a =
 
 branch_lighter : (p : ℕ) (us : Forest) (ts : List Tree) → weight (trees us ++ ts) < weight (Branch p us ∷ ts)
 branch_lighter p us ts =
-    omega (arith, branches-append (trees us) ts, branches-trees us, ap length (kinds-append (trees us) ts), ap length (kinds-trees us), length-append (all_kinds (trees us)) (all_kinds ts), length-append (yields us) (all_kinds ts))
+    omega (
+      arith,
+      branches-append (trees us) ts,
+      branches-trees us,
+      ap length (kinds-append (trees us) ts),
+      ap length (kinds-trees us),
+      length-append (all_kinds (trees us)) (all_kinds ts),
+      length-append (yields us) (all_kinds ts),
+    )
 
 pub taken_lighter : (t : Tree) (ts : List Tree) → weight ts < weight (t ∷ ts)
 taken_lighter (Leaf k) ts = omega arith
@@ -62,7 +70,8 @@ taken_lighter (Branch p us) ts = omega (arith, length-append (yields us) (all_ki
 
 pub older-append : (n : ℕ) (cells : List Cell) (one two : List Child) → AreOlder n (all_trees cells one) → AreOlder n (all_trees cells two) → AreOlder n (all_trees cells (one ++ two))
 older-append n cells one two h k =
-    subst (AreOlder n) (sym (trees_of-append (trees_from [] cells) one two)) (λ lefts p born us w. ⊎_elim (λ a. h lefts p born us a) (λ b. k b.0 p born us b.1) (stamped_split (all_trees cells one) (all_trees cells two) w))
+    subst (AreOlder n) (sym (trees_of-append (trees_from [] cells) one two))
+    (λ lefts p born us w. ⊎_elim (λ a. h lefts p born us a) (λ b. k b.0 p born us b.1) (stamped_split (all_trees cells one) (all_trees cells two) w))
 
 module _ (cells : List Cell) where
   -- an opened node is a branch over its children
@@ -77,7 +86,8 @@ module _ (cells : List Cell) where
     before_it cs = ap (λ l. l ++ plain_of cells cs) (sym (plain-children (trees_from [] cells) kids)) ∙ sym (plain-append cells kids cs)
 
     -- what leads from the opened list to another, or back, leads from the branch
-    over : (P : List Tree → List Tree → Type 0) (cs : List Child) → P (trees us ++ plain_of cells cs) (Branch of_id.production us ∷ plain_of cells cs) → P (plain_of cells (kids ++ cs)) (plain_of cells (Node id ∷ cs))
+    over : (P : List Tree → List Tree → Type 0) (cs : List Child) → P (trees us ++ plain_of cells cs) (Branch of_id.production us ∷ plain_of cells cs)
+        → P (plain_of cells (kids ++ cs)) (plain_of cells (Node id ∷ cs))
     over P cs h = subst (λ t. P (plain_of cells (kids ++ cs)) (t ∷ plain_of cells cs)) is_branch (subst (λ l. P l (Branch of_id.production us ∷ plain_of cells cs)) (before_it cs) h)
 
     pub opened_lighter : (cs : List Child) → weight (plain_of cells (kids ++ cs)) < weight (plain_of cells (Node id ∷ cs))
@@ -95,15 +105,17 @@ module _ (cells : List Cell) where
     opened_from : (cs : List Child) (one : List Tree) → FindsAll one (plain_of cells (kids ++ cs)) → FindsAll one (plain_of cells (Node id ∷ cs))
     opened_from cs one = over (λ l m. FindsAll one l → FindsAll one m) cs (opened_all of_id.production us (plain_of cells cs) one)
 
-    opened_keeps : (cs : List Child) (two : List Tree) (n : ℕ) → 0 < n → n < kinds_in cells (Node id) → FindsAside n (plain_of cells (kids ++ cs)) two → FindsAside n (plain_of cells (Node id ∷ cs)) two
-    opened_keeps cs two n some less = over (λ l m. FindsAside n l two → FindsAside n m two) cs (opened_aside of_id.production us (plain_of cells cs) two n some (subst (λ t. n < length (yield t)) (sym is_branch) less))
+    opened_keeps : (cs : List Child) (two : List Tree) (n : ℕ) → 0 < n → n < kinds_in cells (Node id)
+        → FindsAside n (plain_of cells (kids ++ cs)) two → FindsAside n (plain_of cells (Node id ∷ cs)) two
+    opened_keeps cs two n some less = over (λ l m. FindsAside n l two → FindsAside n m two) cs
+        (opened_aside of_id.production us (plain_of cells cs) two n some (subst (λ t. n < length (yield t)) (sym is_branch) less))
 
   -- the two sides together have the kinds of the list
   pub cut_kinds : {n : ℕ} {cs start back : List Child} → IsSplitAt cells n cs start back → all_kinds (plain_of cells cs) ≡ all_kinds (plain_of cells start) ++ all_kinds (plain_of cells back)
-  cut_kinds Here = refl
-  cut_kinds Used_up = refl
-  cut_kinds (Whole {c = c} {start = start} {back = back} e d) = ap (λ l. yield (plain (tree cells c)) ++ l) (cut_kinds d) ∙ sym (append_assoc (yield (plain (tree cells c))) (all_kinds (plain_of cells start)) (all_kinds (plain_of cells back)))
+  cut_kinds (Whole {c = c} {start = start} {back = back} e d) = ap (λ l. yield (plain (tree cells c)) ++ l) (cut_kinds d)
+      ∙ sym (append_assoc (yield (plain (tree cells c))) (all_kinds (plain_of cells start)) (all_kinds (plain_of cells back)))
   cut_kinds (Opened {cs = cs} some less of_id d) = sym (opened_kinds of_id cs) ∙ cut_kinds d
+  cut_kinds d = refl
 
   pub cut_below : (m : ℕ) {n : ℕ} {cs start back : List Child} → IsSplitAt cells n cs start back → AreBelow m cs → AreBelow m start × AreBelow m back
   cut_below m Here h = (tt, h)
@@ -111,7 +123,8 @@ module _ (cells : List Cell) where
   cut_below m (Whole e d) h = let r = cut_below m d h.1 in ((h.0, r.0), r.1)
   cut_below m (Opened {cs = cs} some less of_id d) h = cut_below m d (opened_below of_id m cs h)
 
-  pub cut_parts : (g : Grammar) {n : ℕ} {cs start back : List Child} → IsSplitAt cells n cs start back → AreParts g (plain_of cells cs) → AreParts g (plain_of cells start) × AreParts g (plain_of cells back)
+  pub cut_parts : (g : Grammar) {n : ℕ} {cs start back : List Child} → IsSplitAt cells n cs start back → AreParts g (plain_of cells cs)
+      → AreParts g (plain_of cells start) × AreParts g (plain_of cells back)
   cut_parts g Here h = (tt, h)
   cut_parts g Used_up h = (tt, tt)
   cut_parts g (Whole e d) h = let r = cut_parts g d h.1 in ((h.0, r.0), r.1)
@@ -123,9 +136,11 @@ module _ (cells : List Cell) where
   cut_came Used_up = come_all []
   cut_came (Whole {c = c} {cs = cs} {start = start} {back = back} e d) = come_past (tree cells c) (all_trees cells cs) (all_trees cells start ++ all_trees cells back) (cut_came d)
   cut_came (Opened {id = id} {kids = kids} {cs = cs} {start = start} {back = back} some less of_id d) =
-      come_on 0 0 (all_trees cells (Node id ∷ cs)) (all_trees cells (kids ++ cs)) (all_trees cells start ++ all_trees cells back) (opened_came cells kids cs id of_id.production of_id.born of_id.is) (cut_came d)
+      come_on 0 0 (all_trees cells (Node id ∷ cs)) (all_trees cells (kids ++ cs)) (all_trees cells start ++ all_trees cells back)
+      (opened_came cells kids cs id of_id.production of_id.born of_id.is) (cut_came d)
 
-  pub cut_older : (number : ℕ) {n : ℕ} {cs start back : List Child} → IsSplitAt cells n cs start back → AreOlder number (all_trees cells cs) → AreOlder number (all_trees cells start) × AreOlder number (all_trees cells back)
+  pub cut_older : (number : ℕ) {n : ℕ} {cs start back : List Child} → IsSplitAt cells n cs start back → AreOlder number (all_trees cells cs)
+      → AreOlder number (all_trees cells start) × AreOlder number (all_trees cells back)
   cut_older number {cs = cs} {start = start} {back = back} cut h =
       let prefixes = all_trees cells start in
       let backs = all_trees cells back in
@@ -136,23 +151,24 @@ module _ (cells : List Cell) where
 
   -- each node of the parts stood in the list
   pub cut_from : {n : ℕ} {cs start back : List Child} → IsSplitAt cells n cs start back → FindsAll (plain_of cells start ++ plain_of cells back) (plain_of cells cs)
-  cut_from Here = λ lefts t w. (lefts, w, refl)
-  cut_from Used_up = λ lefts t w. (lefts, w, refl)
   cut_from (Whole {c = c} {cs = cs} {start = start} {back = back} e d) = past_all (plain (tree cells c)) (plain_of cells start ++ plain_of cells back) (plain_of cells cs) (cut_from d)
   cut_from (Opened {cs = cs} {start = start} {back = back} some less of_id d) = opened_from of_id cs (plain_of cells start ++ plain_of cells back) (cut_from d)
+  cut_from d = λ lefts t w. (lefts, w, refl)
 
   -- each node that is not cut stands in a part
   pub cut_keeps : {n : ℕ} {cs start back : List Child} → IsSplitAt cells n cs start back → FindsAside n (plain_of cells cs) (plain_of cells start ++ plain_of cells back)
   cut_keeps (Here {cs = cs}) = same_nodes 0 (plain_of cells cs) (plain_of cells cs) refl
   cut_keeps (Used_up {n = n}) = same_nodes n [] [] refl
-  cut_keeps (Whole {m = m} {n = n} {c = c} {cs = cs} {start = start} {back = back} e d) = past_aside (plain (tree cells c)) (plain_of cells cs) (plain_of cells start ++ plain_of cells back) m n e (cut_keeps d)
+  cut_keeps (Whole {m = m} {n = n} {c = c} {cs = cs} {start = start} {back = back} e d) = past_aside (plain (tree cells c))
+      (plain_of cells cs) (plain_of cells start ++ plain_of cells back) m n e (cut_keeps d)
   cut_keeps (Opened {n = n} {cs = cs} {start = start} {back = back} some less of_id d) = opened_keeps of_id cs (plain_of cells start ++ plain_of cells back) n some less (cut_keeps d)
 
   -- trees that fit stay whole, before what is cut
   pub cut_after : (xs : List Child) (m n : ℕ) {ys start back : List Child} → place_of (plain_of cells xs) + m ≡ n → IsSplitAt cells m ys start back → IsSplitAt cells n (xs ++ ys) (xs ++ start) back
   cut_after [] m n {ys} {start} {back} e d = let same : m ≡ n = omega (arith, e) in subst (λ k. IsSplitAt cells k ys start back) same d
   cut_after (x ∷ xs) m n e d =
-      Whole {m = place_of (plain_of cells xs) + m} (omega (arith, e, length-append (yield (plain (tree cells x))) (all_kinds (plain_of cells xs)))) (cut_after xs m (place_of (plain_of cells xs) + m) refl d)
+      Whole {m = place_of (plain_of cells xs) + m} (omega (arith, e, length-append (yield (plain (tree cells x))) (all_kinds (plain_of cells xs))))
+      (cut_after xs m (place_of (plain_of cells xs) + m) refl d)
 
 -- what the store counts is the number of kinds, where there are not too many
 pub counted : (count : ℕ) → count ≤ most → min most count ≡ count
@@ -169,4 +185,9 @@ not_counted count left less = grind (arith, less)
 pub place_push : (cells : List Cell) (cs : List Child) (c : Child) → place_of (plain_of cells (cs ++ (c ∷ []))) ≡ place_of (plain_of cells cs) + kinds_in cells c
 place_push cells [] c = omega (arith, length-append (yield (plain (tree cells c))) [])
 place_push cells (x ∷ cs) c =
-    omega (arith, place_push cells cs c, length-append (yield (plain (tree cells x))) (all_kinds (plain_of cells (cs ++ (c ∷ [])))), length-append (yield (plain (tree cells x))) (all_kinds (plain_of cells cs)))
+    omega (
+      arith,
+      place_push cells cs c,
+      length-append (yield (plain (tree cells x))) (all_kinds (plain_of cells (cs ++ (c ∷ [])))),
+      length-append (yield (plain (tree cells x))) (all_kinds (plain_of cells cs)),
+    )

@@ -7,7 +7,8 @@ pub none_counted : (xs : List Child) → length xs ≡ 0 → xs ≡ []
 none_counted [] e = refl
 none_counted (x ∷ xs) e = absurd (omega (arith, e))
 
-pub no_trees : (t : Sets) (cells : List Cell) (stack : List Tree) (kinds : List Kind) (read : ℕ) (kind : Option Kind) → kind ≡ slice_get kinds read → IsInput t.grammar cells [] kinds read → IsEdge t cells stack kinds read [] [] (record { offer = Next kind; first = None; len = 0 })
+pub no_trees : (t : Sets) (cells : List Cell) (stack : List Tree) (kinds : List Kind) (read : ℕ) (kind : Option Kind) → kind ≡ slice_get kinds read
+    → IsInput t.grammar cells [] kinds read → IsEdge t cells stack kinds read [] [] (record { offer = Next kind; first = None; len = 0 })
 no_trees t cells stack kinds read kind is h = record {
   full = [];
   skips = ([], refl, refl);

@@ -17,7 +17,8 @@ old_input t kinds cells parse h =
     record {
       below = h.stop.below;
       parts = roots_parts t.grammar ts h.stop.roots h.stop.are_roots;
-      covers = kinds-append ts (leaves (drop (0 + length all) kinds)) ∙ ap (λ l. all ++ l) (kinds_leaves (drop (0 + length all) kinds)) ∙ ap (λ m. all ++ drop m kinds) n ∙ ap (λ l. all ++ drop (length all) l) prefix.1 ∙ ap (λ l. all ++ l) (drop-append_seam all prefix.0) ∙ sym prefix.1;
+      covers = kinds-append ts (leaves (drop (0 + length all) kinds)) ∙ ap (λ l. all ++ l) (kinds_leaves (drop (0 + length all) kinds)) ∙ ap (λ m. all ++ drop m kinds) n
+          ∙ ap (λ l. all ++ drop (length all) l) prefix.1 ∙ ap (λ l. all ++ l) (drop-append_seam all prefix.0) ∙ sym prefix.1;
     }
 
 -- and no more kinds than can be counted
@@ -42,13 +43,15 @@ module _ (g : Grammar) where
       subst (λ l. AreAnswer g l stack ⊎ (stack ≡ [])) (append-nil kinds) (settled_answer kinds [] s.trees stack s.are s.stack_is)
 
   -- what holds of each tree that is taken over holds of the one in which a node is
-  taken_in : (P : List Tree → Tree → Type 0) {s i s' i' : List Tree} (run : Goes_on g s i s' i') → EachTaken g P run → (below : List Tree) (w : Tree) → TakesOver g run below w → (at : List Tree) × (t : Tree) × (inner : List Tree) × P at t × StandsIn (t ∷ []) inner w × (at ++ inner ≡ below)
+  taken_in : (P : List Tree → Tree → Type 0) {s i s' i' : List Tree} (run : Goes_on g s i s' i') → EachTaken g P run → (below : List Tree) (w : Tree)
+      → TakesOver g run below w → (at : List Tree) × (t : Tree) × (inner : List Tree) × P at t × StandsIn (t ∷ []) inner w × (at ++ inner ≡ below)
   taken_in P Ends each below w h = absurd h
   taken_in P (Reuses {stack = stack} t ts f c more) each below w h = ⊎_elim (λ a. (stack, t, a.0, each.0, a.1, a.2)) (λ b. taken_in P more each.1 below w b) h
   taken_in P (Takes_token k ts f m more) each below w h = taken_in P more each below w h
   taken_in P (Makes s1 f t n r more) each below w h = taken_in P more each below w h
 
-module _ (t : Sets) (accepted : IsAccepted t.grammar) (kinds : List Kind) (whole : List Tree) (before number : ℕ) (cells : List Cell) (stack : List Child) (r : IsMadeByRun t whole kinds before number cells stack) (s : Splice) (old : List Tree) (prepared : IsPrepared s old whole) where
+module _ (t : Sets) (accepted : IsAccepted t.grammar) (kinds : List Kind) (whole : List Tree) (before number : ℕ) (cells : List Cell) (stack : List Child)
+    (r : IsMadeByRun t whole kinds before number cells stack) (s : Splice) (old : List Tree) (prepared : IsPrepared s old whole) where
   abbrev h : SoFar t whole kinds before number cells stack r.states r.read r.rest
   h = r.so_far
 
@@ -65,7 +68,8 @@ module _ (t : Sets) (accepted : IsAccepted t.grammar) (kinds : List Kind) (whole
   pub stamped_exactly : (v : Verdict) → IsVerdict t.grammar kinds v → AreStacked t.grammar kinds v (plain_of cells stack) → AreStampedExactly number s old new
   stamped_exactly v is stacked =
       ⊎_elim
-      (λ answer. exact t.grammar accepted.free accepted.productive number s old whole h.now new run_here.0 prepared (subst (λ l. AreAnswer t.grammar l (plain_trees new)) (sym h.whole_is) answer) run_here.1)
+      (λ answer. exact t.grammar accepted.free accepted.productive number s old whole h.now new run_here.0 prepared
+      (subst (λ l. AreAnswer t.grammar l (plain_trees new)) (sym h.whole_is) answer) run_here.1)
       (λ none below p born us w. absurd (nowhere (stamped_stands w) none))
       (answered t.grammar kinds v (plain_of cells stack) is stacked)
 
@@ -82,7 +86,17 @@ module _ (t : Sets) (accepted : IsAccepted t.grammar) (kinds : List Kind) (whole
           let each = taken_is_kept t.grammar accepted.free accepted.productive s old whole prepared run_here.0 in
           let in' = taken_in t.grammar (TakenIsKept s old (plain_trees new)) run_here.0 each below (Branch p (plain_all us)) over in
           let k = in'.3 in
-          record { at = in'.0; p = k.0; us = k.1; kept = k.3; stands = subst (λ u. StandsIn (plain_trees new) in'.0 u) k.2 k.4; inner = in'.2; way = subst (λ u. StandsIn (u ∷ []) in'.2 (Branch p (plain_all us))) k.2 in'.4; is = in'.5 }
+          record {
+            at = in'.0;
+            p = k.0;
+            us = k.1;
+            kept = k.3;
+            stands = subst (λ u. StandsIn (plain_trees new) in'.0 u) k.2 k.4;
+            inner =
+                in'.2;
+            way = subst (λ u. StandsIn (u ∷ []) in'.2 (Branch p (plain_all us))) k.2 in'.4;
+            is = in'.5;
+          }
 
   -- and their count is what the edit has built
   pub built_exactly : AreStampedExactly number s old new → Built s old 0 (plain_of cells stack) (all_branches_by number new)

@@ -9,9 +9,11 @@ IsFault v = ((k : ℕ) × (v ≡ StopsAt k)) ⊎ (v ≡ StopsAtEnd)
 
 -- what `Tables::expects` ensures
 abbrev pub ShowsExpected : Sets → ℕ → List (Option ℕ) → Type 0
-ShowsExpected t state looks = (x : List Kind) (stack : List Tree) (prefix : List Symbol) → IsStateOf t prefix state → IsStackAfter t.grammar x stack → HaveRoots t.grammar stack prefix → AreExpected t.grammar x looks
+ShowsExpected t state looks = (x : List Kind) (stack : List Tree) (prefix : List Symbol) → IsStateOf t prefix state
+    → IsStackAfter t.grammar x stack → HaveRoots t.grammar stack prefix → AreExpected t.grammar x looks
 
-pub expected : (t : Sets) (kinds : List Kind) (cells : List Cell) (parse : Stop) (looks : List (Option ℕ)) → IsParseOf t kinds cells parse → (v : Verdict) → parse.verdict ≡ v → IsFault v → ShowsExpected t parse.state looks → AreExpectedAt t.grammar kinds (verdict_in cells parse.verdict) looks
+pub expected : (t : Sets) (kinds : List Kind) (cells : List Cell) (parse : Stop) (looks : List (Option ℕ)) → IsParseOf t kinds cells parse → (v : Verdict)
+    → parse.verdict ≡ v → IsFault v → ShowsExpected t parse.state looks → AreExpectedAt t.grammar kinds (verdict_in cells parse.verdict) looks
 expected t kinds cells parse looks h (TreeAt id) e f shows = absurd (elim f [ inl k ↦ cc k.1 | inr k ↦ cc k ])
 expected t kinds cells parse looks h (StopsAt k) e f shows =
     let stacked = subst (λ v. AreStacked t.grammar kinds (verdict_in cells v) (plain_of cells parse.stack)) e h.stop.stack in

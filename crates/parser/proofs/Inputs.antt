@@ -47,7 +47,8 @@ opening_begins cells [] = refl
 opening_begins cells (c ∷ rest) = (c ∷ [], refl, append-nil (yield (plain (tree cells c))))
 
 -- other children of the same kinds in the place of the first
-pub opening_on : (cells : List Cell) (before now rest kids : List Child) (c : Child) → IsFull cells before → IsOpening cells before now → now ≡ c ∷ rest → all_kinds (plain_of cells kids) ≡ yield (plain (tree cells c)) → IsOpening cells before (kids ++ rest)
+pub opening_on : (cells : List Cell) (before now rest kids : List Child) (c : Child) → IsFull cells before → IsOpening cells before now → now ≡ c ∷ rest
+    → all_kinds (plain_of cells kids) ≡ yield (plain (tree cells c)) → IsOpening cells before (kids ++ rest)
 opening_on cells [] now rest kids c full h e same = absurd (let k : [] ≡ c ∷ rest = sym h ∙ e in cc k)
 opening_on cells (b ∷ bs) now rest kids c full h e same = go h.0 (sym h.1 ∙ e) h.2
   where
@@ -58,8 +59,10 @@ opening_on cells (b ∷ bs) now rest kids c full h e same = go h.0 (sym h.1 ∙ 
         let two : os ++ bs ≡ rest = tail-eq_of_cons-eq e' in (
           kids ++ os,
           ap (λ l. kids ++ l) (sym two) ∙ sym (append_assoc kids os bs),
-          ap all_kinds (plain-append cells kids os) ∙ kinds-append (plain_of cells kids) (plain_of cells os) ∙ ap (λ l. l ++ all_kinds (plain_of cells os)) (same ∙ ap (λ d. yield (plain (tree cells d))) (sym one)) ∙ k,
+          ap all_kinds (plain-append cells kids os) ∙ kinds-append (plain_of cells kids) (plain_of cells os)
+              ∙ ap (λ l. l ++ all_kinds (plain_of cells os)) (same ∙ ap (λ d. yield (plain (tree cells d))) (sym one)) ∙ k,
         )
 
-pub kids_kinds : (cells : List Cell) (kids : List Child) (id : NodeId) (p b : ℕ) → tree cells (Node id) ≡ StampedBranch p b (forest_of (trees_from [] cells) kids) → all_kinds (plain_of cells kids) ≡ yield (plain (tree cells (Node id)))
+pub kids_kinds : (cells : List Cell) (kids : List Child) (id : NodeId) (p b : ℕ) → tree cells (Node id) ≡ StampedBranch p b (forest_of (trees_from [] cells) kids)
+    → all_kinds (plain_of cells kids) ≡ yield (plain (tree cells (Node id)))
 kids_kinds cells kids id p b e = ap all_kinds (plain-children (trees_from [] cells) kids) ∙ kinds-trees (plain_all (forest_of (trees_from [] cells) kids)) ∙ sym (ap (λ s. yield (plain s)) e)

@@ -37,7 +37,8 @@ open_parts g p us ts h = parts-append g (trees us) ts (trees_parts g us h.0.1.0 
 
 -- one step to the left edge
 abbrev pub Step : Grammar → List Tree → List Kind → ℕ → List Tree → List Tree → Type 0
-Step g stack kinds read new old = AreParts g new × (all_kinds (before_leaves new kinds read) ≡ drop read kinds) × Offers g stack (before_leaves new kinds read) (before_leaves old kinds read) × (weight new < weight old)
+Step g stack kinds read new old = AreParts g new × (all_kinds (before_leaves new kinds read) ≡ drop read kinds)
+    × Offers g stack (before_leaves new kinds read) (before_leaves old kinds read) × (weight new < weight old)
 
 pub after_drop : (xs ys zs : List Kind) (n : ℕ) → xs ++ ys ≡ drop n zs → ys ≡ drop (n + length xs) zs
 after_drop xs ys zs zero e = let h : length xs ≡ 0 + length xs = omega arith in sym (drop_past xs ys) ∙ ap (drop (length xs)) e ∙ ap (λ k. drop k zs) h
@@ -59,7 +60,8 @@ module _ (g : Grammar) (stack : List Tree) (kinds : List Kind) (read : ℕ) wher
       let e : all_kinds (trees us ++ ts) ≡ yields us ++ all_kinds ts = kinds-append (trees us) ts ∙ ap (λ l. l ++ all_kinds ts) (kinds-trees us) in
       append_assoc (trees us) ts (leaves (drop (read + length (all_kinds (trees us ++ ts))) kinds)) ∙ ap (λ l. trees us ++ (ts ++ leaves (drop (read + length l) kinds))) e
 
-  open_step : (p : ℕ) (us : Forest) (ts : List Tree) → AreParts g (Branch p us ∷ ts) → all_kinds (before_leaves (Branch p us ∷ ts) kinds read) ≡ drop read kinds → (CanReuse g stack (Branch p us) (drop (read + length (yields us)) kinds) → ⊥) → Step g stack kinds read (trees us ++ ts) (Branch p us ∷ ts)
+  open_step : (p : ℕ) (us : Forest) (ts : List Tree) → AreParts g (Branch p us ∷ ts) → all_kinds (before_leaves (Branch p us ∷ ts) kinds read) ≡ drop read kinds
+      → (CanReuse g stack (Branch p us) (drop (read + length (yields us)) kinds) → ⊥) → Step g stack kinds read (trees us ++ ts) (Branch p us ∷ ts)
   open_step p us ts parts covers fails =
       let rest = ts ++ leaves (drop (read + length (yields us ++ all_kinds ts)) kinds) in
       let after : all_kinds rest ≡ drop (read + length (yields us)) kinds = after_drop (yields us) (all_kinds rest) kinds read covers in
@@ -67,7 +69,15 @@ module _ (g : Grammar) (stack : List Tree) (kinds : List Kind) (read : ℕ) wher
         open_parts g p us ts parts,
         ap all_kinds shape ∙ kinds-append (trees us) rest ∙ ap (λ l. l ++ all_kinds rest) (kinds-trees us) ∙ covers,
         (λ f d. Opened (subst (λ l. CanReuse g stack (Branch p us) l → ⊥) (sym after) fails) (subst (λ l. Tries g stack l f) shape d)),
-        omega (arith, branches-append (trees us) ts, branches-trees us, ap length (kinds-append (trees us) ts), ap length (kinds-trees us), length-append (all_kinds (trees us)) (all_kinds ts), length-append (yields us) (all_kinds ts)),
+        omega (
+          arith,
+          branches-append (trees us) ts,
+          branches-trees us,
+          ap length (kinds-append (trees us) ts),
+          ap length (kinds-trees us),
+          length-append (all_kinds (trees us)) (all_kinds ts),
+          length-append (yields us) (all_kinds ts),
+        ),
       )
 
   drop_step : (t : Tree) (ts : List Tree) → AreParts g (t ∷ ts) → all_kinds (before_leaves (t ∷ ts) kinds read) ≡ drop read kinds → length (yield t) ≡ 0 → Step g stack kinds read ts (t ∷ ts)
@@ -86,14 +96,21 @@ module _ (g : Grammar) (stack : List Tree) (kinds : List Kind) (read : ℕ) wher
       let rest = ts ++ leaves (drop (read + length (yield t ++ all_kinds ts)) kinds) in
       omega (arith, n, ap length covers, length-append (yield t) (all_kinds rest), length-drop read kinds)
 
-pub opened : (g : Grammar) (cells : List Cell) (stack : List Tree) (kinds : List Kind) (read : ℕ) (id : NodeId) (rest kids : List Child) (p b : ℕ) → tree cells (Node id) ≡ StampedBranch p b (forest_of (trees_from [] cells) kids) → AreParts g (plain_of cells (Node id ∷ rest)) → all_kinds (before_leaves (plain_of cells (Node id ∷ rest)) kinds read) ≡ drop read kinds → (CanReuse g stack (plain (tree cells (Node id))) (drop (read + length (yield (plain (tree cells (Node id))))) kinds) → ⊥) → Step g stack kinds read (plain_of cells (kids ++ rest)) (plain_of cells (Node id ∷ rest))
+pub opened : (g : Grammar) (cells : List Cell) (stack : List Tree) (kinds : List Kind) (read : ℕ) (id : NodeId) (rest kids : List Child) (p b : ℕ)
+    → tree cells (Node id) ≡ StampedBranch p b (forest_of (trees_from [] cells) kids) → AreParts g (plain_of cells (Node id ∷ rest))
+    → all_kinds (before_leaves (plain_of cells (Node id ∷ rest)) kinds read) ≡ drop read kinds
+    → (CanReuse g stack (plain (tree cells (Node id))) (drop (read + length (yield (plain (tree cells (Node id))))) kinds) → ⊥)
+    → Step g stack kinds read (plain_of cells (kids ++ rest)) (plain_of cells (Node id ∷ rest))
 opened g cells stack kinds read id rest kids p b e parts covers fails =
     let us = plain_all (forest_of (trees_from [] cells) kids) in
     let ts = plain_of cells rest in
     let is : Branch p us ≡ plain (tree cells (Node id)) = sym (ap plain e) in
     let new : trees us ++ ts ≡ plain_of cells (kids ++ rest) = ap (λ l. l ++ ts) (sym (plain-children (trees_from [] cells) kids)) ∙ sym (plain-append cells kids rest) in
-    let step = subst (λ t. AreParts g (t ∷ ts) → all_kinds (before_leaves (t ∷ ts) kinds read) ≡ drop read kinds → (CanReuse g stack t (drop (read + length (yield t)) kinds) → ⊥) → Step g stack kinds read (trees us ++ ts) (t ∷ ts)) is (open_step g stack kinds read p us ts) in
+    let step = subst (λ t. AreParts g (t ∷ ts) → all_kinds (before_leaves (t ∷ ts) kinds read) ≡ drop read kinds → (CanReuse g stack t (drop (read + length (yield t)) kinds) → ⊥)
+    → Step g stack kinds read (trees us ++ ts) (t ∷ ts)) is (open_step g stack kinds read p us ts) in
     subst (λ l. Step g stack kinds read l (plain_of cells (Node id ∷ rest))) new (step parts covers fails)
 
-pub dropped : (g : Grammar) (cells : List Cell) (stack : List Tree) (kinds : List Kind) (read : ℕ) (c : Child) (rest : List Child) → AreParts g (plain_of cells (c ∷ rest)) → all_kinds (before_leaves (plain_of cells (c ∷ rest)) kinds read) ≡ drop read kinds → length (yield (plain (tree cells c))) ≡ 0 → Step g stack kinds read (plain_of cells rest) (plain_of cells (c ∷ rest))
+pub dropped : (g : Grammar) (cells : List Cell) (stack : List Tree) (kinds : List Kind) (read : ℕ) (c : Child) (rest : List Child) → AreParts g (plain_of cells (c ∷ rest))
+    → all_kinds (before_leaves (plain_of cells (c ∷ rest)) kinds read) ≡ drop read kinds → length (yield (plain (tree cells c))) ≡ 0
+    → Step g stack kinds read (plain_of cells rest) (plain_of cells (c ∷ rest))
 dropped g cells stack kinds read c rest parts covers empty = drop_step g stack kinds read (plain (tree cells c)) (plain_of cells rest) parts covers empty

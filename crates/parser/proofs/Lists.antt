@@ -35,7 +35,8 @@ is_empty : {A : Type 0} → (xs : List A) → length xs ≡ 0 → xs ≡ []
 is_empty [] e = refl
 is_empty (x ∷ xs) e = absurd (omega (arith, e))
 
-pub popped : {A : Type 0} → (xs ys seen : List A) (r : Option A) → backwards xs ≡ seen → xs ≡ ys ++ option_to_list r → IsSome r ↔ (0 < length xs) → MatchOption r ((seen ≡ []) × (backwards ys ≡ [])) (λ c. seen ≡ c ∷ backwards ys)
+pub popped : {A : Type 0} → (xs ys seen : List A) (r : Option A) → backwards xs ≡ seen → xs ≡ ys ++ option_to_list r → IsSome r ↔ (0 < length xs)
+    → MatchOption r ((seen ≡ []) × (backwards ys ≡ [])) (λ c. seen ≡ c ∷ backwards ys)
 popped xs ys seen None v e h =
     let none : xs ≡ [] = is_empty xs (⊎_elim (λ lt. absurd (cc (h.1 lt))) (λ ge. omega (arith, ge)) (cases_lt 0 (length xs))) in
     let same : xs ≡ ys = e ∙ append-nil ys in

@@ -9,7 +9,8 @@ top_stands t stack states h =
     subst (λ l. IsStateOf t l (get_or states (length states - 1) 0)) (take_all (length states - 1) h.symbols (omega (arith, h.long))) (h.each (length states - 1) lt)
 
 -- one symbol more, with its state
-pub states_push : (t : Sets) (stack stack' : List Tree) (states : List ℕ) (h : HasStates t stack states) (s : Symbol) (next : ℕ) → HaveRoots t.grammar stack' (h.symbols ++ (s ∷ [])) → IsStateOf t (h.symbols ++ (s ∷ [])) next → HasStates t stack' (states ++ (next ∷ []))
+pub states_push : (t : Sets) (stack stack' : List Tree) (states : List ℕ) (h : HasStates t stack states) (s : Symbol) (next : ℕ) → HaveRoots t.grammar stack' (h.symbols ++ (s ∷ []))
+    → IsStateOf t (h.symbols ++ (s ∷ [])) next → HasStates t stack' (states ++ (next ∷ []))
 states_push t stack stack' states h s next roots there =
     let whole = h.symbols ++ (s ∷ []) in
     record {

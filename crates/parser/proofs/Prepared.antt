@@ -90,7 +90,8 @@ module _ (s : Splice) where
         }
 
     -- a kept node before the splice stands at the start
-    kept_before : (place p : ℕ) (us : Forest) (kept : IsKept s olds place p us) → place_of kept.lefts + length (yields us) ≤ s.from → (place_of prefixes ≡ s.from) ⊎ (backs ≡ []) → (lefts : List Tree) × StandsIn prefixes lefts (Branch p us) × (place_of lefts ≡ place)
+    kept_before : (place p : ℕ) (us : Forest) (kept : IsKept s olds place p us) → place_of kept.lefts + length (yields us) ≤ s.from → (place_of prefixes ≡ s.from)
+        ⊎ (backs ≡ []) → (lefts : List Tree) × StandsIn prefixes lefts (Branch p us) × (place_of lefts ≡ place)
     kept_before place p us kept le reached =
         let r = cut_keeps cells first kept.lefts (Branch p us) kept.stood kept.not_empty (inl le) in
         let stays : place_of kept.lefts ≡ place = ⊎_elim (λ a. sym a.1) (λ b. absurd (omega (arith, b.0, le, ordered, kept.not_empty))) kept.moved in
@@ -116,7 +117,8 @@ module _ (s : Splice) where
     }
 
     -- where they reach it, the new kinds stand between what is before the splice and what is after it
-    module _ (reached : place_of prefixes ≡ s.from) {gone rest : List Child} (second : IsSplitAt cells (s.to - s.from) back gone rest) (fits : place_of (plain_of cells gone) ≤ s.to - s.from) (filled : (place_of (plain_of cells gone) ≡ s.to - s.from) ⊎ (plain_of cells rest ≡ [])) where
+    module _ (reached : place_of prefixes ≡ s.from) {gone rest : List Child} (second : IsSplitAt cells (s.to - s.from) back gone rest)
+        (fits : place_of (plain_of cells gone) ≤ s.to - s.from) (filled : (place_of (plain_of cells gone) ≡ s.to - s.from) ⊎ (plain_of cells rest ≡ [])) where
       abbrev gones : List Tree
       gones = plain_of cells gone
 
@@ -146,7 +148,8 @@ module _ (s : Splice) where
           }
 
       -- a kept node after the splice stands after it
-      kept_after : (place p : ℕ) (us : Forest) (kept : IsKept s olds place p us) → s.to ≤ place_of kept.lefts → (lefts : List Tree) × StandsIn rests lefts (Branch p us) × (s.from + (length s.kinds + place_of lefts) ≡ place)
+      kept_after : (place p : ℕ) (us : Forest) (kept : IsKept s olds place p us) → s.to ≤ place_of kept.lefts → (lefts : List Tree)
+          × StandsIn rests lefts (Branch p us) × (s.from + (length s.kinds + place_of lefts) ≡ place)
       kept_after place p us kept le =
           let t = Branch p us in
           let some = kept.not_empty in
@@ -179,7 +182,8 @@ module _ (s : Splice) where
           (λ b. ⊎_elim
           (λ c. absurd (no_branch s.kinds c))
           (λ c.
-          let place : s.from + (length s.kinds + place_of c.0) ≡ place_of lefts = omega (arith, ap place_of b.2, place-append prefixes b.0, reached, ap place_of c.2, place-append (leaves s.kinds) c.0, ap length (kinds_leaves s.kinds)) in
+          let place : s.from + (length s.kinds + place_of c.0) ≡ place_of lefts =
+          omega (arith, ap place_of b.2, place-append prefixes b.0, reached, ap place_of c.2, place-append (leaves s.kinds) c.0, ap length (kinds_leaves s.kinds)) in
           subst (λ n. IsKept s olds n p us) place (back_kept c.0 p us c.1 some))
           (stands_split (leaves s.kinds) rests b.1))
           (stands_split prefixes (leaves s.kinds ++ rests) w)

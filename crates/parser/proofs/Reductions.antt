@@ -44,7 +44,8 @@ get_prefix (suc k) (suc i) (x ∷ l) h = get_prefix k i l (omega (arith, h))
 
 -- the stack is what stays, and the slice after it
 pub parts : {A : Type 0} → (n : ℕ) (l l' : List A) → l' ≡ l → l ≡ take n l ++ take (length l' - n) (drop n l')
-parts n l l' e = subst (λ m. l ≡ take n l ++ take (length m - n) (drop n m)) (sym e) (sym (take-append-drop n l) ∙ ap (λ m. take n l ++ m) (sym (take_all (length l - n) (drop n l) (omega (arith, length-drop n l)))))
+parts n l l' e = subst (λ m. l ≡ take n l ++ take (length m - n) (drop n m)) (sym e)
+    (sym (take-append-drop n l) ∙ ap (λ m. take n l ++ m) (sym (take_all (length l - n) (drop n l) (omega (arith, length-drop n l)))))
 
 -- the trees of children stay where the store grows, and the new node is a branch over its children
 pub plain-stay : (cells : List Cell) (c : Cell) (cs : List Child) → AreBelow (length cells) cs → plain_of (cells ++ (c ∷ [])) cs ≡ plain_of cells cs
@@ -54,15 +55,19 @@ plain-stay cells c (x ∷ cs) h = λ i. plain (grown-tree cells c x h.0 i) ∷ p
 abbrev pub kids_of : List Cell → List Child → Forest
 kids_of cells kids = plain_all (forest_of (trees_from [] cells) kids)
 
-pub made_trees : (cells new : List Cell) (p number : ℕ) (under kids : List Child) (id : NodeId) → IsGrown cells p kids number new id → AreBelow (length cells) under → plain_of new (under ++ (Node id ∷ [])) ≡ plain_of cells under ++ (Branch p (kids_of cells kids) ∷ [])
+pub made_trees : (cells new : List Cell) (p number : ℕ) (under kids : List Child) (id : NodeId) → IsGrown cells p kids number new id → AreBelow (length cells) under
+    → plain_of new (under ++ (Node id ∷ [])) ≡ plain_of cells under ++ (Branch p (kids_of cells kids) ∷ [])
 made_trees cells new p number under kids id h b =
     let one = plain-append new under (Node id ∷ []) in
     let two : plain_of new under ≡ plain_of cells under = ap (λ l. plain_of l under) h.cells_are ∙ plain-stay cells h.cell under b in
-    let three : plain (tree new (Node id)) ≡ Branch p (kids_of cells kids) = ap (λ l. plain (tree l (Node id))) h.cells_are ∙ ap plain (grown-new cells h.cell id h.id_is) ∙ (λ j. Branch (h.production_is j) (kids_of cells (h.children_are j))) in
+    let three : plain (tree new (Node id)) ≡ Branch p (kids_of cells kids) = ap (λ l. plain (tree l (Node id))) h.cells_are
+    ∙ ap plain (grown-new cells h.cell id h.id_is) ∙ (λ j. Branch (h.production_is j) (kids_of cells (h.children_are j))) in
     one ∙ (λ j. two j ++ (three j ∷ []))
 
 -- what is put into the place of the handle is reduced
-abbrev pub reduced : (g : Grammar) (cells new : List Cell) (stack stack' : List Child) (p number : ℕ) (m : HasMade cells stack p number new stack') → AreBelow (length cells) stack → (look : Option Kind) (symbols : List Symbol) → HaveRoots g (plain_of cells stack) symbols → HasMove g symbols look (Reduce p) → (left : ℕ) (right : List Symbol) → HasProduction g p left right → length m.kids ≡ length right → Reduces g (plain_of cells stack) look (plain_of new stack')
+abbrev pub reduced : (g : Grammar) (cells new : List Cell) (stack stack' : List Child) (p number : ℕ) (m : HasMade cells stack p number new stack')
+    → AreBelow (length cells) stack → (look : Option Kind) (symbols : List Symbol) → HaveRoots g (plain_of cells stack) symbols → HasMove g symbols look (Reduce p)
+    → (left : ℕ) (right : List Symbol) → HasProduction g p left right → length m.kids ≡ length right → Reduces g (plain_of cells stack) look (plain_of new stack')
 reduced g cells new stack stack' p number m b look symbols roots called left right production long =
     let ts = kids_of cells m.kids in
     let are : plain_of cells m.kids ≡ trees ts = plain-children (trees_from [] cells) m.kids in
@@ -81,7 +86,8 @@ reduced g cells new stack stack' p number m b look symbols roots called left rig
       to_is = ap (plain_of new) m.stack_is' ∙ made_trees cells new p number m.under m.kids m.id m.grown (below-prefix (length cells) m.under m.kids (subst (AreBelow (length cells)) m.stack_is b));
     }
 
-module _ (t : Sets) (stack : List Tree) (states : List ℕ) (h : HasStates t stack states) (symbols : List Symbol) (roots : HaveRoots t.grammar stack symbols) (left : ℕ) (right : List Symbol) (k : Handle t.grammar stack symbols left right) (n : ℕ) (at : n + length right ≡ length stack) where
+module _ (t : Sets) (stack : List Tree) (states : List ℕ) (h : HasStates t stack states) (symbols : List Symbol) (roots : HaveRoots t.grammar stack symbols)
+    (left : ℕ) (right : List Symbol) (k : Handle t.grammar stack symbols left right) (n : ℕ) (at : n + length right ≡ length stack) where
   same : h.symbols ≡ k.d ++ right
   same = roots_unique t.grammar stack h.symbols symbols h.roots roots ∙ k.symbols_are
 
@@ -99,13 +105,15 @@ module _ (t : Sets) (stack : List Tree) (states : List ℕ) (h : HasStates t sta
   state_under =
       let top : length (take (n + 1) states) - 1 ≡ length k.d = omega (arith, prefix_long, depth) in
       let lt : length k.d < n + 1 = omega (arith, depth) in
-      let is : get_or (take (n + 1) states) (length (take (n + 1) states) - 1) 0 ≡ get_or states (length k.d) 0 = ap (λ i. get_or (take (n + 1) states) i 0) top ∙ get_prefix (n + 1) (length k.d) states lt in
+      let is : get_or (take (n + 1) states) (length (take (n + 1) states) - 1) 0 ≡ get_or states (length k.d) 0 =
+      ap (λ i. get_or (take (n + 1) states) i 0) top ∙ get_prefix (n + 1) (length k.d) states lt in
       let there : IsStateOf t (take (length k.d) h.symbols) (get_or states (length k.d) 0) = h.each (length k.d) (omega (arith, depth, long)) in
       let prefix : take (length k.d) h.symbols ≡ k.d = ap (take (length k.d)) same ∙ take_prefix k.d right in
       subst (λ s. IsStateOf t k.d s) (sym is) (subst (λ l. IsStateOf t l (get_or states (length k.d) 0)) prefix there)
 
   -- and with the state that goes on from it, the states above the reduced stack
-  pub states_after : (stack' : List Tree) (next : ℕ) → HaveRoots t.grammar stack' (k.d ++ (Nonterminal left ∷ [])) → IsStateOf t (k.d ++ (Nonterminal left ∷ [])) next → HasStates t stack' (take (n + 1) states ++ (next ∷ []))
+  pub states_after : (stack' : List Tree) (next : ℕ) → HaveRoots t.grammar stack' (k.d ++ (Nonterminal left ∷ []))
+      → IsStateOf t (k.d ++ (Nonterminal left ∷ [])) next → HasStates t stack' (take (n + 1) states ++ (next ∷ []))
   states_after stack' next roots' there =
       let prefix = take (n + 1) states in
       let whole = k.d ++ (Nonterminal left ∷ []) in
@@ -124,7 +132,8 @@ module _ (t : Sets) (stack : List Tree) (states : List ℕ) (h : HasStates t sta
             (λ high.
             let i_is : i ≡ n + 1 = omega (arith, high, lt, length-append prefix (next ∷ []), prefix_long) in
             let all : take i whole ≡ whole = take_all i whole (omega (arith, i_is, whole_long)) in
-            let is : get_or (prefix ++ (next ∷ [])) i 0 ≡ next = ap (λ j. get_or (prefix ++ (next ∷ [])) j 0) (let q : i ≡ length prefix = omega (arith, i_is, prefix_long) in q) ∙ get_or-append_seam prefix next [] 0 in
+            let is : get_or (prefix ++ (next ∷ [])) i 0 ≡ next = ap (λ j. get_or (prefix ++ (next ∷ [])) j 0)
+            (let q : i ≡ length prefix = omega (arith, i_is, prefix_long) in q) ∙ get_or-append_seam prefix next [] 0 in
             subst (λ s. IsStateOf t (take i whole) s) (sym is) (subst (λ l. IsStateOf t l next) (sym all) there))
             (cases_lt i (n + 1));
       }

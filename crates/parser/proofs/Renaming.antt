@@ -3,7 +3,8 @@ use Rattle.std.proofs.Common.{refl, sym, ap, ◌++◌, take, arith, ◌≡◌, �
 use Rattle.parser.proofs.Common.{take_at, head-eq_of_cons-eq, tail-eq_of_cons-eq, branches, StampedLeaf, plain, NodeId, Child, Token, Node, Cell, AreBelow, all_trees, tree, nodes, sizes, HasTree, Halt, Accepted, node_ids, renamed, verdict_in, verdict_of}
 use Rattle.parser.specs.declared.machine.Halt.TheVariants.{FaultAt, FaultAtEnd}
 
-pub renamed_trees : (old new : List Cell) (cs : List Child) (names : List NodeId) → all_trees new (nodes names) ≡ all_trees old (nodes (node_ids cs)) → all_trees new (renamed cs names) ≡ all_trees old cs
+pub renamed_trees : (old new : List Cell) (cs : List Child) (names : List NodeId) → all_trees new (nodes names) ≡ all_trees old (nodes (node_ids cs))
+    → all_trees new (renamed cs names) ≡ all_trees old cs
 renamed_trees old new [] names e = refl
 renamed_trees old new (Token k ∷ cs) names e = ap (λ ts. StampedLeaf k ∷ ts) (renamed_trees old new cs names e)
 renamed_trees old new (Node id ∷ cs) [] e = absurd (let f : [] ≡ tree old (Node id) ∷ all_trees old (nodes (node_ids cs)) = e in let g : ⊥ = cc f in g)

@@ -11,7 +11,8 @@ use Rattle.parser.proofs.Prepared.{no_branch, place-append, prepared_short, prep
 -- new has the new kinds in the place of what the splice takes away of the old trees, or what there is of these where they end
 -- before the splice
 pub data IsReplaced (cells : List Cell) (s : Splice) (old : List Child) : List Child → Type 0 where
-  Within : {prefix back gone rest : List Child} → IsSplitAt cells s.from old prefix back → place_of (plain_of cells prefix) ≡ s.from → IsSplitAt cells (s.to - s.from) back gone rest → place_of (plain_of cells gone) ≤ s.to - s.from → (place_of (plain_of cells gone) ≡ s.to - s.from) ⊎ (rest ≡ []) → IsReplaced cells s old (prefix ++ (map Token s.kinds ++ rest))
+  Within : {prefix back gone rest : List Child} → IsSplitAt cells s.from old prefix back → place_of (plain_of cells prefix) ≡ s.from → IsSplitAt cells (s.to - s.from) back gone rest
+      → place_of (plain_of cells gone) ≤ s.to - s.from → (place_of (plain_of cells gone) ≡ s.to - s.from) ⊎ (rest ≡ []) → IsReplaced cells s old (prefix ++ (map Token s.kinds ++ rest))
   Short : {prefix : List Child} → IsSplitAt cells s.from old prefix [] → place_of (plain_of cells prefix) < s.from → IsReplaced cells s old prefix
 
 -- kinds as children
@@ -53,13 +54,15 @@ module _ (cells : List Cell) (s : Splice) (ordered : s.from ≤ s.to) where
   -- the list of children, as trees
   within_trees : (prefix rest : List Child) → plain_of cells (prefix ++ (map Token s.kinds ++ rest)) ≡ plain_of cells prefix ++ (leaves s.kinds ++ plain_of cells rest)
   within_trees prefix rest =
-      plain-append cells prefix (map Token s.kinds ++ rest) ∙ ap (λ l. plain_of cells prefix ++ l) (plain-append cells (map Token s.kinds) rest ∙ ap (λ l. l ++ plain_of cells rest) (plain-tokens cells s.kinds))
+      plain-append cells prefix (map Token s.kinds ++ rest) ∙ ap (λ l. plain_of cells prefix ++ l)
+      (plain-append cells (map Token s.kinds) rest ∙ ap (λ l. l ++ plain_of cells rest) (plain-tokens cells s.kinds))
 
   pub replaced_prepared : (s.from ≡ s.to → length s.kinds ≢ 0) → {old new : List Child} → IsReplaced cells s old new → (ks : List Kind) → IsPrepared s (plain_of cells old) (input_of cells new ks 0)
   replaced_prepared changes {old} (Within {prefix = prefix} {rest = rest} first reached second fits filled) ks =
       let trees = within_trees prefix rest in
       let after = drop (0 + place_of (plain_of cells (prefix ++ (map Token s.kinds ++ rest)))) ks in
-      subst (λ l. IsPrepared s (plain_of cells old) (l ++ leaves after)) (sym trees) (prepared_within s cells ordered changes first reached second fits (⊎_elim (λ e. inl e) (λ e. inr (ap (plain_of cells) e)) filled) after)
+      subst (λ l. IsPrepared s (plain_of cells old) (l ++ leaves after)) (sym trees)
+      (prepared_within s cells ordered changes first reached second fits (⊎_elim (λ e. inl e) (λ e. inr (ap (plain_of cells) e)) filled) after)
   replaced_prepared changes (Short {prefix = prefix} first short) ks =
       prepared_short s cells ordered changes first refl short (drop (0 + place_of (plain_of cells prefix)) ks)
 
@@ -77,8 +80,10 @@ module _ (cells : List Cell) (s : Splice) (ordered : s.from ≤ s.to) where
       (one.0, one.1, inl (omega (arith, one.2, stands_length (stamped_stands w), some, fits), omega (arith, one.2)))
 
   -- and what stands after it goes with the kinds
-  back_moved : {old prefix back gone rest : List Child} → IsSplitAt cells s.from old prefix back → place_of (plain_of cells prefix) ≡ s.from → IsSplitAt cells (s.to - s.from) back gone rest → (place_of (plain_of cells gone) ≡ s.to - s.from) ⊎ (rest ≡ [])
-      → (lefts : List Tree) (p born : ℕ) (us : StampedForest) → StampedIn (all_trees cells rest) lefts p born us → (at : List Tree) × StampedIn (all_trees cells old) at p born us × (place_of at ≡ s.to + place_of lefts)
+  back_moved : {old prefix back gone rest : List Child} → IsSplitAt cells s.from old prefix back → place_of (plain_of cells prefix) ≡ s.from
+      → IsSplitAt cells (s.to - s.from) back gone rest → (place_of (plain_of cells gone) ≡ s.to - s.from) ⊎ (rest ≡ [])
+      → (lefts : List Tree) (p born : ℕ) (us : StampedForest) → StampedIn (all_trees cells rest) lefts p born us → (at : List Tree)
+      × StampedIn (all_trees cells old) at p born us × (place_of at ≡ s.to + place_of lefts)
   back_moved {prefix = prefix} {gone = gone} {rest = rest} first reached second filled lefts p born us w =
       let prefixes = all_trees cells prefix in
       let gones = all_trees cells gone in
@@ -93,7 +98,8 @@ module _ (cells : List Cell) (s : Splice) (ordered : s.from ≤ s.to) where
       let tokens = all_trees cells (map Token s.kinds) in
       let rests = all_trees cells rest in
       let ts = trees_from [] cells in
-      let parts : all_trees cells (prefix ++ (map Token s.kinds ++ rest)) ≡ prefixes ++ (tokens ++ rests) = trees_of-append ts prefix (map Token s.kinds ++ rest) ∙ ap (λ l. prefixes ++ l) (trees_of-append ts (map Token s.kinds) rest) in
+      let parts : all_trees cells (prefix ++ (map Token s.kinds ++ rest)) ≡ prefixes ++ (tokens ++ rests) = trees_of-append ts prefix (map Token s.kinds ++ rest)
+      ∙ ap (λ l. prefixes ++ l) (trees_of-append ts (map Token s.kinds) rest) in
       let long : place_of (plain_trees tokens) ≡ length s.kinds = ap place_of (plain-tokens cells s.kinds) ∙ ap length (kinds_leaves s.kinds) in
       ⊎_elim
       (λ a. prefix_moved first (omega (arith, reached)) lefts p born us a some)
@@ -101,7 +107,8 @@ module _ (cells : List Cell) (s : Splice) (ordered : s.from ≤ s.to) where
       (λ c. absurd (no_stamped cells s.kinds c))
       (λ c.
       let one = back_moved first reached second filled c.0 p born us c.1 in
-      let place : place_of lefts ≡ s.from + (length s.kinds + place_of c.0) = omega (arith, ap place_of b.2, place-append (plain_trees prefixes) b.0, reached, ap place_of c.2, place-append (plain_trees tokens) c.0, long) in
+      let place : place_of lefts ≡ s.from + (length s.kinds + place_of c.0) =
+      omega (arith, ap place_of b.2, place-append (plain_trees prefixes) b.0, reached, ap place_of c.2, place-append (plain_trees tokens) c.0, long) in
       (one.0, one.1, inr (omega (arith, one.2), omega (arith, one.2, place))))
       (stamped_split tokens rests b.1))
       (stamped_split prefixes (tokens ++ rests) (subst (λ l. StampedIn l lefts p born us) parts w))
@@ -118,11 +125,13 @@ module _ (cells : List Cell) (s : Splice) (ordered : s.from ≤ s.to) where
   replaced_parts g (Within {prefix = prefix} {rest = rest} first reached second fits filled) h =
       let one = cut_parts cells g first h in
       let two = cut_parts cells g second one.1 in
-      subst (AreParts g) (sym (within_trees prefix rest)) (parts-append g (plain_of cells prefix) (leaves s.kinds ++ plain_of cells rest) one.0 (parts-append g (leaves s.kinds) (plain_of cells rest) (parts-leaves g s.kinds) two.1))
+      subst (AreParts g) (sym (within_trees prefix rest)) (parts-append g (plain_of cells prefix) (leaves s.kinds ++ plain_of cells rest) one.0
+      (parts-append g (leaves s.kinds) (plain_of cells rest) (parts-leaves g s.kinds) two.1))
   replaced_parts g (Short first short) h = (cut_parts cells g first h).0
 
   -- the kinds of the new list begin the kinds after the splice
-  begins : {old new : List Child} → IsReplaced cells s old new → (ks tail : List Kind) → ks ≡ all_kinds (plain_of cells old) ++ tail → (more : List Kind) × (spliced s ks ≡ all_kinds (plain_of cells new) ++ more)
+  begins : {old new : List Child} → IsReplaced cells s old new → (ks tail : List Kind) → ks ≡ all_kinds (plain_of cells old) ++ tail
+      → (more : List Kind) × (spliced s ks ≡ all_kinds (plain_of cells new) ++ more)
   begins {old} (Within {prefix = prefix} {back = back} {gone = gone} {rest = rest} first reached second fits filled) ks tail e =
       let f = all_kinds (plain_of cells prefix) in
       let b = all_kinds (plain_of cells back) in
@@ -132,7 +141,9 @@ module _ (cells : List Cell) (s : Splice) (ordered : s.from ≤ s.to) where
       let split_back : b ++ tail ≡ d ++ (r ++ tail) = ap (λ l. l ++ tail) (cut_kinds cells second) ∙ append_assoc d r tail in
       let split_to : ks ≡ (f ++ d) ++ (r ++ tail) = split ∙ ap (λ l. f ++ l) split_back ∙ sym (append_assoc f d (r ++ tail)) in
       let at_from : take s.from ks ≡ f = take_at ks f (b ++ tail) s.from split reached in
-      let new : all_kinds (plain_of cells (prefix ++ (map Token s.kinds ++ rest))) ≡ f ++ (s.kinds ++ r) = ap all_kinds (within_trees prefix rest) ∙ kinds-append (plain_of cells prefix) (leaves s.kinds ++ plain_of cells rest) ∙ ap (λ l. f ++ l) (kinds-append (leaves s.kinds) (plain_of cells rest) ∙ ap (λ l. l ++ r) (kinds_leaves s.kinds)) in
+      let new : all_kinds (plain_of cells (prefix ++ (map Token s.kinds ++ rest))) ≡ f ++ (s.kinds ++ r) = ap all_kinds (within_trees prefix rest)
+      ∙ kinds-append (plain_of cells prefix) (leaves s.kinds ++ plain_of cells rest)
+      ∙ ap (λ l. f ++ l) (kinds-append (leaves s.kinds) (plain_of cells rest) ∙ ap (λ l. l ++ r) (kinds_leaves s.kinds)) in
       let joined : (more : List Kind) → drop s.to ks ≡ r ++ more → spliced s ks ≡ all_kinds (plain_of cells (prefix ++ (map Token s.kinds ++ rest))) ++ more = λ more e'.
       (λ i. at_from i ++ (s.kinds ++ e' i)) ∙ sym (append_assoc f (s.kinds ++ r) more ∙ ap (λ l. f ++ l) (append_assoc s.kinds r more)) ∙ ap (λ l. l ++ more) (sym new) in
       ⊎_elim
@@ -155,17 +166,21 @@ module _ (cells : List Cell) (s : Splice) (ordered : s.from ≤ s.to) where
       }
 
 -- the trees that stay whole at the start, and what the first cut after them leaves
-module _ (cells : List Cell) (s : Splice) (old : List Child) (whole left missing : ℕ) (start prefix back : List Child) (at : place_of (plain_of cells (take whole old)) + left ≡ s.from) (start_is : start ≡ drop whole old) (cut : IsSplitAt cells left start prefix back) (left_is : place_of (plain_of cells prefix) + missing ≡ left) where
+module _ (cells : List Cell) (s : Splice) (old : List Child) (whole left missing : ℕ) (start prefix back : List Child) (at : place_of (plain_of cells (take whole old)) + left ≡ s.from)
+    (start_is : start ≡ drop whole old) (cut : IsSplitAt cells left start prefix back) (left_is : place_of (plain_of cells prefix) + missing ≡ left) where
   first_cut : IsSplitAt cells s.from old (take whole old ++ prefix) back
-  first_cut = subst (λ l. IsSplitAt cells s.from l (take whole old ++ prefix) back) (take-append-drop whole old) (cut_after cells (take whole old) left s.from at (subst (λ l. IsSplitAt cells left l prefix back) start_is cut))
+  first_cut = subst (λ l. IsSplitAt cells s.from l (take whole old ++ prefix) back) (take-append-drop whole old)
+      (cut_after cells (take whole old) left s.from at (subst (λ l. IsSplitAt cells left l prefix back) start_is cut))
 
   first_place : place_of (plain_of cells (take whole old ++ prefix)) + missing ≡ s.from
   first_place = omega (arith, at, left_is, ap place_of (plain-append cells (take whole old) prefix), place-append (plain_of cells (take whole old)) (plain_of cells prefix))
 
-  pub within : missing ≡ 0 → (gone rest new : List Child) (wanting : ℕ) → IsSplitAt cells (s.to - s.from) back gone rest → place_of (plain_of cells gone) + wanting ≡ s.to - s.from → (0 < wanting → rest ≡ []) → new ≡ take whole old ++ (prefix ++ (map Token s.kinds ++ rest)) → IsReplaced cells s old new
+  pub within : missing ≡ 0 → (gone rest new : List Child) (wanting : ℕ) → IsSplitAt cells (s.to - s.from) back gone rest → place_of (plain_of cells gone) + wanting ≡ s.to - s.from
+      → (0 < wanting → rest ≡ []) → new ≡ take whole old ++ (prefix ++ (map Token s.kinds ++ rest)) → IsReplaced cells s old new
   within none gone rest new wanting second rest_is used_up e =
       let filled : (place_of (plain_of cells gone) ≡ s.to - s.from) ⊎ (rest ≡ []) = ⊎_elim (λ some. inr (used_up some)) (λ all. inl (omega (arith, rest_is, all))) (cases_lt 0 wanting) in
-      subst (IsReplaced cells s old) (append_assoc (take whole old) prefix (map Token s.kinds ++ rest) ∙ sym e) (Within first_cut (omega (arith, first_place, none)) second (omega (arith, rest_is)) filled)
+      subst (IsReplaced cells s old) (append_assoc (take whole old) prefix (map Token s.kinds ++ rest) ∙ sym e)
+      (Within first_cut (omega (arith, first_place, none)) second (omega (arith, rest_is)) filled)
 
   pub short : 0 < missing → back ≡ [] → (new : List Child) → new ≡ take whole old ++ (prefix ++ back) → IsReplaced cells s old new
   short some none new e =

@@ -14,11 +14,13 @@ pub look_first : (ks : List Kind) (i : ℕ) (k : Kind) (rest : List Kind) → k 
 look_first ks i k rest e = ap (λ l. look_at l None) e ∙ sym (look_drop ks i)
 
 -- the production of a branch is one of the grammar's
-pub tree_production : (g : Grammar) (t : Tree) (s : Stamped) (p born : ℕ) (f : StampedForest) → t ≡ plain s → s ≡ StampedBranch p born f → (m : ℕ) → IsTree g t (Nonterminal m) → (right : List Symbol) × HasProduction g p m right × AreTrees g (plain_all f) right
+pub tree_production : (g : Grammar) (t : Tree) (s : Stamped) (p born : ℕ) (f : StampedForest) → t ≡ plain s → s ≡ StampedBranch p born f → (m : ℕ)
+    → IsTree g t (Nonterminal m) → (right : List Symbol) × HasProduction g p m right × AreTrees g (plain_all f) right
 tree_production g t s p born f e e' m h = subst (λ u. IsTree g u (Nonterminal m)) (e ∙ ap plain e') h
 
 -- a tree's root is the left side of its production
-pub tree_left : (g : Grammar) (t : Tree) (s : Stamped) (p born : ℕ) (f : StampedForest) → t ≡ plain s → s ≡ StampedBranch p born f → (m : ℕ) → IsTree g t (Nonterminal m) → (left : ℕ) (right : List Symbol) → HasProduction g p left right → IsTree g t (Nonterminal left)
+pub tree_left : (g : Grammar) (t : Tree) (s : Stamped) (p born : ℕ) (f : StampedForest) → t ≡ plain s → s ≡ StampedBranch p born f → (m : ℕ) → IsTree g t (Nonterminal m)
+    → (left : ℕ) (right : List Symbol) → HasProduction g p left right → IsTree g t (Nonterminal left)
 tree_left g t s p born f e e' m h left right made =
     let k = tree_production g t s p born f e e' m h in
     subst (λ n. IsTree g t (Nonterminal n)) (production_unique g p m left k.0 right k.1 made).0 h
@@ -31,15 +33,26 @@ module _ (t : Sets) (stack : List Tree) (states : List ℕ) (h : HasStates t sta
       let n : Nonterminal c.root ≡ Nonterminal left = root_unique t.grammar u (Nonterminal c.root) (Nonterminal left) c.is is in
       subst (λ l. HasMove t.grammar l (look_at rest None) c.move) (λ i. s i ++ (n i ∷ [])) c.called
 
-  pub no_goto : (rest : List Kind) → ((prefix : List Symbol) → IsStateOf t prefix (get_or states (length states - 1) 0) → HasItem t.grammar (prefix ++ (Nonterminal left ∷ [])) → ⊥) → CanReuse t.grammar stack u rest → ⊥
+  pub no_goto : (rest : List Kind) → ((prefix : List Symbol) → IsStateOf t prefix (get_or states (length states - 1) 0) → HasItem t.grammar (prefix ++ (Nonterminal left ∷ [])) → ⊥)
+      → CanReuse t.grammar stack u rest → ⊥
   no_goto rest none c = let m = moves_there rest c in none h.symbols (top_stands t stack states h) (m.item, m.valid)
 
   pub no_action : (rest : List Kind) (look : Option Kind) → look ≡ look_at rest None → IsAction t.grammar (h.symbols ++ (Nonterminal left ∷ [])) look None → CanReuse t.grammar stack u rest → ⊥
   no_action rest look e none c = none c.move (subst (λ l. HasMove t.grammar (h.symbols ++ (Nonterminal left ∷ [])) l c.move) (sym e) (moves_there rest c))
 
-  pub can_reuse : (rest : List Kind) (look : Option Kind) (a : TableMove) → look ≡ look_at rest None → 0 < length (yield u) → IsAction t.grammar (h.symbols ++ (Nonterminal left ∷ [])) look (Some a) → CanReuse t.grammar stack u rest
+  pub can_reuse : (rest : List Kind) (look : Option Kind) (a : TableMove) → look ≡ look_at rest None → 0 < length (yield u)
+      → IsAction t.grammar (h.symbols ++ (Nonterminal left ∷ [])) look (Some a) → CanReuse t.grammar stack u rest
   can_reuse rest look a e n k =
-      record { root = left; is = is; not_empty = n; symbols = h.symbols; roots = h.roots; move = plain_move a; called = subst (λ l. HasMove t.grammar (h.symbols ++ (Nonterminal left ∷ [])) l (plain_move a)) e k }
+      record {
+        root = left;
+        is = is;
+        not_empty = n;
+        symbols = h.symbols;
+        roots = h.roots;
+        move = plain_move a;
+        called =
+            subst (λ l. HasMove t.grammar (h.symbols ++ (Nonterminal left ∷ [])) l (plain_move a)) e k;
+      }
 
   -- the state after the tree, whatever the symbols are called
   pub goes : (next : ℕ) → IsStateOf t (h.symbols ++ (Nonterminal left ∷ [])) next → (symbols : List Symbol) → HaveRoots t.grammar stack symbols → IsStateOf t (symbols ++ (Nonterminal left ∷ [])) next

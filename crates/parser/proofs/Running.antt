@@ -24,7 +24,8 @@ drop_at kinds read k e = subst (λ n. drop read kinds ≡ k ∷ drop n kinds) (l
     go (j ∷ l) (suc i) e = go l i e
 
 -- the first tree, and the input after it
-pub tail_shape : (cells : List Cell) (c : Child) (rest : List Child) (kinds : List Kind) (read : ℕ) → input_of cells (c ∷ rest) kinds read ≡ plain (tree cells c) ∷ input_of cells rest kinds (read + length (yield (plain (tree cells c))))
+pub tail_shape : (cells : List Cell) (c : Child) (rest : List Child) (kinds : List Kind) (read : ℕ) → input_of cells (c ∷ rest) kinds read
+    ≡ plain (tree cells c) ∷ input_of cells rest kinds (read + length (yield (plain (tree cells c))))
 tail_shape cells c rest kinds read =
     let y = yield (plain (tree cells c)) in
     let n : read + length (y ++ all_kinds (plain_of cells rest)) ≡ (read + length y) + length (all_kinds (plain_of cells rest)) = omega (arith, length-append y (all_kinds (plain_of cells rest))) in
@@ -39,7 +40,8 @@ module _ (g : Grammar) where
   makes_join (Makes s1 f t n r more) q = omega (arith, makes_join more q)
 
   -- without trees of no kinds at the start, the input offers what it did
-  skipped : (cells : List Cell) (kinds : List Kind) (read : ℕ) (gone rest : List Child) → all_kinds (plain_of cells gone) ≡ [] → IsInput g cells (gone ++ rest) kinds read → IsInput g cells rest kinds read × ((s : List Tree) → Offers g s (input_of cells rest kinds read) (input_of cells (gone ++ rest) kinds read))
+  skipped : (cells : List Cell) (kinds : List Kind) (read : ℕ) (gone rest : List Child) → all_kinds (plain_of cells gone) ≡ [] → IsInput g cells (gone ++ rest) kinds read
+      → IsInput g cells rest kinds read × ((s : List Tree) → Offers g s (input_of cells rest kinds read) (input_of cells (gone ++ rest) kinds read))
   skipped cells kinds read [] rest e h = (h, λ s f d. d)
   skipped cells kinds read (c ∷ gone) rest e h =
       let y = yield (plain (tree cells c)) in
@@ -53,7 +55,8 @@ module _ (g : Grammar) where
       nothing_after [] y e = e
       nothing_after (k ∷ x) y e = absurd (cc e)
 
-  pub skipped_on : (cells : List Cell) (kinds : List Kind) (read : ℕ) (rest rest' : List Child) → Skips cells rest rest' → IsInput g cells rest kinds read → IsInput g cells rest' kinds read × ((s : List Tree) → Offers g s (input_of cells rest' kinds read) (input_of cells rest kinds read))
+  pub skipped_on : (cells : List Cell) (kinds : List Kind) (read : ℕ) (rest rest' : List Child) → Skips cells rest rest' → IsInput g cells rest kinds read
+      → IsInput g cells rest' kinds read × ((s : List Tree) → Offers g s (input_of cells rest' kinds read) (input_of cells rest kinds read))
   skipped_on cells kinds read rest rest' k h =
       let both = skipped cells kinds read k.0 rest' k.2 (subst (λ l. IsInput g cells l kinds read) k.1 h) in
       (both.0, λ s f d. subst (λ l. Tries g s (input_of cells l kinds read) f) (sym k.1) (both.1 s f d))
@@ -63,7 +66,8 @@ module _ (g : Grammar) where
   leaves_prefix s (k ∷ ks) = (AtToken k (leaves ks), At_token, tt)
 
   -- where no node stands at the start, the input offers no tree
-  pub no_tree_prefix : (s : List Tree) (cells : List Cell) (kinds : List Kind) (read : ℕ) (now : List Child) → BeginsWithNoNode now → (f : NextInput) × Tries g s (input_of cells now kinds read) f × IsNoTree f
+  pub no_tree_prefix : (s : List Tree) (cells : List Cell) (kinds : List Kind) (read : ℕ) (now : List Child) → BeginsWithNoNode now
+      → (f : NextInput) × Tries g s (input_of cells now kinds read) f × IsNoTree f
   no_tree_prefix s cells kinds read [] h = leaves_prefix s (drop (read + 0) kinds)
   no_tree_prefix s cells kinds read (TokenChild k ∷ rest) h = (AtToken k _, At_token, tt)
   no_tree_prefix s cells kinds read (Node id ∷ rest) h = absurd h
@@ -86,7 +90,8 @@ module _ (g : Grammar) where
         came = λ lefts p born us w. absurd (nowhere_stamped w refl);
       }
 
-  after_child : (cells : List Cell) (kinds : List Kind) (read : ℕ) (c : Child) (rest : List Child) (k : Kind) → BeginsWithNoNode (c ∷ rest) → IsInput g cells (c ∷ rest) kinds read → slice_get kinds read ≡ Some k → After cells kinds read (c ∷ rest) rest k
+  after_child : (cells : List Cell) (kinds : List Kind) (read : ℕ) (c : Child) (rest : List Child) (k : Kind) → BeginsWithNoNode (c ∷ rest)
+      → IsInput g cells (c ∷ rest) kinds read → slice_get kinds read ≡ Some k → After cells kinds read (c ∷ rest) rest k
   after_child cells kinds read (Node id) rest k begins h is = absurd begins
   after_child cells kinds read (TokenChild j) rest k begins h is =
       let shape = tail_shape cells (TokenChild j) rest kinds read in
@@ -99,23 +104,30 @@ module _ (g : Grammar) where
         came = come_after (tree cells (TokenChild j)) (all_trees cells rest);
       }
 
-  pub after_first : (cells : List Cell) (kinds : List Kind) (read : ℕ) (now rest : List Child) (r : Option Child) (k : Kind) → BeginsWithNoNode now → IsInput g cells now kinds read → slice_get kinds read ≡ Some k → MatchOption r ((now ≡ []) × (rest ≡ [])) (λ c. now ≡ c ∷ rest) → After cells kinds read now rest k
+  pub after_first : (cells : List Cell) (kinds : List Kind) (read : ℕ) (now rest : List Child) (r : Option Child) (k : Kind) → BeginsWithNoNode now
+      → IsInput g cells now kinds read → slice_get kinds read ≡ Some k → MatchOption r ((now ≡ []) × (rest ≡ [])) (λ c. now ≡ c ∷ rest) → After cells kinds read now rest k
   after_first cells kinds read now rest None k begins h is taken =
       subst (λ l. After cells kinds read l rest k) (sym taken.0) (subst (λ l. After cells kinds read [] l k) (sym taken.1) (after_leaves cells kinds read k is))
   after_first cells kinds read now rest (Some c) k begins h is taken =
       subst (λ l. After cells kinds read l rest k) (sym taken) (after_child cells kinds read c rest k (subst BeginsWithNoNode taken begins) (subst (λ l. IsInput g cells l kinds read) taken h) is)
 
   -- the kinds of the input after what was taken from it
-  pub covers_on : (cells : List Cell) (kinds : List Kind) (read : ℕ) (now rest : List Child) (u : Tree) (following : List Tree) → input_of cells now kinds read ≡ u ∷ following → all_kinds (input_of cells now kinds read) ≡ drop read kinds → all_kinds following ≡ drop (read + length (yield u)) kinds
+  pub covers_on : (cells : List Cell) (kinds : List Kind) (read : ℕ) (now rest : List Child) (u : Tree) (following : List Tree) → input_of cells now kinds read ≡ u ∷ following
+      → all_kinds (input_of cells now kinds read) ≡ drop read kinds → all_kinds following ≡ drop (read + length (yield u)) kinds
   covers_on cells kinds read now rest u following shape covers = after_drop (yield u) (all_kinds following) kinds read (sym (ap all_kinds shape) ∙ covers)
 
-module _ (t : Sets) (whole : List Tree) (kinds : List Kind) (before number : ℕ) (cells : List Cell) (stack : List Child) (states : List ℕ) (read : ℕ) (rest : List Child) (h : SoFar t whole kinds before number cells stack states read rest) where
+module _ (t : Sets) (whole : List Tree) (kinds : List Kind) (before number : ℕ) (cells : List Cell) (stack : List Child) (states : List ℕ) (read : ℕ)
+    (rest : List Child) (h : SoFar t whole kinds before number cells stack states read rest) where
   -- what the input offers above the stack, the run's input does
-  offered : (now : List Child) → Offers t.grammar (plain_of cells stack) (input_of cells now kinds read) (input_of cells rest kinds read) → (f : NextInput) → Tries t.grammar (plain_of cells stack) (input_of cells now kinds read) f → Tries t.grammar h.top h.now f
+  offered : (now : List Child) → Offers t.grammar (plain_of cells stack) (input_of cells now kinds read) (input_of cells rest kinds read) → (f : NextInput)
+      → Tries t.grammar (plain_of cells stack) (input_of cells now kinds read) f → Tries t.grammar h.top h.now f
   offered now offers f d = subst (λ s. Tries t.grammar s h.now f) h.top_is (h.offers (plain_of cells stack) f (offers f d))
 
   -- a tree is taken over
-  pub taken_on : (now' rest' : List Child) (id : NodeId) (next : ℕ) → now' ≡ Node id ∷ rest' → IsInput t.grammar cells now' kinds read → Offers t.grammar (plain_of cells stack) (input_of cells now' kinds read) (input_of cells rest kinds read) → AreOlder number (all_trees cells now') → IsReusable t cells (plain_of cells stack) kinds read id next → SoFar t whole kinds before number cells (stack ++ (Node id ∷ [])) (states ++ (next ∷ [])) (read + length (yield (plain (tree cells (Node id))))) rest'
+  pub taken_on : (now' rest' : List Child) (id : NodeId) (next : ℕ) → now' ≡ Node id ∷ rest' → IsInput t.grammar cells now' kinds read
+      → Offers t.grammar (plain_of cells stack) (input_of cells now' kinds read) (input_of cells rest kinds read) → AreOlder number (all_trees cells now')
+      → IsReusable t cells (plain_of cells stack) kinds read id next → SoFar t whole kinds before number cells (stack ++ (Node id ∷ []))
+      (states ++ (next ∷ [])) (read + length (yield (plain (tree cells (Node id))))) rest'
   taken_on now' rest' id next now_is input' offers older' r =
       let g = t.grammar in
       let u = plain (tree cells (Node id)) in
@@ -129,7 +141,8 @@ module _ (t : Sets) (whole : List Tree) (kinds : List Kind) (before number : ℕ
       let shape = tail_shape cells (Node id) rest' kinds read in
       let covers : all_kinds ts ≡ drop (read + length (yield u)) kinds = covers_on g cells kinds read on rest' u ts shape input.covers in
       let can : CanReuse g trees u (all_kinds ts) = subst (CanReuse g trees u) (sym covers) r.can in
-      let tries : Tries g trees (input_of cells now' kinds read) (Take u ts) = subst (λ l. Tries g trees (input_of cells l kinds read) (Take u ts)) (sym now_is) (subst (λ l. Tries g trees l (Take u ts)) (sym shape) (Passed can)) in
+      let tries : Tries g trees (input_of cells now' kinds read) (Take u ts) = subst (λ l. Tries g trees (input_of cells l kinds read) (Take u ts))
+      (sym now_is) (subst (λ l. Tries g trees l (Take u ts)) (sym shape) (Passed can)) in
       let tries' = offered now' offers (Take u ts) tries in
       let can' = subst (λ s. CanReuse g s u (all_kinds ts)) h.top_is can in
       let step : Goes_on g h.top h.now (h.top ++ (u ∷ [])) ts = Reuses u ts tries' can' Ends in
@@ -137,7 +150,8 @@ module _ (t : Sets) (whole : List Tree) (kinds : List Kind) (before number : ℕ
       let first = none_first number (tree cells (Node id)) (all_trees cells rest') older in
       let stamps = stamps_taken g h.run u ts tries' can' number (all_trees cells stack) (tree cells (Node id)) h.top_is refl first h.stamps in
       record {
-        has_states = states_push t trees (plain_of cells (stack ++ (Node id ∷ []))) states h.has_states (Nonterminal r.left) next (subst (λ l. HaveRoots g l (symbols ++ (Nonterminal r.left ∷ []))) (sym trees') roots) (r.goes symbols h.has_states.roots);
+        has_states = states_push t trees (plain_of cells (stack ++ (Node id ∷ []))) states h.has_states (Nonterminal r.left) next
+            (subst (λ l. HaveRoots g l (symbols ++ (Nonterminal r.left ∷ []))) (sym trees') roots) (r.goes symbols h.has_states.roots);
         below = below-append (length cells) stack (Node id ∷ []) h.below (input.below.0, tt);
         within = first_fits g [] kinds read u (plain_of cells rest') input.covers r.can.not_empty;
         whole_is = h.whole_is;
@@ -150,13 +164,25 @@ module _ (t : Sets) (whole : List Tree) (kinds : List Kind) (before number : ℕ
         run = goes_on_join g h.run step;
         count = omega (arith, h.count, makes_join g h.run step);
         stamps = subst (AreStampedBy g (goes_on_join g h.run step) number) (sym (trees_of-append (trees_from [] cells) stack (Node id ∷ []))) stamps;
-        made = omega (arith, ap (all_branches_by number) (trees_of-append (trees_from [] cells) stack (Node id ∷ [])), by-append number (all_trees cells stack) (tree cells (Node id) ∷ []), by-none number (tree cells (Node id)) first, h.made, makes_join g h.run step);
-        up_to = subst (AreUpTo number) (sym (trees_of-append (trees_from [] cells) stack (Node id ∷ []))) (up_to-append number (all_trees cells stack) (tree cells (Node id) ∷ []) h.up_to (older_up_to number (tree cells (Node id) ∷ []) first));
+        made = omega (
+          arith,
+          ap (all_branches_by number) (trees_of-append (trees_from [] cells) stack (Node id ∷ [])),
+          by-append number (all_trees cells stack)
+              (tree cells (Node id) ∷ []),
+          by-none number (tree cells (Node id)) first,
+          h.made,
+          makes_join g h.run step,
+        );
+        up_to = subst (AreUpTo number) (sym (trees_of-append (trees_from [] cells) stack (Node id ∷ [])))
+            (up_to-append number (all_trees cells stack) (tree cells (Node id) ∷ []) h.up_to (older_up_to number (tree cells (Node id) ∷ []) first));
         older = none_after number (tree cells (Node id)) (all_trees cells rest') older;
       }
 
   -- a token comes onto the stack
-  pub shifted_on : (now' rest' : List Child) (k : Kind) (a next : ℕ) → After t.grammar cells kinds read now' rest' k → IsInput t.grammar cells now' kinds read → Offers t.grammar (plain_of cells stack) (input_of cells now' kinds read) (input_of cells rest kinds read) → AreOlder number (all_trees cells now') → k ≡ Token a → read < length kinds → HasMove t.grammar h.has_states.symbols (Some k) Shift → IsStateOf t (h.has_states.symbols ++ (Terminal a ∷ [])) next → SoFar t whole kinds before number cells (stack ++ (TokenChild k ∷ [])) (states ++ (next ∷ [])) (read + 1) rest'
+  pub shifted_on : (now' rest' : List Child) (k : Kind) (a next : ℕ) → After t.grammar cells kinds read now' rest' k → IsInput t.grammar cells now' kinds read
+      → Offers t.grammar (plain_of cells stack) (input_of cells now' kinds read) (input_of cells rest kinds read) → AreOlder number (all_trees cells now')
+      → k ≡ Token a → read < length kinds → HasMove t.grammar h.has_states.symbols (Some k) Shift → IsStateOf t (h.has_states.symbols ++ (Terminal a ∷ [])) next
+      → SoFar t whole kinds before number cells (stack ++ (TokenChild k ∷ [])) (states ++ (next ∷ [])) (read + 1) rest'
   shifted_on now' rest' k a next following input offers older' rule within called there =
       let g = t.grammar in
       let trees = plain_of cells stack in
@@ -170,7 +196,8 @@ module _ (t : Sets) (whole : List Tree) (kinds : List Kind) (before number : ℕ
       let shift : Shifts g h.top k = record { symbols = symbols; roots = subst (λ l. HaveRoots g l symbols) h.top_is h.has_states.roots; called = called } in
       let step : Goes_on g h.top h.now (h.top ++ (Leaf k ∷ [])) ts = Takes_token k ts (offered now' offers (AtToken k ts) tries) shift Ends in
       record {
-        has_states = states_push t trees (plain_of cells (stack ++ (TokenChild k ∷ []))) states h.has_states (Terminal a) next (subst (λ l. HaveRoots g l (symbols ++ (Terminal a ∷ []))) (sym trees') roots) there;
+        has_states = states_push t trees (plain_of cells (stack ++ (TokenChild k ∷ []))) states h.has_states (Terminal a) next
+            (subst (λ l. HaveRoots g l (symbols ++ (Terminal a ∷ []))) (sym trees') roots) there;
         below = below-append (length cells) stack (TokenChild k ∷ []) h.below (tt, tt);
         within = omega (arith, within);
         whole_is = h.whole_is;
@@ -182,34 +209,65 @@ module _ (t : Sets) (whole : List Tree) (kinds : List Kind) (before number : ℕ
         top_is = trees' ∙ ap (λ l. l ++ (Leaf k ∷ [])) h.top_is;
         run = goes_on_join g h.run step;
         count = omega (arith, h.count, makes_join g h.run step);
-        stamps = subst (AreStampedBy g (goes_on_join g h.run step) number) (sym (trees_of-append (trees_from [] cells) stack (TokenChild k ∷ []))) (stamps_token g h.run step (λ below x m. m) number (all_trees cells stack) k h.stamps);
-        made = omega (arith, ap (all_branches_by number) (trees_of-append (trees_from [] cells) stack (TokenChild k ∷ [])), by-append number (all_trees cells stack) (StampedLeaf k ∷ []), h.made, makes_join g h.run step);
-        up_to = subst (AreUpTo number) (sym (trees_of-append (trees_from [] cells) stack (TokenChild k ∷ []))) (up_to-append number (all_trees cells stack) (StampedLeaf k ∷ []) h.up_to (up_to-leaf number k));
+        stamps = subst (AreStampedBy g (goes_on_join g h.run step) number) (sym (trees_of-append (trees_from [] cells) stack (TokenChild k ∷ [])))
+            (stamps_token g h.run step (λ below x m. m) number (all_trees cells stack) k h.stamps);
+        made = omega (
+          arith,
+          ap (all_branches_by number) (trees_of-append (trees_from [] cells) stack (TokenChild k ∷ [])),
+          by-append number (all_trees cells stack) (StampedLeaf k ∷ []),
+          h.made,
+          makes_join g h.run step,
+        );
+        up_to = subst (AreUpTo number) (sym (trees_of-append (trees_from [] cells) stack (TokenChild k ∷ [])))
+            (up_to-append number (all_trees cells stack) (StampedLeaf k ∷ []) h.up_to (up_to-leaf number k));
         older = come_older number 1 (all_trees cells now') (all_trees cells rest') following.came older';
       }
 
   -- a branch is made
-  pub reduced_on : (now' : List Child) → BeginsWithNoNode now' → Offers t.grammar (plain_of cells stack) (input_of cells now' kinds read) (input_of cells rest kinds read) → (p : ℕ) (new : List Cell) (stack' : List Child) (states' : List ℕ) → HasMade cells stack p number new stack' → Reduces t.grammar (plain_of cells stack) (slice_get kinds read) (plain_of new stack') → HasStates t (plain_of new stack') states' → (rest' : List Child) → IsInput t.grammar cells rest' kinds read → ((s : List Tree) → Offers t.grammar s (input_of cells rest' kinds read) (input_of cells rest kinds read)) → AreOlder number (all_trees cells rest') → SoFar t whole kinds before number new stack' states' read rest'
+  pub reduced_on : (now' : List Child) → BeginsWithNoNode now' → Offers t.grammar (plain_of cells stack) (input_of cells now' kinds read) (input_of cells rest kinds read)
+      → (p : ℕ) (new : List Cell) (stack' : List Child) (states' : List ℕ) → HasMade cells stack p number new stack' → Reduces t.grammar (plain_of cells stack)
+      (slice_get kinds read) (plain_of new stack') → HasStates t (plain_of new stack') states' → (rest' : List Child) → IsInput t.grammar cells rest' kinds read
+      → ((s : List Tree) → Offers t.grammar s (input_of cells rest' kinds read) (input_of cells rest kinds read))
+      → AreOlder number (all_trees cells rest') → SoFar t whole kinds before number new stack' states' read rest'
   reduced_on now' begins offers p new stack' states' made r has_states' rest' input' offers' older' =
       let g = t.grammar in
       let trees = plain_of cells stack in
       let top' = plain_of new stack' in
       let prefix = no_tree_prefix g trees cells kinds read now' begins in
       let look : slice_get kinds read ≡ look_at (all_kinds h.now) None = look_drop kinds read ∙ ap (λ l. look_at l None) (sym h.left) in
-      let r' : Reduces g h.top (look_at (all_kinds h.now) None) top' = record { symbols = r.symbols; roots = subst (λ l. HaveRoots g l r.symbols) h.top_is r.roots; number = r.number; called = subst (λ l. HasMove g r.symbols l (Reduce r.number)) look r.called; below = r.below; ts = r.ts; left = r.left; right = r.right; production = r.production; size = r.size; from_is = sym h.top_is ∙ r.from_is; to_is = r.to_is } in
+      let r' : Reduces g h.top (look_at (all_kinds h.now) None) top' =
+      record {
+        symbols = r.symbols;
+        roots = subst (λ l. HaveRoots g l r.symbols) h.top_is r.roots;
+        number = r.number;
+        called =
+            subst (λ l. HasMove g r.symbols l (Reduce r.number)) look r.called;
+        below = r.below;
+        ts = r.ts;
+        left = r.left;
+        right = r.right;
+        production =
+            r.production;
+        size = r.size;
+        from_is = sym h.top_is ∙ r.from_is;
+        to_is = r.to_is;
+      } in
       let step : Goes_on g h.top h.now top' h.now = Makes top' prefix.0 (offered now' offers prefix.0 prefix.1) prefix.2 r' Ends in
       let under = made.under in
       let f = forest_in cells made.kids in
       let under_below : AreBelow (length cells) under = below-prefix (length cells) under made.kids (subst (AreBelow (length cells)) made.stack_is h.below) in
-      let same_end = ends_equal r.below (plain_of cells under) (Branch r.number r.ts ∷ []) (Branch p (plain_all f) ∷ []) refl (sym r.to_is ∙ ap (plain_of new) made.stack_is' ∙ made_trees cells new p number under made.kids made.id made.grown under_below) in
+      let same_end = ends_equal r.below (plain_of cells under) (Branch r.number r.ts ∷ []) (Branch p (plain_all f) ∷ []) refl
+      (sym r.to_is ∙ ap (plain_of new) made.stack_is' ∙ made_trees cells new p number under made.kids made.id made.grown under_below) in
       let node : Branch r.number r.ts ≡ Branch p (plain_all f) = head-eq_of_cons-eq same_end.1 in
       let makes_it : (below : List Tree) (w : Tree) → MakesAt g step below w ↔ ((plain_of cells under ≡ below) × (Branch p (plain_all f) ≡ w)) = λ below w. (
         (λ m. ⊎_elim (λ a. (sym same_end.0 ∙ a.0, sym node ∙ a.1)) (λ b. absurd b) m),
         (λ a. inl (same_end.0 ∙ a.0, node ∙ a.1)),
       ) in
       let parts : all_trees cells stack ≡ all_trees cells under ++ all_trees cells made.kids = ap (all_trees cells) made.stack_is ∙ trees_of-append (trees_from [] cells) under made.kids in
-      let stamps = stamps_made g h.run step number p (all_trees cells under) (all_trees cells made.kids) f (stamped-children (trees_from [] cells) made.kids) makes_it (subst (AreStampedBy g h.run number) parts h.stamps) in
-      let now_stamped : all_trees new stack' ≡ all_trees cells under ++ (StampedBranch p number f ∷ []) = ap (all_trees new) made.stack_is' ∙ made_stamped cells new p number under made.kids made.id made.grown under_below in
+      let stamps = stamps_made g h.run step number p (all_trees cells under) (all_trees cells made.kids) f
+      (stamped-children (trees_from [] cells) made.kids) makes_it (subst (AreStampedBy g h.run number) parts h.stamps) in
+      let now_stamped : all_trees new stack' ≡ all_trees cells under ++ (StampedBranch p number f ∷ []) = ap (all_trees new) made.stack_is'
+      ∙ made_stamped cells new p number under made.kids made.id made.grown under_below in
       let same_rest : all_trees new rest' ≡ all_trees cells rest' = ap (λ l. all_trees l rest') made.grown.cells_are ∙ trees-stay cells made.grown.cell rest' input'.below in
       let long = grown_by_one cells stack p number new stack' made in
       let stays : plain_of new rest' ≡ plain_of cells rest' = ap (λ l. plain_of l rest') made.grown.cells_are ∙ plain-stay cells made.grown.cell rest' input'.below in
@@ -219,7 +277,12 @@ module _ (t : Sets) (whole : List Tree) (kinds : List Kind) (before number : ℕ
         below = below_on cells stack p number new stack' made h.below;
         within = h.within;
         whole_is = h.whole_is;
-        input = record { below = all_below-more (length cells) (length new) (omega (arith, long)) rest' input'.below; parts = subst (AreParts g) (sym stays) input'.parts; covers = ap all_kinds same ∙ input'.covers };
+        input = record {
+          below = all_below-more (length cells) (length new) (omega (arith, long)) rest' input'.below;
+          parts =
+              subst (AreParts g) (sym stays) input'.parts;
+          covers = ap all_kinds same ∙ input'.covers;
+        };
         now = h.now;
         left = h.left;
         offers = λ s f d. h.offers s f (offers' s f (subst (λ l. Tries g s l f) same d));
@@ -228,8 +291,19 @@ module _ (t : Sets) (whole : List Tree) (kinds : List Kind) (before number : ℕ
         run = goes_on_join g h.run step;
         count = omega (arith, h.count, makes_join g h.run step, long);
         stamps = subst (AreStampedBy g (goes_on_join g h.run step) number) (sym now_stamped) stamps;
-        made = omega (arith, ap (all_branches_by number) now_stamped, ap (all_branches_by number) parts, by-append number (all_trees cells under) (StampedBranch p number f ∷ []), by-append number (all_trees cells under) (all_trees cells made.kids), by-branch number p (all_trees cells made.kids) f (stamped-children (trees_from [] cells) made.kids), h.made, makes_join g h.run step);
-        up_to = subst (AreUpTo number) (sym now_stamped) (up_to-made number p (all_trees cells under) (all_trees cells made.kids) f (stamped-children (trees_from [] cells) made.kids) (subst (AreUpTo number) parts h.up_to));
+        made = omega (
+          arith,
+          ap (all_branches_by number) now_stamped,
+          ap (all_branches_by number) parts,
+          by-append number (all_trees cells under) (StampedBranch p number f ∷ []),
+          by-append number (all_trees cells under) (all_trees cells made.kids),
+          by-branch number p (all_trees cells made.kids) f
+              (stamped-children (trees_from [] cells) made.kids),
+          h.made,
+          makes_join g h.run step,
+        );
+        up_to = subst (AreUpTo number) (sym now_stamped) (up_to-made number p (all_trees cells under) (all_trees cells made.kids) f
+            (stamped-children (trees_from [] cells) made.kids) (subst (AreUpTo number) parts h.up_to));
         older = subst (AreOlder number) (sym same_rest) older';
       }
 
@@ -241,11 +315,13 @@ module _ (t : Sets) (whole : List Tree) (kinds : List Kind) (before number : ℕ
       let all : kinds ≡ p.read ++ drop read kinds = sym h.whole_is ∙ p.split ∙ ap (λ l. p.read ++ l) h.left in
       let prefix : p.read ≡ take read kinds = append_cancel_right p.read (take read kinds) (drop read kinds) (sym all ∙ sym (take-append-drop read kinds)) in
       let look : look_at (all_kinds h.now) None ≡ slice_get kinds read = ap (λ l. look_at l None) h.left ∙ sym (look_drop kinds read) in
-      let run : Run g (slice_get kinds read) [] (take read kinds) (plain_of cells stack) = subst (λ s. Run g (slice_get kinds read) [] (take read kinds) s) (sym h.top_is) (subst (λ x. Run g (slice_get kinds read) [] x h.top) prefix (subst (λ l. Run g l [] p.read h.top) look p.run)) in
+      let run : Run g (slice_get kinds read) [] (take read kinds) (plain_of cells stack) = subst (λ s. Run g (slice_get kinds read) [] (take read kinds) s)
+      (sym h.top_is) (subst (λ x. Run g (slice_get kinds read) [] x h.top) prefix (subst (λ l. Run g l [] p.read h.top) look p.run)) in
       let parts = settle (take read kinds) run in
       record { has_states = h.has_states; below = h.below; within = h.within; shifted = parts.0; after = parts.1; run = parts.2 }
     where
-      settle : (x : List Kind) → Run t.grammar (slice_get kinds read) [] x (plain_of cells stack) → (shifted : List Tree) × IsStackAfter t.grammar x shifted × Run t.grammar (slice_get kinds read) shifted [] (plain_of cells stack)
+      settle : (x : List Kind) → Run t.grammar (slice_get kinds read) [] x (plain_of cells stack) → (shifted : List Tree)
+          × IsStackAfter t.grammar x shifted × Run t.grammar (slice_get kinds read) shifted [] (plain_of cells stack)
       settle [] run = ([], refl, run)
       settle (k ∷ x) run =
           let last = last_of k x in
@@ -253,7 +329,8 @@ module _ (t : Sets) (whole : List Tree) (kinds : List Kind) (before number : ℕ
           (s.0 ++ (Leaf last.1 ∷ []), (last.0, last.1, s.0, last.2, s.1, s.2, refl), s.3)
 
 -- a machine that has read nothing
-pub begun : (t : Sets) (kinds : List Kind) (number : ℕ) (cells : List Cell) (start : ℕ) (input : List Child) → IsStateOf t [] start → IsInput t.grammar cells input kinds 0 → AreOlder number (all_trees cells input) → SoFar t (input_of cells input kinds 0) kinds (length cells) number cells [] (start ∷ []) 0 input
+pub begun : (t : Sets) (kinds : List Kind) (number : ℕ) (cells : List Cell) (start : ℕ) (input : List Child) → IsStateOf t [] start → IsInput t.grammar cells input kinds 0
+    → AreOlder number (all_trees cells input) → SoFar t (input_of cells input kinds 0) kinds (length cells) number cells [] (start ∷ []) 0 input
 begun t kinds number cells start input there h older = record {
   has_states = record { symbols = []; roots = tt; long = omega arith; each = first };
   below = tt;

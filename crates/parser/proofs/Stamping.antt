@@ -3,7 +3,8 @@ use Rattle.std.proofs.Common.{◌≡◌, ◌↔◌, ◌⊎◌, ◌≤◌, ◌<�
 use Rattle.parser.proofs.Common.{append-nil, head-eq_of_cons-eq, tail-eq_of_cons-eq, Kind, Grammar, Tree, Branch, trees, all_kinds, StandsIn, branches, all_branches, Stamped, StampedLeaf, StampedBranch, StampedForest, StampedNil, StampedCons, plain, plain_all, stamped_trees, plain_trees, StampedIn, StampedTop, StampedBelow, StampedPast, Take, CanReuse, Tries, Goes_on, Ends, Reuses, Takes_token, Makes, MakesAt, goes_on_join, join_makes, join_takes, not_both, stamped_stands, stands_branches, branches-trees, Child, tree_of, trees_of, forest_of, IsMadeBy, AreMadeBy, AreUpTo, AreStampedBy, AreOlder}
 
 -- a stamped branch of two lists joined
-pub stamped_split : (one two : List Stamped) {lefts : List Tree} {p born : ℕ} {us : StampedForest} → StampedIn (one ++ two) lefts p born us → StampedIn one lefts p born us ⊎ ((more : List Tree) × StampedIn two more p born us × (lefts ≡ plain_trees one ++ more))
+pub stamped_split : (one two : List Stamped) {lefts : List Tree} {p born : ℕ} {us : StampedForest} → StampedIn (one ++ two) lefts p born us
+    → StampedIn one lefts p born us ⊎ ((more : List Tree) × StampedIn two more p born us × (lefts ≡ plain_trees one ++ more))
 stamped_split [] two {lefts = lefts} w = inr (lefts, w, refl)
 stamped_split (u ∷ one) two StampedTop = inl StampedTop
 stamped_split (u ∷ one) two (StampedBelow w) = inl (StampedBelow w)
@@ -14,7 +15,8 @@ stamped_before two StampedTop = StampedTop
 stamped_before two (StampedBelow w) = StampedBelow w
 stamped_before two (StampedPast w) = StampedPast (stamped_before two w)
 
-pub stamped_after : (one : List Stamped) {two : List Stamped} {lefts : List Tree} {p born : ℕ} {us : StampedForest} → StampedIn two lefts p born us → StampedIn (one ++ two) (plain_trees one ++ lefts) p born us
+pub stamped_after : (one : List Stamped) {two : List Stamped} {lefts : List Tree} {p born : ℕ} {us : StampedForest}
+    → StampedIn two lefts p born us → StampedIn (one ++ two) (plain_trees one ++ lefts) p born us
 stamped_after [] w = w
 stamped_after (u ∷ one) w = StampedPast (stamped_after one w)
 
@@ -87,7 +89,8 @@ up_to-made n q under kids f is h =
 
 module _ (g : Grammar) where
   -- a branch that two runs make is made by one of them
-  pub join_made : {s1 i1 s2 i2 s3 i3 : List Tree} (p : Goes_on g s1 i1 s2 i2) (q : Goes_on g s2 i2 s3 i3) (below : List Tree) (w : Tree) → MakesAt g (goes_on_join g p q) below w → MakesAt g p below w ⊎ MakesAt g q below w
+  pub join_made : {s1 i1 s2 i2 s3 i3 : List Tree} (p : Goes_on g s1 i1 s2 i2) (q : Goes_on g s2 i2 s3 i3) (below : List Tree) (w : Tree)
+      → MakesAt g (goes_on_join g p q) below w → MakesAt g p below w ⊎ MakesAt g q below w
   join_made Ends q below w h = inr h
   join_made (Reuses t ts f c more) q below w h = join_made more q below w h
   join_made (Takes_token k ts f m more) q below w h = join_made more q below w h
@@ -95,18 +98,22 @@ module _ (g : Grammar) where
       ⊎_elim (λ a. inl (inl a)) (λ b. ⊎_elim (λ x. inl (inr x)) (λ y. inr y) (join_made more q below w b)) h
 
   -- a step that makes nothing
-  still : {s i s' i' s'' i'' : List Tree} (run : Goes_on g s i s' i') (step : Goes_on g s' i' s'' i'') → ((below : List Tree) (w : Tree) → MakesAt g step below w → ⊥) → (born number : ℕ) (below : List Tree) (w : Tree) → (born ≡ number) ↔ MakesAt g run below w → (born ≡ number) ↔ MakesAt g (goes_on_join g run step) below w
+  still : {s i s' i' s'' i'' : List Tree} (run : Goes_on g s i s' i') (step : Goes_on g s' i' s'' i'') → ((below : List Tree) (w : Tree) → MakesAt g step below w → ⊥)
+      → (born number : ℕ) (below : List Tree) (w : Tree) → (born ≡ number) ↔ MakesAt g run below w → (born ≡ number) ↔ MakesAt g (goes_on_join g run step) below w
   still run step none born number below w h =
       ((λ e. join_makes g run step below w (inl (h.0 e))), (λ m. h.1 (⊎_elim (λ a. a) (λ b. absurd (none below w b)) (join_made run step below w m))))
 
-  pub stamps_token : {s i s' i' s'' i'' : List Tree} (run : Goes_on g s i s' i') (step : Goes_on g s' i' s'' i'') → ((below : List Tree) (w : Tree) → MakesAt g step below w → ⊥) → (number : ℕ) (ts : List Stamped) (k : Kind) → AreStampedBy g run number ts → AreStampedBy g (goes_on_join g run step) number (ts ++ (StampedLeaf k ∷ []))
+  pub stamps_token : {s i s' i' s'' i'' : List Tree} (run : Goes_on g s i s' i') (step : Goes_on g s' i' s'' i'') → ((below : List Tree) (w : Tree) → MakesAt g step below w → ⊥)
+      → (number : ℕ) (ts : List Stamped) (k : Kind) → AreStampedBy g run number ts → AreStampedBy g (goes_on_join g run step) number (ts ++ (StampedLeaf k ∷ []))
   stamps_token run step none number ts k h lefts p born us w =
       ⊎_elim
       (λ a. still run step none born number lefts (Branch p (plain_all us)) (h lefts p born us a))
       (λ b. absurd (no_branch_in_leaf k b.1 refl))
       (stamped_split ts (StampedLeaf k ∷ []) w)
 
-  pub stamps_taken : {s i i' : List Tree} {top : List Tree} (run : Goes_on g s i top i') (u : Tree) (rest : List Tree) (f : Tries g top i' (Take u rest)) (c : CanReuse g top u (all_kinds rest)) (number : ℕ) (ts : List Stamped) (v : Stamped) → plain_trees ts ≡ top → plain v ≡ u → AreOlder number (v ∷ []) → AreStampedBy g run number ts → AreStampedBy g (goes_on_join g run (Reuses u rest f c Ends)) number (ts ++ (v ∷ []))
+  pub stamps_taken : {s i i' : List Tree} {top : List Tree} (run : Goes_on g s i top i') (u : Tree) (rest : List Tree) (f : Tries g top i' (Take u rest))
+      (c : CanReuse g top u (all_kinds rest)) (number : ℕ) (ts : List Stamped) (v : Stamped) → plain_trees ts ≡ top → plain v ≡ u → AreOlder number (v ∷ [])
+      → AreStampedBy g run number ts → AreStampedBy g (goes_on_join g run (Reuses u rest f c Ends)) number (ts ++ (v ∷ []))
   stamps_taken {top = top} run u rest f c number ts v top_is v_is none h lefts p born us w =
       let step : Goes_on g top _ (top ++ (u ∷ [])) rest = Reuses u rest f c Ends in
       let node = Branch p (plain_all us) in
@@ -119,9 +126,12 @@ module _ (g : Grammar) where
       ((λ e. absurd (omega (arith, e, none b.0 p born us b.1))), (λ m. absurd (not_both g (goes_on_join g run step) lefts p (plain_all us) takes m))))
       (stamped_split ts (v ∷ []) w)
 
-  module _ {s i top now top' : List Tree} (run : Goes_on g s i top now) (step : Goes_on g top now top' now) (number q : ℕ) (under kids : List Stamped) (f : StampedForest) (kids_are : stamped_trees f ≡ kids) (makes : (below : List Tree) (w : Tree) → MakesAt g step below w ↔ ((plain_trees under ≡ below) × (Branch q (plain_all f) ≡ w))) (h : AreStampedBy g run number (under ++ kids)) where
+  module _ {s i top now top' : List Tree} (run : Goes_on g s i top now) (step : Goes_on g top now top' now) (number q : ℕ) (under kids : List Stamped)
+      (f : StampedForest) (kids_are : stamped_trees f ≡ kids) (makes : (below : List Tree) (w : Tree)
+      → MakesAt g step below w ↔ ((plain_trees under ≡ below) × (Branch q (plain_all f) ≡ w))) (h : AreStampedBy g run number (under ++ kids)) where
     -- what stands in the list, or below the new branch, is not the new branch
-    other : (lefts : List Tree) (p born : ℕ) (us : StampedForest) → (MakesAt g step lefts (Branch p (plain_all us)) → ⊥) → (born ≡ number) ↔ MakesAt g run lefts (Branch p (plain_all us)) → (born ≡ number) ↔ MakesAt g (goes_on_join g run step) lefts (Branch p (plain_all us))
+    other : (lefts : List Tree) (p born : ℕ) (us : StampedForest) → (MakesAt g step lefts (Branch p (plain_all us)) → ⊥) → (born ≡ number) ↔ MakesAt g run lefts (Branch p (plain_all us))
+        → (born ≡ number) ↔ MakesAt g (goes_on_join g run step) lefts (Branch p (plain_all us))
     other lefts p born us none k =
         let w = Branch p (plain_all us) in
         ((λ e. join_makes g run step lefts w (inl (k.0 e))), (λ m. k.1 (⊎_elim (λ a. a) (λ b. absurd (none b)) (join_made run step lefts w m))))
@@ -137,11 +147,13 @@ module _ (g : Grammar) where
         let fits = stands_branches (stamped_stands w) in
         omega (arith, fits, ap branches here.1, ap all_branches (plain-stamped f), branches-trees (plain_all f))
 
-    of_branch : (more lefts : List Tree) (p born : ℕ) (us : StampedForest) → InBranch q number f more p born us → lefts ≡ plain_trees under ++ more → (born ≡ number) ↔ MakesAt g (goes_on_join g run step) lefts (Branch p (plain_all us))
+    of_branch : (more lefts : List Tree) (p born : ℕ) (us : StampedForest) → InBranch q number f more p born us → lefts ≡ plain_trees under ++ more
+        → (born ≡ number) ↔ MakesAt g (goes_on_join g run step) lefts (Branch p (plain_all us))
     of_branch [] lefts p born us Itself e =
         ((λ same. join_makes g run step lefts (Branch q (plain_all f)) (inr ((makes lefts (Branch q (plain_all f))).1 (sym (e ∙ append-nil (plain_trees under)), refl)))), (λ m. refl))
     of_branch more lefts p born us (Under w) e =
-        other lefts p born us (not_in_kids more lefts p born us w) (subst (λ l. (born ≡ number) ↔ MakesAt g run l (Branch p (plain_all us))) (sym e) (h (plain_trees under ++ more) p born us (stamped_after under (subst (λ l. StampedIn l more p born us) kids_are w))))
+        other lefts p born us (not_in_kids more lefts p born us w) (subst (λ l. (born ≡ number) ↔ MakesAt g run l (Branch p (plain_all us))) (sym e)
+        (h (plain_trees under ++ more) p born us (stamped_after under (subst (λ l. StampedIn l more p born us) kids_are w))))
 
     pub stamps_made : AreStampedBy g (goes_on_join g run step) number (under ++ (StampedBranch q number f ∷ []))
     stamps_made lefts p born us w =

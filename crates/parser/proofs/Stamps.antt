@@ -10,18 +10,21 @@ trees-stay cells c [] h = refl
 trees-stay cells c (x ∷ cs) h = λ i. grown-tree cells c x h.0 i ∷ trees-stay cells c cs h.1 i
 
 -- the new branch stands in the place of its children
-pub made_stamped : (cells new : List Cell) (p number : ℕ) (under kids : List Child) (id : NodeId) → IsGrown cells p kids number new id → AreBelow (length cells) under → all_trees new (under ++ (Node id ∷ [])) ≡ all_trees cells under ++ (StampedBranch p number (forest_in cells kids) ∷ [])
+pub made_stamped : (cells new : List Cell) (p number : ℕ) (under kids : List Child) (id : NodeId) → IsGrown cells p kids number new id → AreBelow (length cells) under
+    → all_trees new (under ++ (Node id ∷ [])) ≡ all_trees cells under ++ (StampedBranch p number (forest_in cells kids) ∷ [])
 made_stamped cells new p number under kids id h b =
     let one = trees_of-append (trees_from [] new) under (Node id ∷ []) in
     let two : all_trees new under ≡ all_trees cells under = ap (λ l. all_trees l under) h.cells_are ∙ trees-stay cells h.cell under b in
-    let three : tree new (Node id) ≡ StampedBranch p number (forest_in cells kids) = ap (λ l. tree l (Node id)) h.cells_are ∙ grown-new cells h.cell id h.id_is ∙ (λ j. StampedBranch (h.production_is j) (h.born_is j) (forest_of (trees_from [] cells) (h.children_are j))) in
+    let three : tree new (Node id) ≡ StampedBranch p number (forest_in cells kids) = ap (λ l. tree l (Node id)) h.cells_are ∙ grown-new cells h.cell id h.id_is
+    ∙ (λ j. StampedBranch (h.production_is j) (h.born_is j) (forest_of (trees_from [] cells) (h.children_are j))) in
     one ∙ (λ j. two j ++ (three j ∷ []))
 
 -- the store has one node more
 pub grown_by_one : (cells : List Cell) (stack : List Child) (p n : ℕ) (new : List Cell) (stack' : List Child) → HasMade cells stack p n new stack' → length new ≡ length cells + 1
 grown_by_one cells stack p n new stack' m = ap length m.grown.cells_are ∙ length-append cells (m.grown.cell ∷ [])
 
-pub below_on : (cells : List Cell) (stack : List Child) (p n : ℕ) (new : List Cell) (stack' : List Child) → HasMade cells stack p n new stack' → AreBelow (length cells) stack → AreBelow (length new) stack'
+pub below_on : (cells : List Cell) (stack : List Child) (p n : ℕ) (new : List Cell) (stack' : List Child)
+    → HasMade cells stack p n new stack' → AreBelow (length cells) stack → AreBelow (length new) stack'
 below_on cells stack p n new stack' m below =
     let long = grown_by_one cells stack p n new stack' m in
     let under = below-prefix (length cells) m.under m.kids (subst (AreBelow (length cells)) m.stack_is below) in

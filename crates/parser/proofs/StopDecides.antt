@@ -4,9 +4,8 @@ use Rattle.parser.proofs.Common.{take_all, slice_get_past, Kind, TokenRule, Inva
 use Rattle.parser.proofs.Moves.{Reached, top_stands, run_on}
 
 pub last-append : (before : List Kind) (last : Kind) → last_leaf (before ++ (last ∷ [])) ≡ Leaf last ∷ []
-last-append [] last = refl
-last-append (j ∷ []) last = refl
 last-append (j ∷ k ∷ before) last = last-append (k ∷ before) last
+last-append d last = refl
 
 split_at : (kinds : List Kind) (read : ℕ) (k : Kind) → slice_get kinds read ≡ Some k → kinds ≡ take read kinds ++ (k ∷ drop (suc read) kinds)
 split_at [] read k e = absurd (cc e)
@@ -46,10 +45,9 @@ module _ (g : Grammar) where
 
   -- one tree on the stack is a node's
   pub one_node : (cells : List Cell) (stack : List Child) (t : Tree) (n : ℕ) → plain_of cells stack ≡ t ∷ [] → IsTree g t (Nonterminal n) → (id : NodeId) × (stack ≡ Node id ∷ [])
-  one_node cells [] t n e h = absurd (cc e)
   one_node cells (Token k ∷ []) t n e h = let same : t ≡ Leaf k = cc e in absurd (no_leaf k n (subst (λ u. IsTree g u (Nonterminal n)) same h))
   one_node cells (Node id ∷ []) t n e h = (id, refl)
-  one_node cells (c ∷ d ∷ stack) t n e h = absurd (cc e)
+  one_node cells d t n e h = absurd (cc e)
 
 module _ (t : Sets) (accepted : IsAccepted t.grammar) (kinds : List Kind) (cells : List Cell) (stack : List Child) (states : List ℕ) (read : ℕ) (h : Reached t kinds cells stack states read) where
   pub some_state : 0 < length states
@@ -115,7 +113,8 @@ module _ (t : Sets) (accepted : IsAccepted t.grammar) (kinds : List Kind) (cells
 
   module _ (called : HasMove t.grammar h.has_states.symbols (slice_get kinds read) Accept) where
     the_tree : (u : Tree) × (plain_of cells stack ≡ u ∷ []) × IsTreeOf t.grammar (take read kinds) u × (slice_get kinds read ≡ None)
-    the_tree = accepted_tree t.grammar (take read kinds) (plain_of cells stack) h.has_states.symbols (slice_get kinds read) (run_on t.grammar (take read kinds) h.shifted (plain_of cells stack) (slice_get kinds read) h.after h.run) h.has_states.roots called
+    the_tree = accepted_tree t.grammar (take read kinds) (plain_of cells stack) h.has_states.symbols (slice_get kinds read)
+        (run_on t.grammar (take read kinds) h.shifted (plain_of cells stack) (slice_get kinds read) h.after h.run) h.has_states.roots called
 
     one_on_stack : (id : NodeId) × (stack ≡ Node id ∷ [])
     one_on_stack = one_node t.grammar cells stack the_tree.0 t.grammar.start the_tree.1 the_tree.2.root
@@ -144,6 +143,7 @@ module _ (t : Sets) (accepted : IsAccepted t.grammar) (kinds : List Kind) (cells
         )
 
 -- equal verdicts have equal stacks
-pub stacks_once : (g : Grammar) (kinds : List Kind) (v w : Answer) (one two : List Tree) → v ≡ w → ((ts us : List Tree) → AreDocumentTrees g kinds v ts → AreDocumentTrees g kinds w us → ts ≡ us) → AreStacked g kinds v one → AreStacked g kinds w two → one ≡ two
+pub stacks_once : (g : Grammar) (kinds : List Kind) (v w : Answer) (one two : List Tree) → v ≡ w
+    → ((ts us : List Tree) → AreDocumentTrees g kinds v ts → AreDocumentTrees g kinds w us → ts ≡ us) → AreStacked g kinds v one → AreStacked g kinds w two → one ≡ two
 stacks_once g kinds v w one two same once a b =
     a.stack_is ∙ (λ i. once a.trees b.trees a.are b.are i ++ last_leaf (before_fault kinds (same i))) ∙ sym b.stack_is

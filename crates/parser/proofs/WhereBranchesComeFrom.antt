@@ -51,18 +51,21 @@ come_gone gone ts lefts p born us w = (plain_trees gone ++ lefts, stamped_after 
 
 -- ---- children
 
-pub opened_came : (cells : List Cell) (kids rest : List Child) (id : NodeId) (p b : ℕ) → tree cells (Node id) ≡ StampedBranch p b (forest_of (trees_from [] cells) kids) → ComeFrom (all_trees cells (Node id ∷ rest)) 0 (all_trees cells (kids ++ rest))
+pub opened_came : (cells : List Cell) (kids rest : List Child) (id : NodeId) (p b : ℕ) → tree cells (Node id) ≡ StampedBranch p b (forest_of (trees_from [] cells) kids)
+    → ComeFrom (all_trees cells (Node id ∷ rest)) 0 (all_trees cells (kids ++ rest))
 opened_came cells kids rest id p b e =
     let ts = trees_from [] cells in
     let one = come_opened p b (forest_of ts kids) (all_trees cells rest) in
-    let opened : stamped_trees (forest_of ts kids) ++ all_trees cells rest ≡ all_trees cells (kids ++ rest) = ap (λ l. l ++ all_trees cells rest) (stamped-children ts kids) ∙ sym (trees_of-append ts kids rest) in
+    let opened : stamped_trees (forest_of ts kids) ++ all_trees cells rest ≡ all_trees cells (kids ++ rest) =
+    ap (λ l. l ++ all_trees cells rest) (stamped-children ts kids) ∙ sym (trees_of-append ts kids rest) in
     subst (λ l. ComeFrom (all_trees cells (Node id ∷ rest)) 0 l) opened (subst (λ s. ComeFrom (s ∷ all_trees cells rest) 0 (stamped_trees (forest_of ts kids) ++ all_trees cells rest)) (sym e) one)
 
 pub skipped_came : (cells : List Cell) (rest rest' : List Child) → Skips cells rest rest' → ComeFrom (all_trees cells rest) 0 (all_trees cells rest')
 skipped_came cells rest rest' k =
     let parts : all_trees cells k.0 ++ all_trees cells rest' ≡ all_trees cells rest = sym (ap (all_trees cells) k.1 ∙ trees_of-append (trees_from [] cells) k.0 rest') in
     let none : place_of (plain_of cells k.0) ≡ 0 = ap length k.2 in
-    subst (λ n. ComeFrom (all_trees cells rest) n (all_trees cells rest')) none (subst (λ l. ComeFrom l (place_of (plain_of cells k.0)) (all_trees cells rest')) parts (come_gone (all_trees cells k.0) (all_trees cells rest')))
+    subst (λ n. ComeFrom (all_trees cells rest) n (all_trees cells rest')) none
+    (subst (λ l. ComeFrom l (place_of (plain_of cells k.0)) (all_trees cells rest')) parts (come_gone (all_trees cells k.0) (all_trees cells rest')))
 
 -- older trees, put together
 pub older_token : (number : ℕ) (k : Kind) (ts : List Stamped) → AreOlder number ts → AreOlder number (StampedLeaf k ∷ ts)
@@ -74,15 +77,18 @@ older_node number q b f ts less h lefts p born us (StampedBelow w) = h lefts p b
 older_node number q b f ts less h lefts p born us (StampedPast {lefts = inner} w) = h (plain_trees (stamped_trees f) ++ inner) p born us (stamped_after (stamped_trees f) w)
 
 -- what is at the start, once empty trees are skipped and nodes opened
-pub prefix_from : (cells : List Cell) (old full now : List Child) → Skips cells old full → ComeFrom (all_trees cells full) 0 (all_trees cells now) → ComeFrom (all_trees cells old) 0 (all_trees cells now)
+pub prefix_from : (cells : List Cell) (old full now : List Child) → Skips cells old full → ComeFrom (all_trees cells full) 0 (all_trees cells now)
+    → ComeFrom (all_trees cells old) 0 (all_trees cells now)
 prefix_from cells old full now skips h = come_on 0 0 (all_trees cells old) (all_trees cells full) (all_trees cells now) (skipped_came cells old full skips) h
 
-pub skipped_left : (input : List Stamped) (cells : List Cell) (read : ℕ) (old full : List Child) → ComeFrom input read (all_trees cells old) → Skips cells old full → ComeFrom input read (all_trees cells full)
+pub skipped_left : (input : List Stamped) (cells : List Cell) (read : ℕ) (old full : List Child) → ComeFrom input read (all_trees cells old)
+    → Skips cells old full → ComeFrom input read (all_trees cells full)
 skipped_left input cells read old full came skips =
     let n : read + 0 ≡ read = omega arith in
     subst (λ m. ComeFrom input m (all_trees cells full)) n (come_on read 0 input (all_trees cells old) (all_trees cells full) came (skipped_came cells old full skips))
 
-pub prefix_came : (input : List Stamped) (cells : List Cell) (read : ℕ) (old full now : List Child) → ComeFrom input read (all_trees cells old) → Skips cells old full → ComeFrom (all_trees cells full) 0 (all_trees cells now) → ComeFrom input read (all_trees cells now)
+pub prefix_came : (input : List Stamped) (cells : List Cell) (read : ℕ) (old full now : List Child) → ComeFrom input read (all_trees cells old) → Skips cells old full
+    → ComeFrom (all_trees cells full) 0 (all_trees cells now) → ComeFrom input read (all_trees cells now)
 prefix_came input cells read old full now came skips h =
     let n : read + 0 ≡ read = omega arith in
     subst (λ m. ComeFrom input m (all_trees cells now)) n (come_on read 0 input (all_trees cells old) (all_trees cells now) came (prefix_from cells old full now skips h))
@@ -120,7 +126,8 @@ mutual
   none_numbered_in : (n : ℕ) (ts : StampedForest) → HaveNone n (stamped_trees ts) → numbered_in n ts ≡ []
   none_numbered_in n StampedNil h = refl
   none_numbered_in n (StampedCons t ts) h =
-      (λ i. none_numbered n t (λ lefts p born us w. h lefts p born us (stamped_before (stamped_trees ts) w)) i ++ none_numbered_in n ts (λ lefts p born us w. h (plain t ∷ lefts) p born us (StampedPast w)) i)
+      (λ i. none_numbered n t (λ lefts p born us w. h lefts p born us (stamped_before (stamped_trees ts) w)) i ++ none_numbered_in n ts
+      (λ lefts p born us w. h (plain t ∷ lefts) p born us (StampedPast w)) i)
 
 -- ---- the moves of the machine
 
@@ -135,7 +142,8 @@ came_begins number cells input = record {
 
 module _ (input : List Stamped) (before number : ℕ) (cells : List Cell) (stack : List Child) (read : ℕ) (rest : List Child) (h : CameFrom input before number cells stack read rest) where
   -- a tree is taken over
-  pub came_taken : (now' rest' : List Child) (id : NodeId) → now' ≡ Node id ∷ rest' → ComeFrom input read (all_trees cells now') → AreOlder number (all_trees cells now') → CameFrom input before number cells (stack ++ (Node id ∷ [])) (read + length (yield (plain (tree cells (Node id))))) rest'
+  pub came_taken : (now' rest' : List Child) (id : NodeId) → now' ≡ Node id ∷ rest' → ComeFrom input read (all_trees cells now') → AreOlder number (all_trees cells now')
+      → CameFrom input before number cells (stack ++ (Node id ∷ [])) (read + length (yield (plain (tree cells (Node id))))) rest'
   came_taken now' rest' id now_is came' older' =
       let s = tree cells (Node id) in
       let ts = all_trees cells rest' in
@@ -151,7 +159,8 @@ module _ (input : List Stamped) (before number : ℕ) (cells : List Cell) (stack
             (λ a. h.kept lefts p born us a differ)
             (λ b. let one = came b.0 p born us (stamped_before ts b.1) in (one.0, one.1, omega (arith, one.2, ap place_of b.2, place-append (plain_of cells stack) b.0, h.place)))
             (stamped_split (all_trees cells stack) (s ∷ []) (subst (λ l. StampedIn l lefts p born us) stack_is w));
-        added = h.added ∙ sym (ap (all_numbered number) stack_is ∙ numbered-append number (all_trees cells stack) (s ∷ []) ∙ ap (λ l. all_numbered number (all_trees cells stack) ++ l) none ∙ append-nil (all_numbered number (all_trees cells stack)));
+        added = h.added ∙ sym (ap (all_numbered number) stack_is ∙ numbered-append number (all_trees cells stack) (s ∷ [])
+            ∙ ap (λ l. all_numbered number (all_trees cells stack) ++ l) none ∙ append-nil (all_numbered number (all_trees cells stack)));
       }
 
   -- a token comes onto the stack
@@ -170,7 +179,8 @@ module _ (input : List Stamped) (before number : ℕ) (cells : List Cell) (stack
       }
 
   -- a branch is made
-  pub came_reduced : (p : ℕ) (new : List Cell) (stack' : List Child) → HasMade cells stack p number new stack' → AreBelow (length cells) stack → (rest' : List Child) → AreBelow (length cells) rest' → ComeFrom input read (all_trees cells rest') → CameFrom input before number new stack' read rest'
+  pub came_reduced : (p : ℕ) (new : List Cell) (stack' : List Child) → HasMade cells stack p number new stack' → AreBelow (length cells) stack → (rest' : List Child)
+      → AreBelow (length cells) rest' → ComeFrom input read (all_trees cells rest') → CameFrom input before number new stack' read rest'
   came_reduced p new stack' made below rest' below' came' =
       let under = made.under in
       let kids = made.kids in
@@ -181,19 +191,33 @@ module _ (input : List Stamped) (before number : ℕ) (cells : List Cell) (stack
       let parts : all_trees cells stack ≡ all_trees cells under ++ all_trees cells kids = ap (all_trees cells) made.stack_is ∙ trees_of-append (trees_from [] cells) under kids in
       let now_is : all_trees new stack' ≡ all_trees cells under ++ (node ∷ []) = ap (all_trees new) made.stack_is' ∙ made_stamped cells new p number under kids made.id made.grown under_below in
       let same_rest : all_trees new rest' ≡ all_trees cells rest' = ap (λ l. all_trees l rest') made.grown.cells_are ∙ trees-stay cells made.grown.cell rest' below' in
-      let cell : branch_of (trees_from [] cells) made.grown.cell ≡ node = (λ j. StampedBranch (made.grown.production_is j) (made.grown.born_is j) (forest_of (trees_from [] cells) (made.grown.children_are j))) in
-      let store : trees_from [] new ≡ trees_from [] cells ++ (node ∷ []) = ap (trees_from []) made.grown.cells_are ∙ grown-trees cells made.grown.cell ∙ ap (λ s. trees_from [] cells ++ (s ∷ [])) cell in
+      let cell : branch_of (trees_from [] cells) made.grown.cell ≡ node =
+      (λ j. StampedBranch (made.grown.production_is j) (made.grown.born_is j) (forest_of (trees_from [] cells) (made.grown.children_are j))) in
+      let store : trees_from [] new ≡ trees_from [] cells ++ (node ∷ []) = ap (trees_from []) made.grown.cells_are
+      ∙ grown-trees cells made.grown.cell ∙ ap (λ s. trees_from [] cells ++ (s ∷ [])) cell in
       let inside : before ≤ length (trees_from [] cells) = omega (arith, h.longer, from-length [] cells) in
-      let kinds : place_of (plain_trees (all_trees cells kids)) ≡ length (yields (plain_all f)) = ap (λ l. place_of (plain_trees l)) (sym kids_are) ∙ ap place_of (plain-stamped f) ∙ ap length (kinds-trees (plain_all f)) in
+      let kinds : place_of (plain_trees (all_trees cells kids)) ≡ length (yields (plain_all f)) = ap (λ l. place_of (plain_trees l)) (sym kids_are)
+      ∙ ap place_of (plain-stamped f) ∙ ap length (kinds-trees (plain_all f)) in
       record {
-        place = omega (arith, h.place, ap (λ l. place_of (plain_trees l)) parts, ap (λ l. place_of (plain_trees l)) now_is, place_trees (all_trees cells under) (all_trees cells kids), place_trees (all_trees cells under) (node ∷ []), kinds, length-append (yields (plain_all f)) []);
+        place = omega (
+          arith,
+          h.place,
+          ap (λ l. place_of (plain_trees l)) parts,
+          ap (λ l. place_of (plain_trees l)) now_is,
+          place_trees (all_trees cells under)
+              (all_trees cells kids),
+          place_trees (all_trees cells under) (node ∷ []),
+          kinds,
+          length-append (yields (plain_all f)) [],
+        );
         longer = omega (arith, h.longer, grown_by_one cells stack p number new stack' made);
         left = subst (ComeFrom input read) (sym same_rest) came';
         kept = λ lefts q born us w differ. ⊎_elim
             (λ a. h.kept lefts q born us (subst (λ l. StampedIn l lefts q born us) (sym parts) (stamped_before (all_trees cells kids) a)) differ)
             (λ b. under_branch under kids f parts kids_are b.0 lefts q born us (in_branch p number f b.1) b.2 differ)
             (stamped_split (all_trees cells under) (node ∷ []) (subst (λ l. StampedIn l lefts q born us) now_is w));
-        added = ap (drop before) store ∙ drop-append-le before (trees_from [] cells) (node ∷ []) inside ∙ ap (λ l. l ++ (node ∷ [])) (h.added ∙ ap (all_numbered number) parts ∙ numbered-append number (all_trees cells under) (all_trees cells kids))
+        added = ap (drop before) store ∙ drop-append-le before (trees_from [] cells) (node ∷ []) inside ∙ ap (λ l. l ++ (node ∷ []))
+            (h.added ∙ ap (all_numbered number) parts ∙ numbered-append number (all_trees cells under) (all_trees cells kids))
             ∙ append_assoc (all_numbered number (all_trees cells under)) (all_numbered number (all_trees cells kids)) (node ∷ [])
             ∙ ap (λ l. all_numbered number (all_trees cells under) ++ l) (sym (numbered-branch number p (all_trees cells kids) f kids_are))
             ∙ sym (ap (all_numbered number) now_is ∙ numbered-append number (all_trees cells under) (node ∷ []));
@@ -206,15 +230,18 @@ module _ (input : List Stamped) (before number : ℕ) (cells : List Cell) (stack
           joined [] y = refl
           joined (s ∷ x) y = ap (λ l. plain s ∷ l) (joined x y)
 
-      under_branch : (under kids : List Child) (f : StampedForest) → all_trees cells stack ≡ all_trees cells under ++ all_trees cells kids → stamped_trees f ≡ all_trees cells kids → (more lefts : List Tree) (q born : ℕ) (us : StampedForest) → InBranch p number f more q born us → lefts ≡ plain_of cells under ++ more → born ≢ number
+      under_branch : (under kids : List Child) (f : StampedForest) → all_trees cells stack ≡ all_trees cells under ++ all_trees cells kids → stamped_trees f ≡ all_trees cells kids
+          → (more lefts : List Tree) (q born : ℕ) (us : StampedForest) → InBranch p number f more q born us → lefts ≡ plain_of cells under ++ more → born ≢ number
           → (at : List Tree) × StampedIn input at q born us × (place_of at ≡ place_of lefts)
       under_branch under kids f parts kids_are more lefts q born us Itself e differ = absurd (differ refl)
       under_branch under kids f parts kids_are more lefts q born us (Under w) e differ =
-          let there : StampedIn (all_trees cells stack) (plain_of cells under ++ more) q born us = subst (λ l. StampedIn l (plain_of cells under ++ more) q born us) (sym parts) (stamped_after (all_trees cells under) (subst (λ l. StampedIn l more q born us) kids_are w)) in
+          let there : StampedIn (all_trees cells stack) (plain_of cells under ++ more) q born us = subst (λ l. StampedIn l (plain_of cells under ++ more) q born us)
+          (sym parts) (stamped_after (all_trees cells under) (subst (λ l. StampedIn l more q born us) kids_are w)) in
           h.kept lefts q born us (subst (λ l. StampedIn (all_trees cells stack) l q born us) (sym e) there) differ
 
 -- what doesn't carry the number at the end moves from the old trees
-pub keep_stamps : (s : Splice) (old input : List Stamped) (before number : ℕ) (cells : List Cell) (stack : List Child) (read : ℕ) (rest : List Child) → CameFrom input before number cells stack read rest → MoveFrom s old input → KeepStamps number s old (all_trees cells stack)
+pub keep_stamps : (s : Splice) (old input : List Stamped) (before number : ℕ) (cells : List Cell) (stack : List Child) (read : ℕ) (rest : List Child)
+    → CameFrom input before number cells stack read rest → MoveFrom s old input → KeepStamps number s old (all_trees cells stack)
 keep_stamps s old input before number cells stack read rest came moved lefts p born us w differ some =
     let one = came.kept lefts p born us w differ in
     let two = moved one.0 p born us one.1 some in

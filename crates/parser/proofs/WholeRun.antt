@@ -24,14 +24,11 @@ module _ (g : Grammar) where
 
   plain_prefix : {s i : List Tree} {f : NextInput} → Tries g s i f → (ks : List Kind) → i ≡ leaves ks → IsPlain f
   plain_prefix Nothing_left ks e = tt
-  plain_prefix (Dropped empty d) [] e = absurd (cc e)
   plain_prefix (Dropped {t = t} empty d) (k ∷ ks) e = absurd (leaf_has_kind k t (head-eq_of_cons-eq e) empty)
-  plain_prefix (Passed c) [] e = absurd (cc e)
   plain_prefix (Passed {t = t} c) (k ∷ ks) e = leaf_no_root k c.root (subst (λ u. IsTree g u (Nonterminal c.root)) (head-eq_of_cons-eq e) c.is)
-  plain_prefix (Opened none d) [] e = absurd (cc e)
   plain_prefix (Opened {p = p} {us = us} none d) (k ∷ ks) e = absurd (leaf_is_branch k p us (head-eq_of_cons-eq e))
-  plain_prefix At_token [] e = absurd (cc e)
   plain_prefix At_token (k ∷ ks) e = (ks, tail-eq_of_cons-eq e)
+  plain_prefix d [] e = absurd (cc e)
 
   nothing_taken : {s i s' i' : List Tree} (run : Goes_on g s i s' i') (ks : List Kind) → i ≡ leaves ks → (below : List Tree) (w : Tree) → TakesOver g run below w → ⊥
   nothing_taken Ends ks e below w h = h
@@ -45,7 +42,8 @@ module _ (g : Grammar) where
   plain_makes (Takes_token {stack = s} k ts f m more) ks e = let rest = plain_prefix f ks e in omega (arith, plain_makes more rest.0 rest.1, branches-append s (Leaf k ∷ []))
   plain_makes (Makes {stack = s} {input = i} s1 f t n r more) ks e = omega (arith, plain_makes more ks e, reduce_count g s (look_at (all_kinds i) None) s1 r)
 
-  pub plain_made : {i s' i' : List Tree} (run : Goes_on g [] i s' i') (ks : List Kind) → i ≡ leaves ks → (below : List Tree) (p : ℕ) (us : Forest) → StandsIn s' below (Branch p us) → MakesAt g run below (Branch p us)
+  pub plain_made : {i s' i' : List Tree} (run : Goes_on g [] i s' i') (ks : List Kind) → i ≡ leaves ks → (below : List Tree) (p : ℕ) (us : Forest)
+      → StandsIn s' below (Branch p us) → MakesAt g run below (Branch p us)
   plain_made run ks e below p us w =
       ⊎_elim
       (λ a. absurd (nowhere a refl))

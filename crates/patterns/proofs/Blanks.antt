@@ -46,10 +46,12 @@ abbrev pub Skips : List Character → List Character → Type 0
 Skips words rest = IsBlanks (writing words) (writing rest) × HasNoBlank (writing rest) × (length rest ≤ length words)
 
 -- a part with the blanks before it and after it
-pub among_blanks : {l : Level} {d n : ℕ} {after : Before} {words inside rest left : List Character} {e : Expression} → Skips words inside → IsRead l d after n inside rest e → Skips rest left → IsRead l d after n words left e
+pub among_blanks : {l : Level} {d n : ℕ} {after : Before} {words inside rest left : List Character} {e : Expression} → Skips words inside
+    → IsRead l d after n inside rest e → Skips rest left → IsRead l d after n words left e
 among_blanks {l = l} {d = d} {n = n} {after = b} {words = words} {inside = inside} {rest = rest} {left = left} {e = e} ((us, f, all), _, short) h (blanks, _, shorter) =
     let (part, g, s) = h.spelled in record {
-      spelled = blanks_after_part l d e (writing words) (writing rest) (writing left) (us ++ part, f ∙ ap (λ x. us ++ x) g ∙ sym (append_assoc us part (writing rest)), spells_after l d e us part all s) blanks;
+      spelled = blanks_after_part l d e (writing words) (writing rest) (writing left)
+          (us ++ part, f ∙ ap (λ x. us ++ x) g ∙ sym (append_assoc us part (writing rest)), spells_after l d e us part all s) blanks;
       sound = h.sound;
       shorter = omega (arith, h.shorter);
       goes_on = blanks_skipped n d Nothing (writing words) (writing inside) (us, f, all) ∙ h.goes_on ∙ blanks_skipped n d b (writing rest) (writing left) blanks;

@@ -5,8 +5,7 @@ use Rattle.patterns.proofs.Common.{list_all, append-nil, list_all-append, nat_te
 -- what holds of a sign that is written as itself holds of each word that is that sign
 pub by_plain : (P : Written → Type 0) (c : ℕ) (w : Written) → ((o : ℕ) → P (Plain o c)) → IsSign c w → P w
 by_plain P c (Plain o x) p h = let Q : ℕ → Type 0 = λ y. P (Plain o y) in subst Q h (p o)
-by_plain P c (Escaped o x) p h = absurd h
-by_plain P c (BadEscape o) p h = absurd h
+by_plain P c d p h = absurd h
 
 -- `us` and whatever has P after it have Q, with the items `v` first
 abbrev pub GoesOn : {A : Type 0} → (P Q : List A → List Written → Type 0) → List A → List Written → Type 0
@@ -58,25 +57,26 @@ by_sign P c closing dash caret other =
     ]
 
 -- where no item begins
-pub no_item : (n : ℕ) (ws : List Written) → HasNoClassChar ws → (Begins 93 ws → ⊥) → (d b : ℕ) (negated : Bool) (before : List Interval) → fault_from n (InClass d b negated before Items) ws ≡ Some (record { at = place_of n ws; cause = Syntax })
-no_item n [] none h d b negated before = refl
+pub no_item : (n : ℕ) (ws : List Written) → HasNoClassChar ws → (Begins 93 ws → ⊥) → (d b : ℕ) (negated : Bool) (before : List Interval)
+    → fault_from n (InClass d b negated before Items) ws ≡ Some (record { at = place_of n ws; cause = Syntax })
 no_item n (Plain o c ∷ ws) none h d b negated before =
     let P : ℕ → Type 0 = λ x. (93 ≡ x → ⊥) → fault_from n (InClass d b negated before Items) (Plain o x ∷ ws) ≡ Some (record { at = o; cause = Syntax }) in
     by_sign P c (λ g. absurd (g refl)) (λ g. refl) (λ g. refl) (λ p q r g. absurd (none c (refl, p, q, r))) h
 no_item n (Escaped o c ∷ ws) none h d b negated before = absurd (none c refl)
-no_item n (BadEscape o ∷ ws) none h d b negated before = refl
+no_item n e none h d b negated before = refl
 
 -- a first character and a `-`, after which none begins
-pub no_last : (n : ℕ) (ws : List Written) → HasNoClassChar ws → (d b : ℕ) (negated : Bool) (before : List Interval) (p a : ℕ) → fault_from n (InClass d b negated before (Dash p a)) ws ≡ Some (record { at = place_of n ws; cause = Syntax })
-no_last n [] none d b negated before p a = refl
+pub no_last : (n : ℕ) (ws : List Written) → HasNoClassChar ws → (d b : ℕ) (negated : Bool) (before : List Interval) (p a : ℕ)
+    → fault_from n (InClass d b negated before (Dash p a)) ws ≡ Some (record { at = place_of n ws; cause = Syntax })
 no_last n (Plain o c ∷ ws) none d b negated before p a =
     let P : ℕ → Type 0 = λ x. fault_from n (InClass d b negated before (Dash p a)) (Plain o x ∷ ws) ≡ Some (record { at = o; cause = Syntax }) in
     by_sign P c refl refl refl (λ q r s. absurd (none c (refl, q, r, s)))
 no_last n (Escaped o c ∷ ws) none d b negated before p a = absurd (none c refl)
-no_last n (BadEscape o ∷ ws) none d b negated before p a = refl
+no_last n e none d b negated before p a = refl
 
 -- the first character of an item
-pub first_step : (n d b : ℕ) (negated : Bool) (before : List Interval) (c : ℕ) (w : Written) (ws : List Written) → IsClassChar c w → fault_from n (InClass d b negated before Items) (w ∷ ws) ≡ fault_from n (InClass d b negated before (First (place w) c)) ws
+pub first_step : (n d b : ℕ) (negated : Bool) (before : List Interval) (c : ℕ) (w : Written) (ws : List Written) → IsClassChar c w
+    → fault_from n (InClass d b negated before Items) (w ∷ ws) ≡ fault_from n (InClass d b negated before (First (place w) c)) ws
 first_step n d b negated before c (Plain o x) ws h =
     let P : ℕ → Type 0 = λ y. fault_from n (InClass d b negated before Items) (Plain o x ∷ ws) ≡ fault_from n (InClass d b negated before (First o y)) ws in
     subst P (sym h.0) (rw (not_equal x 93 h.1, not_equal x 45 h.2, not_equal x 94 h.3) refl)
@@ -86,7 +86,8 @@ first_step n d b negated before c (Escaped o x) ws h =
 first_step n d b negated before c (BadEscape o) ws h = absurd h
 
 -- a last character
-pub last_step : (n d b : ℕ) (negated : Bool) (before : List Interval) (p a c : ℕ) (w : Written) (ws : List Written) → IsClassChar c w → fault_from n (InClass d b negated before (Dash p a)) (w ∷ ws) ≡ or_later (λ s. fault_from n s ws) (char_in_class d b negated before (Dash p a) (place w) c)
+pub last_step : (n d b : ℕ) (negated : Bool) (before : List Interval) (p a c : ℕ) (w : Written) (ws : List Written) → IsClassChar c w
+    → fault_from n (InClass d b negated before (Dash p a)) (w ∷ ws) ≡ or_later (λ s. fault_from n s ws) (char_in_class d b negated before (Dash p a) (place w) c)
 last_step n d b negated before p a c (Plain o x) ws h =
     let P : ℕ → Type 0 = λ y. fault_from n (InClass d b negated before (Dash p a)) (Plain o x ∷ ws) ≡ or_later (λ s. fault_from n s ws) (char_in_class d b negated before (Dash p a) o y) in
     subst P (sym h.0) (rw (not_equal x 93 h.1, not_equal x 45 h.2, not_equal x 94 h.3) refl)
@@ -96,20 +97,20 @@ last_step n d b negated before p a c (Escaped o x) ws h =
 last_step n d b negated before p a c (BadEscape o) ws h = absurd h
 
 -- an item of one character, where no `-` follows
-pub one_ends : (n d b : ℕ) (negated : Bool) (before : List Interval) (p c : ℕ) (ws : List Written) → (Begins 45 ws → ⊥) → fault_from n (InClass d b negated before (First p c)) ws ≡ fault_from n (InClass d b negated (before ++ record { first = c; last = c } ∷ []) Items) ws
-one_ends n d b negated before p c [] h = refl
+pub one_ends : (n d b : ℕ) (negated : Bool) (before : List Interval) (p c : ℕ) (ws : List Written) → (Begins 45 ws → ⊥) → fault_from n (InClass d b negated before (First p c)) ws
+    ≡ fault_from n (InClass d b negated (before ++ record { first = c; last = c } ∷ []) Items) ws
 one_ends n d b negated before p c (Plain o x ∷ ws) h =
-    let P : ℕ → Type 0 = λ y. (45 ≡ y → ⊥) → fault_from n (InClass d b negated before (First p c)) (Plain o y ∷ ws) ≡ fault_from n (InClass d b negated (before ++ record { first = c; last = c } ∷ []) Items) (Plain o y ∷ ws) in
+    let P : ℕ → Type 0 = λ y. (45 ≡ y → ⊥) → fault_from n (InClass d b negated before (First p c)) (Plain o y ∷ ws) ≡ fault_from n
+    (InClass d b negated (before ++ record { first = c; last = c } ∷ []) Items) (Plain o y ∷ ws) in
     by_sign P x (λ g. refl) (λ g. absurd (g refl)) (λ g. refl) (λ q r s g. rw (not_equal x 93 q, not_equal x 45 r, not_equal x 94 s) refl) h
-one_ends n d b negated before p c (w ∷ ws) h = refl
+one_ends n d b negated before p c e h = refl
 
 -- a class, after its bracket, where no `^` follows
 pub no_caret : (n d b : ℕ) (ws : List Written) → (Begins 94 ws → ⊥) → fault_from n (InClass d b false [] Opened) ws ≡ fault_from n (InClass d b false [] Items) ws
-no_caret n d b [] h = refl
 no_caret n d b (Plain o x ∷ ws) h =
     let P : ℕ → Type 0 = λ y. (94 ≡ y → ⊥) → fault_from n (InClass d b false [] Opened) (Plain o y ∷ ws) ≡ fault_from n (InClass d b false [] Items) (Plain o y ∷ ws) in
     by_sign P x (λ g. refl) (λ g. refl) (λ g. absurd (g refl)) (λ p q r g. rw (not_equal x 93 p, not_equal x 45 q, not_equal x 94 r) refl) h
-no_caret n d b (w ∷ ws) h = refl
+no_caret n d b e h = refl
 
 -- a class, after its bracket and the `^` that may follow
 pub caret_step : (n d b : ℕ) (negated : Bool) (ws vs : List Written) → IsCaret negated ws vs → fault_from n (InClass d b false [] Opened) ws ≡ fault_from n (InClass d b negated [] Items) vs
@@ -142,11 +143,11 @@ pub all_and_one : (p : Interval → Bool) (is : List Interval) (i : Interval) �
 all_and_one p is i h g = rw (list_all-append p is (i ∷ []), h, g) refl
 
 -- where no character of a literal stands
-pub no_literal_char : (n : ℕ) (ws : List Written) → HasNoLiteralChar ws → (Begins 34 ws → ⊥) → (d q : ℕ) (empty : Bool) → fault_from n (InLiteral d q empty) ws ≡ Some (record { at = place_of n ws; cause = Syntax })
-no_literal_char n [] none h d q empty = refl
+pub no_literal_char : (n : ℕ) (ws : List Written) → HasNoLiteralChar ws → (Begins 34 ws → ⊥) → (d q : ℕ) (empty : Bool)
+    → fault_from n (InLiteral d q empty) ws ≡ Some (record { at = place_of n ws; cause = Syntax })
 no_literal_char n (Plain o c ∷ ws) none h d q empty = absurd (none c (refl, λ e. h (sym e)))
 no_literal_char n (Escaped o c ∷ ws) none h d q empty = absurd (none c refl)
-no_literal_char n (BadEscape o ∷ ws) none h d q empty = refl
+no_literal_char n e none h d q empty = refl
 
 pub not_empty_after : (v : List ℕ) (c : ℕ) → is_empty (v ++ c ∷ []) ≡ false
 not_empty_after [] c = refl

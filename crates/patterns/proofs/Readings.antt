@@ -20,7 +20,8 @@ pub spelled_text : (e : Expression) (t : List ℕ) (n : ℕ) (ws : List Written)
 spelled_text e t n ws h s = let P : List Written → Type 0 = SpellsAt Alt 0 e in subst P h.writes s
 
 -- the fault of a text whose expression matches the empty text
-pub shown_empty : (r : Refusal) (e : Expression) (t : List ℕ) (n : ℕ) (ws : List Written) → IsWriting t n ws → fault_from n (Outside 0 Nothing) ws ≡ None → SpellsAt Alt 0 e ws → matches_empty e ≡ true → r ≡ fault_at 0 MatchesEmpty → Reports r (λ f. IsFault t f)
+pub shown_empty : (r : Refusal) (e : Expression) (t : List ℕ) (n : ℕ) (ws : List Written) → IsWriting t n ws → fault_from n (Outside 0 Nothing) ws ≡ None
+    → SpellsAt Alt 0 e ws → matches_empty e ≡ true → r ≡ fault_at 0 MatchesEmpty → Reports r (λ f. IsFault t f)
 shown_empty r e t n ws h g s m k = rw k (inr (first_of t n ws h ∙ g, refl, (e, spelled_text e t n ws h s, empty_matched e m)))
 
 apart : (b : Bool) → b ≡ true → b ≡ false → ⊥
@@ -30,6 +31,7 @@ pub is_pattern : (e : Expression) (t : List ℕ) (n : ℕ) (ws : List Written) �
 is_pattern e t n ws h s g m =
     record { spelled = spelled_text e t n ws h s; well_made = well_made e g; not_empty = λ q. apart (matches_empty e) (empty_tested e q) m }
 
-pub is_writing : (t items prefix : List ℕ) (words after : List Character) (n : ℕ) → items ≡ t → prefix ≡ items → writing words ≡ written 0 prefix → after ≡ words → n ≡ length items → IsWriting t n (writing after)
+pub is_writing : (t items prefix : List ℕ) (words after : List Character) (n : ℕ) → items ≡ t → prefix ≡ items
+    → writing words ≡ written 0 prefix → after ≡ words → n ≡ length items → IsWriting t n (writing after)
 is_writing t items prefix words after n a b e f g =
     record { writes = ap writing f ∙ e ∙ ap (written 0) (b ∙ a); counts = g ∙ ap length a }

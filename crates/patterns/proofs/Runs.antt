@@ -9,9 +9,7 @@ use Rattle.patterns.proofs.Literals.{by_plain, eq_or_not, not_equal, literal_ste
 -- what stands after a part of this level
 abbrev Ends : Level → Before → Type 0
 Ends Atom b = b ≡ AnAtom
-Ends Rep b = is_something b ≡ true
-Ends Seq b = is_something b ≡ true
-Ends Alt b = is_something b ≡ true
+Ends d b = is_something b ≡ true
 
 abbrev Runs : Level → ℕ → List Written → Type 0
 Runs l d ws = (n : ℕ) (b : Before) (rest : List Written) → (r : Before) × Ends l r × (fault_from n (Outside d b) (ws ++ rest) ≡ fault_from n (Outside d r) rest)
@@ -77,9 +75,8 @@ literal_rest n d q v [] rest h = absurd h
 literal_rest n d q [] (Plain o c ∷ ws) rest h =
     let P : ℕ → Type 0 = λ x. fault_from n (InLiteral d q false) (Plain o x ∷ ws ++ rest) ≡ fault_from n (Outside d AnAtom) rest in
     subst P h.0 (ap (λ y. fault_from n (Outside d AnAtom) (y ++ rest)) h.1)
-literal_rest n d q [] (Escaped o c ∷ ws) rest h = absurd h.0
-literal_rest n d q [] (BadEscape o ∷ ws) rest h = absurd h.0
 literal_rest n d q (c ∷ v) (w ∷ ws) rest h = literal_step n d q false c w (ws ++ rest) h.0 ∙ literal_rest n d q v ws rest h.1
+literal_rest n d q [] e rest h = absurd h.0
 
 literal_begun : (n d q : ℕ) (v : List ℕ) (ws rest : List Written) → v ≢ [] → IsLiteralRest v ws → fault_from n (InLiteral d q true) (ws ++ rest) ≡ fault_from n (Outside d AnAtom) rest
 literal_begun n d q v [] rest some h = absurd h
@@ -91,8 +88,7 @@ literal_runs d v [] h some n b rest = absurd h
 literal_runs d v (Plain o c ∷ ws) h some n b rest =
     let P : ℕ → Type 0 = λ x. fault_from n (Outside d b) (Plain o x ∷ ws ++ rest) ≡ fault_from n (Outside d AnAtom) rest in
     (AnAtom, refl, subst P h.0 (literal_begun n d o v ws rest some h.1))
-literal_runs d v (Escaped o c ∷ ws) h some n b rest = absurd h.0
-literal_runs d v (BadEscape o ∷ ws) h some n b rest = absurd h.0
+literal_runs d v e h some n b rest = absurd h.0
 
 char_other : (c : ℕ) (w : Written) → IsClassChar c w → (IsSign 45 w → ⊥) × (IsSign 94 w → ⊥)
 char_other c (Plain o x) h = (λ e. h.2 (sym e), λ e. h.3 (sym e))
@@ -100,11 +96,9 @@ char_other c (Escaped o x) h = (λ e. e, λ e. e)
 char_other c (BadEscape o) h = absurd h
 
 first_char : (i : Interval) (item : List Written) → IsItem i item → (w : Written) × (tail : List Written) × (item ≡ w ∷ tail) × IsClassChar i.first w
-first_char i [] h = absurd h
 first_char i (a ∷ []) h = (a, [], refl, h.0)
-first_char i (a ∷ b ∷ []) h = absurd h
 first_char i (a ∷ b ∷ c ∷ []) h = (a, b ∷ c ∷ [], refl, h.0)
-first_char i (a ∷ b ∷ c ∷ d ∷ ws) h = absurd h
+first_char i d h = absurd h
 
 bracket_only : (w : Written) → IsSign 93 w → (IsSign 45 w → ⊥) × (IsSign 94 w → ⊥)
 bracket_only w g = by_plain (λ x. (IsSign 45 x → ⊥) × (IsSign 94 x → ⊥)) 93 w (λ o. (λ h. absurd (omega (arith, h)), λ h. absurd (omega (arith, h)))) g
@@ -122,32 +116,34 @@ class_prefix (i ∷ is) ws rest (item, more, e, hi, hr) =
 abbrev range : ℕ → ℕ → Interval
 range a b = record { first = a; last = b }
 
-dash_step : (n d b : ℕ) (negated : Bool) (before : List Interval) (p c : ℕ) (w : Written) (ws : List Written) → IsSign 45 w → fault_from n (InClass d b negated before (First p c)) (w ∷ ws) ≡ fault_from n (InClass d b negated before (Dash p c)) ws
+dash_step : (n d b : ℕ) (negated : Bool) (before : List Interval) (p c : ℕ) (w : Written) (ws : List Written) → IsSign 45 w
+    → fault_from n (InClass d b negated before (First p c)) (w ∷ ws) ≡ fault_from n (InClass d b negated before (Dash p c)) ws
 dash_step n d b negated before p c w ws h =
     by_plain (λ x. fault_from n (InClass d b negated before (First p c)) (x ∷ ws) ≡ fault_from n (InClass d b negated before (Dash p c)) ws) 45 w (λ o. refl) h
 
 not_below : (a b : ℕ) → a ≤ b → nat_lt b a ≡ false
 not_below a b h = grind (arith, nat_tests)
 
-item_runs : (n d b : ℕ) (negated : Bool) (before : List Interval) (i : Interval) (item rest : List Written) → IsItem i item → i.first ≤ i.last → (Begins 45 rest → ⊥) → fault_from n (InClass d b negated before Items) (item ++ rest) ≡ fault_from n (InClass d b negated (before ++ i ∷ []) Items) rest
-item_runs n d b negated before i [] rest h order dash = absurd h
+item_runs : (n d b : ℕ) (negated : Bool) (before : List Interval) (i : Interval) (item rest : List Written) → IsItem i item → i.first ≤ i.last → (Begins 45 rest → ⊥)
+    → fault_from n (InClass d b negated before Items) (item ++ rest) ≡ fault_from n (InClass d b negated (before ++ i ∷ []) Items) rest
 item_runs n d b negated before i (x ∷ []) rest h order dash =
     first_step n d b negated before i.first x rest h.0
     ∙ one_ends n d b negated before (place x) i.first rest dash
     ∙ ap (λ y. fault_from n (InClass d b negated (before ++ range i.first y ∷ []) Items) rest) (sym h.1)
-item_runs n d b negated before i (x ∷ y ∷ []) rest h order dash = absurd h
 item_runs n d b negated before i (x ∷ y ∷ z ∷ []) rest h order dash =
     first_step n d b negated before i.first x (y ∷ z ∷ rest) h.0
     ∙ dash_step n d b negated before (place x) i.first y (z ∷ rest) h.1
     ∙ last_step n d b negated before (place x) i.first i.last z rest h.2
     ∙ rw (not_below i.first i.last order) refl
-item_runs n d b negated before i (x ∷ y ∷ z ∷ v ∷ ws) rest h order dash = absurd h
+item_runs n d b negated before i e rest h order dash = absurd h
 
-closing_step : (n d b : ℕ) (negated : Bool) (before : List Interval) (w : Written) (ws : List Written) → IsSign 93 w → fault_from n (InClass d b negated before Items) (w ∷ ws) ≡ or_later (λ s. fault_from n s ws) (closed d b negated before)
+closing_step : (n d b : ℕ) (negated : Bool) (before : List Interval) (w : Written) (ws : List Written) → IsSign 93 w
+    → fault_from n (InClass d b negated before Items) (w ∷ ws) ≡ or_later (λ s. fault_from n s ws) (closed d b negated before)
 closing_step n d b negated before w ws h =
     by_plain (λ x. fault_from n (InClass d b negated before Items) (x ∷ ws) ≡ or_later (λ s. fault_from n s ws) (closed d b negated before)) 93 w (λ o. refl) h
 
-items_run : (n d b : ℕ) (negated : Bool) (before is : List Interval) (ws rest : List Written) → IsClassRest is ws → AllByRecursion (λ i. i.first ≤ i.last) is → fault_from n (InClass d b negated before Items) (ws ++ rest) ≡ or_later (λ s. fault_from n s rest) (closed d b negated (before ++ is))
+items_run : (n d b : ℕ) (negated : Bool) (before is : List Interval) (ws rest : List Written) → IsClassRest is ws → AllByRecursion (λ i. i.first ≤ i.last) is
+    → fault_from n (InClass d b negated before Items) (ws ++ rest) ≡ or_later (λ s. fault_from n s rest) (closed d b negated (before ++ is))
 items_run n d b negated before [] ws rest (w, e, sign) order =
     ap (λ x. fault_from n (InClass d b negated before Items) (x ++ rest)) e
     ∙ closing_step n d b negated before w rest sign
@@ -290,8 +286,7 @@ runs (blank_after l d us ws w f blank s) m = after_runs l d us ws w f blank (run
 
 ended : (n : ℕ) (b : Before) → is_something b ≡ true → fault_from n (Outside 0 b) [] ≡ None
 ended n Nothing h = cc
-ended n AnAtom h = refl
-ended n ARepetition h = refl
+ended n d h = refl
 
 -- a text that spells a well made expression has no fault
 pub accepted : (t : List ℕ) (e : Expression) → Spells e t → IsWellMade e → first_fault t ≡ None

@@ -41,8 +41,10 @@ union_same A K L M s t u =
     ((λ x. elim x [ inl a ↦ inl ((s u).0 a) | inr b ↦ inr ((t u).0 b) ]), (λ x. elim x [ inl a ↦ inl ((s u).1 a) | inr b ↦ inr ((t u).1 b) ]))
 
 join_assoc : (K L M : Language) → Same (Join (Join K L) M) (Join K (Join L M))
-join_assoc K L M u =
-    ((λ (v, w, e, (x, y, f, k, l), m). (x, y ++ w, e ∙ ap (λ z. z ++ w) f ∙ append_assoc x y w, k, (y, w, refl, l, m))), (λ (x, v, e, k, (y, w, f, l, m)). (x ++ y, w, e ∙ ap (λ z. x ++ z) f ∙ sym (append_assoc x y w), (x, y, refl, k, l), m)))
+join_assoc K L M u = (
+  (λ (v, w, e, (x, y, f, k, l), m). (x, y ++ w, e ∙ ap (λ z. z ++ w) f ∙ append_assoc x y w, k, (y, w, refl, l, m))),
+  (λ (x, v, e, k, (y, w, f, l, m)). (x ++ y, w, e ∙ ap (λ z. x ++ z) f ∙ sym (append_assoc x y w), (x, y, refl, k, l), m)),
+)
 
 union_assoc : (K L M : Language) → Same (Union (Union K L) M) (Union K (Union L M))
 union_assoc K L M u =
@@ -179,9 +181,8 @@ run (w ∷ ws) fs f m = read_one (λ gs g k. run ws gs g k) w fs f m
 -- how a part of this level with these texts changes the frame
 abbrev Adds : Level → Language → Frame → Frame → Type 0
 Adds Atom L f g = (v : Form) × Same (Means v) L × (g ≡ push f v)
-Adds Rep L f g = (g.before ≡ f.before) × Same (Means (branch g)) (Join (Means (branch f)) L)
-Adds Seq L f g = (g.before ≡ f.before) × Same (Means (branch g)) (Join (Means (branch f)) L)
 Adds Alt L f g = Same (Means (branch f)) Empty → Same (Means (value g)) (Union (Means f.before) L)
+Adds d L f g = (g.before ≡ f.before) × Same (Means (branch g)) (Join (Means (branch f)) L)
 
 abbrev Reports : Level → Language → List Written → Type 0
 Reports l L ws = (fs : List Frame) (f : Frame) (rest : List Written) → (g : Frame) × Adds l L f g × (run (ws ++ rest) fs f Out ≡ run rest fs g Out)
@@ -200,7 +201,8 @@ along us vs ws rest fs f e = ap (λ x. run x fs f Out) (ap (λ x. x ++ rest) e �
 blanks : Same (Means (Joined Blank Blank)) Empty
 blanks = empty_joined Empty
 
-choice_same : (f g h : Frame) (L M : Language) → Same (Means (value g)) (Union (Means f.before) L) → Same (Means (value h)) (Union (Means (value g)) M) → Same (Means (value h)) (Union (Means f.before) (Union L M))
+choice_same : (f g h : Frame) (L M : Language) → Same (Means (value g)) (Union (Means f.before) L) → Same (Means (value h)) (Union (Means (value g)) M)
+    → Same (Means (value h)) (Union (Means f.before) (Union L M))
 choice_same f g h L M s t =
     through (Means (value h)) (Union (Means (value g)) M) (Union (Means f.before) (Union L M)) t
     (through (Union (Means (value g)) M) (Union (Union (Means f.before) L) M) (Union (Means f.before) (Union L M))
@@ -215,7 +217,8 @@ choice_shown us vs ws w L M e sign a b fs f rest =
       along us (w ∷ vs) ws rest fs f e ∙ one.2 ∙ sign_shown 124 w (vs ++ rest) fs one.0 sign ∙ two.2,
     )
 
-sequence_same : (f g h : Frame) (L M : Language) → Same (Means (branch g)) (Join (Means (branch f)) L) → Same (Means (branch h)) (Join (Means (branch g)) M) → Same (Means (branch h)) (Join (Means (branch f)) (Join L M))
+sequence_same : (f g h : Frame) (L M : Language) → Same (Means (branch g)) (Join (Means (branch f)) L) → Same (Means (branch h)) (Join (Means (branch g)) M)
+    → Same (Means (branch h)) (Join (Means (branch f)) (Join L M))
 sequence_same f g h L M s t =
     through (Means (branch h)) (Join (Means (branch g)) M) (Join (Means (branch f)) (Join L M)) t
     (through (Join (Means (branch g)) M) (Join (Join (Means (branch f)) L) M) (Join (Means (branch f)) (Join L M))
@@ -231,7 +234,8 @@ sequence_shown us vs ws L M e a b fs f rest =
     )
 
 -- a sign of repetition after an atom
-sign_repeats : (sign : Form → Form) (K L : Language) (c : ℕ) (us ws : List Written) (w : Written) → ((v : Form) → Same (Means v) K → Same (Means (sign v)) L) → ws ≡ us ++ w ∷ [] → IsSign c w → ((go : Go) (fs : List Frame) (f : Frame) → outside go fs f c ≡ go fs (with_last sign f) Out) → Reports Atom K us → Reports Rep L ws
+sign_repeats : (sign : Form → Form) (K L : Language) (c : ℕ) (us ws : List Written) (w : Written) → ((v : Form) → Same (Means v) K → Same (Means (sign v)) L)
+    → ws ≡ us ++ w ∷ [] → IsSign c w → ((go : Go) (fs : List Frame) (f : Frame) → outside go fs f c ≡ go fs (with_last sign f) Out) → Reports Atom K us → Reports Rep L ws
 sign_repeats sign K L c us ws w means e signed k a fs f rest =
     let one = a fs f (w ∷ rest) in
     let v = one.1.0 in (
@@ -247,7 +251,8 @@ atom_shown L ws a fs f rest =
     let P : Frame → Type 0 = λ g. Adds Rep L f g in
     (one.0, subst P (sym one.1.2) (refl, join_same (Means (branch f)) (Means (branch f)) (Means v) L (same (Means (branch f))) one.1.1), one.2)
 
-branch_same : (f g : Frame) (L : Language) → g.before ≡ f.before → Same (Means (branch g)) (Join (Means (branch f)) L) → Same (Means (branch f)) Empty → Same (Means (value g)) (Union (Means f.before) L)
+branch_same : (f g : Frame) (L : Language) → g.before ≡ f.before → Same (Means (branch g)) (Join (Means (branch f)) L)
+    → Same (Means (branch f)) Empty → Same (Means (value g)) (Union (Means f.before) L)
 branch_same f g L e s t =
     let P : Form → Type 0 = λ b. Same (Means (value g)) (Union (Means b) L) in
     subst P e (union_same (Means g.before) (Means g.before) (Means (branch g)) L (same (Means g.before))
@@ -297,13 +302,15 @@ literal_shown v [] h fs f rest = absurd h
 literal_shown v (w ∷ ws) h fs f rest =
     (push f (Text v), (Text v, same (λ u. u ≡ v), refl), sign_shown 34 w (ws ++ rest) fs f h.0 ∙ literal_rest_shown v ws rest fs f [] h.1)
 
-class_char_shown : (c : ℕ) (w : Written) (ws : List Written) (fs : List Frame) (f : Frame) (n : Bool) (is : List Interval) (p : Option ℕ) → IsClassChar c w → run (w ∷ ws) fs f (Cls n is p) ≡ run ws fs f (Cls n (flushed is p) (Some c))
+class_char_shown : (c : ℕ) (w : Written) (ws : List Written) (fs : List Frame) (f : Frame) (n : Bool) (is : List Interval) (p : Option ℕ)
+    → IsClassChar c w → run (w ∷ ws) fs f (Cls n is p) ≡ run ws fs f (Cls n (flushed is p) (Some c))
 class_char_shown c (Plain o x) ws fs f n is p h =
     rw (not_equal x 93 h.1, not_equal x 45 h.2, not_equal x 94 h.3) (ap (λ y. run ws fs f (Cls n (flushed is p) (Some y))) (sym h.0))
 class_char_shown c (Escaped o x) ws fs f n is p h = ap (λ y. run ws fs f (Cls n (flushed is p) (Some y))) (sym h)
 class_char_shown c (BadEscape o) ws fs f n is p h = absurd h
 
-last_char_shown : (c : ℕ) (w : Written) (ws : List Written) (fs : List Frame) (f : Frame) (n : Bool) (is : List Interval) (a : ℕ) → IsClassChar c w → run (w ∷ ws) fs f (Dash n is a) ≡ run ws fs f (Cls n (is ++ interval a c ∷ []) None)
+last_char_shown : (c : ℕ) (w : Written) (ws : List Written) (fs : List Frame) (f : Frame) (n : Bool) (is : List Interval) (a : ℕ) → IsClassChar c w
+    → run (w ∷ ws) fs f (Dash n is a) ≡ run ws fs f (Cls n (is ++ interval a c ∷ []) None)
 last_char_shown c (Plain o x) ws fs f n is a h = ap (λ y. run ws fs f (Cls n (is ++ interval a y ∷ []) None)) (sym h.0)
 last_char_shown c (Escaped o x) ws fs f n is a h = ap (λ y. run ws fs f (Cls n (is ++ interval a y ∷ []) None)) (sym h)
 last_char_shown c (BadEscape o) ws fs f n is a h = absurd h
@@ -314,13 +321,13 @@ class_sign_shown c (Plain o x) ws fs f Out h = ap (λ y. run (Plain 0 y ∷ ws) 
 class_sign_shown c (Plain o x) ws fs f (Lit v) h = ap (λ y. run (Plain 0 y ∷ ws) fs f (Lit v)) (sym h)
 class_sign_shown c (Plain o x) ws fs f (Cls n is p) h = ap (λ y. run (Plain 0 y ∷ ws) fs f (Cls n is p)) (sym h)
 class_sign_shown c (Plain o x) ws fs f (Dash n is a) h = ap (λ y. run (Plain 0 y ∷ ws) fs f (Dash n is a)) (sym h)
-class_sign_shown c (Escaped o x) ws fs f m h = absurd h
-class_sign_shown c (BadEscape o) ws fs f m h = absurd h
+class_sign_shown c d ws fs f m h = absurd h
 
 single : (i : Interval) (c : ℕ) → i.first ≡ c → i.last ≡ i.first → interval c c ≡ i
 single i c e f = sym (ap (λ x. interval x i.last) e ∙ ap (λ x. interval c x) (f ∙ e))
 
-items_shown : (js : List Interval) (ws rest : List Written) (fs : List Frame) (f : Frame) (n : Bool) (is : List Interval) (p : Option ℕ) → IsClassRest js ws → run (ws ++ rest) fs f (Cls n is p) ≡ run rest fs (push f (Members n (flushed is p ++ js))) Out
+items_shown : (js : List Interval) (ws rest : List Written) (fs : List Frame) (f : Frame) (n : Bool) (is : List Interval) (p : Option ℕ) → IsClassRest js ws
+    → run (ws ++ rest) fs f (Cls n is p) ≡ run rest fs (push f (Members n (flushed is p ++ js))) Out
 items_shown [] ws rest fs f n is p (w, e, sign) =
     ap (λ x. run (x ++ rest) fs f (Cls n is p)) e ∙ class_sign_shown 93 w rest fs f (Cls n is p) sign
     ∙ ap (λ x. run rest fs (push f (Members n x)) Out) (sym (append-nil (flushed is p)))

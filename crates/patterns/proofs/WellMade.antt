@@ -28,7 +28,9 @@ next_character c h g =
       | inr other ↦ rw (not_equal c 0xD7FF other) (after c h g other)
     ]
 
-gap_at : (all : List Interval) (i : Interval) (is : List Interval) → list_all is_range (i ∷ is) ≡ true → (a b : Bool) → (i.last == 0x10_FFFF) ≡ a → is_member (code_after i.last) all ≡ b → list_all (λ j. j.last == 0x10_FFFF || is_member (code_after j.last) all) (i ∷ is) ≡ false → (list_all (λ j. j.last == 0x10_FFFF || is_member (code_after j.last) all) is ≡ false → (c : ℕ) × IsCharacter c × (is_member c all ≡ false)) → (c : ℕ) × IsCharacter c × (is_member c all ≡ false)
+gap_at : (all : List Interval) (i : Interval) (is : List Interval) → list_all is_range (i ∷ is) ≡ true → (a b : Bool) → (i.last == 0x10_FFFF) ≡ a
+    → is_member (code_after i.last) all ≡ b → list_all (λ j. j.last == 0x10_FFFF || is_member (code_after j.last) all) (i ∷ is) ≡ false
+    → (list_all (λ j. j.last == 0x10_FFFF || is_member (code_after j.last) all) is ≡ false → (c : ℕ) × IsCharacter c × (is_member c all ≡ false)) → (c : ℕ) × IsCharacter c × (is_member c all ≡ false)
 gap_at all i is r true b e f h later = later (rw e at h)
 gap_at all i is r false true e f h later = later (rw (e, f) at h)
 gap_at all i is r false false e f h later =
@@ -37,11 +39,13 @@ gap_at all i is r false false e f h later =
     (code_after i.last, next_character i.last (and_both (is_scalar i.last) (nat_le i.first i.last) k.1).0 e, f)
 
 -- some character lies after an interval and in none
-gap : (all is : List Interval) → list_all is_range is ≡ true → list_all (λ i. i.last == 0x10_FFFF || is_member (code_after i.last) all) is ≡ false → (c : ℕ) × IsCharacter c × (is_member c all ≡ false)
+gap : (all is : List Interval) → list_all is_range is ≡ true → list_all (λ i. i.last == 0x10_FFFF || is_member (code_after i.last) all) is ≡ false
+    → (c : ℕ) × IsCharacter c × (is_member c all ≡ false)
 gap all [] r h = cc
 gap all (i ∷ is) r h = gap_at all i is r (i.last == 0x10_FFFF) (is_member (code_after i.last) all) refl refl h (gap all is (and_both (is_range i) (list_all is_range is) r).1)
 
-outside_at : (is : List Interval) (b : Bool) → is_member 0 is ≡ b → is_everything is ≡ false → (list_all (λ i. i.last == 0x10_FFFF || is_member (code_after i.last) is) is ≡ false → (c : ℕ) × IsCharacter c × (is_member c is ≡ false)) → (c : ℕ) × IsCharacter c × (is_member c is ≡ false)
+outside_at : (is : List Interval) (b : Bool) → is_member 0 is ≡ b → is_everything is ≡ false
+    → (list_all (λ i. i.last == 0x10_FFFF || is_member (code_after i.last) is) is ≡ false → (c : ℕ) × IsCharacter c × (is_member c is ≡ false)) → (c : ℕ) × IsCharacter c × (is_member c is ≡ false)
 outside_at is true e h later = later (rw e at h)
 outside_at is false e h later = (0, inl (lit≤ tt), e)
 
@@ -132,6 +136,5 @@ empty_tested (Sequence' p a q b) (u, v, e, f, g) =
     rw (empty_tested a (subst P split.0 f), empty_tested b (subst Q split.1 g)) refl
 empty_tested (Choice' p a q b) (inl h) = or_left (matches_empty a) (matches_empty b) (empty_tested a h)
 empty_tested (Choice' p a q b) (inr h) = or_right (matches_empty a) (matches_empty b) (empty_tested b h)
-empty_tested (Star' p a) h = refl
 empty_tested (Plus' p a) (parts, ne, all, e) = empty_tested a (first_of_join (Matches a) parts ne all e)
-empty_tested (Optional' p a) h = refl
+empty_tested d h = refl

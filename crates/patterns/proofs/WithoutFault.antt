@@ -131,9 +131,7 @@ atom_ends {cs = cs} (us, vs, e, opens, takes) m = (us, vs ++ cs, e, opens, (vs, 
 blank_stands : (d : ℕ) (b : Before) (ws : List Written) (w : Written) → IsBlank w → Stands d b ws → Stands d b (ws ++ w ∷ [])
 blank_stands d Nothing ws w blank h =
     λ rest (e, s, m). along (append_assoc ws (w ∷ []) rest) (h (w ∷ rest) (e, blank_before Seq d rest w blank s, m))
-blank_stands d AnAtom ws w blank (us, vs, e, takes, m) =
-    (us, vs ++ w ∷ [], ap (λ x. x ++ w ∷ []) e ∙ append_assoc us vs (w ∷ []), takes, blank_on w blank m)
-blank_stands d ARepetition ws w blank (us, vs, e, takes, m) =
+blank_stands d y ws w blank (us, vs, e, takes, m) =
     (us, vs ++ w ∷ [], ap (λ x. x ++ w ∷ []) e ∙ append_assoc us vs (w ∷ []), takes, blank_on w blank m)
 
 -- one character more outside literals and classes, after which this stands before the place
@@ -149,9 +147,8 @@ bar_stands d b ws w something sign h rest q =
 
 sign_stands : (d : ℕ) (b : Before) (ws : List Written) (w : Written) → ((vs : List Written) → Makes Atom d vs → Makes Rep d (vs ++ w ∷ [])) → is_atom b ≡ true
     → Stands d b ws → EndsWith Rep d (ws ++ w ∷ [])
-sign_stands d Nothing ws w signed h m = cc
 sign_stands d AnAtom ws w signed h (us, vs, e, takes, m) = (us, vs ++ w ∷ [], ap (λ x. x ++ w ∷ []) e ∙ append_assoc us vs (w ∷ []), takes, signed vs m)
-sign_stands d ARepetition ws w signed h m = cc
+sign_stands d e ws w signed h m = cc
 
 repeats : (d : ℕ) (o c : ℕ) → (c == 42 || (c == 43 || c == 63)) ≡ true → (vs : List Written) → Makes Atom d vs → Makes Rep d (vs ++ Plain o c ∷ [])
 repeats d o c h vs (e, s, m) =
@@ -277,18 +274,14 @@ closing_goes d bracket negated items (Dash p a) w o ws sign small r = tt
 
 dash_goes : (d bracket : ℕ) (negated : Bool) (items : List Interval) (at : InItem) (w : Written) (o : ℕ) (ws : List Written) → IsSign 45 w
     → Reached (InClass d bracket negated items at) ws → Goes (ws ++ w ∷ []) (dash d bracket negated items at o)
-dash_goes d bracket negated items Opened w o ws sign r = tt
-dash_goes d bracket negated items Items w o ws sign r = tt
 dash_goes d bracket negated items (First p a) w o ws sign (cs, begun, ordered, (bs, x, e, char, scalar, goes)) =
     (cs ++ w ∷ [], goes_on w begun, ordered, (bs, x, w, ap (λ y. y ++ w ∷ []) e ∙ append_assoc bs (x ∷ []) (w ∷ []), char, sign, scalar, goes))
-dash_goes d bracket negated items (Dash p a) w o ws sign r = tt
+dash_goes d bracket negated items e w o ws sign r = tt
 
 caret_goes : (d bracket : ℕ) (negated : Bool) (items : List Interval) (at : InItem) (w : Written) (o : ℕ) (ws : List Written) → IsSign 94 w
     → Reached (InClass d bracket negated items at) ws → Goes (ws ++ w ∷ []) (caret d bracket negated items at o)
 caret_goes d bracket negated items Opened w o ws sign (cs, begun, ordered, so) = (cs ++ w ∷ [], goes_on w begun, ordered, so.1 w sign)
-caret_goes d bracket negated items Items w o ws sign r = tt
-caret_goes d bracket negated items (First p a) w o ws sign r = tt
-caret_goes d bracket negated items (Dash p a) w o ws sign r = tt
+caret_goes d bracket negated items e w o ws sign r = tt
 
 char_goes : (d bracket : ℕ) (negated : Bool) (items : List Interval) (at : InItem) (c : ℕ) (w : Written) (o : ℕ) (ws : List Written) → IsClassChar c w
     → is_scalar c ≡ true → Reached (InClass d bracket negated items at) ws → Goes (ws ++ w ∷ []) (char_in_class d bracket negated items at o c)
@@ -336,12 +329,9 @@ step_goes (InClass d b negated items at) (Plain o c) ws good small r =
     (λ k. char_goes d b negated items at c w o ws (refl, differs c 93 p, differs c 45 q, differs c 94 k) good r)))
 
 at_end : (n : ℕ) (s : State) (ws : List Written) → Reached s ws → fault_at_end n s ≡ None → Makes Alt 0 ws
-at_end n (Outside zero Nothing) ws r h = cc
 at_end n (Outside zero AnAtom) ws (us, vs, e, nil, stands) h = along (e ∙ ap (λ x. x ++ vs) nil) (alternatives 0 AnAtom vs refl stands)
 at_end n (Outside zero ARepetition) ws (us, vs, e, nil, stands) h = along (e ∙ ap (λ x. x ++ vs) nil) (alternatives 0 ARepetition vs refl stands)
-at_end n (Outside (suc d) b) ws r h = cc
-at_end n (InLiteral d q empty) ws r h = cc
-at_end n (InClass d b negated items at) ws r h = cc
+at_end n d ws r h = cc
 
 after_step : (n : ℕ) (ws us : List Written) (next : Next) → Goes ws next → or_later (λ s. fault_from n s us) next ≡ None
     → ((s : State) → Reached s ws → fault_from n s us ≡ None → Makes Alt 0 (ws ++ us)) → Makes Alt 0 (ws ++ us)

@@ -14,7 +14,8 @@ near bs at n u b l m none = go (IsUtf8-drop bs at u b).0 (IsUtf8-drop bs at u b)
       where
         past : (n < at + len_utf8 c) ⊎ (at + len_utf8 c ≤ n) → n < at + 4
         past (inl h) = omega (arith, h, len_utf8_bounds c)
-        past (inr h) = absurd (none (at + len_utf8 c) (omega (arith, len_utf8_bounds c)) h (IsCharBoundary-past_char bs (encode_utf8_all cs) at c (omega (arith, l, m)) (IsUtf8-drop bs at u b) (sym e)))
+        past (inr h) = absurd (none (at + len_utf8 c) (omega (arith, len_utf8_bounds c)) h
+            (IsCharBoundary-past_char bs (encode_utf8_all cs) at c (omega (arith, l, m)) (IsUtf8-drop bs at u b) (sym e)))
 
 -- the parts of a text's characters are texts
 scalars_parted : (cs : List ℕ) (n : ℕ) → all_scalars cs ≡ true → (all_scalars (take n cs) ≡ true) × (all_scalars (drop n cs) ≡ true)

@@ -10,13 +10,15 @@ pub record IsTurn (t yielded : List ℕ) (c : ℕ) : Type 0 where
   pub next : c ≡ slice_index_or t (length yielded) c
 
 -- a turn of a `for` over the characters
-pub turn-from : {S : Type 0} {steps : S → Option ℕ → S → Type 0} {s : S} {t : List ℕ} → YieldsList steps (λ x. x) s t → (yielded : List ℕ) (now : S) → Yields steps s yielded now → (r : Option ℕ) (next : S) (c : ℕ) → r ≡ Some c → steps now r next → IsTurn t yielded c
+pub turn-from : {S : Type 0} {steps : S → Option ℕ → S → Type 0} {s : S} {t : List ℕ} → YieldsList steps (λ x. x) s t → (yielded : List ℕ) (now : S)
+    → Yields steps s yielded now → (r : Option ℕ) (next : S) (c : ℕ) → r ≡ Some c → steps now r next → IsTurn t yielded c
 turn-from road yielded now so_far r next c is step =
     let here = YieldsList-turn road yielded now so_far r next c is step in
     record { so_far = sym (map-id yielded) ∙ YieldsList-so_far road yielded now so_far; within = here.0; next = here.1 }
 
 -- at its end all characters were yielded
-pub all-from : {S : Type 0} {steps : S → Option ℕ → S → Type 0} {s : S} {t : List ℕ} → YieldsList steps (λ x. x) s t → (yielded : List ℕ) (now : S) → Yields steps s yielded now → (r : Option ℕ) (next : S) → r ≡ None → steps now r next → yielded ≡ t
+pub all-from : {S : Type 0} {steps : S → Option ℕ → S → Type 0} {s : S} {t : List ℕ} → YieldsList steps (λ x. x) s t → (yielded : List ℕ) (now : S)
+    → Yields steps s yielded now → (r : Option ℕ) (next : S) → r ≡ None → steps now r next → yielded ≡ t
 all-from road yielded now so_far r next is step = sym (map-id yielded) ∙ (YieldsList-end road yielded now so_far r next is step).0
 
 pub turn-more : {t yielded : List ℕ} {c : ℕ} → IsTurn t yielded c → yielded ++ c ∷ [] ≡ take (length yielded + 1) t

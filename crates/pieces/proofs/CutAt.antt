@@ -5,7 +5,8 @@ use Rattle.pieces.proofs.Joins.{units-append, units-bytes}
 use Rattle.pieces.proofs.Summed.{text_before}
 
 -- a step of a reader of characters
-pub stepped : (P : Type 0) (t xs ys : List ℕ) (k : ℕ) (r : Option ℕ) → k < length t → xs ≡ encode_utf8_all (drop k t) → MatchOption r ((length xs ≡ 0) × P) (λ c. xs ≡ encode_utf8 c ++ ys) → ys ≡ encode_utf8_all (drop (k + 1) t)
+pub stepped : (P : Type 0) (t xs ys : List ℕ) (k : ℕ) (r : Option ℕ) → k < length t → xs ≡ encode_utf8_all (drop k t)
+    → MatchOption r ((length xs ≡ 0) × P) (λ c. xs ≡ encode_utf8 c ++ ys) → ys ≡ encode_utf8_all (drop (k + 1) t)
 stepped P t xs ys k None l e h =
     let next : xs ≡ encode_utf8 (slice_index t k) ++ encode_utf8_all (drop (k + 1) t) = e ∙ ap encode_utf8_all (drop_more t k 0 l) in
     absurd (omega (arith, h.0, ap length next, length-append (encode_utf8 (slice_index t k)) (encode_utf8_all (drop (k + 1) t)), length-encode (slice_index t k), len_utf8_bounds (slice_index t k)))
@@ -27,7 +28,14 @@ one_byte t n l e =
 pub prefix_le : (ps : List (List ℕ)) (i : ℕ) (p : List ℕ) → Some p ≡ slice_get ps i → (n : ℕ) → units Utf8 (text_before ps i) + units Utf8 (take n p) ≤ units Utf8 (text_in ps)
 prefix_le ps i p at n =
     let ahead : List ℕ = text_in (drop (i + 1) ps) in
-    omega (arith, ap (units Utf8) (whole_at (λ q. q) ps i p at), units-append Utf8 (text_before ps i) (p ++ ahead), units-append Utf8 p ahead, ap (units Utf8) (take-append-drop n p), units-append Utf8 (take n p) (drop n p))
+    omega (
+      arith,
+      ap (units Utf8) (whole_at (λ q. q) ps i p at),
+      units-append Utf8 (text_before ps i) (p ++ ahead),
+      units-append Utf8 p ahead,
+      ap (units Utf8) (take-append-drop n p),
+      units-append Utf8 (take n p) (drop n p),
+    )
 
 -- where there is a character at the offset, it stands after the cut in its piece
 pub some_after : (ps : List (List ℕ)) (o : ℕ) (cut : Cut) → IsCut ps o cut → o < length (text_in ps) → 1 ≤ length (chars cut.back.now)

@@ -104,9 +104,11 @@ shown_one c (Feed e) = subst (λ d. shown_all (d ∷ []) ≡ shown_units d) (sym
 shown_one c (Return e) = subst (λ d. shown_all (d ∷ []) ≡ shown_units d) (sym e) return_one
 shown_one c (Other a b) =
     (λ i. record { utf8 = other_one Utf8 c a b i; utf16 = other_one Utf16 c a b i; utf32 = other_one Utf32 c a b i })
-    ∙ sym (ap (λ x. cond (x || c == 13) (record { utf8 = 0; utf16 = 0; utf32 = 0 }) (record { utf8 = unit Utf8 c; utf16 = unit Utf16 c; utf32 = unit Utf32 c })) a ∙ ap (λ x. cond x (record { utf8 = 0; utf16 = 0; utf32 = 0 }) (record { utf8 = unit Utf8 c; utf16 = unit Utf16 c; utf32 = unit Utf32 c })) b)
+    ∙ sym (ap (λ x. cond (x || c == 13) (record { utf8 = 0; utf16 = 0; utf32 = 0 }) (record { utf8 = unit Utf8 c; utf16 = unit Utf16 c; utf32 = unit Utf32 c })) a
+    ∙ ap (λ x. cond x (record { utf8 = 0; utf16 = 0; utf32 = 0 }) (record { utf8 = unit Utf8 c; utf16 = unit Utf16 c; utf32 = unit Utf32 c })) b)
 
-pub sums_of_one : (c : ℕ) → sums_of (c ∷ []) ≡ Filled (record { characters = 1; bytes = len_utf8 c; breaks = cond (c == 10) 1 0; units_after = shown_units c; begins_with_feed = c == 10; ends_with_return = c == 13 })
+pub sums_of_one : (c : ℕ) → sums_of (c ∷ []) ≡ Filled
+    (record { characters = 1; bytes = len_utf8 c; breaks = cond (c == 10) 1 0; units_after = shown_units c; begins_with_feed = c == 10; ends_with_return = c == 13 })
 sums_of_one c = ap Filled (counts_of-plain (c ∷ []) ∙ (λ i. record {
   characters = 1;
   bytes = units_one c i;
@@ -219,7 +221,8 @@ return_plain d t fits =
     }
 
 -- a character of a line, before a part in which no break ends
-other_more : (encoding : Encoding) (c : ℕ) (t : List ℕ) → (c == 10) ≡ false → (c == 13) ≡ false → ended_before t ≡ 0 → units Utf8 (c ∷ t) ≤ most → sum (shown encoding (c ∷ [])) (shown encoding t) ≡ shown encoding (c ∷ t)
+other_more : (encoding : Encoding) (c : ℕ) (t : List ℕ) → (c == 10) ≡ false → (c == 13) ≡ false → ended_before t ≡ 0 → units Utf8 (c ∷ t) ≤ most
+    → sum (shown encoding (c ∷ [])) (shown encoding t) ≡ shown encoding (c ∷ t)
 other_more encoding c t a b e fits =
     let whole : units encoding (take_while in_line (c ∷ t)) ≡ unit encoding c + units encoding (take_while in_line t) = line-cons encoding c t (goes_on c a b) in
     let all : shown encoding (c ∷ t) ≡ units encoding (take_while in_line (c ∷ t)) = ap (λ l. units encoding (take_while in_line l)) (units_after-none (c ∷ t) feed (other_ended c t a b ∙ e)) in

@@ -25,7 +25,8 @@ nothing-end encoding p = subst (λ q. ¬ IsPast p q) (empty-end encoding) none
     none (inl l) = omega (arith, l)
     none (inr h) = omega (arith, h.1)
 
-pub prefix-empty : (encoding : Encoding) (s : List ℕ) (sums : Sums) → sums ≡ Empty → sums ≡ sums_of s → ◌≡◌ {A = Prefix} (record { characters = 0; end = record { line = 0; character = 0 }; ends_with_return = false }) (prefix_of encoding s)
+pub prefix-empty : (encoding : Encoding) (s : List ℕ) (sums : Sums) → sums ≡ Empty → sums ≡ sums_of s
+    → ◌≡◌ {A = Prefix} (record { characters = 0; end = record { line = 0; character = 0 }; ends_with_return = false }) (prefix_of encoding s)
 prefix-empty encoding [] sums none is =
     λ i. record { characters = 0; end = empty-end encoding i; ends_with_return = false }
 prefix-empty encoding (c ∷ s) sums none is = absurd (false≢true (ap is_filled (sym none ∙ is)))
@@ -64,7 +65,8 @@ pub character-le : (encoding : Encoding) (s : List ℕ) → (end_before_feed enc
 character-le encoding s = omega (arith, ap (λ q. q.character) (end-is encoding s), line_units-le encoding (after_in s feed), units-le encoding (after_in s feed), units_after-le s feed)
 
 -- by what comes next
-pub position-next_line : (encoding : Encoding) (s r : List ℕ) (prefix : Prefix) (before_feed : Bool) (line : ℕ) → prefix.ends_with_return ≡ true → before_feed ≡ false → line ≡ min (prefix.end.line + 1) 4294967295
+pub position-next_line : (encoding : Encoding) (s r : List ℕ) (prefix : Prefix) (before_feed : Bool) (line : ℕ)
+    → prefix.ends_with_return ≡ true → before_feed ≡ false → line ≡ min (prefix.end.line + 1) 4294967295
     → units Utf8 s ≤ 2 ^ 30 → prefix ≡ prefix_of encoding s → before_feed ≡ begins_with 10 r → ◌≡◌ {A = Position} (record { line = line; character = 0 }) (position encoding (s ++ r) (length s))
 position-next_line encoding s r prefix before_feed line ends other next few is begins =
     let return : ends_with 13 s ≡ true = ap (λ f. f.ends_with_return) (sym is) ∙ ends in
@@ -111,25 +113,29 @@ pub end-with_other : (encoding : Encoding) (s : List ℕ) (c : ℕ) (before : Po
 end-with_other encoding s c before more character a b is counted next few =
     let at : before ≡ end_at encoding s (c ∷ []) = is ∙ position-prefix encoding s (c ∷ []) in
     let end = end-is encoding (s ++ c ∷ []) ∙ end-other encoding s [] c (ne_eqb c 10 a) (ne_eqb c 13 b) in
-    let exact : character ≡ (end_at encoding s (c ∷ [])).character + unit encoding c = omega (arith, next, counted, ap (λ q. q.character) at, ap (λ q. q.character) end, character-le encoding (s ++ c ∷ []), few) in
+    let exact : character ≡ (end_at encoding s (c ∷ [])).character + unit encoding c =
+    omega (arith, next, counted, ap (λ q. q.character) at, ap (λ q. q.character) end, character-le encoding (s ++ c ∷ []), few) in
     (λ i. record { line = (at i).line; character = exact i }) ∙ sym end
 
 ends_with-more : (s : List ℕ) (c : ℕ) → ends_with 13 (s ++ c ∷ []) ≡ (13 == c)
-ends_with-more [] c = refl
-ends_with-more (d ∷ []) c = refl
 ends_with-more (d ∷ e ∷ s) c = ends_with-more (e ∷ s) c
+ends_with-more d c = refl
 
-pub prefix-with : (encoding : Encoding) (s : List ℕ) (c : ℕ) (prefix : Prefix) (characters : ℕ) (end : Position) → characters ≡ min (prefix.characters + 1) 4294967295 → end ≡ end_before_feed encoding (s ++ c ∷ [])
-    → units Utf8 (s ++ c ∷ []) ≤ 2 ^ 30 → prefix ≡ prefix_of encoding s → ◌≡◌ {A = Prefix} (record { characters = characters; end = end; ends_with_return = c == 13 }) (prefix_of encoding (s ++ c ∷ []))
+pub prefix-with : (encoding : Encoding) (s : List ℕ) (c : ℕ) (prefix : Prefix) (characters : ℕ) (end : Position)
+    → characters ≡ min (prefix.characters + 1) 4294967295 → end ≡ end_before_feed encoding (s ++ c ∷ [])
+    → units Utf8 (s ++ c ∷ []) ≤ 2 ^ 30 → prefix ≡ prefix_of encoding s
+    → ◌≡◌ {A = Prefix} (record { characters = characters; end = end; ends_with_return = c == 13 }) (prefix_of encoding (s ++ c ∷ []))
 prefix-with encoding s c prefix characters end next ends few is =
     let exact : characters ≡ length (s ++ c ∷ []) = omega (arith, next, ap (λ f. f.characters) is, length-append s (c ∷ []), length-le (s ++ c ∷ []), few) in
     let return : (c == 13) ≡ ends_with 13 (s ++ c ∷ []) = turned c 13 ∙ sym (ends_with-more s c) in
     λ i. record { characters = exact i; end = ends i; ends_with_return = return i }
 
 -- with a character more that stands in its last line
-prefix-with_one : (encoding : Encoding) (s : List ℕ) (c : ℕ) (prefix : Prefix) (characters character : ℕ) → characters ≡ min (prefix.characters + 1) 4294967295 → character ≡ min (prefix.end.character + 1) 4294967295
+prefix-with_one : (encoding : Encoding) (s : List ℕ) (c : ℕ) (prefix : Prefix) (characters character : ℕ)
+    → characters ≡ min (prefix.characters + 1) 4294967295 → character ≡ min (prefix.end.character + 1) 4294967295
     → units Utf8 (s ++ c ∷ []) ≤ 2 ^ 30 → goes_on prefix c ≡ true → prefix ≡ prefix_of encoding s
-    → ◌≡◌ {A = Prefix} (record { characters = characters; end = record { line = prefix.end.line; character = character }; ends_with_return = prefix.ends_with_return }) (prefix_of encoding (s ++ c ∷ []))
+    → ◌≡◌ {A = Prefix} (record { characters = characters; end = record { line = prefix.end.line; character = character }; ends_with_return = prefix.ends_with_return })
+    (prefix_of encoding (s ++ c ∷ []))
 prefix-with_one encoding s c prefix characters character counted next few goes is =
     let parts = and_parts _ _ goes in
     let ascii = and_parts _ _ parts.0 in
@@ -149,7 +155,8 @@ no_ones prefix =
     let character : prefix.end.character + 0 ≡ prefix.end.character = omega arith in
     λ i. record { characters = characters i; end = record { line = prefix.end.line; character = character i }; ends_with_return = prefix.ends_with_return }
 
-pub ones-more : (encoding : Encoding) (s : List ℕ) (c : ℕ) (prefix : Prefix) (n : ℕ) → units Utf8 (s ++ c ∷ []) ≤ 2 ^ 30 → goes_on prefix c ≡ true → with_ones prefix n ≡ prefix_of encoding s → with_ones prefix (n + 1) ≡ prefix_of encoding (s ++ c ∷ [])
+pub ones-more : (encoding : Encoding) (s : List ℕ) (c : ℕ) (prefix : Prefix) (n : ℕ) → units Utf8 (s ++ c ∷ []) ≤ 2 ^ 30 → goes_on prefix c ≡ true
+    → with_ones prefix n ≡ prefix_of encoding s → with_ones prefix (n + 1) ≡ prefix_of encoding (s ++ c ∷ [])
 ones-more encoding s c prefix n few goes is =
     let short = few_prefix s c (2 ^ 30) few in
     let characters : prefix.characters + (n + 1) ≡ min (prefix.characters + n + 1) 4294967295 = omega (arith, ap (λ f. f.characters) is, length-le s, short) in
@@ -157,7 +164,8 @@ ones-more encoding s c prefix n few goes is =
     prefix-with_one encoding s c (with_ones prefix n) (prefix.characters + (n + 1)) (prefix.end.character + (n + 1)) characters character few goes is
 
 -- the sum of a prefix is stored in full
-pub ones-fit : (encoding : Encoding) (s : List ℕ) (prefix : Prefix) (n characters character : ℕ) → characters ≡ min (prefix.characters + n) 4294967295 → character ≡ min (prefix.end.character + n) 4294967295
+pub ones-fit : (encoding : Encoding) (s : List ℕ) (prefix : Prefix) (n characters character : ℕ) → characters ≡ min (prefix.characters + n) 4294967295
+    → character ≡ min (prefix.end.character + n) 4294967295
     → units Utf8 s ≤ 2 ^ 30 → with_ones prefix n ≡ prefix_of encoding s
     → ◌≡◌ {A = Prefix} (record { characters = characters; end = record { line = prefix.end.line; character = character }; ends_with_return = prefix.ends_with_return }) (prefix_of encoding s)
 ones-fit encoding s prefix n characters character counted next few is =

@@ -52,7 +52,8 @@ line-more u c a b =
         ∙ sym (ap (λ s. joined s (filled (units_of c))) (line-none u e))
     go (inr e) = sym (ap (λ s. joined s (filled (units_of c))) (line-some u e))
 
-pub joined-line-more : (before : Sums) (line more : Units) (c : ℕ) → ¬ (c ≡ 10) → ¬ (c ≡ 13) → more ≡ units_joined line (units_of c) → joined before (line_sums more) ≡ joined (joined before (line_sums line)) (sums_of (c ∷ []))
+pub joined-line-more : (before : Sums) (line more : Units) (c : ℕ) → ¬ (c ≡ 10) → ¬ (c ≡ 13) → more ≡ units_joined line (units_of c)
+    → joined before (line_sums more) ≡ joined (joined before (line_sums line)) (sums_of (c ∷ []))
 joined-line-more before line more c a b is =
     ap (λ u. joined before (line_sums u)) is
     ∙ ap (joined before) (line-more line c (ne_eqb c 10 a) (ne_eqb c 13 b))
@@ -114,7 +115,8 @@ one_more n c low few =
     let one : n + 1 ≡ sum n 1 = sym (saturated-exact most n 1 few) in
     λ i. record { utf8 = (one ∙ ap (sum n) (sym utf8)) i; utf16 = (one ∙ ap (sum n) (sym utf16)) i; utf32 = one i }
 
-pub ascii-more : (before : Sums) (n : ℕ) (t : List ℕ) (c : ℕ) → c < 0x80 → ¬ (c ≡ 10) → ¬ (c ≡ 13) → n + 1 ≤ most → joined before (line_sums (ascii_units n)) ≡ sums_of t → units Utf8 (t ++ c ∷ []) ≤ most → joined before (line_sums (ascii_units (n + 1))) ≡ sums_of (t ++ c ∷ [])
+pub ascii-more : (before : Sums) (n : ℕ) (t : List ℕ) (c : ℕ) → c < 0x80 → ¬ (c ≡ 10) → ¬ (c ≡ 13) → n + 1 ≤ most → joined before (line_sums (ascii_units n)) ≡ sums_of t
+    → units Utf8 (t ++ c ∷ []) ≤ most → joined before (line_sums (ascii_units (n + 1))) ≡ sums_of (t ++ c ∷ [])
 ascii-more before n t c low a b few is fits =
     joined-line-more before (ascii_units n) (ascii_units (n + 1)) c a b (one_more n c low few)
     ∙ sums_of-more t c (joined before (line_sums (ascii_units n))) (sums_of (c ∷ [])) (λ prefix. is) refl fits

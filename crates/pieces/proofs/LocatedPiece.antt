@@ -20,7 +20,9 @@ after-position g (c ∷ s) h = go (or_cases _ _ h)
     end : Position
     end = end_before_feed g.unit (c ∷ s)
 
-    go : (nat_lt g.position.line (counts_of (c ∷ s)).breaks ≡ true) ⊎ ((((counts_of (c ∷ s)).breaks == g.position.line && nat_lt g.position.line most) && nat_lt g.position.character (count_of g.unit (counts_of (c ∷ s)).units_after)) ≡ true) → IsPast g.position end
+    go : (nat_lt g.position.line (counts_of (c ∷ s)).breaks ≡ true)
+        ⊎ ((((counts_of (c ∷ s)).breaks == g.position.line && nat_lt g.position.line most) && nat_lt g.position.character (count_of g.unit (counts_of (c ∷ s)).units_after)) ≡ true)
+        → IsPast g.position end
     go (inl p) = inl (omega (arith, ltb-true _ _ p, same_line g.unit (c ∷ s)))
     go (inr p) =
         let parts = and_parts _ _ p in

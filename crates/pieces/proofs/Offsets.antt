@@ -132,7 +132,8 @@ module _ (encoding : Encoding) (p : Position) where
       go (inl l) = absurd (h (inr (e, l)))
       go (inr l) = l
 
-  offset-next : (s r : List ℕ) (c : ℕ) → is_between s (c ∷ r) ≡ false → ¬ IsPast p (end_at encoding s (c ∷ r)) → IsPast p (end_at encoding (s ++ c ∷ []) feed) → offset encoding (s ++ c ∷ r) p ≡ length s
+  offset-next : (s r : List ℕ) (c : ℕ) → is_between s (c ∷ r) ≡ false → ¬ IsPast p (end_at encoding s (c ∷ r))
+      → IsPast p (end_at encoding (s ++ c ∷ []) feed) → offset encoding (s ++ c ∷ r) p ≡ length s
   offset-next s r c apart before past = go (class c)
     where
       here : p.line ≡ (end_at encoding s (c ∷ r)).line → (in_line c ≡ true → p.character < (end_at encoding s (c ∷ r)).character + unit encoding c) → offset encoding (s ++ c ∷ r) p ≡ length s
@@ -224,7 +225,8 @@ module _ (encoding : Encoding) (p : Position) where
       ∙ offset-before_return h.0 r line (subst (λ q. ¬ IsPast p q) end before)
       ∙ omega (arith, ap length h.1, length-append h.0 (13 ∷ []))
 
-  pub offset-step : (s r : List ℕ) (c : ℕ) → ¬ IsPast p (end_before_feed encoding s) → IsPast p (end_before_feed encoding (s ++ c ∷ [])) → offset encoding (s ++ c ∷ r) p ≡ length s - cond (is_line_return s) 1 0
+  pub offset-step : (s r : List ℕ) (c : ℕ) → ¬ IsPast p (end_before_feed encoding s) → IsPast p (end_before_feed encoding (s ++ c ∷ []))
+      → offset encoding (s ++ c ∷ r) p ≡ length s - cond (is_line_return s) 1 0
   offset-step s r c before past = go (cases_Bool (is_line_return s))
     where
       go : (is_line_return s ≡ true) ⊎ (is_line_return s ≡ false) → offset encoding (s ++ c ∷ r) p ≡ length s - cond (is_line_return s) 1 0

@@ -9,7 +9,8 @@ unfolding break_ends
 all_ended o p [] l = refl
 all_ended o p (c ∷ t) l = go (ends_break c t) (all_ended o (p + 1) t (omega (arith, l)))
   where
-    go : (b : Bool) → ended o (break_ends (p + 1) t) ≡ length (break_ends (p + 1) t) → ended o (cond b ((p + 1) ∷ break_ends (p + 1) t) (break_ends (p + 1) t)) ≡ length (cond b ((p + 1) ∷ break_ends (p + 1) t) (break_ends (p + 1) t))
+    go : (b : Bool) → ended o (break_ends (p + 1) t) ≡ length (break_ends (p + 1) t) → ended o (cond b ((p + 1) ∷ break_ends (p + 1) t) (break_ends (p + 1) t))
+        ≡ length (cond b ((p + 1) ∷ break_ends (p + 1) t) (break_ends (p + 1) t))
     go false e = e
     go true e = ended-cons o (p + 1) (break_ends (p + 1) t) true (le-leb _ _ (omega (arith, l))) ∙ omega (arith, e)
 

@@ -26,7 +26,8 @@ ended-prefix p (c ∷ t) r = go (ends_break c (t ++ r)) (subst (λ o. ended o (b
     same : p + 1 + length t ≡ p + suc (length t)
     same = omega arith
 
-    go : (b : Bool) → ended (p + suc (length t)) (break_ends (p + 1) (t ++ r)) ≡ ended_in t r → ended (p + suc (length t)) (cond b ((p + 1) ∷ break_ends (p + 1) (t ++ r)) (break_ends (p + 1) (t ++ r))) ≡ cond b 1 0 + ended_in t r
+    go : (b : Bool) → ended (p + suc (length t)) (break_ends (p + 1) (t ++ r)) ≡ ended_in t r → ended (p + suc (length t))
+        (cond b ((p + 1) ∷ break_ends (p + 1) (t ++ r)) (break_ends (p + 1) (t ++ r))) ≡ cond b 1 0 + ended_in t r
     go false e = omega (arith, e)
     go true e = ended-cons (p + suc (length t)) (p + 1) (break_ends (p + 1) (t ++ r)) true (le-leb _ _ (omega arith)) ∙ omega (arith, e)
 
@@ -50,7 +51,8 @@ pub record Begins (p start : ℕ) (t tail : List ℕ) : Type 0 where
 begins : (s p d : ℕ) (t r : List ℕ) → 1 ≤ ended_in t r → Begins p (slice_index_or (s ∷ break_ends p (t ++ r)) (ended_in t r) d) t (after_in t r)
 unfolding break_ends
 begins s p d [] r l = absurd (omega (arith, l))
-begins s p d (c ∷ t) r l = subst (Begins p (slice_index_or (s ∷ break_ends p (c ∷ t ++ r)) (ended_in (c ∷ t) r) d) (c ∷ t)) (sym (units_after-some c t r l)) (go (ends_break c (t ++ r)) l (λ v k. begins v (p + 1) d t r k))
+begins s p d (c ∷ t) r l = subst (Begins p (slice_index_or (s ∷ break_ends p (c ∷ t ++ r)) (ended_in (c ∷ t) r) d) (c ∷ t))
+    (sym (units_after-some c t r l)) (go (ends_break c (t ++ r)) l (λ v k. begins v (p + 1) d t r k))
   where
     rest : List ℕ
     rest = break_ends (p + 1) (t ++ r)
@@ -61,13 +63,15 @@ begins s p d (c ∷ t) r l = subst (Begins p (slice_index_or (s ∷ break_ends p
         let same : start - p ≡ suc (start - (p + 1)) = omega (arith, up) in
         record { from = omega (arith, up); rest = ap (λ n. drop n (c ∷ t)) same ∙ h.rest }
 
-    first : (n : ℕ) → ended_in t r ≡ n → (1 ≤ ended_in t r → Begins (p + 1) (slice_index_or ((p + 1) ∷ rest) (ended_in t r) d) t (after_in t r)) → Begins p (slice_index_or ((p + 1) ∷ rest) n d) (c ∷ t) (after_in t r)
+    first : (n : ℕ) → ended_in t r ≡ n → (1 ≤ ended_in t r → Begins (p + 1) (slice_index_or ((p + 1) ∷ rest) (ended_in t r) d) t (after_in t r))
+        → Begins p (slice_index_or ((p + 1) ∷ rest) n d) (c ∷ t) (after_in t r)
     first zero e ih =
         let one : p + 1 - p ≡ 1 = omega arith in
         record { from = omega arith; rest = ap (λ n. drop n (c ∷ t)) one ∙ sym (units_after-none t r e) }
     first (suc n) e ih = subst (λ n. Begins p (slice_index_or ((p + 1) ∷ rest) n d) (c ∷ t) (after_in t r)) e (later (slice_index_or ((p + 1) ∷ rest) (ended_in t r) d) (ih (omega (arith, e))))
 
-    go : (b : Bool) → 1 ≤ cond b 1 0 + ended_in t r → ((v : ℕ) → 1 ≤ ended_in t r → Begins (p + 1) (slice_index_or (v ∷ rest) (ended_in t r) d) t (after_in t r)) → Begins p (slice_index_or (s ∷ cond b ((p + 1) ∷ rest) rest) (cond b 1 0 + ended_in t r) d) (c ∷ t) (after_in t r)
+    go : (b : Bool) → 1 ≤ cond b 1 0 + ended_in t r → ((v : ℕ) → 1 ≤ ended_in t r → Begins (p + 1) (slice_index_or (v ∷ rest) (ended_in t r) d) t (after_in t r))
+        → Begins p (slice_index_or (s ∷ cond b ((p + 1) ∷ rest) rest) (cond b 1 0 + ended_in t r) d) (c ∷ t) (after_in t r)
     go false l ih =
         let same : 0 + ended_in t r ≡ ended_in t r = omega arith in
         subst (λ n. Begins p (slice_index_or (s ∷ rest) n d) (c ∷ t) (after_in t r)) (sym same) (later (slice_index_or (s ∷ rest) (ended_in t r) d) (ih s (omega (arith, l))))

@@ -61,7 +61,8 @@ pub taken-append : (w x : List ℕ) → take_while in_line w ≡ w → take_whil
 taken-append [] x e = refl
 taken-append (c ∷ w) x e = take_while-cons in_line c (w ++ x) ∙ go (in_line c) (sym (take_while-cons in_line c w) ∙ e) (taken-append w x)
   where
-    go : (b : Bool) → cond b (c ∷ take_while in_line w) [] ≡ c ∷ w → (take_while in_line w ≡ w → take_while in_line (w ++ x) ≡ w ++ take_while in_line x) → cond b (c ∷ take_while in_line (w ++ x)) [] ≡ c ∷ w ++ take_while in_line x
+    go : (b : Bool) → cond b (c ∷ take_while in_line w) [] ≡ c ∷ w → (take_while in_line w ≡ w → take_while in_line (w ++ x) ≡ w ++ take_while in_line x)
+        → cond b (c ∷ take_while in_line (w ++ x)) [] ≡ c ∷ w ++ take_while in_line x
     go true h later = ap (λ l. c ∷ l) (later (ap tail h))
       where
         tail : List ℕ → List ℕ
@@ -112,7 +113,8 @@ units_after-in_line (c ∷ []) r e = units_after-cons c [] r e refl
 units_after-in_line (c ∷ d ∷ s) r e = units_after-cons c (d ∷ s) r e (units_after-in_line (d ∷ s) r e)
 
 -- after a `\r` that is a break
-pub end-after_return : (encoding : Encoding) (s r : List ℕ) → begins_with 10 r ≡ false → end_at encoding (s ++ 13 ∷ []) r ≡ record { line = (end_at encoding (s ++ 13 ∷ []) feed).line + 1; character = 0 }
+pub end-after_return : (encoding : Encoding) (s r : List ℕ) → begins_with 10 r ≡ false → end_at encoding (s ++ 13 ∷ []) r
+    ≡ record { line = (end_at encoding (s ++ 13 ∷ []) feed).line + 1; character = 0 }
 end-after_return encoding s r e =
     let one : ended_in (13 ∷ []) r ≡ 1 = ap (λ b. cond (not b) 1 0 + 0) e in
     let before : ended_in s (13 ∷ r) ≡ ended_in s (13 ∷ feed) = ended-same s (13 ∷ r) (13 ∷ feed) refl in
@@ -136,10 +138,12 @@ pub end-return : (encoding : Encoding) (s r : List ℕ) → end_at encoding (s +
 end-return encoding s r =
     let same : breaks_at_end s (13 ∷ feed) ≡ breaks_at_end s (13 ∷ r) = refl in
     let line : ended_in (s ++ 13 ∷ []) feed ≡ ended_in s (13 ∷ r) = ended-append s (13 ∷ []) feed ∙ omega (arith, ended-same s (13 ∷ feed) (13 ∷ r) same) in
-    let units_after : after_in (s ++ 13 ∷ []) feed ≡ after_in s (13 ∷ r) ++ 13 ∷ [] = units_after-append-none s (13 ∷ []) feed refl ∙ ap (λ l. l ++ 13 ∷ []) (units_after-same s (13 ∷ feed) (13 ∷ r) same) in
+    let units_after : after_in (s ++ 13 ∷ []) feed ≡ after_in s (13 ∷ r) ++ 13 ∷ [] = units_after-append-none s (13 ∷ []) feed refl
+    ∙ ap (λ l. l ++ 13 ∷ []) (units_after-same s (13 ∷ feed) (13 ∷ r) same) in
     λ i. record { line = line i; character = ap (units encoding) (ap (take_while in_line) units_after ∙ cut_at_return (after_in s (13 ∷ r))) i }
 
-pub end-other : (encoding : Encoding) (s r : List ℕ) (c : ℕ) → (c == 10) ≡ false → (c == 13) ≡ false → end_at encoding (s ++ c ∷ []) feed ≡ record { line = (end_at encoding s (c ∷ r)).line; character = (end_at encoding s (c ∷ r)).character + unit encoding c }
+pub end-other : (encoding : Encoding) (s r : List ℕ) (c : ℕ) → (c == 10) ≡ false → (c == 13) ≡ false → end_at encoding (s ++ c ∷ []) feed
+    ≡ record { line = (end_at encoding s (c ∷ r)).line; character = (end_at encoding s (c ∷ r)).character + unit encoding c }
 end-other encoding s r c a b =
     let same : breaks_at_end s (c ∷ feed) ≡ breaks_at_end s (c ∷ r) = refl in
     let none : ended_in (c ∷ []) feed ≡ 0 = ap (λ x. cond x 1 0 + 0) (no_break c feed a b) in

@@ -3,7 +3,8 @@ use Rattle.std.proofs.Common.{◌≡◌, ◌<◌, ℕ, List, [], ◌∷◌, ◌+
 use Rattle.productions.proofs.Common.{cases_lt, get_or_append_left, get_or-append_seam}
 
 -- a fact of each element, and of one more
-pub each_more : {X : Type 0} (P : ℕ → X → Type 0) (xs : List X) (x d : X) → ((a : ℕ) → a < length xs → P a (slice_index_or xs a d)) → P (length xs) x → (a : ℕ) → a < length (xs ++ x ∷ []) → P a (slice_index_or (xs ++ x ∷ []) a d)
+pub each_more : {X : Type 0} (P : ℕ → X → Type 0) (xs : List X) (x d : X) → ((a : ℕ) → a < length xs → P a (slice_index_or xs a d))
+    → P (length xs) x → (a : ℕ) → a < length (xs ++ x ∷ []) → P a (slice_index_or (xs ++ x ∷ []) a d)
 each_more P xs x d h k a l =
     let n = length-append xs (x ∷ []) in
     elim (cases_lt a (length xs)) [

@@ -22,8 +22,11 @@ follows_nothing g (s ∷ ss) look b l = absurd (omega (arith, l))
 follows_nothing g [] look b l = (⊎_elim (λ x. absurd (begins_nothing g x.0 [] refl x.2)) (λ x. x.1), λ e. inr (None_left, e))
 
 follows_rule : (g : Grammar) (a : ℕ) (rest : List Symbol) (look b : Option ℕ) → MayFollow g (Terminal a ∷ rest) look b ↔ (b ≡ Some a)
-follows_rule g a rest look b =
-    (⊎_elim (λ x. subst (λ n. b ≡ Some n) (begins_rule g x.0 a (Terminal a ∷ rest) rest refl x.2) x.1) (λ x. absurd (not_nullable_rule g a (Terminal a ∷ rest) rest refl x.0)), λ e. inl (a, e, At_once))
+follows_rule g a rest look b = (
+  ⊎_elim (λ x. subst (λ n. b ≡ Some n) (begins_rule g x.0 a (Terminal a ∷ rest) rest refl x.2) x.1)
+      (λ x. absurd (not_nullable_rule g a (Terminal a ∷ rest) rest refl x.0)),
+  λ e. inl (a, e, At_once),
+)
 
 -- after a token rule, only that rule
 pub follows_first : (g : Grammar) (a : ℕ) (d : Symbol) (ss : List Symbol) (look b : Option ℕ) → 0 < length ss → slice_index_or ss 0 d ≡ Terminal a → MayFollow g ss look b ↔ (b ≡ Some a)

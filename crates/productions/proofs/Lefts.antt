@@ -20,7 +20,8 @@ module _ (left : ℕ → ℕ) (rows : List (List ℕ)) (at : ℕ) (within : left
 
   pub theirs_more : ((n : ℕ) → All (λ p. (p < at) × (left p ≡ n)) (slice_index_or rows n [])) → (n : ℕ) → All (λ p. (p < at + 1) × (left p ≡ n)) (slice_index_or after n [])
   theirs_more h n = ⊎_elim
-      (λ s. subst (All (λ p. (p < at + 1) × (left p ≡ n))) (sym (ap (λ m. slice_index_or after m []) s ∙ same_row)) (All-push (λ p. (p < at + 1) × (left p ≡ n)) row at (subst (λ m. All (λ p. (p < at + 1) × (left p ≡ n)) (slice_index_or rows m [])) s (later n (h n))) (omega arith, sym s)))
+      (λ s. subst (All (λ p. (p < at + 1) × (left p ≡ n))) (sym (ap (λ m. slice_index_or after m []) s ∙ same_row))
+      (All-push (λ p. (p < at + 1) × (left p ≡ n)) row at (subst (λ m. All (λ p. (p < at + 1) × (left p ≡ n)) (slice_index_or rows m [])) s (later n (h n))) (omega arith, sym s)))
       (λ o. subst (All (λ p. (p < at + 1) × (left p ≡ n))) (sym (other_row n o)) (later n (h n)))
       (cases_eq n (left at))
 
@@ -36,7 +37,8 @@ module _ (left : ℕ → ℕ) (rows : List (List ℕ)) (at : ℕ) (within : left
       (λ o. kept (left p) p (h p (omega (arith, l, o))))
       (cases_eq p at)
 
-  pub rising_more : ((n : ℕ) → All (λ p. (p < at) × (left p ≡ n)) (slice_index_or rows n [])) → ((n : ℕ) → AllPairs (λ p q. p < q) (slice_index_or rows n [])) → (n : ℕ) → AllPairs (λ p q. p < q) (slice_index_or after n [])
+  pub rising_more : ((n : ℕ) → All (λ p. (p < at) × (left p ≡ n)) (slice_index_or rows n [])) → ((n : ℕ) → AllPairs (λ p q. p < q) (slice_index_or rows n []))
+      → (n : ℕ) → AllPairs (λ p q. p < q) (slice_index_or after n [])
   rising_more theirs h n = ⊎_elim
       (λ s. subst (AllPairs (λ p q. p < q)) (sym (ap (λ m. slice_index_or after m []) s ∙ same_row)) (all_pairs_push (λ p q. p < q) row at (h (left at)) (λ k d l. (theirs (left at) k d l).0)))
       (λ o. subst (AllPairs (λ p q. p < q)) (sym (other_row n o)) (h n))

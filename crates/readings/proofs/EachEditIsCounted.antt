@@ -153,7 +153,8 @@ module _ (s : Splice) where
     abbrev Counted : ℕ → List Tree → Type 0
     Counted place ts = (n : ℕ) × Built s old place ts n
 
-    branch_counted : (place p : ℕ) (us : Forest) (ts : List Tree) → Decided (IsKept s old place p us) → Counted place (trees us) → Counted (place + length (yields us)) ts → Counted place (Branch p us ∷ ts)
+    branch_counted : (place p : ℕ) (us : Forest) (ts : List Tree) → Decided (IsKept s old place p us) → Counted place (trees us)
+        → Counted (place + length (yields us)) ts → Counted place (Branch p us ∷ ts)
     branch_counted place p us ts (inl kept) below rest = (rest.0, Kept kept rest.1)
     branch_counted place p us ts (inr never) below rest = (1 + below.0 + rest.0, New never below.1 rest.1)
 

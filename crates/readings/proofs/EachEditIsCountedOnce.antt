@@ -40,7 +40,8 @@ edits_once file once encoding t range s last one other a b =
     let here : Makes file e last a.old a.new other = subst (λ (q : Reading). Makes file e last a.old q other) new (subst (λ (r : Reading). Makes file e last r b.new other) old b.makes) in
     made_once encoding file t range s last a.old a.new one other a.makes here
 
-same_stats : (one other : Stats) → other.edit ≡ one.edit → other.scanned ≡ one.scanned → other.tokens ≡ one.tokens → other.branches ≡ one.branches → other.built ≡ one.built → without_nodes other ≡ without_nodes one
+same_stats : (one other : Stats) → other.edit ≡ one.edit → other.scanned ≡ one.scanned → other.tokens ≡ one.tokens
+    → other.branches ≡ one.branches → other.built ≡ one.built → without_nodes other ≡ without_nodes one
 same_stats one other edit scanned tokens branches built =
     ap (λ n. record { edit = n; scanned = other.scanned; tokens = other.tokens; branches = other.branches; built = other.built; nodes = 0 }) edit
     ∙ (ap (λ n. record { edit = one.edit; scanned = n; tokens = other.tokens; branches = other.branches; built = other.built; nodes = 0 }) scanned

@@ -25,15 +25,18 @@ some_reading file always t fit =
     let trees = some_trees file always (kinds file.skips tokens.0) verdict.0 verdict.1 in
     (record { tokens = tokens.0; verdict = verdict.0; trees = trees.0 }, record { tokens = tokens.1; verdict = verdict.1; trees = trees.1 })
 
-fault_after : (encoding : Encoding) (file : FileGrammar) → LayersAnswer file → (t : List ℕ) (tokens : List Token) (x : List Kind) → IsViable file.grammar x → (fault : Option Diagnostic) × IsFaultAfter encoding file t tokens x fault
+fault_after : (encoding : Encoding) (file : FileGrammar) → LayersAnswer file → (t : List ℕ) (tokens : List Token) (x : List Kind)
+    → IsViable file.grammar x → (fault : Option Diagnostic) × IsFaultAfter encoding file t tokens x fault
 fault_after encoding file always t tokens x viable = let next = always.expected x viable in (_, (next.0, next.1, next.2, refl))
 
-some_diagnosis : (encoding : Encoding) (file : FileGrammar) → LayersAnswer file → (t : List ℕ) (tokens : List Token) (v : Verdict) → IsVerdict file.grammar (kinds file.skips tokens) v → (fault : Option Diagnostic) × IsDiagnosis encoding file t tokens v fault
+some_diagnosis : (encoding : Encoding) (file : FileGrammar) → LayersAnswer file → (t : List ℕ) (tokens : List Token) (v : Verdict)
+    → IsVerdict file.grammar (kinds file.skips tokens) v → (fault : Option Diagnostic) × IsDiagnosis encoding file t tokens v fault
 some_diagnosis encoding file always t tokens (HasTree tree) is = (None, refl)
 some_diagnosis encoding file always t tokens (FaultAt k) is = fault_after encoding file always t tokens (take k (kinds file.skips tokens)) (viable_prefix file always (kinds file.skips tokens) k is)
 some_diagnosis encoding file always t tokens FaultAtEnd is = fault_after encoding file always t tokens (kinds file.skips tokens) is.1
 
-some_selections : (encoding : Encoding) (file : FileGrammar) → LayersAnswer file → (t : List ℕ) (reading : Reading) → IsReading file t reading → (positions : List Position) → (selections : List (List Range)) × AreSelections encoding file t reading positions selections
+some_selections : (encoding : Encoding) (file : FileGrammar) → LayersAnswer file → (t : List ℕ) (reading : Reading) → IsReading file t reading → (positions : List Position)
+    → (selections : List (List Range)) × AreSelections encoding file t reading positions selections
 some_selections encoding file always t reading is [] = ([], refl)
 some_selections encoding file always t reading is (p ∷ positions) =
     let rooted = document_rooted file.grammar (kinds file.skips reading.tokens) reading.verdict reading.trees is.verdict is.trees in

@@ -10,7 +10,8 @@ module _ (g : Grammar) where
     lefts_are_trees (Down way) (Terminal a) is = absurd is
     lefts_are_trees (Down way) (Nonterminal n) is = among_are_trees way is.0 is.2
 
-    among_are_trees : {ts : Forest} {lefts : List Tree} {k : Kind} {after : List Kind} → WayAmong ts lefts k after → (symbols : List Symbol) → AreTrees g ts symbols → (roots : List Symbol) × HaveRoots g lefts roots
+    among_are_trees : {ts : Forest} {lefts : List Tree} {k : Kind} {after : List Kind} → WayAmong ts lefts k after → (symbols : List Symbol)
+        → AreTrees g ts symbols → (roots : List Symbol) × HaveRoots g lefts roots
     among_are_trees (This way) [] are = absurd are
     among_are_trees (This way) (s ∷ symbols) are = lefts_are_trees way s are.0
     among_are_trees (Next way) [] are = absurd are

@@ -3,7 +3,8 @@ use Rattle.std.proofs.Common.{Result}
 use Rattle.replies.proofs.Common.{OnOk, ⊤, on_ok_weaker, Log}
 
 -- an object is sent if it was begun, up to a log, and its members and its end are sent from there
-pub sends_object : {E End : Type 0} (Begin Members : Log → Type 0) (begun : Log) (r : Result ⊤ E) → Begin begun → (End → Members begun) → OnOk r End → OnOk r ((begun : Log) × Begin begun × Members begun)
+pub sends_object : {E End : Type 0} (Begin Members : Log → Type 0) (begun : Log) (r : Result ⊤ E) → Begin begun
+    → (End → Members begun) → OnOk r End → OnOk r ((begun : Log) × Begin begun × Members begun)
 sends_object Begin Members begun r begin members = on_ok_weaker r (λ e. (begun, begin, members e))
 
 -- members are sent if the first one's key is, up to a log, then its value, up to another, and the rest from there

@@ -23,9 +23,8 @@ folds_are_whole [] = refl
 folds_are_whole (p ∷ pairs) = folds_are_whole pairs
 
 selection_is_whole : (ranges : List Range) → has_float (selection_data ranges) ≡ false
-selection_is_whole [] = refl
-selection_is_whole (r ∷ []) = refl
 selection_is_whole (r ∷ s ∷ rest) = ap (λ b. b || false) (selection_is_whole (s ∷ rest))
+selection_is_whole d = refl
 
 selections_are_whole : (selections : List (List Range)) → items_have_float (items_of (map selection_data selections)) ≡ false
 selections_are_whole [] = refl

@@ -24,15 +24,18 @@ abbrev at : ℕ → ℕ → ℕ → ℕ → Range
 at l c m d = record { start = record { line = l; character = c }; end = record { line = m; character = d } }
 
 -- `initialize`, with each unit
-capabilities_8 : sent (capabilities_reply one Utf8) ≡ codes "{\"id\":1,\"jsonrpc\":\"2.0\",\"result\":{\"capabilities\":{\"foldingRangeProvider\":true,\"positionEncoding\":\"utf-8\",\"selectionRangeProvider\":true,\"textDocumentSync\":{\"change\":2,\"openClose\":true}}}}"
+capabilities_8 : sent (capabilities_reply one Utf8)
+    ≡ codes "{\"id\":1,\"jsonrpc\":\"2.0\",\"result\":{\"capabilities\":{\"foldingRangeProvider\":true,\"positionEncoding\":\"utf-8\",\"selectionRangeProvider\":true,\"textDocumentSync\":{\"change\":2,\"openClose\":true}}}}"
 unfolding digits escape_byte
 capabilities_8 = refl
 
-capabilities_16 : sent (capabilities_reply one Utf16) ≡ codes "{\"id\":1,\"jsonrpc\":\"2.0\",\"result\":{\"capabilities\":{\"foldingRangeProvider\":true,\"positionEncoding\":\"utf-16\",\"selectionRangeProvider\":true,\"textDocumentSync\":{\"change\":2,\"openClose\":true}}}}"
+capabilities_16 : sent (capabilities_reply one Utf16)
+    ≡ codes "{\"id\":1,\"jsonrpc\":\"2.0\",\"result\":{\"capabilities\":{\"foldingRangeProvider\":true,\"positionEncoding\":\"utf-16\",\"selectionRangeProvider\":true,\"textDocumentSync\":{\"change\":2,\"openClose\":true}}}}"
 unfolding digits escape_byte
 capabilities_16 = refl
 
-capabilities_32 : sent (capabilities_reply one Utf32) ≡ codes "{\"id\":1,\"jsonrpc\":\"2.0\",\"result\":{\"capabilities\":{\"foldingRangeProvider\":true,\"positionEncoding\":\"utf-32\",\"selectionRangeProvider\":true,\"textDocumentSync\":{\"change\":2,\"openClose\":true}}}}"
+capabilities_32 : sent (capabilities_reply one Utf32)
+    ≡ codes "{\"id\":1,\"jsonrpc\":\"2.0\",\"result\":{\"capabilities\":{\"foldingRangeProvider\":true,\"positionEncoding\":\"utf-32\",\"selectionRangeProvider\":true,\"textDocumentSync\":{\"change\":2,\"openClose\":true}}}}"
 unfolding digits escape_byte
 capabilities_32 = refl
 
@@ -76,7 +79,8 @@ unfolding digits escape_byte
 tree = refl
 
 -- `lr/stats`
-counts : sent (stats_reply one (record { edit = 1; scanned = 3; tokens = 7; branches = 8; built = 4; nodes = 12 })) ≡ codes "{\"id\":1,\"jsonrpc\":\"2.0\",\"result\":{\"branches\":8,\"built\":4,\"edit\":1,\"nodes\":12,\"scanned\":3,\"tokens\":7}}"
+counts : sent (stats_reply one (record { edit = 1; scanned = 3; tokens = 7; branches = 8; built = 4; nodes = 12 }))
+    ≡ codes "{\"id\":1,\"jsonrpc\":\"2.0\",\"result\":{\"branches\":8,\"built\":4,\"edit\":1,\"nodes\":12,\"scanned\":3,\"tokens\":7}}"
 unfolding digits escape_byte
 counts = refl
 
@@ -86,7 +90,8 @@ unfolding digits escape_byte
 folds = refl
 
 -- `textDocument/selectionRange`: a range with its parent, and a selection of no range
-selections : sent (selections_reply one ((at 0 0 0 1 ∷ at 0 0 0 3 ∷ []) ∷ [] ∷ [])) ≡ codes "{\"id\":1,\"jsonrpc\":\"2.0\",\"result\":[{\"parent\":{\"range\":{\"end\":{\"character\":3,\"line\":0},\"start\":{\"character\":0,\"line\":0}}},\"range\":{\"end\":{\"character\":1,\"line\":0},\"start\":{\"character\":0,\"line\":0}}},null]}"
+selections : sent (selections_reply one ((at 0 0 0 1 ∷ at 0 0 0 3 ∷ []) ∷ [] ∷ []))
+    ≡ codes "{\"id\":1,\"jsonrpc\":\"2.0\",\"result\":[{\"parent\":{\"range\":{\"end\":{\"character\":3,\"line\":0},\"start\":{\"character\":0,\"line\":0}}},\"range\":{\"end\":{\"character\":1,\"line\":0},\"start\":{\"character\":0,\"line\":0}}},null]}"
 unfolding digits escape_byte
 selections = refl
 
@@ -119,7 +124,8 @@ error_lost_toolarge : sent (error_reply (Some one) (refusal.DocumentLost loss.To
 unfolding digits escape_byte
 error_lost_toolarge = refl
 
-error_lost_malformedchange : sent (error_reply (Some one) (refusal.DocumentLost loss.MalformedChange)) ≡ codes "{\"error\":{\"code\":-32803,\"message\":\"document lost: malformed change\"},\"id\":1,\"jsonrpc\":\"2.0\"}"
+error_lost_malformedchange : sent (error_reply (Some one) (refusal.DocumentLost loss.MalformedChange))
+    ≡ codes "{\"error\":{\"code\":-32803,\"message\":\"document lost: malformed change\"},\"id\":1,\"jsonrpc\":\"2.0\"}"
 unfolding digits escape_byte
 error_lost_malformedchange = refl
 
@@ -128,11 +134,13 @@ unfolding digits escape_byte
 error_lost_memory = refl
 
 -- `textDocument/publishDiagnostics`: a fault, none, and none without a version
-fault : sent (published_diagnostics (codes "a:x") (Some (pos 1)) (Some (at 0 0 0 0, codes "unexpected end; expected NUM, LP"))) ≡ codes "{\"jsonrpc\":\"2.0\",\"method\":\"textDocument/publishDiagnostics\",\"params\":{\"diagnostics\":[{\"message\":\"unexpected end; expected NUM, LP\",\"range\":{\"end\":{\"character\":0,\"line\":0},\"start\":{\"character\":0,\"line\":0}},\"severity\":1,\"source\":\"lrls\"}],\"uri\":\"a:x\",\"version\":1}}"
+fault : sent (published_diagnostics (codes "a:x") (Some (pos 1)) (Some (at 0 0 0 0, codes "unexpected end; expected NUM, LP")))
+    ≡ codes "{\"jsonrpc\":\"2.0\",\"method\":\"textDocument/publishDiagnostics\",\"params\":{\"diagnostics\":[{\"message\":\"unexpected end; expected NUM, LP\",\"range\":{\"end\":{\"character\":0,\"line\":0},\"start\":{\"character\":0,\"line\":0}},\"severity\":1,\"source\":\"lrls\"}],\"uri\":\"a:x\",\"version\":1}}"
 unfolding digits escape_byte
 fault = refl
 
-no_fault : sent (published_diagnostics (codes "a:x") (Some (pos 2)) None) ≡ codes "{\"jsonrpc\":\"2.0\",\"method\":\"textDocument/publishDiagnostics\",\"params\":{\"diagnostics\":[],\"uri\":\"a:x\",\"version\":2}}"
+no_fault : sent (published_diagnostics (codes "a:x") (Some (pos 2)) None)
+    ≡ codes "{\"jsonrpc\":\"2.0\",\"method\":\"textDocument/publishDiagnostics\",\"params\":{\"diagnostics\":[],\"uri\":\"a:x\",\"version\":2}}"
 unfolding digits escape_byte
 no_fault = refl
 

@@ -5,7 +5,8 @@ use Rattle.replies.proofs.Common.{drop_more, drop_all, Log, Logs, seq_begins, se
 -- a sending of items, each by what `one` says of it
 module _ {A : Type 0} (one : A → Data) (all : List A → Items) (none_left : all [] ≡ no_items) (one_left : (x : A) (xs : List A) → all (x ∷ xs) ≡ item (one x) (all xs)) where
   -- where the item at place k was sent, and then those after it, those from k on were sent
-  pub sent_more : (xs : List A) (k : ℕ) (d : A) (before mid end : Log) → k < length xs → SendsValue (one (get_or xs k d)) before mid → SendsItems (all (drop (k + 1) xs)) mid end → SendsItems (all (drop k xs)) before end
+  pub sent_more : (xs : List A) (k : ℕ) (d : A) (before mid end : Log) → k < length xs → SendsValue (one (get_or xs k d)) before mid
+      → SendsItems (all (drop (k + 1) xs)) mid end → SendsItems (all (drop k xs)) before end
   sent_more xs k d before mid end within first rest =
       subst (λ ds. SendsItems ds before end) (sym (ap all (drop_more xs k d within) ∙ one_left (get_or xs k d) (drop (k + 1) xs))) (mid, first, rest)
 

@@ -3,7 +3,8 @@ use Rattle.std.proofs.Common.{◌≡◌, ℕ, ◌+◌, ◌<◌, ◌≤◌, List,
 use Rattle.rpc.proofs.Common.{at_drop_more, at_drop_all, append_assoc, append-nil, Value, Data, Items, no_items, item, view, items_view, first_and}
 
 -- a reading of items, where each item is read as `one` does
-module _ {Y : Type 0} (one : Data → Option Y) (all : Items → Option (List Y)) (none_left : all no_items ≡ Some []) (one_left : (d : Data) (ds : Items) → all (item d ds) ≡ first_and (one d) (all ds)) where
+module _ {Y : Type 0} (one : Data → Option Y) (all : Items → Option (List Y)) (none_left : all no_items ≡ Some [])
+    (one_left : (d : Data) (ds : Items) → all (item d ds) ≡ first_and (one d) (all ds)) where
   -- what is read of the values, where those before place k are read as ys
   abbrev remaining : List Y → ℕ → List Value → Option (List Y)
   remaining ys k values = option_map (λ rest. ys ++ rest) (all (items_view (drop k values)))

@@ -91,11 +91,14 @@ initializes : received_in (codes "{\"jsonrpc\":\"2.0\",\"id\":1,\"method\":\"ini
 unfolding chars encode_utf8 is_utf8 serde_json_on_literals
 initializes = refl
 
-initializes_with_unit : received_in (codes "{\"jsonrpc\":\"2.0\",\"id\":1,\"method\":\"initialize\",\"params\":{\"capabilities\":{\"general\":{\"positionEncodings\":[\"utf-7\",\"utf-32\",\"utf-8\"]}}}}") ≡ accepted (request one (initialize Utf32))
+initializes_with_unit : received_in
+    (codes "{\"jsonrpc\":\"2.0\",\"id\":1,\"method\":\"initialize\",\"params\":{\"capabilities\":{\"general\":{\"positionEncodings\":[\"utf-7\",\"utf-32\",\"utf-8\"]}}}}")
+    ≡ accepted (request one (initialize Utf32))
 unfolding chars encode_utf8 is_utf8 serde_json_on_literals
 initializes_with_unit = refl
 
-initializes_with_no_list : received_in (codes "{\"jsonrpc\":\"2.0\",\"id\":1,\"method\":\"initialize\",\"params\":{\"capabilities\":{\"general\":{\"positionEncodings\":5}}}}") ≡ accepted (request one (initialize Utf16))
+initializes_with_no_list : received_in (codes "{\"jsonrpc\":\"2.0\",\"id\":1,\"method\":\"initialize\",\"params\":{\"capabilities\":{\"general\":{\"positionEncodings\":5}}}}")
+    ≡ accepted (request one (initialize Utf16))
 unfolding chars encode_utf8 is_utf8 serde_json_on_literals
 initializes_with_no_list = refl
 
@@ -115,7 +118,8 @@ asks_tree : received_in (codes "{\"jsonrpc\":\"2.0\",\"id\":1,\"method\":\"lr/tr
 unfolding chars encode_utf8 is_utf8 serde_json_on_literals
 asks_tree = refl
 
-asks_folds : received_in (codes "{\"jsonrpc\":\"2.0\",\"id\":1,\"method\":\"textDocument/foldingRange\",\"params\":{\"textDocument\":{\"uri\":\"a:x\"}}}") ≡ accepted (request one (about uri its_folds))
+asks_folds : received_in (codes "{\"jsonrpc\":\"2.0\",\"id\":1,\"method\":\"textDocument/foldingRange\",\"params\":{\"textDocument\":{\"uri\":\"a:x\"}}}")
+    ≡ accepted (request one (about uri its_folds))
 unfolding chars encode_utf8 is_utf8 serde_json_on_literals
 asks_folds = refl
 
@@ -123,7 +127,9 @@ asks_counts : received_in (codes "{\"jsonrpc\":\"2.0\",\"id\":1,\"method\":\"lr/
 unfolding chars encode_utf8 is_utf8 serde_json_on_literals
 asks_counts = refl
 
-asks_selections : received_in (codes "{\"jsonrpc\":\"2.0\",\"id\":1,\"method\":\"textDocument/selectionRange\",\"params\":{\"textDocument\":{\"uri\":\"a:x\"},\"positions\":[{\"line\":0,\"character\":3}]}}") ≡ accepted (request one (about uri (its_selections (at 0 3 ∷ []))))
+asks_selections : received_in (codes
+    "{\"jsonrpc\":\"2.0\",\"id\":1,\"method\":\"textDocument/selectionRange\",\"params\":{\"textDocument\":{\"uri\":\"a:x\"},\"positions\":[{\"line\":0,\"character\":3}]}}") ≡ accepted
+    (request one (about uri (its_selections (at 0 3 ∷ []))))
 unfolding chars encode_utf8 is_utf8 serde_json_on_literals
 asks_selections = refl
 
@@ -135,7 +141,9 @@ no_positions : received_in (codes "{\"jsonrpc\":\"2.0\",\"id\":1,\"method\":\"te
 unfolding chars encode_utf8 is_utf8 serde_json_on_literals
 no_positions = refl
 
-far_position : received_in (codes "{\"jsonrpc\":\"2.0\",\"id\":1,\"method\":\"textDocument/selectionRange\",\"params\":{\"textDocument\":{\"uri\":\"a:x\"},\"positions\":[{\"line\":2147483648,\"character\":0}]}}") ≡ refused (params one false)
+far_position : received_in (codes
+    "{\"jsonrpc\":\"2.0\",\"id\":1,\"method\":\"textDocument/selectionRange\",\"params\":{\"textDocument\":{\"uri\":\"a:x\"},\"positions\":[{\"line\":2147483648,\"character\":0}]}}")
+    ≡ refused (params one false)
 unfolding chars encode_utf8 is_utf8 serde_json_on_literals
 far_position = refl
 
@@ -156,27 +164,36 @@ unknown_notification : received_in (codes "{\"jsonrpc\":\"2.0\",\"method\":\"$/c
 unfolding chars encode_utf8 is_utf8 serde_json_on_literals
 unknown_notification = refl
 
-opens : received_in (codes "{\"jsonrpc\":\"2.0\",\"method\":\"textDocument/didOpen\",\"params\":{\"textDocument\":{\"uri\":\"a:x\",\"languageId\":\"g\",\"version\":1,\"text\":\"\"}}}") ≡ accepted (notification (open_text uri (pos 1) []))
+opens : received_in (codes "{\"jsonrpc\":\"2.0\",\"method\":\"textDocument/didOpen\",\"params\":{\"textDocument\":{\"uri\":\"a:x\",\"languageId\":\"g\",\"version\":1,\"text\":\"\"}}}")
+    ≡ accepted (notification (open_text uri (pos 1) []))
 unfolding chars encode_utf8 is_utf8 serde_json_on_literals
 opens = refl
 
-opens_malformed : received_in (codes "{\"jsonrpc\":\"2.0\",\"method\":\"textDocument/didOpen\",\"params\":{\"textDocument\":{\"uri\":\"a:x\",\"version\":1}}}") ≡ accepted (notification (malformed unfit_open))
+opens_malformed : received_in (codes "{\"jsonrpc\":\"2.0\",\"method\":\"textDocument/didOpen\",\"params\":{\"textDocument\":{\"uri\":\"a:x\",\"version\":1}}}")
+    ≡ accepted (notification (malformed unfit_open))
 unfolding chars encode_utf8 is_utf8 serde_json_on_literals
 opens_malformed = refl
 
-changes : received_in (codes "{\"jsonrpc\":\"2.0\",\"method\":\"textDocument/didChange\",\"params\":{\"textDocument\":{\"uri\":\"a:x\",\"version\":2},\"contentChanges\":[{\"range\":{\"start\":{\"line\":0,\"character\":0},\"end\":{\"line\":0,\"character\":1}},\"text\":\"\"},{\"text\":\"2\"}]}}") ≡ accepted (notification (change_text uri (pos 2) (record { range = Some (record { start = at 0 0; end = at 0 1 }); text = [] } ∷ record { range = None; text = codes "2" } ∷ [])))
+changes : received_in (codes
+    "{\"jsonrpc\":\"2.0\",\"method\":\"textDocument/didChange\",\"params\":{\"textDocument\":{\"uri\":\"a:x\",\"version\":2},\"contentChanges\":[{\"range\":{\"start\":{\"line\":0,\"character\":0},\"end\":{\"line\":0,\"character\":1}},\"text\":\"\"},{\"text\":\"2\"}]}}")
+    ≡ accepted (notification (change_text uri (pos 2) (record { range = Some (record { start = at 0 0; end = at 0 1 }); text = [] }
+    ∷ record { range = None; text = codes "2" } ∷ [])))
 unfolding chars encode_utf8 is_utf8 serde_json_on_literals
 changes = refl
 
-no_changes : received_in (codes "{\"jsonrpc\":\"2.0\",\"method\":\"textDocument/didChange\",\"params\":{\"textDocument\":{\"uri\":\"a:x\",\"version\":2},\"contentChanges\":[]}}") ≡ accepted (notification (change_text uri (pos 2) []))
+no_changes : received_in (codes "{\"jsonrpc\":\"2.0\",\"method\":\"textDocument/didChange\",\"params\":{\"textDocument\":{\"uri\":\"a:x\",\"version\":2},\"contentChanges\":[]}}")
+    ≡ accepted (notification (change_text uri (pos 2) []))
 unfolding chars encode_utf8 is_utf8 serde_json_on_literals
 no_changes = refl
 
-change_malformed : received_in (codes "{\"jsonrpc\":\"2.0\",\"method\":\"textDocument/didChange\",\"params\":{\"textDocument\":{\"uri\":\"a:x\",\"version\":2},\"contentChanges\":5}}") ≡ accepted (notification (malformed (unfit_change (Some uri))))
+change_malformed : received_in (codes "{\"jsonrpc\":\"2.0\",\"method\":\"textDocument/didChange\",\"params\":{\"textDocument\":{\"uri\":\"a:x\",\"version\":2},\"contentChanges\":5}}")
+    ≡ accepted (notification (malformed (unfit_change (Some uri))))
 unfolding chars encode_utf8 is_utf8 serde_json_on_literals
 change_malformed = refl
 
-null_range : received_in (codes "{\"jsonrpc\":\"2.0\",\"method\":\"textDocument/didChange\",\"params\":{\"textDocument\":{\"uri\":\"a:x\",\"version\":2},\"contentChanges\":[{\"range\":null,\"text\":\"\"}]}}") ≡ accepted (notification (malformed (unfit_change (Some uri))))
+null_range : received_in (codes
+    "{\"jsonrpc\":\"2.0\",\"method\":\"textDocument/didChange\",\"params\":{\"textDocument\":{\"uri\":\"a:x\",\"version\":2},\"contentChanges\":[{\"range\":null,\"text\":\"\"}]}}")
+    ≡ accepted (notification (malformed (unfit_change (Some uri))))
 unfolding chars encode_utf8 is_utf8 serde_json_on_literals
 null_range = refl
 

@@ -25,28 +25,16 @@ member_spelled k (member l e ms) h =
     by_order (λ o. IfSome o IsSpelledData) (slice_cmp nat_cmp k l) (get_member k ms) (Some e) (get_member k ms) (member_spelled k ms h.1) h.0 (member_spelled k ms h.1)
 
 get_spelled : (k : List ℕ) (d : Data) → IsSpelledData d → IfSome (get k d) IsSpelledData
-get_spelled k null h = tt
-get_spelled k (boolean b) h = tt
-get_spelled k (number n) h = tt
-get_spelled k (string s) h = tt
-get_spelled k (array ds) h = tt
 get_spelled k (object ms) h = member_spelled k ms h
+get_spelled k d h = tt
 
 str_spelled : (d : Data) → IsSpelledData d → IfSome (as_str d) IsSpelled
-str_spelled null h = tt
-str_spelled (boolean b) h = tt
-str_spelled (number n) h = tt
 str_spelled (string s) h = spelled_from s h
-str_spelled (array ds) h = tt
-str_spelled (object ms) h = tt
+str_spelled d h = tt
 
 array_spelled : (d : Data) → IsSpelledData d → IfSome (as_array d) AreSpelledItems
-array_spelled null h = tt
-array_spelled (boolean b) h = tt
-array_spelled (number n) h = tt
-array_spelled (string s) h = tt
 array_spelled (array ds) h = h
-array_spelled (object ms) h = tt
+array_spelled d h = tt
 
 text_spelled : (k : List ℕ) (d : Data) → IsSpelledData d → IfSome (text_at k d) IsSpelled
 text_spelled k d h = if_then IsSpelledData IsSpelled as_str (get k d) str_spelled (get_spelled k d h)
@@ -149,7 +137,8 @@ open_spelled (Some uri) None text h k = All-nil IsSpelled
 open_spelled (Some uri) (Some version) None h k = All-nil IsSpelled
 open_spelled (Some uri) (Some version) (Some text) h k = one_spelled uri (text ∷ []) h (one_spelled text [] k (All-nil IsSpelled))
 
-change_spelled : (uri : Option (List ℕ)) (version : Option ℤ) (changes : Option (List TextChange)) → IfSome uri IsSpelled → IfSome changes AreSpelledChanges → IsSpelledNotification (change_notification uri version changes)
+change_spelled : (uri : Option (List ℕ)) (version : Option ℤ) (changes : Option (List TextChange)) → IfSome uri IsSpelled
+    → IfSome changes AreSpelledChanges → IsSpelledNotification (change_notification uri version changes)
 change_spelled None version changes h k = All-nil IsSpelled
 change_spelled (Some uri) None changes h k = one_spelled uri [] h (All-nil IsSpelled)
 change_spelled (Some uri) (Some version) None h k = one_spelled uri [] h (All-nil IsSpelled)

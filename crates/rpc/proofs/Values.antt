@@ -9,16 +9,8 @@ use Rattle.rpc.proofs.Strings.{if_map, if_then, byte_small, one_more, past_ascii
 -- ---- tokens
 
 abbrev IsGood : Token → Type 0
-IsGood Token.begin_object = ⊤
-IsGood Token.end_object = ⊤
-IsGood Token.begin_array = ⊤
-IsGood Token.end_array = ⊤
-IsGood (Token.key s) = ⊤
 IsGood (Token.string s) = IsUtf8 s
-IsGood (Token.number s) = ⊤
-IsGood (Token.boolean b) = ⊤
-IsGood Token.null = ⊤
-IsGood Token.bad = ⊤
+IsGood d = ⊤
 
 abbrev AreGood : List Token → Type 0
 AreGood [] = ⊤
@@ -121,10 +113,8 @@ good_place p Token.end_array b k x more = good_allowed (may_close p) _ k after_v
 good_place p (Token.key s) b k x more = (tt, tt)
 good_place p (Token.string s) true k x more = good_allowed (may_begin p) (Token.key s) k after_key tt (more after_key)
 good_place p (Token.string s) false k x more = good_allowed (may_begin p) (Token.string s) k after_value x (more after_value)
-good_place p (Token.number s) b k x more = good_allowed (may_begin p) _ k after_value tt (more after_value)
-good_place p (Token.boolean c) b k x more = good_allowed (may_begin p) _ k after_value tt (more after_value)
-good_place p Token.null b k x more = good_allowed (may_begin p) _ k after_value tt (more after_value)
 good_place p Token.bad b k x more = (tt, tt)
+good_place p d b k x more = good_allowed (may_begin p) _ k after_value tt (more after_value)
 
 good_tokens : (p : Place) (ls : List Lexeme) → AreGoodLexemes ls → AreGood (punctuate p ls)
 unfolding punctuate
@@ -146,12 +136,10 @@ good_tokens after_key (colon ∷ ls) g = good_tokens fresh ls g.1
 
 abbrev mutual
   HasTexts : json.Json → Type 0
-  HasTexts json.null = ⊤
-  HasTexts (json.boolean b) = ⊤
-  HasTexts (json.number s) = ⊤
   HasTexts (json.string s) = IsUtf8 s
   HasTexts (json.array js) = ItemsHaveTexts js
   HasTexts (json.object ms) = MembersHaveTexts ms
+  HasTexts d = ⊤
 
   ItemsHaveTexts : json.Items → Type 0
   ItemsHaveTexts json.no_items = ⊤
@@ -172,32 +160,16 @@ reads_map : {A B : Type 0} (P : A → Type 0) (Q : B → Type 0) (f : A → B) (
 reads_map P Q f o step = if_map (λ p. P p.0 × AreGood p.1) (λ p. Q p.0 × AreGood p.1) (λ p. (f p.0, p.1)) o (λ p h. (step p.0 h.0, h.1))
 
 after_array : (ts : List Token) → AreGood ts → IfSome (json.after_end_array ts) AreGood
-after_array [] g = tt
-after_array (Token.begin_object ∷ ts) g = tt
-after_array (Token.end_object ∷ ts) g = tt
-after_array (Token.begin_array ∷ ts) g = tt
 after_array (Token.end_array ∷ ts) g = g.1
-after_array (Token.key s ∷ ts) g = tt
-after_array (Token.string s ∷ ts) g = tt
-after_array (Token.number s ∷ ts) g = tt
-after_array (Token.boolean b ∷ ts) g = tt
-after_array (Token.null ∷ ts) g = tt
-after_array (Token.bad ∷ ts) g = tt
+after_array d g = tt
 
 after_a_key : (ts : List Token) → AreGood ts → Reads (λ _. ⊤) (json.read_key ts)
-after_a_key [] g = tt
-after_a_key (Token.begin_object ∷ ts) g = tt
 after_a_key (Token.end_object ∷ ts) g = (tt, g.1)
-after_a_key (Token.begin_array ∷ ts) g = tt
-after_a_key (Token.end_array ∷ ts) g = tt
 after_a_key (Token.key s ∷ ts) g = (tt, g.1)
-after_a_key (Token.string s ∷ ts) g = tt
-after_a_key (Token.number s ∷ ts) g = tt
-after_a_key (Token.boolean b ∷ ts) g = tt
-after_a_key (Token.null ∷ ts) g = tt
-after_a_key (Token.bad ∷ ts) g = tt
+after_a_key d g = tt
 
-items_step_reads : (value : json.Parse json.Json) (more : json.Parse json.Items) (ts : List Token) (o : Option (List Token)) → IsReader HasTexts value → IsReader ItemsHaveTexts more → AreGood ts → IfSome o AreGood
+items_step_reads : (value : json.Parse json.Json) (more : json.Parse json.Items) (ts : List Token) (o : Option (List Token))
+    → IsReader HasTexts value → IsReader ItemsHaveTexts more → AreGood ts → IfSome o AreGood
     → Reads ItemsHaveTexts (json.items_step value more ts o)
 items_step_reads value more ts (Some rest) one all g h = (tt, h)
 items_step_reads value more ts None one all g h =
@@ -224,17 +196,13 @@ members_reads value (suc n) one ts g =
     (λ p k. members_step_reads value (json.members value n) p.0 p.1 one (members_reads value n one) k.1) (after_a_key ts g)
 
 value_with_reads : (a : json.Parse json.Items) (o : json.Parse json.Members) → IsReader ItemsHaveTexts a → IsReader MembersHaveTexts o → IsReader HasTexts (json.value_with a o)
-value_with_reads a o items members [] g = tt
 value_with_reads a o items members (Token.begin_object ∷ ts) g = reads_map MembersHaveTexts HasTexts json.object (o ts) (λ ms t. t) (members ts g.1)
-value_with_reads a o items members (Token.end_object ∷ ts) g = tt
 value_with_reads a o items members (Token.begin_array ∷ ts) g = reads_map ItemsHaveTexts HasTexts json.array (a ts) (λ js t. t) (items ts g.1)
-value_with_reads a o items members (Token.end_array ∷ ts) g = tt
-value_with_reads a o items members (Token.key s ∷ ts) g = tt
 value_with_reads a o items members (Token.string s ∷ ts) g = (g.0, g.1)
 value_with_reads a o items members (Token.number s ∷ ts) g = (tt, g.1)
 value_with_reads a o items members (Token.boolean b ∷ ts) g = (tt, g.1)
 value_with_reads a o items members (Token.null ∷ ts) g = (tt, g.1)
-value_with_reads a o items members (Token.bad ∷ ts) g = tt
+value_with_reads a o items members d g = tt
 
 value_reads : (depth : ℕ) → IsReader HasTexts (json.value depth)
 unfolding json.value
@@ -251,12 +219,10 @@ if_last_reads j (t ∷ ts) h = tt
 
 abbrev mutual
   pub IsSpelledData : Data → Type 0
-  IsSpelledData datum.null = ⊤
-  IsSpelledData (datum.boolean b) = ⊤
-  IsSpelledData (datum.number n) = ⊤
   IsSpelledData (datum.string s) = IsUtf8 s
   IsSpelledData (datum.array ds) = AreSpelledItems ds
   IsSpelledData (datum.object ms) = AreSpelledMembers ms
+  IsSpelledData d = ⊤
 
   pub AreSpelledItems : datum.Items → Type 0
   AreSpelledItems datum.no_items = ⊤
@@ -281,12 +247,11 @@ any (Some a) = tt
 
 mutual
   json_spelled : (j : json.Json) → HasTexts j → IfSome (of_json j) IsSpelledData
-  json_spelled json.null h = tt
-  json_spelled (json.boolean b) h = tt
   json_spelled (json.number s) h = if_map (λ _. ⊤) IsSpelledData datum.number (number_of s) (λ n _. tt) (any (number_of s))
   json_spelled (json.string s) h = h
   json_spelled (json.array js) h = if_map AreSpelledItems IsSpelledData datum.array (of_items js) (λ ds g. g) (items_spelled js h)
   json_spelled (json.object ms) h = if_map AreSpelledMembers IsSpelledData datum.object (of_members ms datum.no_members) (λ ds g. g) (members_spelled ms datum.no_members h tt)
+  json_spelled d h = tt
 
   items_spelled : (js : json.Items) → ItemsHaveTexts js → IfSome (of_items js) AreSpelledItems
   items_spelled json.no_items h = tt

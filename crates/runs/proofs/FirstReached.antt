@@ -11,7 +11,8 @@ pub record IsFound {A S : Type 0} (zero : S) (op : S → S → S) (measure : A �
   pub not_before : (k : ℕ) → k < i → reached (total zero op measure (take (k + 1) items)) ≡ false
   pub reached_at : i < length items → reached (total zero op measure (take (i + 1) items)) ≡ true
 
-module _ {A S : Type 0} {zero : S} {op : S → S → S} (measure : A → S) (laws : MonoidLaws zero op) (reached : S → Bool) (stays : (s r : S) → reached s ≡ true → reached (op s r) ≡ true) (runs : List (List A)) (place : ℕ) (none_before : (k : ℕ) → k < place → reached (total zero op measure (prefix runs (k + 1))) ≡ false) where
+module _ {A S : Type 0} {zero : S} {op : S → S → S} (measure : A → S) (laws : MonoidLaws zero op) (reached : S → Bool) (stays : (s r : S) → reached s ≡ true → reached (op s r) ≡ true)
+    (runs : List (List A)) (place : ℕ) (none_before : (k : ℕ) → k < place → reached (total zero op measure (prefix runs (k + 1))) ≡ false) where
   abbrev tot : List A → S
   tot items = total zero op measure items
 
@@ -41,7 +42,8 @@ module _ {A S : Type 0} {zero : S} {op : S → S → S} (measure : A → S) (law
         reached_at = λ l. absurd (omega (arith, l));
       }
 
-  module _ (run : List A) (at : Some run ≡ slice_get runs place) (some : 1 ≤ length run) (i : ℕ) (s : S) (high : reached (tot (prefix runs (place + 1))) ≡ true) (least : IsLeast zero op measure reached (tot (prefix runs place)) run i s) where
+  module _ (run : List A) (at : Some run ≡ slice_get runs place) (some : 1 ≤ length run) (i : ℕ) (s : S) (high : reached (tot (prefix runs (place + 1))) ≡ true)
+      (least : IsLeast zero op measure reached (tot (prefix runs place)) run i s) where
     ahead : List A
     ahead = flattened (drop (place + 1) runs)
 
@@ -63,13 +65,15 @@ module _ {A S : Type 0} {zero : S} {op : S → S → S} (measure : A → S) (law
         go (inl l) = l
         go (inr l) =
             let whole : take (length run - 1 + 1) run ≡ run = take_all (length run - 1 + 1) run (omega (arith, some)) in
-            let low : reached (op (tot (prefix runs place)) (tot run)) ≡ false = ap (λ t. reached (op (tot (prefix runs place)) (tot t))) (sym whole) ∙ least.not_before (length run - 1) (omega (arith, l, some)) in
+            let low : reached (op (tot (prefix runs place)) (tot run)) ≡ false = ap (λ t. reached (op (tot (prefix runs place)) (tot t))) (sym whole)
+            ∙ least.not_before (length run - 1) (omega (arith, l, some)) in
             let same : tot (prefix runs (place + 1)) ≡ op (tot (prefix runs place)) (tot run) = ap tot (prefix-more (λ r. r) runs place run at) ∙ total-append measure laws (prefix runs place) run in
             absurd (false≢true (sym low ∙ ap reached (sym same) ∙ high))
 
     length_all : length (flattened runs) ≡ length (prefix runs place) + (length run + length (flattened (drop (place + 1) runs)))
     length_all =
-        sym (ap length (whole_at (λ r. r) runs place run at)) ∙ length-append (prefix runs place) (run ++ flattened (drop (place + 1) runs)) ∙ ap (λ n. length (prefix runs place) + n) (length-append run (flattened (drop (place + 1) runs)))
+        sym (ap length (whole_at (λ r. r) runs place run at)) ∙ length-append (prefix runs place) (run ++ flattened (drop (place + 1) runs))
+        ∙ ap (λ n. length (prefix runs place) + n) (length-append run (flattened (drop (place + 1) runs)))
 
     pub found_in : IsFound zero op measure reached (flattened runs) (length (prefix runs place) + i) s
     found_in = record {
@@ -91,7 +95,9 @@ module _ {A S : Type 0} {zero : S} {op : S → S → S} (measure : A → S) (law
     }
 
 -- what is found among runs is found in the list `list` of their items
-module _ {A S : Type 0} {zero : S} {op : S → S → S} (measure : A → S) (laws : MonoidLaws zero op) (reached : S → Bool) (stays : (s r : S) → reached s ≡ true → reached (op s r) ≡ true) (runs : List (List A)) (list : List A) (view : flattened runs ≡ list) (few : length (flattened runs) ≤ most) (place : ℕ) (before : Counted S) (is : before ≡ all_of measure laws (take place runs)) (low : (k : ℕ) → k < place → reached (all_of measure laws (take (k + 1) runs)).sum ≡ false) where
+module _ {A S : Type 0} {zero : S} {op : S → S → S} (measure : A → S) (laws : MonoidLaws zero op) (reached : S → Bool) (stays : (s r : S) → reached s ≡ true → reached (op s r) ≡ true)
+    (runs : List (List A)) (list : List A) (view : flattened runs ≡ list) (few : length (flattened runs) ≤ most) (place : ℕ) (before : Counted S)
+    (is : before ≡ all_of measure laws (take place runs)) (low : (k : ℕ) → k < place → reached (all_of measure laws (take (k + 1) runs)).sum ≡ false) where
   low_items : (k : ℕ) → k < place → reached (total zero op measure (prefix runs (k + 1))) ≡ false
   low_items k l = ap reached (sym (total-sum measure laws (take (k + 1) runs))) ∙ low k l
 
@@ -103,15 +109,20 @@ module _ {A S : Type 0} {zero : S} {op : S → S → S} (measure : A → S) (law
 
   moved : (m n : ℕ) (s t : S) → n ≡ m → t ≡ s → IsFound zero op measure reached (flattened runs) m s → IsFound zero op measure reached list n t
   moved m n s t e f found =
-      subst (λ (xs : List A). IsFound zero op measure reached xs n t) view (subst (λ (k : ℕ). IsFound zero op measure reached (flattened runs) k t) (sym e) (subst (λ (r : S). IsFound zero op measure reached (flattened runs) m r) (sym f) found))
+      subst (λ (xs : List A). IsFound zero op measure reached xs n t) view (subst (λ (k : ℕ). IsFound zero op measure reached (flattened runs) k t)
+      (sym e) (subst (λ (r : S). IsFound zero op measure reached (flattened runs) m r) (sym f) found))
 
   pub located_none : place ≡ length runs → IsFound zero op measure reached list before.items before.sum
   located_none e =
       let all : prefix runs place ≡ flattened runs = ap flattened (take_all place runs (omega (arith, e))) in
-      moved (length (flattened runs)) before.items (total zero op measure (flattened runs)) before.sum (items_are ∙ ap length all) (sum_is ∙ ap (total zero op measure) all) (found_none measure laws reached stays runs place low_items e)
+      moved (length (flattened runs)) before.items (total zero op measure (flattened runs)) before.sum (items_are ∙ ap length all)
+      (sum_is ∙ ap (total zero op measure) all) (found_none measure laws reached stays runs place low_items e)
 
-  module _ (run : List A) (at : Some run ≡ slice_get runs place) (high : reached (all_of measure laws (take (place + 1) runs)).sum ≡ true) (items : List A) (same : items ≡ run) (some : 1 ≤ length items) (i : ℕ) (s : S) (least : IsLeast zero op measure reached before.sum items i s) where
+  module _ (run : List A) (at : Some run ≡ slice_get runs place) (high : reached (all_of measure laws (take (place + 1) runs)).sum ≡ true) (items : List A)
+      (same : items ≡ run) (some : 1 ≤ length items) (i : ℕ) (s : S) (least : IsLeast zero op measure reached before.sum items i s) where
     pub located_in : IsFound zero op measure reached list (before.items + i) s
     located_in =
-        let from : IsLeast zero op measure reached (total zero op measure (prefix runs place)) run i s = subst (λ (b : S). IsLeast zero op measure reached b run i s) sum_is (subst (λ (xs : List A). IsLeast zero op measure reached before.sum xs i s) same least) in
-        moved (length (prefix runs place) + i) (before.items + i) s s (ap (λ n. n + i) items_are) refl (found_in measure laws reached stays runs place low_items run at (omega (arith, some, ap length same)) i s (ap reached (sym (total-sum measure laws (take (place + 1) runs))) ∙ high) from)
+        let from : IsLeast zero op measure reached (total zero op measure (prefix runs place)) run i s = subst (λ (b : S). IsLeast zero op measure reached b run i s) sum_is
+        (subst (λ (xs : List A). IsLeast zero op measure reached before.sum xs i s) same least) in
+        moved (length (prefix runs place) + i) (before.items + i) s s (ap (λ n. n + i) items_are) refl
+        (found_in measure laws reached stays runs place low_items run at (omega (arith, some, ap length same)) i s (ap reached (sym (total-sum measure laws (take (place + 1) runs))) ∙ high) from)

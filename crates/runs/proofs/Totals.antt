@@ -24,7 +24,8 @@ module _ {A S : Type 0} {zero : S} {op : S → S → S} (measure : A → S) (law
 
   -- one item more
   pub total-more : (items : List A) (i : ℕ) (d : A) → i < length items → total zero op measure (take (i + 1) items) ≡ op (total zero op measure (take i items)) (measure (slice_index_or items i d))
-  total-more items i d l = ap (total zero op measure) (take_more items i d l) ∙ total-append measure laws (take i items) (slice_index_or items i d ∷ []) ∙ ap (op (total zero op measure (take i items))) (laws.right_unit (measure (slice_index_or items i d)))
+  total-more items i d l = ap (total zero op measure) (take_more items i d l) ∙ total-append measure laws (take i items) (slice_index_or items i d ∷ [])
+      ∙ ap (op (total zero op measure (take i items))) (laws.right_unit (measure (slice_index_or items i d)))
 
   module _ (runs : List (List A)) (few : length (flattened runs) ≤ most) (offset : ℕ) where
     pub items_before : (i : ℕ) → (all_of (take i runs)).items ≡ length (prefix runs i)
@@ -42,6 +43,7 @@ module _ {A S : Type 0} {zero : S} {op : S → S → S} (measure : A → S) (law
     ends_after i h = omega (arith, ltb-true offset _ h, items_before (i + 1))
 
   -- a walk over items, with what stands before them
-  pub walked : (before : S) (items : List A) (i : ℕ) (d : A) (s m past : S) → i < length items → d ≡ slice_index_or items i d → s ≡ op before (total zero op measure (take i items)) → m ≡ measure d → past ≡ op s m → past ≡ op before (total zero op measure (take (i + 1) items))
+  pub walked : (before : S) (items : List A) (i : ℕ) (d : A) (s m past : S) → i < length items → d ≡ slice_index_or items i d → s ≡ op before (total zero op measure (take i items))
+      → m ≡ measure d → past ≡ op s m → past ≡ op before (total zero op measure (take (i + 1) items))
   walked before items i d s m past l is e f h =
       h ∙ (λ k. op (e k) ((f ∙ ap measure is) k)) ∙ laws.assoc before (total zero op measure (take i items)) (measure (slice_index_or items i d)) ∙ ap (op before) (sym (total-more items i d l))

@@ -63,7 +63,8 @@ module _ {X A : Type 0} (items : X → List A) (size : List A → ℕ) (shortest
       omega (arith, sum_by-take-drop one_if_small (drop from chunks) (to - from), ap small (drop-drop (to - from) from chunks ∙ ap (λ k. drop k chunks) same))
 
   -- after a change: what is new is large or one, and is one where it is small and nothing else is
-  pub small_edited : (chunks new : List X) (from to n : ℕ) → from ≤ to → small chunks ≤ 1 → (shortest ≤ n → All (IsLarge items size shortest) new) → (n < shortest → length new ≤ 1) → (n < shortest → small (take from chunks) + small (drop to chunks) ≡ 0) → small (take from chunks ++ new ++ drop to chunks) ≤ 1
+  pub small_edited : (chunks new : List X) (from to n : ℕ) → from ≤ to → small chunks ≤ 1 → (shortest ≤ n → All (IsLarge items size shortest) new)
+      → (n < shortest → length new ≤ 1) → (n < shortest → small (take from chunks) + small (drop to chunks) ≡ 0) → small (take from chunks ++ new ++ drop to chunks) ≤ 1
   small_edited chunks new from to n l before large one room = go (cases_lt n shortest)
     where
       whole : small (take from chunks ++ new ++ drop to chunks) ≡ small (take from chunks) + small new + small (drop to chunks)

@@ -40,7 +40,8 @@ module _ {A M : Type 0} {zero : M} {join : M → M → M} (measure : A → M) (l
     reached_at = λ h. absurd (omega arith);
   }
 
-  pub least_left : (b : M) (xs : List A) (x : A) (ys : List A) (i : ℕ) (s : M) → reached (join b (tot xs)) ≡ true → IsLeast zero join measure reached b xs i s → IsLeast zero join measure reached b (xs ++ x ∷ ys) i s
+  pub least_left : (b : M) (xs : List A) (x : A) (ys : List A) (i : ℕ) (s : M) → reached (join b (tot xs)) ≡ true
+      → IsLeast zero join measure reached b xs i s → IsLeast zero join measure reached b (xs ++ x ∷ ys) i s
   least_left b xs x ys i s high h =
       let le = h.within in
       record {
@@ -55,7 +56,8 @@ module _ {A M : Type 0} {zero : M} {join : M → M → M} (measure : A → M) (l
         ];
       }
 
-  pub least_root : (b : M) (xs : List A) (x : A) (ys : List A) → reached (join b (tot xs)) ≡ false → reached (join (join b (tot xs)) (measure x)) ≡ true → IsLeast zero join measure reached b (xs ++ x ∷ ys) (length xs) (join b (tot xs))
+  pub least_root : (b : M) (xs : List A) (x : A) (ys : List A) → reached (join b (tot xs)) ≡ false → reached (join (join b (tot xs)) (measure x)) ≡ true
+      → IsLeast zero join measure reached b (xs ++ x ∷ ys) (length xs) (join b (tot xs))
   least_root b xs x ys low high = record {
     within = omega (arith, length-append xs (x ∷ ys));
     sum_is = rw (take-append_seam xs (x ∷ ys));
@@ -70,7 +72,8 @@ module _ {A M : Type 0} {zero : M} {join : M → M → M} (measure : A → M) (l
       rw (f, take-append-add xs (x ∷ ys) (suc j))
 
   -- no prefix up to the item in the middle reaches it
-  pub before_right : (b : M) (xs : List A) (x : A) (ys : List A) (k : ℕ) → reached (join b (tot xs)) ≡ false → reached (join (join b (tot xs)) (measure x)) ≡ false → k < length xs + 1 → reached (join b (tot (take (k + 1) (xs ++ x ∷ ys)))) ≡ false
+  pub before_right : (b : M) (xs : List A) (x : A) (ys : List A) (k : ℕ) → reached (join b (tot xs)) ≡ false → reached (join (join b (tot xs)) (measure x)) ≡ false
+      → k < length xs + 1 → reached (join b (tot (take (k + 1) (xs ++ x ∷ ys)))) ≡ false
   before_right b xs x ys k no_left no_root lt = elim (cases_lt k (length xs)) [
     | inl less ↦ let m : k + 1 ≤ length xs = omega arith in rw (take-append-le (k + 1) xs (x ∷ ys) m) (prefix_not b (k + 1) xs no_left)
     | inr ge ↦
@@ -78,7 +81,8 @@ module _ {A M : Type 0} {zero : M} {join : M → M → M} (measure : A → M) (l
         rw (at, take-append-add xs (x ∷ ys) 1, joined b xs (x ∷ []), laws.right_unit (measure x)) no_root
   ]
 
-  pub least_right : (b : M) (xs : List A) (x : A) (ys : List A) (i n : ℕ) (s : M) → n ≡ length xs + 1 + i → reached (join b (tot xs)) ≡ false → reached (join (join b (tot xs)) (measure x)) ≡ false → IsLeast zero join measure reached (join (join b (tot xs)) (measure x)) ys i s → IsLeast zero join measure reached b (xs ++ x ∷ ys) n s
+  pub least_right : (b : M) (xs : List A) (x : A) (ys : List A) (i n : ℕ) (s : M) → n ≡ length xs + 1 + i → reached (join b (tot xs)) ≡ false
+      → reached (join (join b (tot xs)) (measure x)) ≡ false → IsLeast zero join measure reached (join (join b (tot xs)) (measure x)) ys i s → IsLeast zero join measure reached b (xs ++ x ∷ ys) n s
   least_right b xs x ys i n s is no_left no_root h =
       let le = h.within in
       record {

@@ -53,10 +53,12 @@ part_then old mid new a b cs ds s p = record {
 }
 
 pub part_kept : (old mid new : Option (List ℕ)) (a c : State) (cs : List (List ℕ)) (stop : Option ℕ) → Served old mid a cs stop c → Keeps mid new → ServedInPart old new a cs
-part_kept old mid new a c cs stop s k = record { answers = s.answers; stop = stop; after = c; run = s.run; written = prefix_all old new (bytes_of s.answers) (appends_kept old mid new (bytes_of s.answers) s.written k) }
+part_kept old mid new a c cs stop s k =
+    record { answers = s.answers; stop = stop; after = c; run = s.run; written = prefix_all old new (bytes_of s.answers) (appends_kept old mid new (bytes_of s.answers) s.written k) }
 
 -- answering that was cut short
-pub cut_off : (old new : Option (List ℕ)) (failures : ℕ) (before : State) (contents : List (List ℕ)) (result : Result (Option ℕ) RunFault) (after : State) (e : RunFault) → result ≡ Err e → IsCutShort e failures → ServedInPart old new before contents → HasServed old new failures before contents result after
+pub cut_off : (old new : Option (List ℕ)) (failures : ℕ) (before : State) (contents : List (List ℕ)) (result : Result (Option ℕ) RunFault) (after : State) (e : RunFault)
+    → result ≡ Err e → IsCutShort e failures → ServedInPart old new before contents → HasServed old new failures before contents result after
 cut_off old new failures before contents result after e same cut part =
     subst (λ (r : Result (Option ℕ) RunFault). HasServed old new failures before contents r after) (sym same) (record { written = tt; part = part; device = cut })
 

@@ -8,7 +8,8 @@ use Rattle.sessions.proofs.Fits.{run_serves, first_serves}
 use Rattle.server.proofs.CutSessions.{part_nothing, part_then}
 
 -- the answers to the whole frames read so far are written
-pub record IsReady (file : FileGrammar) (input_old input_new : Option (List ℕ)) (input_failures : ℕ) (output_old output_new : Option (List ℕ)) (output_failures : ℕ) (tail : Tail) (state : State) : Type 0 where
+pub record IsReady (file : FileGrammar) (input_old input_new : Option (List ℕ)) (input_failures : ℕ) (output_old output_new : Option (List ℕ))
+    (output_failures : ℕ) (tail : Tail) (state : State) : Type 0 where
   pub bytes : List ℕ
   pub contents : List (List ℕ)
   pub was_read : Consumes input_old input_new bytes
@@ -42,7 +43,8 @@ consumes_kept (Some ls) None c xs g k = absurd g
 consumes_kept (Some ls) (Some bs) None xs g k = absurd k
 consumes_kept (Some ls) (Some bs) (Some cs) xs g k = g ∙ ap (λ l. xs ++ l) (sym k)
 
-pub fed : (file : FileGrammar) (ri rm rn oo om on : Option (List ℕ)) (fi fo : ℕ) (tail new : Tail) (a b : State) (stop : Option ℕ) (piece : List ℕ) (more : List (List ℕ)) → IsReady file ri rm fi oo om fo tail a → Consumes rm rn piece → GoesOn tail piece more new → Served om on a more stop b → Fed file ri rn oo on new b stop
+pub fed : (file : FileGrammar) (ri rm rn oo om on : Option (List ℕ)) (fi fo : ℕ) (tail new : Tail) (a b : State) (stop : Option ℕ) (piece : List ℕ) (more : List (List ℕ))
+    → IsReady file ri rm fi oo om fo tail a → Consumes rm rn piece → GoesOn tail piece more new → Served om on a more stop b → Fed file ri rn oo on new b stop
 fed file ri rm rn oo om on fi fo tail new a b stop piece more ready read goes served = record {
   bytes = ready.bytes ++ piece;
   contents = ready.contents ++ more;
@@ -58,22 +60,69 @@ can_serve file total ri rm oo om fi fo tail a ready = run_serves ready.contents 
 -- ---- the ends of a session
 
 -- a session whose answers are all written
-whole : (file : FileGrammar) (ri rn oo on : Option (List ℕ)) (tail : Tail) (state : State) (stop : Option ℕ) (f : Fed file ri rn oo on tail state stop) → (status : ℕ) → Ends (Ok status) rn tail stop → Session file ri rn oo on (Ok status)
-whole file ri rn oo on tail state stop f status ends = record { bytes = f.bytes; contents = f.contents; tail = tail; answers = f.served.answers; stop = stop; after = state; was_read = f.was_read; split = f.split; run = f.served.run; written = f.served.written; ends = ends }
+whole : (file : FileGrammar) (ri rn oo on : Option (List ℕ)) (tail : Tail) (state : State) (stop : Option ℕ) (f : Fed file ri rn oo on tail state stop)
+    → (status : ℕ) → Ends (Ok status) rn tail stop → Session file ri rn oo on (Ok status)
+whole file ri rn oo on tail state stop f status ends =
+    record {
+      bytes = f.bytes;
+      contents = f.contents;
+      tail = tail;
+      answers = f.served.answers;
+      stop = stop;
+      after = state;
+      was_read =
+          f.was_read;
+      split = f.split;
+      run = f.served.run;
+      written = f.served.written;
+      ends = ends;
+    }
 
-faulty : (file : FileGrammar) (ri rn oo on : Option (List ℕ)) (tail : Tail) (state : State) (stop : Option ℕ) (f : Fed file ri rn oo on tail state stop) → (fault : FrameFault) → Ends (Err (Frame fault)) rn tail stop → Session file ri rn oo on (Err (Frame fault))
-faulty file ri rn oo on tail state stop f fault ends = record { bytes = f.bytes; contents = f.contents; tail = tail; answers = f.served.answers; stop = stop; after = state; was_read = f.was_read; split = f.split; run = f.served.run; written = f.served.written; ends = ends }
+faulty : (file : FileGrammar) (ri rn oo on : Option (List ℕ)) (tail : Tail) (state : State) (stop : Option ℕ) (f : Fed file ri rn oo on tail state stop)
+    → (fault : FrameFault) → Ends (Err (Frame fault)) rn tail stop → Session file ri rn oo on (Err (Frame fault))
+faulty file ri rn oo on tail state stop f fault ends =
+    record {
+      bytes = f.bytes;
+      contents = f.contents;
+      tail = tail;
+      answers = f.served.answers;
+      stop = stop;
+      after = state;
+      was_read =
+          f.was_read;
+      split = f.split;
+      run = f.served.run;
+      written = f.served.written;
+      ends = ends;
+    }
 
 -- a session of which a prefix of the answers is written
-cut_short : (file : FileGrammar) (e : RunFault) (failures : ℕ) (ri rn oo on : Option (List ℕ)) (tail : Tail) (bytes : List ℕ) (contents : List (List ℕ)) → IsCutShort e failures → Consumes ri rn bytes → Splits bytes contents tail → ServedInPart oo on (first_state file) contents → Session file ri rn oo on (Err e)
-cut_short file (Frame fault) failures ri rn oo on tail bytes contents cut read split p = absurd cut
-cut_short file Read failures ri rn oo on tail bytes contents cut read split p = absurd cut
-cut_short file Write failures ri rn oo on tail bytes contents cut read split p = record { bytes = bytes; contents = contents; tail = tail; answers = p.answers; stop = p.stop; after = p.after; was_read = read; split = split; run = p.run; written = p.written; ends = tt }
-cut_short file Memory failures ri rn oo on tail bytes contents cut read split p = record { bytes = bytes; contents = contents; tail = tail; answers = p.answers; stop = p.stop; after = p.after; was_read = read; split = split; run = p.run; written = p.written; ends = tt }
+cut_short : (file : FileGrammar) (e : RunFault) (failures : ℕ) (ri rn oo on : Option (List ℕ)) (tail : Tail) (bytes : List ℕ) (contents : List (List ℕ))
+    → IsCutShort e failures → Consumes ri rn bytes → Splits bytes contents tail → ServedInPart oo on (first_state file) contents → Session file ri rn oo on (Err e)
+cut_short file Write failures ri rn oo on tail bytes contents cut read split p =
+    record { bytes = bytes; contents = contents; tail = tail; answers = p.answers; stop = p.stop; after = p.after; was_read = read; split = split; run = p.run; written = p.written; ends = tt }
+cut_short file Memory failures ri rn oo on tail bytes contents cut read split p =
+    record { bytes = bytes; contents = contents; tail = tail; answers = p.answers; stop = p.stop; after = p.after; was_read = read; split = split; run = p.run; written = p.written; ends = tt }
+cut_short file d failures ri rn oo on tail bytes contents cut read split p = absurd cut
 
 -- the input fails
-pub read_fails : (file : FileGrammar) (ri rm rn oo om : Option (List ℕ)) (fi fo : ℕ) (tail : Tail) (a : State) → IsReady file ri rm fi oo om fo tail a → Keeps rm rn → Session file ri rn oo om (Err Read)
-read_fails file ri rm rn oo om fi fo tail a ready kept = record { bytes = ready.bytes; contents = ready.contents; tail = tail; answers = ready.served.answers; stop = None; after = a; was_read = consumes_kept ri rm rn ready.bytes ready.was_read kept; split = ready.split; run = ready.served.run; written = ready.served.written; ends = (refl, ready.goes_on) }
+pub read_fails : (file : FileGrammar) (ri rm rn oo om : Option (List ℕ)) (fi fo : ℕ) (tail : Tail) (a : State)
+    → IsReady file ri rm fi oo om fo tail a → Keeps rm rn → Session file ri rn oo om (Err Read)
+read_fails file ri rm rn oo om fi fo tail a ready kept =
+    record {
+      bytes = ready.bytes;
+      contents = ready.contents;
+      tail = tail;
+      answers = ready.served.answers;
+      stop = None;
+      after = a;
+      was_read =
+          consumes_kept ri rm rn ready.bytes ready.was_read kept;
+      split = ready.split;
+      run = ready.served.run;
+      written = ready.served.written;
+      ends = (refl, ready.goes_on);
+    }
 
 consumes_no_more : (a b c : Option (List ℕ)) (xs : List ℕ) → Consumes a b xs → Consumes b c [] → Consumes a c xs
 consumes_no_more None b c xs g h = tt
@@ -82,16 +131,19 @@ consumes_no_more (Some ls) (Some bs) None xs g h = absurd h
 consumes_no_more (Some ls) (Some bs) (Some cs) xs g h = g ∙ ap (λ l. xs ++ l) h
 
 -- nothing more is read
-fed_nothing : (file : FileGrammar) (ri rm rn oo om : Option (List ℕ)) (fi fo : ℕ) (tail : Tail) (a : State) → IsReady file ri rm fi oo om fo tail a → Consumes rm rn [] → Fed file ri rn oo om tail a None
-fed_nothing file ri rm rn oo om fi fo tail a ready read = record { bytes = ready.bytes; contents = ready.contents; was_read = consumes_no_more ri rm rn ready.bytes ready.was_read read; split = ready.split; served = ready.served }
+fed_nothing : (file : FileGrammar) (ri rm rn oo om : Option (List ℕ)) (fi fo : ℕ) (tail : Tail) (a : State)
+    → IsReady file ri rm fi oo om fo tail a → Consumes rm rn [] → Fed file ri rn oo om tail a None
+fed_nothing file ri rm rn oo om fi fo tail a ready read =
+    record { bytes = ready.bytes; contents = ready.contents; was_read = consumes_no_more ri rm rn ready.bytes ready.was_read read; split = ready.split; served = ready.served }
 
 -- the input ends
-pub input_ends : (file : FileGrammar) (outcome : Result ℕ RunFault) (ri rm rn oo om : Option (List ℕ)) (fi fo : ℕ) (tail : Tail) (a : State) → IsReady file ri rm fi oo om fo tail a → Consumes rm rn [] → IsAtEnd rn → EndsAt outcome tail → Session file ri rn oo om outcome
-input_ends file (Ok status) ri rm rn oo om fi fo tail a ready read at_end ends = whole file ri rn oo om tail a None (fed_nothing file ri rm rn oo om fi fo tail a ready read) status (inr (refl, at_end, ends.0, ends.1))
-input_ends file (Err (Frame fault)) ri rm rn oo om fi fo tail a ready read at_end ends = faulty file ri rn oo om tail a None (fed_nothing file ri rm rn oo om fi fo tail a ready read) fault (refl, ends, λ o. at_end)
-input_ends file (Err Read) ri rm rn oo om fi fo tail a ready read at_end ends = absurd ends
-input_ends file (Err Write) ri rm rn oo om fi fo tail a ready read at_end ends = absurd ends
-input_ends file (Err Memory) ri rm rn oo om fi fo tail a ready read at_end ends = absurd ends
+pub input_ends : (file : FileGrammar) (outcome : Result ℕ RunFault) (ri rm rn oo om : Option (List ℕ)) (fi fo : ℕ) (tail : Tail) (a : State)
+    → IsReady file ri rm fi oo om fo tail a → Consumes rm rn [] → IsAtEnd rn → EndsAt outcome tail → Session file ri rn oo om outcome
+input_ends file (Ok status) ri rm rn oo om fi fo tail a ready read at_end ends = whole file ri rn oo om tail a None
+    (fed_nothing file ri rm rn oo om fi fo tail a ready read) status (inr (refl, at_end, ends.0, ends.1))
+input_ends file (Err (Frame fault)) ri rm rn oo om fi fo tail a ready read at_end ends = faulty file ri rn oo om tail a None
+    (fed_nothing file ri rm rn oo om fi fo tail a ready read) fault (refl, ends, λ o. at_end)
+input_ends file d ri rm rn oo om fi fo tail a ready read at_end ends = absurd ends
 
 -- `exit` came
 pub exits : (file : FileGrammar) (ri rn oo on : Option (List ℕ)) (tail : Tail) (b : State) (status : ℕ) → Fed file ri rn oo on tail b (Some status) → Session file ri rn oo on (Ok status)
@@ -102,13 +154,17 @@ finish_faulty (Open rest) f h = absurd (let e : ⊥ = cc in e)
 finish_faulty (Faulty g) f h = let same : f ≡ g = cc in (ap (λ x. Err x) (sym same), λ o. o)
 
 -- the stream is faulty after the frames that were answered
-pub stream_fails : (file : FileGrammar) (ri rn oo on : Option (List ℕ)) (tail : Tail) (b : State) (fault : FrameFault) → Some fault ≡ fault_of tail → Fed file ri rn oo on tail b None → Session file ri rn oo on (Err (Frame fault))
+pub stream_fails : (file : FileGrammar) (ri rn oo on : Option (List ℕ)) (tail : Tail) (b : State) (fault : FrameFault) → Some fault ≡ fault_of tail
+    → Fed file ri rn oo on tail b None → Session file ri rn oo on (Err (Frame fault))
 stream_fails file ri rn oo on tail b fault is f = let ends = finish_faulty tail fault is in faulty file ri rn oo on tail b None f fault (refl, ends.0, λ o. absurd (ends.1 o))
 
 -- the output fails, or memory is refused, while a piece is answered
-pub answering_fails : (file : FileGrammar) (e : RunFault) (failures : ℕ) (ri rm rn oo om on : Option (List ℕ)) (fi fo : ℕ) (tail new : Tail) (a : State) (piece : List ℕ) (more : List (List ℕ)) → IsCutShort e failures → IsReady file ri rm fi oo om fo tail a → Consumes rm rn piece → GoesOn tail piece more new → ServedInPart om on a more → Session file ri rn oo on (Err e)
+pub answering_fails : (file : FileGrammar) (e : RunFault) (failures : ℕ) (ri rm rn oo om on : Option (List ℕ)) (fi fo : ℕ) (tail new : Tail) (a : State)
+    (piece : List ℕ) (more : List (List ℕ)) → IsCutShort e failures → IsReady file ri rm fi oo om fo tail a → Consumes rm rn piece
+    → GoesOn tail piece more new → ServedInPart om on a more → Session file ri rn oo on (Err e)
 answering_fails file e failures ri rm rn oo om on fi fo tail new a piece more cut ready read goes p =
-    cut_short file e failures ri rn oo on new (ready.bytes ++ piece) (ready.contents ++ more) cut (consumes_then ri rm rn ready.bytes piece ready.was_read read) (goes ready.bytes ready.contents ready.split)
+    cut_short file e failures ri rn oo on new (ready.bytes ++ piece) (ready.contents ++ more) cut
+    (consumes_then ri rm rn ready.bytes piece ready.was_read read) (goes ready.bytes ready.contents ready.split)
     (part_then oo om on (first_state file) a ready.contents more ready.served p)
 
 -- what a piece makes of the tail where it is refused for this fault
@@ -116,7 +172,9 @@ abbrev pub Refuses : FrameFault → Tail → List ℕ → Tail → Type 0
 Refuses fault tail piece new = fault ≢ frame.Memory → GoesOn tail piece [] new × (new ≡ Faulty fault)
 
 -- a piece is refused
-pub feeding_fails : (file : FileGrammar) → AlwaysAnswers file → (fault : FrameFault) (ri rm rn oo om : Option (List ℕ)) (fi fo : ℕ) (tail new : Tail) (a : State) (piece : List ℕ) → IsReady file ri rm fi oo om fo tail a → Consumes rm rn piece → Refuses fault tail piece new → (contents : List (List ℕ)) (other : Tail) → GoesOn tail piece contents other → Session file ri rn oo om (Err (run_fault fault))
+pub feeding_fails : (file : FileGrammar) → AlwaysAnswers file → (fault : FrameFault) (ri rm rn oo om : Option (List ℕ)) (fi fo : ℕ) (tail new : Tail) (a : State) (piece : List ℕ)
+    → IsReady file ri rm fi oo om fo tail a → Consumes rm rn piece → Refuses fault tail piece new → (contents : List (List ℕ)) (other : Tail)
+    → GoesOn tail piece contents other → Session file ri rn oo om (Err (run_fault fault))
 feeding_fails file total fault ri rm rn oo om fi fo tail new a piece ready read refuses contents other goes = by fault refuses
   where
     on_fault : (f : FrameFault) → GoesOn tail piece [] new × (new ≡ Faulty f) → Session file ri rn oo om (Err (Frame f))
@@ -129,7 +187,8 @@ feeding_fails file total fault ri rm rn oo om fi fo tail new a piece ready read 
     by frame.BadLength r = on_fault frame.BadLength (r (λ e. cc))
     by frame.BadCharset r = on_fault frame.BadCharset (r (λ e. cc))
     by frame.Truncated r = on_fault frame.Truncated (r (λ e. cc))
-    by frame.Memory r = answering_fails file Memory 0 ri rm rn oo om om fi fo tail other a piece contents refl ready read goes (part_nothing om a (can_serve file total ri rm oo om fi fo tail a ready) contents)
+    by frame.Memory r = answering_fails file Memory 0 ri rm rn oo om om fi fo tail other a piece contents refl ready read goes
+        (part_nothing om a (can_serve file total ri rm oo om fi fo tail a ready) contents)
     by frame.LongHeader r = on_fault frame.LongHeader (r (λ e. cc))
 
 pub is_open : (t : Tail) → None ≡ fault_of t → IsOpen t
@@ -137,7 +196,8 @@ is_open (Open rest) h = tt
 is_open (Faulty g) h = absurd (let e : ⊥ = cc in e)
 
 -- before the first read
-pub at_start : (file : FileGrammar) (input output : Option (List ℕ)) (input_failures output_failures : ℕ) (tail : Tail) (state : State) → input_failures ≡ 0 → output_failures ≡ 0 → tail ≡ Open [] → state ≡ (first_state file) → IsReady file input input input_failures output output output_failures tail state
+pub at_start : (file : FileGrammar) (input output : Option (List ℕ)) (input_failures output_failures : ℕ) (tail : Tail) (state : State) → input_failures ≡ 0
+    → output_failures ≡ 0 → tail ≡ Open [] → state ≡ (first_state file) → IsReady file input input input_failures output output output_failures tail state
 at_start file input output input_failures output_failures tail state reads writes new first = record {
   bytes = [];
   contents = [];

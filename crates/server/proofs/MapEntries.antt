@@ -30,15 +30,19 @@ pub get_held : {Y : Type 0} (es : List (String Y × Entry)) (uri : List ℕ) →
 get_held es uri = get-from_entries nat_list_cmp_total _ uri ∙ find_held es uri
 
 -- entries that differ at one URI make documents that differ there
-pub insert_held : {Y : Type 0} (es fs : List (String Y × Entry)) (uri : List ℕ) (document : Entry) → ((q : List ℕ) → entry_at fs q ≡ cond (bytes_eq uri q) (Some document) (entry_at es q)) → documents_of fs ≡ insert (documents_of es) uri (entry_view document)
+pub insert_held : {Y : Type 0} (es fs : List (String Y × Entry)) (uri : List ℕ) (document : Entry) → ((q : List ℕ) → entry_at fs q ≡ cond (bytes_eq uri q) (Some document) (entry_at es q))
+    → documents_of fs ≡ insert (documents_of es) uri (entry_view document)
 insert_held es fs uri document differs = same_map nat_list_cmp_total (slice_cmp-IsAntisymmetric nat_cmp-IsAntisymmetric) _ _ (λ q.
-    get_held fs q ∙ (ap (option_map (entry_view)) (differs q) ∙ (map_cond (entry_view) (bytes_eq uri q) document (entry_at es q) ∙ (ap (λ b. cond b (Some (entry_view document)) (option_map (entry_view) (entry_at es q))) (same_test uri q)
+    get_held fs q ∙ (ap (option_map (entry_view)) (differs q) ∙ (map_cond (entry_view) (bytes_eq uri q) document (entry_at es q)
+    ∙ (ap (λ b. cond b (Some (entry_view document)) (option_map (entry_view) (entry_at es q))) (same_test uri q)
     ∙ sym (get-insert nat_list_cmp_total (documents_of es) uri (entry_view document) q ∙ ap (cond (eq_by_cmp (slice_cmp nat_cmp) q uri) (Some (entry_view document))) (get_held es q))))))
 
 -- entries that lack one URI make documents that lack it
-pub remove_held : {Y : Type 0} (es fs : List (String Y × Entry)) (uri : List ℕ) → ((q : List ℕ) → entry_at fs q ≡ cond (bytes_eq uri q) None (entry_at es q)) → documents_of fs ≡ remove (documents_of es) uri
+pub remove_held : {Y : Type 0} (es fs : List (String Y × Entry)) (uri : List ℕ) → ((q : List ℕ) → entry_at fs q ≡ cond (bytes_eq uri q) None (entry_at es q))
+    → documents_of fs ≡ remove (documents_of es) uri
 remove_held es fs uri differs = same_map nat_list_cmp_total (slice_cmp-IsAntisymmetric nat_cmp-IsAntisymmetric) _ _ (λ q.
-    get_held fs q ∙ (ap (option_map (entry_view)) (differs q) ∙ (none_cond (entry_view) (bytes_eq uri q) (entry_at es q) ∙ (ap (λ b. cond b None (option_map (entry_view) (entry_at es q))) (same_test uri q)
+    get_held fs q ∙ (ap (option_map (entry_view)) (differs q)
+    ∙ (none_cond (entry_view) (bytes_eq uri q) (entry_at es q) ∙ (ap (λ b. cond b None (option_map (entry_view) (entry_at es q))) (same_test uri q)
     ∙ sym (get-remove nat_list_cmp_total (documents_of es) uri q ∙ ap (cond (eq_by_cmp (slice_cmp nat_cmp) q uri) None) (get_held es q))))))
 
 pub len_held : {Y : Type 0} (es : List (String Y × Entry)) → IsStrictlySortedBy string_cmp (map (λ e. e.0) es) → len (documents_of es) ≡ length es
@@ -46,11 +50,13 @@ unfolding IsStrictlySortedBy
 len_held [] sorted = len-empty (slice_cmp nat_cmp) DocumentState
 len_held (e ∷ es) sorted =
     let new : contains_key (documents_of es) (string_bytes e.0) ≡ false = ap is_some (get_held es (string_bytes e.0) ∙ ap (option_map (entry_view)) (none_above e.0 es sorted.0)) in
-    let one : len (documents_of (e ∷ es)) ≡ len (documents_of es) + 1 = len-insert nat_list_cmp_total (documents_of es) (string_bytes e.0) (entry_view e.1) ∙ ap (λ b. cond b (len (documents_of es)) (len (documents_of es) + 1)) new in
+    let one : len (documents_of (e ∷ es)) ≡ len (documents_of es) + 1 = len-insert nat_list_cmp_total (documents_of es) (string_bytes e.0) (entry_view e.1)
+    ∙ ap (λ b. cond b (len (documents_of es)) (len (documents_of es) + 1)) new in
     omega (arith, one, len_held es sorted.1)
 
 -- one entry fewer
-pub remove_current : (language : LanguageData) → {Y : Type 0} (es fs : List (String Y × Entry)) (uri : List ℕ) → ((q : List ℕ) → entry_at fs q ≡ cond (bytes_eq uri q) None (entry_at es q)) → AreCurrent language es → AreCurrent language fs
+pub remove_current : (language : LanguageData) → {Y : Type 0} (es fs : List (String Y × Entry)) (uri : List ℕ)
+    → ((q : List ℕ) → entry_at fs q ≡ cond (bytes_eq uri q) None (entry_at es q)) → AreCurrent language es → AreCurrent language fs
 remove_current language es fs uri differs all q d found = by (bytes_eq uri q) (sym (differs q) ∙ found)
   where
     by : (b : Bool) → cond b None (entry_at es q) ≡ Some d → IsEntryOf language d
@@ -58,7 +64,8 @@ remove_current language es fs uri differs all q d found = by (bytes_eq uri q) (s
     by false e = all q d e
 
 -- one more entry
-pub insert_current : (language : LanguageData) → {Y : Type 0} (es fs : List (String Y × Entry)) (uri : List ℕ) (document : Entry) → ((q : List ℕ) → entry_at fs q ≡ cond (bytes_eq uri q) (Some document) (entry_at es q)) → AreCurrent language es → IsEntryOf language document → AreCurrent language fs
+pub insert_current : (language : LanguageData) → {Y : Type 0} (es fs : List (String Y × Entry)) (uri : List ℕ) (document : Entry)
+    → ((q : List ℕ) → entry_at fs q ≡ cond (bytes_eq uri q) (Some document) (entry_at es q)) → AreCurrent language es → IsEntryOf language document → AreCurrent language fs
 insert_current language es fs uri document differs all is q d found = by (bytes_eq uri q) (sym (differs q) ∙ found)
   where
     by : (b : Bool) → cond b (Some document) (entry_at es q) ≡ Some d → IsEntryOf language d
@@ -66,7 +73,8 @@ insert_current language es fs uri document differs all is q d found = by (bytes_
     by false e = all q d e
 
 -- what is found has what all have
-pub found_current : (language : LanguageData) → {A : Type 0} (f : A → Entry) (result : Option A) (o : Option (Entry)) → option_map f result ≡ o → ((d : Entry) → o ≡ Some d → IsEntryOf language d) → IfSome result (λ a. IsEntryOf language (f a))
+pub found_current : (language : LanguageData) → {A : Type 0} (f : A → Entry) (result : Option A) (o : Option (Entry)) → option_map f result ≡ o
+    → ((d : Entry) → o ≡ Some d → IsEntryOf language d) → IfSome result (λ a. IsEntryOf language (f a))
 found_current language f None o e all = tt
 found_current language f (Some a) o e all = all (f a) (sym e)
 

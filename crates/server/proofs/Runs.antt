@@ -18,7 +18,8 @@ run_then a b c (content ∷ cs) ds xs ys stop r s = (
   r.1,
   r.2,
   r.3,
-  match_map r.1 (λ h. (h.0 ++ ys, ap (λ zs. zs ++ ys) h.1 ∙ append_assoc r.0 h.0 ys, run_then r.2 b c cs ds h.0 ys stop h.2 s)) (λ status h. absurd (let e : None ≡ Some status = h.1 in let f : ⊥ = cc in f)) r.4,
+  match_map r.1 (λ h. (h.0 ++ ys, ap (λ zs. zs ++ ys) h.1 ∙ append_assoc r.0 h.0 ys, run_then r.2 b c cs ds h.0 ys stop h.2 s))
+      (λ status h. absurd (let e : None ≡ Some status = h.1 in let f : ⊥ = cc in f)) r.4,
 )
 
 -- what comes after a stop isn't looked at
@@ -33,14 +34,16 @@ run_stops a c (content ∷ cs) ds xs status r = (
 )
 
 -- a run goes on over more contents
-pub run_on : (a c : State) → CanServe a → (cs ds : List (List ℕ)) (xs : List Answer) (stop : Option ℕ) → Run a cs xs stop c → (ys : List Answer) × (halt : Option ℕ) × (d : State) × Run a (cs ++ ds) (xs ++ ys) halt d
+pub run_on : (a c : State) → CanServe a → (cs ds : List (List ℕ)) (xs : List Answer) (stop : Option ℕ) → Run a cs xs stop c
+    → (ys : List Answer) × (halt : Option ℕ) × (d : State) × Run a (cs ++ ds) (xs ++ ys) halt d
 run_on a c can cs ds xs None r =
     let more = some_run c (run_serves cs a xs None c r can) ds in
     (more.0, more.1, more.2, run_then a c more.2 cs ds xs more.0 more.1 r more.3)
 run_on a c can cs ds xs (Some status) r = ([], Some status, c, subst (λ zs. Run a (cs ++ ds) zs (Some status) c) (sym (append-nil xs)) (run_stops a c cs ds xs status r))
 
 -- a step on what a content is read as
-pub step_of_received : (o : Option Received) (received : Received) (old : State) (answers : List Answer) (stop : Option ℕ) (new : State) → IfSome o (λ h. h ≡ received) → StepOn o old answers stop new → Step old received answers stop new
+pub step_of_received : (o : Option Received) (received : Received) (old : State) (answers : List Answer) (stop : Option ℕ) (new : State)
+    → IfSome o (λ h. h ≡ received) → StepOn o old answers stop new → Step old received answers stop new
 step_of_received None received old answers stop new is step = absurd step
 step_of_received (Some h) received old answers stop new is step = subst (λ (x : Received). Step old x answers stop new) is step
 
@@ -58,7 +61,8 @@ pub bytes_then : (xs ys : List Answer) → bytes_of (xs ++ ys) ≡ bytes_of xs +
 bytes_then xs ys = flat_map-append (λ a. frame (compact_text (reply_data a))) xs ys
 
 -- one part of a session after another
-pub served_then : (old mid new : Option (List ℕ)) (a b c : State) (cs ds : List (List ℕ)) (stop : Option ℕ) → Served old mid a cs None b → Served mid new b ds stop c → Served old new a (cs ++ ds) stop c
+pub served_then : (old mid new : Option (List ℕ)) (a b c : State) (cs ds : List (List ℕ)) (stop : Option ℕ)
+    → Served old mid a cs None b → Served mid new b ds stop c → Served old new a (cs ++ ds) stop c
 served_then old mid new a b c cs ds stop r s = record {
   answers = r.answers ++ s.answers;
   run = run_then a b c cs ds r.answers s.answers stop r.run s.run;

@@ -11,7 +11,8 @@ module _ (encoding : Encoding) where
   edited_fits text [] new fit e = let same : text ≡ new = cc in subst (λ t. fits t ≡ true) same fit
   edited_fits text (c ∷ cs) new fit e = by (fits (after text c)) refl e (λ f. edited_fits (after text c) cs new f)
     where
-      by : (b : Bool) → fits (after text c) ≡ b → cond b (edited encoding (after text c) cs) None ≡ Some new → (fits (after text c) ≡ true → edited encoding (after text c) cs ≡ Some new → fits new ≡ true) → fits new ≡ true
+      by : (b : Bool) → fits (after text c) ≡ b → cond b (edited encoding (after text c) cs) None ≡ Some new
+          → (fits (after text c) ≡ true → edited encoding (after text c) cs ≡ Some new → fits new ≡ true) → fits new ≡ true
       by true f h more = more f h
       by false f h more = absurd (let g : ⊥ = cc in g)
 
@@ -20,7 +21,9 @@ module _ (encoding : Encoding) where
   edited_after t [] following mid e = let same : t ≡ mid = cc in ap (λ x. edited encoding x following) same
   edited_after t (c ∷ before) following mid e = by (fits (after t c)) e (edited_after (after t c) before following mid)
     where
-      by : (b : Bool) → cond b (edited encoding (after t c) before) None ≡ Some mid → (edited encoding (after t c) before ≡ Some mid → edited encoding (after t c) (before ++ following) ≡ edited encoding mid following) → cond b (edited encoding (after t c) (before ++ following)) None ≡ edited encoding mid following
+      by : (b : Bool) → cond b (edited encoding (after t c) before) None ≡ Some mid
+          → (edited encoding (after t c) before ≡ Some mid → edited encoding (after t c) (before ++ following) ≡ edited encoding mid following)
+          → cond b (edited encoding (after t c) (before ++ following)) None ≡ edited encoding mid following
       by true h more = more h
       by false h more = absurd (let g : ⊥ = cc in g)
 
@@ -31,7 +34,8 @@ module _ (encoding : Encoding) where
   edited_never t c following over = ap (λ b. cond b (edited encoding (after t c) following) None) over
 
   -- one more change that fits
-  pub edited_more : (t : List ℕ) (before : List TextChange) (c : TextChange) (mid : List ℕ) → edited encoding t before ≡ Some mid → fits (after mid c) ≡ true → edited encoding t (before ++ c ∷ []) ≡ Some (after mid c)
+  pub edited_more : (t : List ℕ) (before : List TextChange) (c : TextChange) (mid : List ℕ) → edited encoding t before ≡ Some mid
+      → fits (after mid c) ≡ true → edited encoding t (before ++ c ∷ []) ≡ Some (after mid c)
   edited_more t before c mid e fit = edited_after t before (c ∷ []) mid e ∙ edited_fitting mid c [] fit
 
 -- an open document's text fits
@@ -54,7 +58,8 @@ some_becomes file version d (c ∷ cs) = by (fits (after d.unit d.text c)) refl
 
 -- one edit more
 pub last_more : (encoding : Encoding) (file : FileGrammar) (t : List ℕ) (before : List TextChange) (c : TextChange) (mid : List ℕ) (last now : Option LastEdit) (next : LastEdit)
-    → edited encoding t before ≡ Some mid → IsLastAfter encoding file t before last now → IsNext encoding file mid c.range (chars c.text) now next → IsLastAfter encoding file t (before ++ c ∷ []) last (Some next)
+    → edited encoding t before ≡ Some mid → IsLastAfter encoding file t before last now → IsNext encoding file mid c.range (chars c.text) now next
+    → IsLastAfter encoding file t (before ++ c ∷ []) last (Some next)
 last_more encoding file t [] c mid last now next e is one =
     let same : t ≡ mid = cc in
     let there : IsNext encoding file mid c.range (chars c.text) last next = subst (λ (l : Option LastEdit). IsNext encoding file mid c.range (chars c.text) l next) is one in
@@ -95,8 +100,10 @@ module _ (changes : List Change) (i : ℕ) (c : Change) (within : i < length cha
     pub goes_on : fits (after d.unit mid (change_view c)) ≡ true → edited d.unit d.text (map change_view (take (i + 1) changes)) ≡ Some (after d.unit mid (change_view c))
     goes_on fit = ap (edited d.unit d.text) one_more ∙ edited_more d.unit d.text before (change_view c) mid edits fit
 
-    pub last_goes_on : (now : Option LastEdit) (next : LastEdit) → IsLastAfter d.unit file d.text before d.last now → IsNext d.unit file mid c.range (chars (change_view c).text) now next → IsLastAfter d.unit file d.text (map change_view (take (i + 1) changes)) d.last (Some next)
-    last_goes_on now next is one = subst (λ cs. IsLastAfter d.unit file d.text cs d.last (Some next)) (sym one_more) (last_more d.unit file d.text before (change_view c) mid d.last now next edits is one)
+    pub last_goes_on : (now : Option LastEdit) (next : LastEdit) → IsLastAfter d.unit file d.text before d.last now → IsNext d.unit file mid c.range (chars (change_view c).text) now next
+        → IsLastAfter d.unit file d.text (map change_view (take (i + 1) changes)) d.last (Some next)
+    last_goes_on now next is one = subst (λ cs. IsLastAfter d.unit file d.text cs d.last (Some next)) (sym one_more)
+        (last_more d.unit file d.text before (change_view c) mid d.last now next edits is one)
 
     pub may_lose : (version : ℤ) → fits (after d.unit mid (change_view c)) ≡ true → Becomes file version d (map change_view changes) (is_lost Memory)
     may_lose version fit = (before, following, change_view c, all_changes, (after d.unit mid (change_view c), edited_more d.unit d.text before (change_view c) mid edits fit))

@@ -27,13 +27,11 @@ answer_quiet file id (Some (is_lost loss)) question answer is = said_quiet answe
 answer_quiet file id (Some (is_open d)) its_text answer is = said_quiet answer _ is (λ uri p. p)
 answer_quiet file id (Some (is_open d)) its_tokens answer is = said_quiet answer _ is.2 (λ uri p. p)
 answer_quiet file id (Some (is_open d)) its_tree answer is = said_quiet answer _ is.2 (tree_quiet id _)
-answer_quiet file id (Some (is_open d)) its_folds answer is = said_quiet answer _ is.2.2 (λ uri p. p)
-answer_quiet file id (Some (is_open d)) (its_selections positions) answer is = said_quiet answer _ is.2.2 (λ uri p. p)
+answer_quiet file id (Some (is_open d)) question answer is = said_quiet answer _ is.2.2 (λ uri p. p)
 
 count_quiet : (file : FileGrammar) (id : Ident) (o : Option DocumentState) (answer : Answer) → IsCount file id o answer → (uri : List ℕ) → ¬ Publishes uri answer
-count_quiet file id None answer is = said_quiet answer _ is (λ uri p. p)
-count_quiet file id (Some (is_lost loss)) answer is = said_quiet answer _ is (λ uri p. p)
 count_quiet file id (Some (is_open d)) answer is = said_quiet answer _ is.2 (λ uri p. p)
+count_quiet file id d answer is = said_quiet answer _ is (λ uri p. p)
 
 -- ---- the unit of open documents
 
@@ -59,7 +57,8 @@ opened_stands unit version text = by (fits text)
     by false = tt
 
 -- and what is changed keeps it
-becomes_stands : (phase : Phase) (file : FileGrammar) (version : ℤ) (d : OpenDocument) (changes : List TextChange) (state : DocumentState) → IsOfPhase phase d → Becomes file version d changes state → StandsIn phase state
+becomes_stands : (phase : Phase) (file : FileGrammar) (version : ℤ) (d : OpenDocument) (changes : List TextChange) (state : DocumentState)
+    → IsOfPhase phase d → Becomes file version d changes state → StandsIn phase state
 becomes_stands New file version d changes state is b = absurd is
 becomes_stands (Ready unit) file version d changes (is_open e) is b = b.1 ∙ is
 becomes_stands Down file version d changes (is_open e) is b = tt
@@ -71,7 +70,8 @@ becomes_stands Down file version d changes (is_lost loss) is b = tt
 -- by a message that names the document of this URI, or none
 pub data Effect (name : Option (List ℕ)) (old : State) (answers : List Answer) (stop : Option ℕ) (new : State) : Type 0 where
   stays : AreQuiet answers → new.file ≡ old.file → new.documents ≡ old.documents → (AreOfPhase old.phase old.documents → AreOfPhase new.phase old.documents) → Effect name old answers stop new
-  stands : (uri : List ℕ) (state : DocumentState) → name ≡ Some uri → (AllFit old.documents → IsFit state) → (AreOfPhase old.phase old.documents → StandsIn old.phase state) → Holds old uri state answers stop new → Effect name old answers stop new
+  stands : (uri : List ℕ) (state : DocumentState) → name ≡ Some uri → (AllFit old.documents → IsFit state) → (AreOfPhase old.phase old.documents → StandsIn old.phase state)
+      → Holds old uri state answers stop new → Effect name old answers stop new
   goes : (uri : List ℕ) → name ≡ Some uri → Forgets old uri answers stop new → Effect name old answers stop new
 
 -- what is opened fits, where it is open
@@ -92,7 +92,8 @@ module _ (name : Option (List ℕ)) (old : State) (answers : List Answer) (stop 
   silent : answers ≡ [] → new ≡ old → Effect name old answers stop new
   silent none same = stays (subst AreQuiet (sym none) none_quiet) (ap (λ (x : State). x.file) same) (ap (λ (x : State). x.documents) same) (same_phase same)
 
-  entered : (phase : Phase) (answer : Answer) → ((uri : List ℕ) → ¬ Publishes uri answer) → (AreOfPhase old.phase old.documents → AreOfPhase phase old.documents) → answers ≡ answer ∷ [] → new ≡ record { file = old.file; phase = phase; documents = old.documents } → Effect name old answers stop new
+  entered : (phase : Phase) (answer : Answer) → ((uri : List ℕ) → ¬ Publishes uri answer) → (AreOfPhase old.phase old.documents → AreOfPhase phase old.documents)
+      → answers ≡ answer ∷ [] → new ≡ record { file = old.file; phase = phase; documents = old.documents } → Effect name old answers stop new
   entered phase answer quiet units one same =
       stays (subst AreQuiet (sym one) (one_quiet answer quiet)) (ap (λ (x : State). x.file) same) (ap (λ (x : State). x.documents) same)
       (λ all. subst (λ (x : State). AreOfPhase x.phase old.documents) (sym same) (units all))
@@ -110,14 +111,17 @@ module _ (name : Option (List ℕ)) (old : State) (answers : List Answer) (stop 
   asks_effect (Ready unit) at id (stats uri) s = replied s.0 (count_quiet old.file id (get old.documents uri) s.0 s.1) s.2
   asks_effect Down at id call s = replied _ (λ uri p. p) s
 
-  opens_effect : (room : Bool) (uri : List ℕ) (state : DocumentState) → name ≡ Some uri → IsFit state → (AreOfPhase old.phase old.documents → StandsIn old.phase state) → Opens room old uri state answers stop new → Effect name old answers stop new
+  opens_effect : (room : Bool) (uri : List ℕ) (state : DocumentState) → name ≡ Some uri → IsFit state → (AreOfPhase old.phase old.documents → StandsIn old.phase state)
+      → Opens room old uri state answers stop new → Effect name old answers stop new
   opens_effect true uri state is fit unit s = stands uri state is (λ all. fit) unit s
   opens_effect false uri state is fit unit s = replied _ (λ uri p. p) s
 
-  changes_effect : (o : Option DocumentState) (uri : List ℕ) (version : ℤ) (changes : List TextChange) → name ≡ Some uri → get old.documents uri ≡ o → Changes o old uri version changes answers stop new → Effect name old answers stop new
+  changes_effect : (o : Option DocumentState) (uri : List ℕ) (version : ℤ) (changes : List TextChange) → name ≡ Some uri → get old.documents uri ≡ o
+      → Changes o old uri version changes answers stop new → Effect name old answers stop new
   changes_effect None uri version changes is e s = replied _ (λ uri p. p) s
   changes_effect (Some (is_lost loss)) uri version changes is e s = silent s.0 s.2
-  changes_effect (Some (is_open d)) uri version changes is e s = stands uri s.0 is (λ all. becomes_fit old.file version d changes s.0 (all uri d e) s.1) (λ all. becomes_stands old.phase old.file version d changes s.0 (all uri d e) s.1) s.2
+  changes_effect (Some (is_open d)) uri version changes is e s = stands uri s.0 is (λ all. becomes_fit old.file version d changes s.0 (all uri d e) s.1)
+      (λ all. becomes_stands old.phase old.file version d changes s.0 (all uri d e) s.1) s.2
 
   spoils_effect : (o : Option DocumentState) (uri : List ℕ) → name ≡ Some uri → Spoils o old uri answers stop new → Effect name old answers stop new
   spoils_effect None uri is s = replied _ (λ uri p. p) s
@@ -129,12 +133,11 @@ module _ (name : Option (List ℕ)) (old : State) (answers : List Answer) (stop 
   closes_effect (Some state) uri is s = goes uri is s
 
   misses_effect : (unfit : Unfit) → name ≡ named (accepted (notification (malformed unfit))) → OnMalformed old unfit answers stop new → Effect name old answers stop new
-  misses_effect unfit_open is s = replied _ (λ uri p. p) s
-  misses_effect (unfit_change None) is s = replied _ (λ uri p. p) s
   misses_effect (unfit_change (Some uri)) is s = spoils_effect (get old.documents uri) uri is s
-  misses_effect unfit_close is s = replied _ (λ uri p. p) s
+  misses_effect d is s = replied _ (λ uri p. p) s
 
-  shows_effect : (phase : Phase) → old.phase ≡ phase → (note : Notification) → name ≡ named (accepted (notification note)) → OnNotification phase old note answers stop new → Effect name old answers stop new
+  shows_effect : (phase : Phase) → old.phase ≡ phase → (note : Notification) → name ≡ named (accepted (notification note))
+      → OnNotification phase old note answers stop new → Effect name old answers stop new
   shows_effect New at initialized is s = silent s.0 s.2
   shows_effect New at exit is s = silent s.0 s.2
   shows_effect New at (open_text uri version text) is s = silent s.0 s.2
@@ -143,7 +146,8 @@ module _ (name : Option (List ℕ)) (old : State) (answers : List Answer) (stop 
   shows_effect New at (malformed unfit) is s = silent s.0 s.2
   shows_effect (Ready unit) at initialized is s = silent s.0 s.2
   shows_effect (Ready unit) at exit is s = silent s.0 s.2
-  shows_effect (Ready unit) at (open_text uri version text) is s = opens_effect (has_room uri old.documents) uri (new_document unit version (chars text)) is (opened_fit unit version (chars text)) (λ all. subst (λ (p : Phase). StandsIn p (new_document unit version (chars text))) (sym at) (opened_stands unit version (chars text))) s
+  shows_effect (Ready unit) at (open_text uri version text) is s = opens_effect (has_room uri old.documents) uri (new_document unit version (chars text)) is
+      (opened_fit unit version (chars text)) (λ all. subst (λ (p : Phase). StandsIn p (new_document unit version (chars text))) (sym at) (opened_stands unit version (chars text))) s
   shows_effect (Ready unit) at (change_text uri version changes) is s = changes_effect (get old.documents uri) uri version changes is refl s
   shows_effect (Ready unit) at (close uri) is s = closes_effect (get old.documents uri) uri is s
   shows_effect (Ready unit) at (malformed unfit) is s = misses_effect unfit is s

@@ -51,7 +51,8 @@ same_state old new e = record {
   units = λ all. subst (λ (s : State). AreOfPhase s.phase s.documents) (sym e) all;
 }
 
-next_state : (old new : State) (documents : Held) → (AllFit old.documents → AllFit documents) → (AreOfPhase old.phase old.documents → AreOfPhase old.phase documents) → new ≡ record { file = old.file; phase = old.phase; documents = documents } → Keeps old new
+next_state : (old new : State) (documents : Held) → (AllFit old.documents → AllFit documents) → (AreOfPhase old.phase old.documents → AreOfPhase old.phase documents)
+    → new ≡ record { file = old.file; phase = old.phase; documents = documents } → Keeps old new
 next_state old new documents fit units e = record {
   file = ap (λ (s : State). s.file) e;
   fit = λ all. subst (λ (s : State). AllFit s.documents) (sym e) (fit all);
@@ -59,10 +60,14 @@ next_state old new documents fit units e = record {
 }
 
 effect_keeps : (name : Option (List ℕ)) (old : State) (answers : List Answer) (stop : Option ℕ) (new : State) → Effect name old answers stop new → Keeps old new
-effect_keeps name old answers stop new (stays quiet file documents units) = record { file = file; fit = λ all. subst AllFit (sym documents) all; units = λ all. subst (AreOfPhase new.phase) (sym documents) (units all) }
-effect_keeps name old answers stop new (stands uri (is_open d) is fit unit s) = next_state old new (insert old.documents uri (is_open d)) (λ all. inserted_all HasFit old.documents uri (is_open d) all (fit all)) (λ all. inserted_all (IsOfPhase old.phase) old.documents uri (is_open d) all (unit all)) s.3.1
-effect_keeps name old answers stop new (stands uri (is_lost loss) is fit unit s) = next_state old new (insert old.documents uri (is_lost loss)) (λ all. inserted_all HasFit old.documents uri (is_lost loss) all tt) (λ all. inserted_all (IsOfPhase old.phase) old.documents uri (is_lost loss) all tt) s.1.1
-effect_keeps name old answers stop new (goes uri is s) = next_state old new (remove old.documents uri) (removed_all HasFit old.documents uri) (removed_all (IsOfPhase old.phase) old.documents uri) s.1.1
+effect_keeps name old answers stop new (stays quiet file documents units) =
+    record { file = file; fit = λ all. subst AllFit (sym documents) all; units = λ all. subst (AreOfPhase new.phase) (sym documents) (units all) }
+effect_keeps name old answers stop new (stands uri (is_open d) is fit unit s) = next_state old new (insert old.documents uri (is_open d))
+    (λ all. inserted_all HasFit old.documents uri (is_open d) all (fit all)) (λ all. inserted_all (IsOfPhase old.phase) old.documents uri (is_open d) all (unit all)) s.3.1
+effect_keeps name old answers stop new (stands uri (is_lost loss) is fit unit s) = next_state old new (insert old.documents uri (is_lost loss))
+    (λ all. inserted_all HasFit old.documents uri (is_lost loss) all tt) (λ all. inserted_all (IsOfPhase old.phase) old.documents uri (is_lost loss) all tt) s.1.1
+effect_keeps name old answers stop new (goes uri is s) = next_state old new (remove old.documents uri)
+    (removed_all HasFit old.documents uri) (removed_all (IsOfPhase old.phase) old.documents uri) s.1.1
 
 pub step_keeps : (old : State) (received : Received) (answers : List Answer) (stop : Option ℕ) (new : State) → Step old received answers stop new → Keeps old new
 step_keeps old received answers stop new s = effect_keeps _ old answers stop new (step_effect old answers stop new received s)
@@ -72,9 +77,11 @@ keeps_both old mid new a b = record { file = b.file ∙ a.file; fit = λ all. b.
 
 pub run_keeps : (contents : List (List ℕ)) (old : State) (answers : List Answer) (stop : Option ℕ) (new : State) → Run old contents answers stop new → Keeps old new
 run_keeps [] old answers stop new r = same_state old new r.2
-run_keeps (content ∷ contents) old answers stop new r = keeps_both old r.2 new (step_keeps old (received_in content) r.0 r.1 r.2 r.3) (by r.1 r.0 r.2 r.4 (λ rest more. run_keeps contents r.2 rest stop new more))
+run_keeps (content ∷ contents) old answers stop new r = keeps_both old r.2 new (step_keeps old (received_in content) r.0 r.1 r.2 r.3)
+    (by r.1 r.0 r.2 r.4 (λ rest more. run_keeps contents r.2 rest stop new more))
   where
-    by : (halt : Option ℕ) (first : List Answer) (mid : State) → MatchOption halt ((rest : List Answer) × (answers ≡ first ++ rest) × Run mid contents rest stop new) (λ status. (answers ≡ first) × (stop ≡ Some status) × (new ≡ mid)) → ((rest : List Answer) → Run mid contents rest stop new → Keeps mid new) → Keeps mid new
+    by : (halt : Option ℕ) (first : List Answer) (mid : State) → MatchOption halt ((rest : List Answer) × (answers ≡ first ++ rest) × Run mid contents rest stop new)
+        (λ status. (answers ≡ first) × (stop ≡ Some status) × (new ≡ mid)) → ((rest : List Answer) → Run mid contents rest stop new → Keeps mid new) → Keeps mid new
     by None first mid h more = more h.0 h.2
     by (Some status) first mid h more = same_state mid new h.2
 

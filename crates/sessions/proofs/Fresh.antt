@@ -22,7 +22,8 @@ module _ (file : FileGrammar) (once : AnswersOnce file) where
 
   pub one_published : (uri : List ℕ) (d : OpenDocument) (one other : Answer) → IsPublished file uri d one → IsPublished file uri d other → other ≡ one
   one_published uri d one other a b =
-      let fault : IsDiagnosis d.unit file d.text a.0.tokens a.0.verdict b.2.0 = subst (λ (r : Reading). IsDiagnosis d.unit file d.text r.tokens r.verdict b.2.0) (once.readings d.text a.0 b.0 a.1 b.1) b.2.1 in
+      let fault : IsDiagnosis d.unit file d.text a.0.tokens a.0.verdict b.2.0 =
+      subst (λ (r : Reading). IsDiagnosis d.unit file d.text r.tokens r.verdict b.2.0) (once.readings d.text a.0 b.0 a.1 b.1) b.2.1 in
       b.2.2 ∙ (ap (λ f. published_diagnostics uri (Some d.version) (option_map shown f)) (once.faults d.unit d.text a.0 a.2.0 b.2.0 a.2.1 fault) ∙ sym a.2.2)
 
 -- ---- the last diagnostics
@@ -56,8 +57,10 @@ quiet_step file prior answers old new quiet same all uri d found =
     (was.0, was.1, last_stays uri prior answers was.0 (quiet uri) was.2)
 
 -- where these answers are about one document, and what is held of the others stays
-one_step : (file : FileGrammar) (prior answers : List Answer) (uri : List ℕ) (old new : Held) → ((other : List ℕ) → other ≢ uri → All (λ a. ¬ Publishes other a) answers) → ((other : List ℕ) → other ≢ uri → get new other ≡ get old other)
-    → ((d : OpenDocument) → get new uri ≡ Some (is_open d) → (a : Answer) × IsPublished file uri d a × IsLastPublished uri (prior ++ answers) a) → AllPublished file prior old → AllPublished file (prior ++ answers) new
+one_step : (file : FileGrammar) (prior answers : List Answer) (uri : List ℕ) (old new : Held) → ((other : List ℕ) → other ≢ uri → All (λ a. ¬ Publishes other a) answers)
+    → ((other : List ℕ) → other ≢ uri → get new other ≡ get old other)
+    → ((d : OpenDocument) → get new uri ≡ Some (is_open d) → (a : Answer) × IsPublished file uri d a × IsLastPublished uri (prior ++ answers) a)
+    → AllPublished file prior old → AllPublished file (prior ++ answers) new
 one_step file prior answers uri old new quiet stays_so here all other d found = ⊎_elim
     (λ (same : other ≡ uri).
     let own = here d (ap (get new) (sym same) ∙ found) in
@@ -67,7 +70,8 @@ one_step file prior answers uri old new quiet stays_so here all other d found = 
     (was.0, was.1, last_stays other prior answers was.0 (quiet other apart) was.2))
     (same_or_not uri other)
 
-holds_published : (file : FileGrammar) (prior : List Answer) (old : State) (uri : List ℕ) (state : DocumentState) (answers : List Answer) (stop : Option ℕ) (new : State) → old.file ≡ file → Holds old uri state answers stop new → AllPublished file prior old.documents → AllPublished file (prior ++ answers) new.documents
+holds_published : (file : FileGrammar) (prior : List Answer) (old : State) (uri : List ℕ) (state : DocumentState) (answers : List Answer) (stop : Option ℕ) (new : State)
+    → old.file ≡ file → Holds old uri state answers stop new → AllPublished file prior old.documents → AllPublished file (prior ++ answers) new.documents
 holds_published file prior old uri (is_open d) answers stop new by_file s all =
     let is : IsPublished file uri d s.0 = subst (λ (f : FileGrammar). IsPublished f uri d s.0) by_file s.1 in
     let next : AllPublished file (prior ++ (s.0 ∷ [])) (insert old.documents uri (is_open d)) =
@@ -79,7 +83,8 @@ holds_published file prior old uri (is_open d) answers stop new by_file s all =
     let document : d ≡ e = cc in
     (s.0, subst (λ (x : OpenDocument). IsPublished file uri x s.0) document is, published_last file uri d prior s.0 is))
     all in
-    subst (λ (given : List Answer). AllPublished file (prior ++ given) new.documents) (sym s.2) (subst (λ (h : Held). AllPublished file (prior ++ (s.0 ∷ [])) h) (sym (ap (λ (x : State). x.documents) s.3.1)) next)
+    subst (λ (given : List Answer). AllPublished file (prior ++ given) new.documents) (sym s.2)
+    (subst (λ (h : Held). AllPublished file (prior ++ (s.0 ∷ [])) h) (sym (ap (λ (x : State). x.documents) s.3.1)) next)
 holds_published file prior old uri (is_lost loss) answers stop new by_file s all =
     let given : List Answer = published_diagnostics uri None None ∷ log_message (Lost loss) ∷ [] in
     let next : AllPublished file (prior ++ given) (insert old.documents uri (is_lost loss)) =
@@ -91,9 +96,11 @@ holds_published file prior old uri (is_lost loss) answers stop new by_file s all
     let f : ⊥ = cc in
     f))
     all in
-    subst (λ (given : List Answer). AllPublished file (prior ++ given) new.documents) (sym s.0) (subst (λ (h : Held). AllPublished file (prior ++ given) h) (sym (ap (λ (x : State). x.documents) s.1.1)) next)
+    subst (λ (given : List Answer). AllPublished file (prior ++ given) new.documents) (sym s.0)
+    (subst (λ (h : Held). AllPublished file (prior ++ given) h) (sym (ap (λ (x : State). x.documents) s.1.1)) next)
 
-effect_published : (file : FileGrammar) (prior : List Answer) (name : Option (List ℕ)) (old : State) (answers : List Answer) (stop : Option ℕ) (new : State) → old.file ≡ file → Effect name old answers stop new → AllPublished file prior old.documents → AllPublished file (prior ++ answers) new.documents
+effect_published : (file : FileGrammar) (prior : List Answer) (name : Option (List ℕ)) (old : State) (answers : List Answer) (stop : Option ℕ) (new : State)
+    → old.file ≡ file → Effect name old answers stop new → AllPublished file prior old.documents → AllPublished file (prior ++ answers) new.documents
 effect_published file prior name old answers stop new by_file (stays quiet same_file documents units) all = quiet_step file prior answers old.documents new.documents quiet documents all
 effect_published file prior name old answers stop new by_file (stands uri state is fit unit s) all = holds_published file prior old uri state answers stop new by_file s all
 effect_published file prior name old answers stop new by_file (goes uri is s) all =
@@ -107,19 +114,25 @@ effect_published file prior name old answers stop new by_file (goes uri is s) al
     let f : ⊥ = cc in
     f))
     all in
-    subst (λ (given : List Answer). AllPublished file (prior ++ given) new.documents) (sym s.0) (subst (λ (h : Held). AllPublished file (prior ++ given) h) (sym (ap (λ (x : State). x.documents) s.1.1)) next)
+    subst (λ (given : List Answer). AllPublished file (prior ++ given) new.documents) (sym s.0)
+    (subst (λ (h : Held). AllPublished file (prior ++ given) h) (sym (ap (λ (x : State). x.documents) s.1.1)) next)
 
-step_published : (file : FileGrammar) (prior : List Answer) (old : State) (received : Received) (answers : List Answer) (stop : Option ℕ) (new : State) → old.file ≡ file → Step old received answers stop new → AllPublished file prior old.documents → AllPublished file (prior ++ answers) new.documents
+step_published : (file : FileGrammar) (prior : List Answer) (old : State) (received : Received) (answers : List Answer) (stop : Option ℕ) (new : State)
+    → old.file ≡ file → Step old received answers stop new → AllPublished file prior old.documents → AllPublished file (prior ++ answers) new.documents
 step_published file prior old received answers stop new by_file s = effect_published file prior _ old answers stop new by_file (step_effect old answers stop new received s)
 
-run_published : (file : FileGrammar) (contents : List (List ℕ)) (prior : List Answer) (old : State) (answers : List Answer) (stop : Option ℕ) (new : State) → old.file ≡ file → Run old contents answers stop new → AllPublished file prior old.documents → AllPublished file (prior ++ answers) new.documents
-run_published file [] prior old answers stop new by_file r all = quiet_step file prior answers old.documents new.documents (subst AreQuiet (sym r.0) none_quiet) (ap (λ (x : State). x.documents) r.2) all
+run_published : (file : FileGrammar) (contents : List (List ℕ)) (prior : List Answer) (old : State) (answers : List Answer) (stop : Option ℕ) (new : State)
+    → old.file ≡ file → Run old contents answers stop new → AllPublished file prior old.documents → AllPublished file (prior ++ answers) new.documents
+run_published file [] prior old answers stop new by_file r all = quiet_step file prior answers old.documents new.documents
+    (subst AreQuiet (sym r.0) none_quiet) (ap (λ (x : State). x.documents) r.2) all
 run_published file (content ∷ contents) prior old answers stop new by_file r all =
     let mid_file : r.2.file ≡ file = (step_keeps old (received_in content) r.0 r.1 r.2 r.3).file ∙ by_file in
     let next : AllPublished file (prior ++ r.0) r.2.documents = step_published file prior old (received_in content) r.0 r.1 r.2 by_file r.3 all in
     by r.1 r.0 r.2 r.4 next (λ rest more. run_published file contents (prior ++ r.0) r.2 rest stop new mid_file more next)
   where
-    by : (halt : Option ℕ) (first : List Answer) (mid : State) → MatchOption halt ((rest : List Answer) × (answers ≡ first ++ rest) × Run mid contents rest stop new) (λ status. (answers ≡ first) × (stop ≡ Some status) × (new ≡ mid)) → AllPublished file (prior ++ first) mid.documents → ((rest : List Answer) → Run mid contents rest stop new → AllPublished file ((prior ++ first) ++ rest) new.documents) → AllPublished file (prior ++ answers) new.documents
+    by : (halt : Option ℕ) (first : List Answer) (mid : State) → MatchOption halt ((rest : List Answer) × (answers ≡ first ++ rest) × Run mid contents rest stop new)
+        (λ status. (answers ≡ first) × (stop ≡ Some status) × (new ≡ mid)) → AllPublished file (prior ++ first) mid.documents
+        → ((rest : List Answer) → Run mid contents rest stop new → AllPublished file ((prior ++ first) ++ rest) new.documents) → AllPublished file (prior ++ answers) new.documents
     by None first mid h now more =
         let same : (prior ++ first) ++ h.0 ≡ prior ++ answers = append_assoc prior first h.0 ∙ ap (λ given. prior ++ given) (sym h.1) in
         subst (λ (given : List Answer). AllPublished file given new.documents) same (more h.0 h.2)
@@ -158,31 +171,37 @@ record HasOpen (file : FileGrammar) (uri : List ℕ) (document : OpenDocument) (
 
 -- opening a text in the ready state is to hold it
 opens_is : (file : FileGrammar) (unit : Encoding) (uri : List ℕ) (version : ℤ) (bytes text : List ℕ) (answers : List Answer) (stop : Option ℕ) (state : State) → chars bytes ≡ text → fits text ≡ true
-    → Step (ready_state file unit) (accepted (notification (open_text uri version bytes))) answers stop state ≡ Holds (ready_state file unit) uri (is_open (document_of unit version text)) answers stop state
+    → Step (ready_state file unit) (accepted (notification (open_text uri version bytes))) answers stop state ≡ Holds
+    (ready_state file unit) uri (is_open (document_of unit version text)) answers stop state
 opens_is file unit uri version bytes text answers stop state spelled fit =
     let old = ready_state file unit in
     ap (λ b. Opens b old uri (new_document unit version (chars bytes)) answers stop state) (room_first uri)
     ∙ ap (λ s. Holds old uri s answers stop state) (ap (new_document unit version) spelled ∙ opened_so unit version text fit)
 
-fresh_holds : (file : FileGrammar) (unit : Encoding) (uri : List ℕ) (version : ℤ) (text : List ℕ) (published : Answer) (state : State) → fits text ≡ true → IsFresh file unit uri version text published state → Holds (ready_state file unit) uri (is_open (document_of unit version text)) (published ∷ []) None state
+fresh_holds : (file : FileGrammar) (unit : Encoding) (uri : List ℕ) (version : ℤ) (text : List ℕ) (published : Answer) (state : State) → fits text ≡ true
+    → IsFresh file unit uri version text published state → Holds (ready_state file unit) uri (is_open (document_of unit version text)) (published ∷ []) None state
 fresh_holds file unit uri version text published state fit f =
-    let opens : Step (ready_state file unit) (accepted (notification (open_text uri version f.bytes))) (published ∷ []) None state = subst (λ (s : State). Step s (accepted (notification (open_text uri version f.bytes))) (published ∷ []) None state) f.initializes.2 f.opens in
+    let opens : Step (ready_state file unit) (accepted (notification (open_text uri version f.bytes))) (published ∷ []) None state =
+    subst (λ (s : State). Step s (accepted (notification (open_text uri version f.bytes))) (published ∷ []) None state) f.initializes.2 f.opens in
     subst (λ (T : Type 0). T) (opens_is file unit uri version f.bytes text (published ∷ []) None state f.spelled fit) opens
 
-fresh_has : (file : FileGrammar) (unit : Encoding) (uri : List ℕ) (version : ℤ) (text : List ℕ) (published : Answer) (state : State) → Holds (ready_state file unit) uri (is_open (document_of unit version text)) (published ∷ []) None state → HasOpen file uri (document_of unit version text) state
+fresh_has : (file : FileGrammar) (unit : Encoding) (uri : List ℕ) (version : ℤ) (text : List ℕ) (published : Answer) (state : State)
+    → Holds (ready_state file unit) uri (is_open (document_of unit version text)) (published ∷ []) None state → HasOpen file uri (document_of unit version text) state
 fresh_has file unit uri version text published state h = record {
   by_file = ap (λ (s : State). s.file) h.3.1;
   ready = ap (λ (s : State). s.phase) h.3.1;
   held = ap (λ (s : State). get s.documents uri) h.3.1 ∙ get_inserted empty uri (is_open (document_of unit version text));
 }
 
-fresh_published : (file : FileGrammar) (unit : Encoding) (uri : List ℕ) (version : ℤ) (text : List ℕ) (published : Answer) (state : State) → Holds (ready_state file unit) uri (is_open (document_of unit version text)) (published ∷ []) None state → IsPublished file uri (document_of unit version text) published
+fresh_published : (file : FileGrammar) (unit : Encoding) (uri : List ℕ) (version : ℤ) (text : List ℕ) (published : Answer) (state : State)
+    → Holds (ready_state file unit) uri (is_open (document_of unit version text)) (published ∷ []) None state → IsPublished file uri (document_of unit version text) published
 fresh_published file unit uri version text published state h =
     let lists : published ∷ [] ≡ h.0 ∷ [] = h.2 in
     let same : h.0 ≡ published = cc in
     subst (λ (a : Answer). IsPublished file uri (document_of unit version text) a) same h.1
 
-some_fresh : (file : FileGrammar) (unit : Encoding) (uri : List ℕ) (version : ℤ) (text : List ℕ) (published : Answer) → fits text ≡ true → IsPublished file uri (document_of unit version text) published → (state : State) × (given : Answer) × IsFresh file unit uri version text given state
+some_fresh : (file : FileGrammar) (unit : Encoding) (uri : List ℕ) (version : ℤ) (text : List ℕ) (published : Answer) → fits text ≡ true
+    → IsPublished file uri (document_of unit version text) published → (state : State) × (given : Answer) × IsFresh file unit uri version text given state
 some_fresh file unit uri version text published fit is =
     let spelled : chars (encode_utf8_all text) ≡ text = spelled_again text fit in
     let state = open_state file uri (document_of unit version text) in
@@ -193,12 +212,14 @@ some_fresh file unit uri version text published fit is =
 -- ---- the answers of both
 
 -- the only answer about a document is the only reply of a server that has it open
-replies_only : (file : FileGrammar) (uri : List ℕ) (d : OpenDocument) (state : State) → HasOpen file uri d state → (id : Ident) (question : Question) (answer : Answer) → IsAnswerOf file id d question answer → ((other : Answer) → IsAnswerOf file id d question other → other ≡ answer) → RepliesOnly state (accepted (request id (about uri question))) answer
+replies_only : (file : FileGrammar) (uri : List ℕ) (d : OpenDocument) (state : State) → HasOpen file uri d state → (id : Ident) (question : Question) (answer : Answer)
+    → IsAnswerOf file id d question answer → ((other : Answer) → IsAnswerOf file id d question other → other ≡ answer) → RepliesOnly state (accepted (request id (about uri question))) answer
 replies_only file uri d state has id question answer is only =
     let here : (a : Answer) → IsAnswer state.file id (get state.documents uri) question a ≡ IsAnswerOf file id d question a =
     λ a. ap (λ (f : FileGrammar). IsAnswer f id (get state.documents uri) question a) has.by_file ∙ ap (λ (o : Option DocumentState). IsAnswer file id o question a) has.held in
     record {
-      replies = subst (λ (p : Phase). OnRequest p state id (about uri question) (answer ∷ []) None state) (sym has.ready) (answer, subst (λ (T : Type 0). T) (sym (here answer)) is, (refl, refl, refl));
+      replies = subst (λ (p : Phase). OnRequest p state id (about uri question) (answer ∷ []) None state) (sym has.ready)
+          (answer, subst (λ (T : Type 0). T) (sym (here answer)) is, (refl, refl, refl));
       only = λ answers stop new step.
           let s : OnRequest (Ready d.unit) state id (about uri question) answers stop new = subst (λ (p : Phase). OnRequest p state id (about uri question) answers stop new) has.ready step in
           let same : s.0 ≡ answer = only s.0 (subst (λ (T : Type 0). T) (here s.0) s.1) in
@@ -206,14 +227,16 @@ replies_only file uri d state has id question answer is only =
     }
 
 -- what is answered doesn't depend on the last edit
-answers_opened : (file : FileGrammar) (id : Ident) (d : OpenDocument) (question : Question) (answer : Answer) → IsAnswerOf file id d question answer → IsAnswerOf file id (document_of d.unit d.version d.text) question answer
+answers_opened : (file : FileGrammar) (id : Ident) (d : OpenDocument) (question : Question) (answer : Answer) → IsAnswerOf file id d question answer
+    → IsAnswerOf file id (document_of d.unit d.version d.text) question answer
 answers_opened file id d its_text answer is = is
 answers_opened file id d its_tokens answer is = is
 answers_opened file id d its_tree answer is = is
 answers_opened file id d its_folds answer is = is
 answers_opened file id d (its_selections positions) answer is = is
 
-alike : (file : FileGrammar) → AlwaysAnswers file → AnswersOnce file → (uri : List ℕ) (d : OpenDocument) → fits d.text ≡ true → (state fresh : State) → HasOpen file uri d state → HasOpen file uri (document_of d.unit d.version d.text) fresh → AnswerAlike uri state fresh
+alike : (file : FileGrammar) → AlwaysAnswers file → AnswersOnce file → (uri : List ℕ) (d : OpenDocument) → fits d.text ≡ true → (state fresh : State)
+    → HasOpen file uri d state → HasOpen file uri (document_of d.unit d.version d.text) fresh → AnswerAlike uri state fresh
 alike file always once uri d fit state fresh has fresh_has id question =
     let e = document_of d.unit d.version d.text in
     let some = some_answer_of file always id d fit question in
@@ -253,14 +276,18 @@ every_answer_is_fresh file always once contents answers state unit uri document 
       some_fresh file document.unit uri document.version document.text last.0 fit last.1,
       λ fresh published is.
           let holds = fresh_holds file document.unit uri document.version document.text published fresh fit is in
-          let same : last.0 ≡ published = one_published file once uri document published last.0 (fresh_published file document.unit uri document.version document.text published fresh holds) last.1 in
-          (alike file always once uri document fit state fresh has (fresh_has file document.unit uri document.version document.text published fresh holds), subst (λ (a : Answer). IsLastPublished uri answers a) same last.2),
+          let same : last.0 ≡ published = one_published file once uri document published last.0
+          (fresh_published file document.unit uri document.version document.text published fresh holds) last.1 in (
+            alike file always once uri document fit state fresh has (fresh_has file document.unit uri document.version document.text published fresh holds),
+            subst (λ (a : Answer). IsLastPublished uri answers a) same last.2,
+          ),
     )
 
 -- ---- edits
 
 -- the document has the text, or is lost because memory was refused
-edits_or_lost : (file : FileGrammar) (version : ℤ) (old : OpenDocument) (text : List ℕ) (changes : List TextChange) (state : DocumentState) → edited old.unit old.text changes ≡ Some text → Becomes file version old changes state
+edits_or_lost : (file : FileGrammar) (version : ℤ) (old : OpenDocument) (text : List ℕ) (changes : List TextChange) (state : DocumentState)
+    → edited old.unit old.text changes ≡ Some text → Becomes file version old changes state
     → ((last : Option LastEdit) × (state ≡ is_open (record { unit = old.unit; version = version; text = text; last = last }))) ⊎ (state ≡ is_lost Memory)
 edits_or_lost file version old text changes (is_open d) edits b =
     let here : Some d.text ≡ Some text = sym b.0 ∙ edits in
@@ -276,13 +303,15 @@ edits_or_lost file version old text changes (is_lost MalformedChange) edits b = 
 edits_or_lost file version old text changes (is_lost Memory) edits b = inr refl
 
 -- what is held after a document came to stand so
-holds_documents : (old : State) (uri : List ℕ) (state : DocumentState) (answers : List Answer) (stop : Option ℕ) (new : State) → Holds old uri state answers stop new → new.documents ≡ insert old.documents uri state
+holds_documents : (old : State) (uri : List ℕ) (state : DocumentState) (answers : List Answer) (stop : Option ℕ) (new : State)
+    → Holds old uri state answers stop new → new.documents ≡ insert old.documents uri state
 holds_documents old uri (is_open d) answers stop new s = ap (λ (x : State). x.documents) s.3.1
 holds_documents old uri (is_lost loss) answers stop new s = ap (λ (x : State). x.documents) s.1.1
 
 pub each_text_is_its_edits : EachTextIsItsEdits
 each_text_is_its_edits old new unit uri version changes document text answers stop ready held edits step =
-    let change : Changes (get old.documents uri) old uri version changes answers stop new = subst (λ (p : Phase). OnNotification p old (change_text uri version changes) answers stop new) ready step in
+    let change : Changes (get old.documents uri) old uri version changes answers stop new =
+    subst (λ (p : Phase). OnNotification p old (change_text uri version changes) answers stop new) ready step in
     let s : Changes (Some (is_open document)) old uri version changes answers stop new = subst (λ (o : Option DocumentState). Changes o old uri version changes answers stop new) held change in
     let documents : new.documents ≡ insert old.documents uri s.0 = holds_documents old uri s.0 answers stop new s.2 in
     let here : get new.documents uri ≡ Some s.0 = ap (λ d. get d uri) documents ∙ get_inserted old.documents uri s.0 in (

@@ -144,7 +144,8 @@ module _ (old : State) where
   spoils_lost : Spoils (Some (is_lost loss.Memory)) old uri [] None old
   spoils_lost = (refl, refl, refl)
 
-  spoils_open : Spoils (Some (is_open document)) old uri (published_diagnostics uri None None ∷ log_message (log.Lost loss.MalformedChange) ∷ []) None (record { file = old.file; phase = old.phase; documents = insert old.documents uri (is_lost loss.MalformedChange) })
+  spoils_open : Spoils (Some (is_open document)) old uri (published_diagnostics uri None None ∷ log_message (log.Lost loss.MalformedChange) ∷ []) None
+      (record { file = old.file; phase = old.phase; documents = insert old.documents uri (is_lost loss.MalformedChange) })
   spoils_open = (refl, (refl, refl))
 
   spoils_silently : Spoils (Some (is_open document)) old uri [] None old → ⊥
@@ -209,7 +210,12 @@ held_already : (documents : Held) → get documents uri ≡ Some (is_lost loss.M
 held_already documents held = ap (λ o. is_some o || nat_lt (len documents) 64) held
 
 -- `12` is inserted into the empty text, and then its first character is deleted
-both_changes : edited Utf16 [] (record { range = Some (record { start = record { line = 0; character = 0 }; end = record { line = 0; character = 0 } }); text = codes "12" } ∷ record { range = Some (record { start = record { line = 0; character = 0 }; end = record { line = 0; character = 1 } }); text = [] } ∷ []) ≡ Some (codes "2")
+both_changes : edited Utf16 [] (record
+    { range = Some (record { start = record { line = 0; character = 0 }; end = record { line = 0; character = 0 } }); text = codes "12" } ∷ record {
+      range =
+          Some (record { start = record { line = 0; character = 0 }; end = record { line = 0; character = 1 } });
+      text = [];
+    } ∷ []) ≡ Some (codes "2")
 unfolding chars encode_utf8 changed offset line_start line_from break_ends units greatest
 both_changes = refl
 
@@ -268,10 +274,12 @@ keeps_text = refl
 keeps_diagnostics : but_nodes (published_diagnostics uri None None) ≡ published_diagnostics uri None None
 keeps_diagnostics = refl
 
-leaves_out_nodes : but_nodes (stats_reply one (record { edit = 1; scanned = 3; tokens = 7; branches = 8; built = 4; nodes = 12 })) ≡ stats_reply one (record { edit = 1; scanned = 3; tokens = 7; branches = 8; built = 4; nodes = 0 })
+leaves_out_nodes : but_nodes (stats_reply one (record { edit = 1; scanned = 3; tokens = 7; branches = 8; built = 4; nodes = 12 }))
+    ≡ stats_reply one (record { edit = 1; scanned = 3; tokens = 7; branches = 8; built = 4; nodes = 0 })
 leaves_out_nodes = refl
 
-same_but_nodes : SendTheSame (stats_reply one (record { edit = 1; scanned = 3; tokens = 7; branches = 8; built = 4; nodes = 12 }) ∷ []) (stats_reply one (record { edit = 1; scanned = 3; tokens = 7; branches = 8; built = 4; nodes = 13 }) ∷ [])
+same_but_nodes : SendTheSame (stats_reply one (record { edit = 1; scanned = 3; tokens = 7; branches = 8; built = 4; nodes = 12 }) ∷ [])
+    (stats_reply one (record { edit = 1; scanned = 3; tokens = 7; branches = 8; built = 4; nodes = 13 }) ∷ [])
 same_but_nodes = refl
 
 another_reply : SendTheSame (tree_reply one (codes "(L)") ∷ []) (null_reply one ∷ []) → ⊥
@@ -408,4 +416,5 @@ module _ (file : FileGrammar) where
   another_only_reply r = let e = r.replies.0 in let f : ⊥ = cc e in f
 
   alike_at_first : AnswerAlike uri (first_state file) (first_state file)
-  alike_at_first = λ id question. (error_reply (Some id) refusal.NotInitialized, record { replies = (refl, refl, refl); only = λ answers stop new s. s }, record { replies = (refl, refl, refl); only = λ answers stop new s. s })
+  alike_at_first = λ id question.
+      (error_reply (Some id) refusal.NotInitialized, record { replies = (refl, refl, refl); only = λ answers stop new s. s }, record { replies = (refl, refl, refl); only = λ answers stop new s. s })

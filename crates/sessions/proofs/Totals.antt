@@ -7,10 +7,9 @@ use Rattle.sessions.proofs.Fits.{step_serves}
 
 -- ---- answers about an open document
 
-pub some_answer_of : (file : FileGrammar) → AlwaysAnswers file → (id : Ident) (d : OpenDocument) → fits d.text ≡ true → (question : Question) → (answer : Answer) × IsAnswerOf file id d question answer
+pub some_answer_of : (file : FileGrammar) → AlwaysAnswers file → (id : Ident) (d : OpenDocument) → fits d.text ≡ true
+    → (question : Question) → (answer : Answer) × IsAnswerOf file id d question answer
 some_answer_of file always id d fit its_text = (_, refl)
-some_answer_of file always id d fit its_tokens = let r = always.readings d.text fit in (_, (r.0, r.1, refl))
-some_answer_of file always id d fit its_tree = let r = always.readings d.text fit in (_, (r.0, r.1, refl))
 some_answer_of file always id d fit its_folds =
     let r = always.readings d.text fit in
     let pairs = always.folds d.text r.0 r.1 in
@@ -19,11 +18,12 @@ some_answer_of file always id d fit (its_selections positions) =
     let r = always.readings d.text fit in
     let selections = always.selections d.unit d.text r.0 r.1 positions in
     (selections_reply id selections.0, (r.0, r.1, (selections.0, selections.1, refl)))
+some_answer_of file always id d fit e = let r = always.readings d.text fit in (_, (r.0, r.1, refl))
 
-some_answer : (file : FileGrammar) → AlwaysAnswers file → (id : Ident) (o : Option DocumentState) → ((d : OpenDocument) → o ≡ Some (is_open d) → fits d.text ≡ true) → (question : Question) → (answer : Answer) × IsAnswer file id o question answer
-some_answer file always id None fit question = (_, refl)
-some_answer file always id (Some (is_lost loss)) fit question = (_, refl)
+some_answer : (file : FileGrammar) → AlwaysAnswers file → (id : Ident) (o : Option DocumentState) → ((d : OpenDocument) → o ≡ Some (is_open d) → fits d.text ≡ true)
+    → (question : Question) → (answer : Answer) × IsAnswer file id o question answer
 some_answer file always id (Some (is_open d)) fit question = some_answer_of file always id d (fit d refl) question
+some_answer file always id d fit question = (_, refl)
 
 -- the counts that a reading has, beside the last edit
 abbrev counted : Option LastEdit → Reading → Stats
@@ -54,13 +54,13 @@ are_counted file d (Some last) edited r is = (
   },
 )
 
-some_count : (file : FileGrammar) → AlwaysAnswers file → (id : Ident) (o : Option DocumentState) → ((d : OpenDocument) → o ≡ Some (is_open d) → fits d.text ≡ true) → (answer : Answer) × IsCount file id o answer
-some_count file always id None fit = (_, refl)
-some_count file always id (Some (is_lost loss)) fit = (_, refl)
+some_count : (file : FileGrammar) → AlwaysAnswers file → (id : Ident) (o : Option DocumentState)
+    → ((d : OpenDocument) → o ≡ Some (is_open d) → fits d.text ≡ true) → (answer : Answer) × IsCount file id o answer
 some_count file always id (Some (is_open d)) fit =
     let r = always.readings d.text (fit d refl) in
     let stats = are_counted file d d.last refl r.0 r.1 in
     (_, (stats.0, stats.1, refl))
+some_count file always id d fit = (_, refl)
 
 some_published : (file : FileGrammar) → AlwaysAnswers file → (uri : List ℕ) (d : OpenDocument) → fits d.text ≡ true → (answer : Answer) × IsPublished file uri d answer
 some_published file always uri d fit =
@@ -85,27 +85,23 @@ module _ (old : State) (can : CanServe old) where
   some_opens false uri state fit = (_, _, _, (refl, refl, refl))
 
   some_changes : (o : Option DocumentState) (uri : List ℕ) (version : ℤ) (changes : List TextChange) → get old.documents uri ≡ o → SomeStep (Changes o old uri version changes)
-  some_changes None uri version changes e = (_, _, _, (refl, refl, refl))
-  some_changes (Some (is_lost loss)) uri version changes e = (_, _, _, (refl, refl, refl))
   some_changes (Some (is_open d)) uri version changes e =
       let next = some_becomes old.file version d changes in
       let held = some_holds uri next.0 (becomes_fit old.file version d changes next.0 (can.fit uri d e) next.1) in
       (held.0, held.1, held.2, (next.0, next.1, held.3))
+  some_changes d uri version changes e = (_, _, _, (refl, refl, refl))
 
   some_spoils : (o : Option DocumentState) (uri : List ℕ) → SomeStep (Spoils o old uri)
-  some_spoils None uri = (_, _, _, (refl, refl, refl))
-  some_spoils (Some (is_lost loss)) uri = (_, _, _, (refl, refl, refl))
   some_spoils (Some (is_open d)) uri = some_holds uri (is_lost MalformedChange) tt
+  some_spoils d uri = (_, _, _, (refl, refl, refl))
 
   some_closes : (o : Option DocumentState) (uri : List ℕ) → SomeStep (Closes o old uri)
   some_closes None uri = (_, _, _, (refl, refl, refl))
   some_closes (Some state) uri = (_, _, _, (refl, (refl, refl)))
 
   some_misses : (unfit : Unfit) → SomeStep (OnMalformed old unfit)
-  some_misses unfit_open = (_, _, _, (refl, refl, refl))
-  some_misses (unfit_change None) = (_, _, _, (refl, refl, refl))
   some_misses (unfit_change (Some uri)) = some_spoils (get old.documents uri) uri
-  some_misses unfit_close = (_, _, _, (refl, refl, refl))
+  some_misses d = (_, _, _, (refl, refl, refl))
 
   some_asks : (phase : Phase) (id : Ident) (call : Request) → SomeStep (OnRequest phase old id call)
   some_asks New id (initialize unit) = (_, _, _, (refl, refl, refl))
@@ -155,7 +151,9 @@ pub some_run : (old : State) → CanServe old → (contents : List (List ℕ)) �
 some_run old can [] = ([], None, old, (refl, refl, refl))
 some_run old can (content ∷ contents) = let s = some_step old can (received_in content) in after s.0 s.1 s.2 s.3 (λ mid serves. some_run mid serves contents)
   where
-    after : (first : List Answer) (halt : Option ℕ) (mid : State) → Step old (received_in content) first halt mid → ((state : State) → CanServe state → (answers : List Answer) × (stop : Option ℕ) × (new : State) × Run state contents answers stop new) → (answers : List Answer) × (stop : Option ℕ) × (new : State) × Run old (content ∷ contents) answers stop new
+    after : (first : List Answer) (halt : Option ℕ) (mid : State) → Step old (received_in content) first halt mid
+        → ((state : State) → CanServe state → (answers : List Answer) × (stop : Option ℕ) × (new : State) × Run state contents answers stop new)
+        → (answers : List Answer) × (stop : Option ℕ) × (new : State) × Run old (content ∷ contents) answers stop new
     after first None mid step go_on =
         let rest = go_on mid (step_serves old (received_in content) first None mid step can) in
         (first ++ rest.0, rest.1, rest.2, (first, None, mid, step, (rest.0, refl, rest.3)))

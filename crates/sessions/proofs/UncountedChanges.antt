@@ -55,7 +55,9 @@ module _ (encoding : Encoding) (file : FileGrammar) where
   edited_none t [] following e = absurd (let g : ⊥ = cc in g)
   edited_none t (b ∷ before) following e = by (fits (after encoding t b)) e (edited_none (after encoding t b) before following)
     where
-      by : (fit : Bool) → cond fit (edited encoding (after encoding t b) before) None ≡ None → (edited encoding (after encoding t b) before ≡ None → edited encoding (after encoding t b) (before ++ following) ≡ None) → cond fit (edited encoding (after encoding t b) (before ++ following)) None ≡ None
+      by : (fit : Bool) → cond fit (edited encoding (after encoding t b) before) None ≡ None
+          → (edited encoding (after encoding t b) before ≡ None → edited encoding (after encoding t b) (before ++ following) ≡ None)
+          → cond fit (edited encoding (after encoding t b) (before ++ following)) None ≡ None
       by true h go = go h
       by false h go = refl
 
@@ -74,12 +76,26 @@ module _ (file : FileGrammar) (version : ℤ) (d : OpenDocument) (before : List 
     -- what it becomes by the changes that follow, which are one at least
     pub becomes_after : (state : DocumentState) → Becomes file version e (c ∷ cs) state → Becomes file version d (before ++ c ∷ cs) state
     becomes_after (is_open x) b =
-        let more : IsLastAfter d.unit file e.text (c ∷ cs) e.last x.last = subst (λ (u : Encoding). IsLastAfter u file e.text (c ∷ cs) e.last x.last) is.unit b.3 in
-        (goes_on ∙ b.0, b.1 ∙ is.unit, b.2, last_append d.unit file d.text before (c ∷ cs) e.text d.last is.last x.last is.text is.is_last (last_alike d.unit file e.text c cs is.last e.last x.last is.alike more))
+        let more : IsLastAfter d.unit file e.text (c ∷ cs) e.last x.last = subst (λ (u : Encoding). IsLastAfter u file e.text (c ∷ cs) e.last x.last) is.unit b.3 in (
+          goes_on ∙ b.0,
+          b.1 ∙ is.unit,
+          b.2,
+          last_append d.unit file d.text before (c ∷ cs) e.text d.last is.last x.last is.text is.is_last
+              (last_alike d.unit file e.text c cs is.last e.last x.last is.alike more),
+        )
     becomes_after (is_lost TooLarge) b = goes_on ∙ b
     becomes_after (is_lost MalformedChange) b = b
-    becomes_after (is_lost Memory) b =
-        (before ++ b.0, b.1, b.2, ap (λ l. before ++ l) b.3 ∙ sym (append_assoc before b.0 (b.2 ∷ b.1)), (b.4.0, ap (edited d.unit d.text) (append_assoc before b.0 (b.2 ∷ [])) ∙ (edited_after d.unit d.text before (b.0 ++ b.2 ∷ []) e.text is.text ∙ (ap (λ (u : Encoding). edited u e.text (b.0 ++ b.2 ∷ [])) (sym is.unit) ∙ b.4.1))))
+    becomes_after (is_lost Memory) b = (
+      before ++ b.0,
+      b.1,
+      b.2,
+      ap (λ l. before ++ l) b.3 ∙ sym (append_assoc before b.0 (b.2 ∷ b.1)),
+      (
+        b.4.0,
+        ap (edited d.unit d.text) (append_assoc before b.0 (b.2 ∷ []))
+            ∙ (edited_after d.unit d.text before (b.0 ++ b.2 ∷ []) e.text is.text ∙ (ap (λ (u : Encoding). edited u e.text (b.0 ++ b.2 ∷ [])) (sym is.unit) ∙ b.4.1)),
+      ),
+    )
 
 -- memory may be refused at a change that was reached: at the first one, where there is one
 pub lost_on_the_way : (file : FileGrammar) (version : ℤ) (d : OpenDocument) (before following : List TextChange) (mid : List ℕ) → edited d.unit d.text before ≡ Some mid
@@ -107,7 +123,8 @@ module _ (changes : List Change) (n : ℕ) where
         by [] none = absurd (omega (arith, less, length-drop n changes, ap length none))
         by (c ∷ cs) some =
             let here = subst (λ l. Becomes file version e (map change_view l) state) some b in
-            subst (λ l. Becomes file version d l state) (sym (parts ∙ ap (λ l. map change_view (take n changes) ++ map change_view l) some)) (becomes_after file version d (map change_view (take n changes)) e is (change_view c) (map change_view cs) state here)
+            subst (λ l. Becomes file version d l state) (sym (parts ∙ ap (λ l. map change_view (take n changes) ++ map change_view l) some))
+            (becomes_after file version d (map change_view (take n changes)) e is (change_view c) (map change_view cs) state here)
 
     pub lost_by_parts : (loss : Loss) → Becomes file version d (map change_view (take n changes)) (is_lost loss) → Becomes file version d (map change_view changes) (is_lost loss)
     lost_by_parts loss b = subst (λ l. Becomes file version d l (is_lost loss)) (sym parts) (lost_earlier file version d (map change_view (take n changes)) loss (map change_view (drop n changes)) b)

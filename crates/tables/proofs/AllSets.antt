@@ -27,10 +27,14 @@ module _ (g : Shape) (sound : IsSound g) (productive : AllProductive g.grammar) 
       after_known prefix h b.0 (rules_valid g.grammar b.1) s b.2.0 b.2.1
 
   -- what an item calls at is the lookahead of a column
-  place_of_call : (prefix : List Symbol) → Stands prefix → (i : LrItem) → IsValid g.grammar prefix i → (next : Option Kind) (m : Move) → CallsFor i next m → (k : ℕ) × (k < g.grammar.rules + 1) × (next ≡ kind_of (lookahead_at k))
-  place_of_call prefix h i v next Shift (a, rest, e, f) = let l : a < g.grammar.rules = after_known prefix h i v (Terminal a) rest e in (a + 1, omega (arith, l), f ∙ ap kind_of (sym (lookahead_at-rule a)))
-  place_of_call prefix h i v next (Reduce p) (x, e, f) = let y = valid_known prefix h i v in let z = column_there g.grammar.rules y.0.look y.1.look in (z.0, z.1, f ∙ ap (λ u. kind_of u.look) (sym y.2) ∙ ap kind_of (sym z.2))
-  place_of_call prefix h i v next Accept (x, e, f) = let y = valid_known prefix h i v in let z = column_there g.grammar.rules y.0.look y.1.look in (z.0, z.1, f ∙ ap (λ u. kind_of u.look) (sym y.2) ∙ ap kind_of (sym z.2))
+  place_of_call : (prefix : List Symbol) → Stands prefix → (i : LrItem) → IsValid g.grammar prefix i → (next : Option Kind) (m : Move)
+      → CallsFor i next m → (k : ℕ) × (k < g.grammar.rules + 1) × (next ≡ kind_of (lookahead_at k))
+  place_of_call prefix h i v next Shift (a, rest, e, f) = let l : a < g.grammar.rules = after_known prefix h i v (Terminal a) rest e in
+      (a + 1, omega (arith, l), f ∙ ap kind_of (sym (lookahead_at-rule a)))
+  place_of_call prefix h i v next (Reduce p) (x, e, f) = let y = valid_known prefix h i v in let z = column_there g.grammar.rules y.0.look y.1.look in
+      (z.0, z.1, f ∙ ap (λ u. kind_of u.look) (sym y.2) ∙ ap kind_of (sym z.2))
+  place_of_call prefix h i v next Accept (x, e, f) = let y = valid_known prefix h i v in let z = column_there g.grammar.rules y.0.look y.1.look in
+      (z.0, z.1, f ∙ ap (λ u. kind_of u.look) (sym y.2) ∙ ap kind_of (sym z.2))
 
   -- a token rule that is none calls for nothing
   pub no_far_move : (prefix : List Symbol) → Stands prefix → (a : ℕ) → g.grammar.rules ≤ a → (m : Move) → HasMove g.grammar prefix (Some (Token a)) m → ⊥
@@ -59,7 +63,8 @@ module _ (g : Shape) (sound : IsSound g) (productive : AllProductive g.grammar) 
     all_stand prefix has = all_sets g.grammar Stands stands_start stands_next prefix [] has [] stands_start (same_refl [])
 
     module _ (moves : ℕ → List (Option TableMove)) (are_moves : (s : ℕ) → s < length kernels → AreMoves g.grammar kernels s (moves s)) where
-      one_move : (prefix : List Symbol) (look : Option ℕ) (o : Option TableMove) → IsMoveAt g.grammar kernels prefix look o → (m n : Move) → HasMove g.grammar prefix (kind_of look) m → HasMove g.grammar prefix (kind_of look) n → m ≡ n
+      one_move : (prefix : List Symbol) (look : Option ℕ) (o : Option TableMove) → IsMoveAt g.grammar kernels prefix look o → (m n : Move)
+          → HasMove g.grammar prefix (kind_of look) m → HasMove g.grammar prefix (kind_of look) n → m ≡ n
       one_move prefix look None h m n a b = absurd (h m a)
       one_move prefix look (Some t) h m n a b = h.0.only m a ∙ sym (h.0.only n b)
 

@@ -91,7 +91,8 @@ module _ (P : ℕ → Type 0) where
     from = first_from;
     in_order = rising;
     only = λ a c. ⊎_elim (λ e. subst P e is) (λ later. rest.only a later) (Contains-cases k numbers a c);
-    all = λ a low high has. ⊎_elim (λ below. let same : a ≡ k = omega (arith, low, below) in subst (Contains (k ∷ numbers)) (sym same) (Contains-first k numbers)) (λ over. Contains-later k numbers a (rest.all a over (omega (arith, high)) has)) (cases_lt a (suc k));
+    all = λ a low high has. ⊎_elim (λ below. let same : a ≡ k = omega (arith, low, below) in subst (Contains (k ∷ numbers)) (sym same) (Contains-first k numbers))
+        (λ over. Contains-later k numbers a (rest.all a over (omega (arith, high)) has)) (cases_lt a (suc k));
   }
     where
       first_from : (j : ℕ) → j < length (k ∷ numbers) → k ≤ slice_index (k ∷ numbers) j
@@ -109,11 +110,21 @@ module _ (P : ℕ → Type 0) where
     from = λ j l. let low = rest.from j l in omega (arith, low);
     in_order = rest.in_order;
     only = rest.only;
-    all = λ a low high has. ⊎_elim (λ below. let same : a ≡ k = omega (arith, low, below) in absurd (not_it (subst P same has))) (λ over. rest.all a over (omega (arith, high)) has) (cases_lt a (suc k));
+    all = λ a low high has. ⊎_elim (λ below. let same : a ≡ k = omega (arith, low, below) in absurd (not_it (subst P same has)))
+        (λ over. rest.all a over (omega (arith, high)) has) (cases_lt a (suc k));
   }
 
   those : (decided : (a : ℕ) → P a ⊎ (P a → ⊥)) (m k : ℕ) → (numbers : List ℕ) × AreThose P k m numbers
-  those decided zero k = ([], record { from = λ j l. absurd (omega (arith, l)); in_order = λ j l. absurd (omega (arith, l)); only = λ a c. absurd (Contains-none a c); all = λ a low high has. absurd (omega (arith, low, high)) })
+  those decided zero k = (
+    [],
+    record {
+      from = λ j l. absurd (omega (arith, l));
+      in_order = λ j l. absurd (omega (arith, l));
+      only =
+          λ a c. absurd (Contains-none a c);
+      all = λ a low high has. absurd (omega (arith, low, high));
+    },
+  )
   those decided (suc m) k =
       let rest = those decided m (suc k) in
       ⊎_elim (λ is. (k ∷ rest.0, put_first k m rest.0 is rest.1)) (λ not_it. (rest.0, pass_over k m rest.0 not_it rest.1)) (decided k)

@@ -3,21 +3,27 @@ use Rattle.std.proofs.Common.{◌≡◌, ◌<◌, ◌≤◌, ◌+◌, ◌↔◌,
 use Rattle.tables.proofs.Common.{IsStrictlyIncreasing, cases_lt, drop_all, get_or-drop, get_or_past, drop-cons, Kind, Token, Symbol, Grammar, Tree, HaveRoots, HasMove, IsSentence, IsViable, Contains-first, Contains-later, Contains-cases, Contains-none, IsStackAfter, StackHasMove, move_iff_viable, move_iff_sentence, roots_unique, Move, plain, AreExpected, in_file_order, rules_with_move, IsAction, IsAccepted}
 
 -- the rules with a move, from one place of a row on
-pub rules_from : (moves : List (Option Move)) (k : ℕ) → k < length moves → rules_with_move k (drop k moves) ≡ (if is_some (slice_index_or moves k None) then k ∷ rules_with_move (k + 1) (drop (k + 1) moves) else rules_with_move (k + 1) (drop (k + 1) moves))
+pub rules_from : (moves : List (Option Move)) (k : ℕ) → k < length moves → rules_with_move k (drop k moves)
+    ≡ (if is_some (slice_index_or moves k None) then k ∷ rules_with_move (k + 1) (drop (k + 1) moves) else rules_with_move (k + 1) (drop (k + 1) moves))
 rules_from moves k l =
     let one : suc k ≡ k + 1 = omega arith in
-    ap (rules_with_move k) (drop-cons moves k None l) ∙ go (slice_index_or moves k None) (drop (suc k) moves) ∙ ap (λ n. if is_some (slice_index_or moves k None) then k ∷ rules_with_move (k + 1) (drop n moves) else rules_with_move (k + 1) (drop n moves)) one
+    ap (rules_with_move k) (drop-cons moves k None l) ∙ go (slice_index_or moves k None) (drop (suc k) moves)
+    ∙ ap (λ n. if is_some (slice_index_or moves k None) then k ∷ rules_with_move (k + 1) (drop n moves) else rules_with_move (k + 1) (drop n moves)) one
   where
     go : (o : Option Move) (rest : List (Option Move)) → rules_with_move k (o ∷ rest) ≡ (if is_some o then k ∷ rules_with_move (k + 1) rest else rules_with_move (k + 1) rest)
     go None rest = refl
     go (Some m) rest = refl
 
 -- what is listed next: a rule with a move, after those that have none, and then the end
-pub shown_next : (moves : List (Option Move)) (k : ℕ) (at_end : Bool) → k < length moves → is_some (slice_index_or moves k None) ≡ true → in_file_order (rules_with_move k (drop k moves)) at_end ≡ Some k ∷ in_file_order (rules_with_move (k + 1) (drop (k + 1) moves)) at_end
-shown_next moves k at_end l e = ap (λ rules. in_file_order rules at_end) (rules_from moves k l ∙ ap (λ b. if b then k ∷ rules_with_move (k + 1) (drop (k + 1) moves) else rules_with_move (k + 1) (drop (k + 1) moves)) e)
+pub shown_next : (moves : List (Option Move)) (k : ℕ) (at_end : Bool) → k < length moves → is_some (slice_index_or moves k None) ≡ true
+    → in_file_order (rules_with_move k (drop k moves)) at_end ≡ Some k ∷ in_file_order (rules_with_move (k + 1) (drop (k + 1) moves)) at_end
+shown_next moves k at_end l e = ap (λ rules. in_file_order rules at_end)
+    (rules_from moves k l ∙ ap (λ b. if b then k ∷ rules_with_move (k + 1) (drop (k + 1) moves) else rules_with_move (k + 1) (drop (k + 1) moves)) e)
 
-pub passed_over : (moves : List (Option Move)) (k : ℕ) (at_end : Bool) → k < length moves → is_some (slice_index_or moves k None) ≡ false → in_file_order (rules_with_move k (drop k moves)) at_end ≡ in_file_order (rules_with_move (k + 1) (drop (k + 1) moves)) at_end
-passed_over moves k at_end l e = ap (λ rules. in_file_order rules at_end) (rules_from moves k l ∙ ap (λ b. if b then k ∷ rules_with_move (k + 1) (drop (k + 1) moves) else rules_with_move (k + 1) (drop (k + 1) moves)) e)
+pub passed_over : (moves : List (Option Move)) (k : ℕ) (at_end : Bool) → k < length moves → is_some (slice_index_or moves k None) ≡ false
+    → in_file_order (rules_with_move k (drop k moves)) at_end ≡ in_file_order (rules_with_move (k + 1) (drop (k + 1) moves)) at_end
+passed_over moves k at_end l e = ap (λ rules. in_file_order rules at_end)
+    (rules_from moves k l ∙ ap (λ b. if b then k ∷ rules_with_move (k + 1) (drop (k + 1) moves) else rules_with_move (k + 1) (drop (k + 1) moves)) e)
 
 pub rules_shown : (moves : List (Option Move)) (k : ℕ) (at_end : Bool) → length moves ≤ k → in_file_order (rules_with_move k (drop k moves)) at_end ≡ (if at_end then None ∷ [] else [])
 rules_shown moves k at_end l = ap (λ rest. in_file_order (rules_with_move k rest) at_end) (drop_all k moves l)
@@ -38,7 +44,8 @@ is_shown k [] j l e = absurd (omega (arith, l))
 is_shown k (None ∷ moves) zero l e = absurd (cc e)
 is_shown k (Some m ∷ moves) zero l e = let same : k ≡ k + 0 = omega arith in subst (Contains (k ∷ rules_with_move (k + 1) moves)) same (Contains-first k (rules_with_move (k + 1) moves))
 is_shown k (None ∷ moves) (suc j) l e = let same : k + 1 + j ≡ k + suc j = omega arith in subst (Contains (rules_with_move (k + 1) moves)) same (is_shown (k + 1) moves j (omega (arith, l)) e)
-is_shown k (Some m ∷ moves) (suc j) l e = let same : k + 1 + j ≡ k + suc j = omega arith in subst (Contains (k ∷ rules_with_move (k + 1) moves)) same (Contains-later k (rules_with_move (k + 1) moves) (k + 1 + j) (is_shown (k + 1) moves j (omega (arith, l)) e))
+is_shown k (Some m ∷ moves) (suc j) l e = let same : k + 1 + j ≡ k + suc j = omega arith in subst (Contains (k ∷ rules_with_move (k + 1) moves)) same
+    (Contains-later k (rules_with_move (k + 1) moves) (k + 1 + j) (is_shown (k + 1) moves j (omega (arith, l)) e))
 
 -- the rules are listed in file order
 least : (k : ℕ) (moves : List (Option Move)) (j : ℕ) → j < length (rules_with_move k moves) → k ≤ slice_index (rules_with_move k moves) j

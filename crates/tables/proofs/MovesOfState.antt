@@ -6,7 +6,8 @@ use Rattle.tables.proofs.DecisionOfPrefix.{no_move, the_move, is_conflict}
 
 module _ (g : Grammar) where
   shift_item : (prefix : List Symbol) (a : ℕ) (i : LrItem) (rest : List Symbol) → IsValid g prefix i → i.after ≡ Terminal a ∷ rest → HasItem g (prefix ++ Terminal a ∷ [])
-  shift_item prefix a i rest v e = (_, rules_valid g (Goto (subst (λ y. ByRules g prefix (record { production = i.production; before = i.before; after = y; look = i.look })) e (valid_rules g prefix i v))))
+  shift_item prefix a i rest v e =
+      (_, rules_valid g (Goto (subst (λ y. ByRules g prefix (record { production = i.production; before = i.before; after = y; look = i.look })) e (valid_rules g prefix i v))))
 
   -- where a shift is called for, some item is valid for the longer prefix
   pub shift_there : (prefix : List Symbol) (a : ℕ) → HasMove g prefix (kind_of (Some a)) LrShift → HasItem g (prefix ++ Terminal a ∷ [])
@@ -20,7 +21,8 @@ module _ (g : Grammar) where
     shift_leads a None step m = absurd (step prefix kernel (shift_there prefix a m.has))
     shift_leads a (Some t) step m = (m, (a, refl, step.0, step.1 prefix kernel))
 
-    chosen_move : (look : Option ℕ) (c : Call) → IfSome look (λ a. IsStep g kernels s (Terminal a) (slice_index_or row a None)) → IsOnlyMove g prefix look (move_of c) → IsMoveAt g kernels prefix look (chosen row look c)
+    chosen_move : (look : Option ℕ) (c : Call) → IfSome look (λ a. IsStep g kernels s (Terminal a) (slice_index_or row a None))
+        → IsOnlyMove g prefix look (move_of c) → IsMoveAt g kernels prefix look (chosen row look c)
     chosen_move None ToShift step m = absurd (cc m.has.calls.3)
     chosen_move (Some a) ToShift step m = shift_leads a (slice_index_or row a None) step m
     chosen_move None (ToReduce p) step m = (m, tt)
@@ -49,7 +51,8 @@ module _ (g : Shape) (kernels : List (List Item)) (s : ℕ) (row : List (Option 
         steps = λ k l.
             let below : k < g.nonterminals = omega (arith, l, long) in
             let there : slice_index_or gotos k None ≡ slice_index_or row (g.grammar.rules + k) None = ap (λ x. slice_index_or x k None) is ∙ get_or-drop g.grammar.rules row k None in
-            subst (λ o. IsStep g.grammar kernels s (Nonterminal k) o) (sym there) (subst (λ y. IsStep g.grammar kernels s y (slice_index_or row (g.grammar.rules + k) None)) (symbol_of-number g (Nonterminal k) below) (is_row.steps (g.grammar.rules + k) (omega (arith, n, below))));
+            subst (λ o. IsStep g.grammar kernels s (Nonterminal k) o) (sym there) (subst (λ y. IsStep g.grammar kernels s y (slice_index_or row (g.grammar.rules + k) None))
+            (symbol_of-number g (Nonterminal k) below) (is_row.steps (g.grammar.rules + k) (omega (arith, n, below))));
       }
 
 module _ (g : Shape) (items : List Item) (kernels : List (List Item)) (s : ℕ) (set : (prefix : List Symbol) → HasKernel g.grammar (kernel_at kernels s) prefix → HasSet g.grammar items prefix) where
@@ -65,7 +68,9 @@ module _ (g : Shape) (items : List Item) (kernels : List (List Item)) (s : ℕ) 
       filled = h.filled;
       each = λ k l prefix kernel. ⊎_elim
           (λ d. subst (IsMoveAt g.grammar kernels prefix (lookahead_at k)) (sym d.1) (no_move g.grammar items prefix (set prefix kernel) (lookahead_at k) d.0))
-          (λ d. let x = the_move g.grammar items prefix (set prefix kernel) (lookahead_at k) d.0 d.1 in subst (IsMoveAt g.grammar kernels prefix (lookahead_at k)) (sym d.2) (chosen_move g.grammar kernels s row prefix kernel (lookahead_at k) d.0 (row_step (lookahead_at k) (lookahead_small g.grammar.rules k (let n = h.filled in omega (arith, l, n)))) (record { has = x.0; only = x.1 })))
+          (λ d. let x = the_move g.grammar items prefix (set prefix kernel) (lookahead_at k) d.0 d.1 in subst (IsMoveAt g.grammar kernels prefix (lookahead_at k))
+          (sym d.2) (chosen_move g.grammar kernels s row prefix kernel (lookahead_at k) d.0
+          (row_step (lookahead_at k) (lookahead_small g.grammar.rules k (let n = h.filled in omega (arith, l, n)))) (record { has = x.0; only = x.1 })))
           (h.each k l);
     }
 
@@ -79,7 +84,11 @@ module _ (g : Shape) (items : List Item) (kernels : List (List Item)) (s : ℕ) 
 
 module _ (g : Shape) (old new : List (List Item)) (e : GoesOn old new) where
   moves_stay : (s : ℕ) → s < length old → (moves : List (Option Move)) → AreMoves g.grammar old s moves → AreMoves g.grammar new s moves
-  moves_stay s l moves h = record { filled = h.filled; each = λ k b prefix kernel. stay prefix (lookahead_at k) (slice_index_or moves k None) (h.each k b prefix (subst (λ y. HasKernel g.grammar y prefix) (e.same s l) kernel)) }
+  moves_stay s l moves h = record {
+    filled = h.filled;
+    each = λ k b prefix kernel. stay prefix (lookahead_at k) (slice_index_or moves k None)
+        (h.each k b prefix (subst (λ y. HasKernel g.grammar y prefix) (e.same s l) kernel));
+  }
     where
       stay : (prefix : List Symbol) (look : Option ℕ) (m : Option Move) → IsMoveAt g.grammar old prefix look m → IsMoveAt g.grammar new prefix look m
       stay prefix look None x = x
@@ -101,7 +110,8 @@ module _ (g : Shape) (old new : List (List Item)) (e : GoesOn old new) where
     conflict = λ prefix kernel. h.conflict prefix (subst (λ y. HasKernel g.grammar y prefix) (e.same f.state h.below) kernel);
   }
 
-  module _ (t u : Made) (h : AreMade g old t) (more : length t.gotos < length old) (row : List (Option ℕ)) (is_row : IsRow g new (length t.gotos) row) (gotos : List (Option ℕ)) (are_gotos : gotos ≡ drop g.grammar.rules row) (added : u.gotos ≡ t.gotos ++ gotos ∷ []) where
+  module _ (t u : Made) (h : AreMade g old t) (more : length t.gotos < length old) (row : List (Option ℕ)) (is_row : IsRow g new (length t.gotos) row)
+      (gotos : List (Option ℕ)) (are_gotos : gotos ≡ drop g.grammar.rules row) (added : u.gotos ≡ t.gotos ++ gotos ∷ []) where
     longer : length u.gotos ≡ length t.gotos + 1
     longer = ap length added ∙ length-append t.gotos (gotos ∷ [])
 
@@ -113,14 +123,16 @@ module _ (g : Shape) (old new : List (List Item)) (e : GoesOn old new) where
         let filled = k.filled in
         let n = ap length is ∙ length-append t.moves (moves ∷ []) in
         let r = longer in
-        let each : (s : ℕ) → s < length t.moves → AreMoves g.grammar new s (slice_index_or t.moves s []) = λ s l. moves_stay s (omega (arith, l, filled, more)) (slice_index_or t.moves s []) (k.each s l) in
+        let each : (s : ℕ) → s < length t.moves → AreMoves g.grammar new s (slice_index_or t.moves s []) =
+        λ s l. moves_stay s (omega (arith, l, filled, more)) (slice_index_or t.moves s []) (k.each s l) in
         let last : AreMoves g.grammar new (length t.moves) moves = subst (λ y. AreMoves g.grammar new y moves) (sym filled) m in
         record {
           filled = omega (arith, n, r, filled);
           each = subst (λ y. (s : ℕ) → s < length y → AreMoves g.grammar new s (slice_index_or y s [])) (sym is) (each_more (λ s y. AreMoves g.grammar new s y) t.moves moves [] each last);
         }
 
-    moves_more : (moves : List (Option Move)) → AreMoves g.grammar new (length t.gotos) moves → u.moves ≡ t.moves ++ moves ∷ [] → (o : Option ClashAt) → MatchOption o (AreAllMoves g.grammar old t) (λ f. IsClashAt g old f) → Clashes o
+    moves_more : (moves : List (Option Move)) → AreMoves g.grammar new (length t.gotos) moves → u.moves ≡ t.moves ++ moves ∷ [] → (o : Option ClashAt)
+        → MatchOption o (AreAllMoves g.grammar old t) (λ f. IsClashAt g old f) → Clashes o
     moves_more moves m is None k = all_more moves m is k
     moves_more moves m is (Some f) k = clash_stays f k
 
@@ -133,7 +145,8 @@ module _ (g : Shape) (old new : List (List Item)) (e : GoesOn old new) where
         (cases_lt s (length t.gotos))
 
     -- the gotos and moves of one state more, or its conflict
-    pub made_more : (items : List Item) → All (IsItem g) items → ((prefix : List Symbol) → HasKernel g.grammar (kernel_at new (length t.gotos)) prefix → HasSet g.grammar items prefix) → (decided : Decided) → IsDecided g.grammar items row decided → AddsMoves t u decided → AreMade g new u
+    pub made_more : (items : List Item) → All (IsItem g) items → ((prefix : List Symbol) → HasKernel g.grammar (kernel_at new (length t.gotos)) prefix → HasSet g.grammar items prefix)
+        → (decided : Decided) → IsDecided g.grammar items row decided → AddsMoves t u decided → AreMade g new u
     made_more items known set decided d adds =
         let r = longer in
         let n = e.longer in
@@ -142,11 +155,13 @@ module _ (g : Shape) (old new : List (List Item)) (e : GoesOn old new) where
         record {
           within = omega (arith, r, below);
           steps = steps_more;
-          gotos = subst (λ y. (s : ℕ) → s < length y → AreGotos g new s (slice_index_or y s [])) (sym added) (each_more (λ s y. AreGotos g new s y) t.gotos gotos [] each (row_gotos g new (length t.gotos) row is_row gotos are_gotos));
+          gotos = subst (λ y. (s : ℕ) → s < length y → AreGotos g new s (slice_index_or y s [])) (sym added)
+              (each_more (λ s y. AreGotos g new s y) t.gotos gotos [] each (row_gotos g new (length t.gotos) row is_row gotos are_gotos));
           moves = go decided d adds;
         }
       where
         go : (decided : Decided) → IsDecided g.grammar items row decided → AddsMoves t u decided → Clashes u.clash
         go (Moves moves) d (is, same) = subst Clashes (sym same) (moves_more moves (moves_made g items new (length t.gotos) set row is_row moves d) is t.clash h.moves)
-        go (AClash clash) d (is, inl (f, old_is, new_is)) = subst Clashes (sym new_is) (clash_stays f (subst (λ o. MatchOption o (AreAllMoves g.grammar old t) (λ x. IsClashAt g old x)) old_is h.moves))
+        go (AClash clash) d (is, inl (f, old_is, new_is)) =
+            subst Clashes (sym new_is) (clash_stays f (subst (λ o. MatchOption o (AreAllMoves g.grammar old t) (λ x. IsClashAt g old x)) old_is h.moves))
         go (AClash clash) d (is, inr (old_is, new_is)) = subst Clashes (sym new_is) (clash_made g items new (length t.gotos) set known (let n = e.longer in omega (arith, more, n)) clash d)

@@ -12,7 +12,11 @@ module _ (f : FileGrammar) (h : IsGrammar f) where
   shape = record { grammar = f.grammar; nonterminals = length f.nonterminals }
 
   pub all_of_them : (n : ℕ) → n ≡ length f.grammar.productions → first_productions f n ≡ shape
-  all_of_them n e = λ i. record { grammar = record { start = f.grammar.start; rules = (sym h.rules) i; productions = (ap (λ m. take m f.grammar.productions) e ∙ take-length f.grammar.productions) i }; nonterminals = length f.nonterminals }
+  all_of_them n e = λ i. record {
+    grammar =
+        record { start = f.grammar.start; rules = (sym h.rules) i; productions = (ap (λ m. take m f.grammar.productions) e ∙ take-length f.grammar.productions) i };
+    nonterminals = length f.nonterminals;
+  }
 
   symbol_known : (s : Symbol) → IsUsable f s → IsKnown shape s
   symbol_known (Terminal k) u = let l = u.0 in let r = h.rules in omega (arith, l, r)

@@ -1,10 +1,12 @@
 -- The rows that are made are right for each prefix that leads to their state.
 use Rattle.std.proofs.Common.{◌≡◌, ◌+◌, ◌<◌, ◌≤◌, ℕ, List, [], ◌∷◌, ◌++◌, Option, Some, None, length, slice_index_or, sym, subst, inl, inr, ⊎_elim, arith, IfSome}
-use Rattle.tables.proofs.Common.{cases_lt, get_or_past, Contains-get_or, Token, Symbol, Terminal, Nonterminal, HasItem, kind_of, start_item, start_kernel, no_item, lookahead_at-rule, kernel_at, Found, AreStates, IsStep, Shape, item_of, HasKernel, AreMoves, IsMoveAt, AreGotos, Sets, seen, move_at, goto_at, shifted_to, follower, state_after, IsAction, IsRightAt, Move, Shift, Reduce, Accept}
+use Rattle.tables.proofs.Common.{cases_lt, get_or_past, Contains-get_or, Token, Symbol, Terminal, Nonterminal, HasItem, kind_of, start_item, start_kernel, no_item, lookahead_at-rule, kernel_at, Found, AreStates, IsStep, Shape, item_of, HasKernel, AreMoves, IsMoveAt, AreGotos, Sets, seen, move_at, goto_at, shifted_to, follower, state_after, IsAction, IsRightAt, Move, Shift}
 use Rattle.tables.proofs.AllSets.{Stands, no_far_move, next_known}
 use Rattle.tables.proofs.Leading.{holds_after}
 
-module _ (g : Shape) (found : Found) (states : AreStates g found) (gotos : List (List (Option ℕ))) (moves : List (List (Option Move))) (filled : length moves ≡ length found.kernels) (are_gotos : (s : ℕ) → s < length found.kernels → AreGotos g found.kernels s (slice_index_or gotos s [])) (are_moves : (s : ℕ) → s < length found.kernels → AreMoves g.grammar found.kernels s (slice_index_or moves s [])) where
+module _ (g : Shape) (found : Found) (states : AreStates g found) (gotos : List (List (Option ℕ))) (moves : List (List (Option Move))) (filled : length moves ≡ length found.kernels)
+    (are_gotos : (s : ℕ) → s < length found.kernels → AreGotos g found.kernels s (slice_index_or gotos s []))
+    (are_moves : (s : ℕ) → s < length found.kernels → AreMoves g.grammar found.kernels s (slice_index_or moves s [])) where
   abbrev made : Sets
   made = seen g.grammar gotos moves
 
@@ -36,12 +38,10 @@ module _ (g : Shape) (found : Found) (states : AreStates g found) (gotos : List 
   after_step prefix s h x (Some to) step = (step.0, step.1 prefix h.1)
 
   after_shift : (prefix : List Symbol) (a : ℕ) (o : Option Move) → IsMoveAt g.grammar found.kernels prefix (Some a) o → IfSome (shifted_to o) (IsAt (prefix ++ Terminal a ∷ []))
-  after_shift prefix a None h = tt
   after_shift prefix a (Some (Shift to)) h =
       let same : a ≡ h.1.0 = cc h.1.1 in
       (h.1.2, subst (λ n. HasKernel g.grammar (kernel_at found.kernels to) (prefix ++ Terminal n ∷ [])) (sym same) h.1.3)
-  after_shift prefix a (Some (Reduce p)) h = tt
-  after_shift prefix a (Some Accept) h = tt
+  after_shift prefix a d h = tt
 
   next : (prefix : List Symbol) (s : ℕ) (x : Symbol) → IsAt prefix s → IfSome (follower made s x) (IsAt (prefix ++ x ∷ []))
   next prefix s (Terminal a) h =
@@ -77,7 +77,8 @@ module _ (g : Shape) (found : Found) (states : AreStates g found) (gotos : List 
     action (Some a) =
         ⊎_elim
         (λ l. is_action (Some a) (move_at made s (Some a)) (at_column prefix s h (Some a) l))
-        (λ far. subst (IsAction g.grammar prefix (Some (Token a))) (sym (far_move s h.0 a far)) (no_far_move g states.sound states.sound.productive found.kernels (λ r l. (states.ordered r l).known) prefix its a far))
+        (λ far. subst (IsAction g.grammar prefix (Some (Token a))) (sym (far_move s h.0 a far))
+        (no_far_move g states.sound states.sound.productive found.kernels (λ r l. (states.ordered r l).known) prefix its a far))
         (cases_lt a g.grammar.rules)
 
     no_goto : (n : ℕ) → goto_at made s n ≡ None → HasItem g.grammar (prefix ++ (Nonterminal n ∷ [])) → ⊥

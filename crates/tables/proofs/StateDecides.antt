@@ -12,16 +12,17 @@ no_lookahead (Some a) e = cc e
 -- an invalid token calls for nothing
 no_invalid : (g : Grammar) (prefix : List Symbol) (m : LrMove) → HasMove g prefix (Some Invalid) m → ⊥
 no_invalid g prefix Shift h = let e : Some Invalid ≡ Some (Token h.calls.0) = h.calls.3 in cc e
-no_invalid g prefix (Reduce p) h = no_lookahead h.item.look h.calls.2
-no_invalid g prefix Accept h = no_lookahead h.item.look h.calls.2
+no_invalid g prefix d h = no_lookahead h.item.look h.calls.2
 
 module _ (nonterminals : ℕ) (t : Sets) (tables : AreTables nonterminals t) where
   module _ (prefix : List Symbol) (s : ℕ) (h : IsStateOf t prefix s) where
     -- where items call for a shift they call for nothing else
     no_other : (a : ℕ) → HasMove t.grammar prefix (Some (Token a)) Shift → (m : LrMove) → (Shift ≡ m → ⊥) → HasMove t.grammar prefix (Some (Token a)) m → ⊥
-    no_other a shift m other has = tables.accepted.free prefix (Some (Token a)) shift.item has.item (record { one_valid = shift.valid; two_valid = has.valid; one_move = Shift; two_move = m; one_calls = shift.calls; two_calls = has.calls; differ = other })
+    no_other a shift m other has = tables.accepted.free prefix (Some (Token a)) shift.item has.item
+        (record { one_valid = shift.valid; two_valid = has.valid; one_move = Shift; two_move = m; one_calls = shift.calls; two_calls = has.calls; differ = other })
 
-    after_shift : (a : ℕ) → HasMove t.grammar prefix (Some (Token a)) Shift → (o : Option Move) → move_at t s (Some a) ≡ o → IsAction t.grammar prefix (Some (Token a)) o → (to : ℕ) × IsStateOf t (prefix ++ (Terminal a ∷ [])) to
+    after_shift : (a : ℕ) → HasMove t.grammar prefix (Some (Token a)) Shift → (o : Option Move) → move_at t s (Some a) ≡ o
+        → IsAction t.grammar prefix (Some (Token a)) o → (to : ℕ) × IsStateOf t (prefix ++ (Terminal a ∷ [])) to
     after_shift a shift None e is = absurd (is Shift shift)
     after_shift a shift (Some (ToShift to)) e is = (to, shift_state nonterminals t tables prefix s h a to e)
     after_shift a shift (Some (ToReduce p)) e is = absurd (no_other a shift (Reduce p) (λ x. cc x) is)
@@ -31,8 +32,10 @@ module _ (nonterminals : ℕ) (t : Sets) (tables : AreTables nonterminals t) whe
     after_goto n has None e = absurd (goes nonterminals t tables prefix s h n None e has)
     after_goto n has (Some to) e = (to, (goes nonterminals t tables prefix s h n (Some to) e).1)
 
-    after_symbol : (x : Symbol) (i : LrItem) (after : List Symbol) → i.after ≡ x ∷ after → ByRules t.grammar prefix i → HasItem t.grammar (prefix ++ (x ∷ [])) → (to : ℕ) × IsStateOf t (prefix ++ (x ∷ [])) to
-    after_symbol (Terminal a) i after e r has = after_shift a (record { item = i; valid = rules_valid t.grammar r; calls = (a, after, e, refl) }) (move_at t s (Some a)) refl ((right nonterminals t tables prefix s h).moves (Some a))
+    after_symbol : (x : Symbol) (i : LrItem) (after : List Symbol) → i.after ≡ x ∷ after → ByRules t.grammar prefix i
+        → HasItem t.grammar (prefix ++ (x ∷ [])) → (to : ℕ) × IsStateOf t (prefix ++ (x ∷ [])) to
+    after_symbol (Terminal a) i after e r has = after_shift a (record { item = i; valid = rules_valid t.grammar r; calls = (a, after, e, refl) })
+        (move_at t s (Some a)) refl ((right nonterminals t tables prefix s h).moves (Some a))
     after_symbol (Nonterminal n) i after e r has = after_goto n has (goto_at t s n) refl
 
   -- the state that a prefix leads to for which some item is valid

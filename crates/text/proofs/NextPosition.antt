@@ -159,10 +159,12 @@ module _ (encoding : Encoding) (t : List ℕ) (i : ℕ) (p : Position) (l : i < 
   position-same e f =
       let same = line-same t i l e in
       let line : line_of t i ≡ line_of t (i + 1) = sym same in
-      let units : count encoding t (line_start t (line_of t i)) i ≡ count encoding t (line_start t (line_of t (i + 1))) (i + 1) = sym (ap (λ n. count encoding t (line_start t n) (i + 1)) same ∙ count-same encoding t (line_start t (line_of t i)) i (start-le t i (omega arith)) l f) in
+      let units : count encoding t (line_start t (line_of t i)) i ≡ count encoding t (line_start t (line_of t (i + 1))) (i + 1) =
+      sym (ap (λ n. count encoding t (line_start t n) (i + 1)) same ∙ count-same encoding t (line_start t (line_of t i)) i (start-le t i (omega arith)) l f) in
       is ∙ (λ k. record { line = line k; character = units k })
 
-  pub position-more : is_end t i ≡ false → is_of_line (slice_index t i) ≡ true → ◌≡◌ {A = Position} (record { line = p.line; character = p.character + unit encoding (slice_index t i) }) (position encoding t (i + 1))
+  pub position-more : is_end t i ≡ false → is_of_line (slice_index t i) ≡ true
+      → ◌≡◌ {A = Position} (record { line = p.line; character = p.character + unit encoding (slice_index t i) }) (position encoding t (i + 1))
   unfolding position
   position-more e f =
       let same = line-same t i l e in
@@ -172,7 +174,8 @@ module _ (encoding : Encoding) (t : List ℕ) (i : ℕ) (p : Position) (l : i < 
       let long : i + 1 ≤ s + length (line_from s t) = subst (λ n. i + 1 ≤ line_start t n + length (line_from (line_start t n) t)) same inside in
       let line : p.line ≡ line_of t (i + 1) = ap (λ q. q.line) is ∙ sym same in
       let more : p.character + unit encoding (slice_index t i) ≡ count encoding t (line_start t (line_of t (i + 1))) (i + 1) =
-      ap (λ q. q.character + unit encoding (slice_index t i)) is ∙ sym (ap (λ n. count encoding t (line_start t n) (i + 1)) same ∙ count-more encoding t s i (start-le t i (omega arith)) (omega (arith, start-le t i (omega arith)))) in
+      ap (λ q. q.character + unit encoding (slice_index t i)) is ∙ sym (ap (λ n. count encoding t (line_start t n) (i + 1)) same
+      ∙ count-more encoding t s i (start-le t i (omega arith)) (omega (arith, start-le t i (omega arith)))) in
       λ k. record { line = line k; character = more k }
 
 -- the same where the text from place i on is known: a character and what comes after it
@@ -201,5 +204,6 @@ module _ (encoding : Encoding) (t rest : List ℕ) (i c : ℕ) (p : Position) (e
   after_other h r =
       let at = at_place t rest i c e in
       let goes_on : is_end t i ≡ false = (λ k. ends_break (sym at.1 k) (sym at.2 k)) ∙ h in
-      let join_three : ◌≡◌ {A = Position} (record { line = p.line; character = p.character + unit encoding c }) (record { line = p.line; character = p.character + unit encoding (slice_index t i) }) = λ k. record { line = p.line; character = p.character + unit encoding (at.1 k) } in
+      let join_three : ◌≡◌ {A = Position} (record { line = p.line; character = p.character + unit encoding c })
+      (record { line = p.line; character = p.character + unit encoding (slice_index t i) }) = λ k. record { line = p.line; character = p.character + unit encoding (at.1 k) } in
       join_three ∙ position-more encoding t i p at.0 is goes_on (ap is_of_line (sym at.1) ∙ of_line c (ends-line t i c goes_on at.1) r)

@@ -35,7 +35,8 @@ kept t a b before after bytes l e f g =
       edited = λ s. omega (arith, size-append (take a t ++ s) (drop b t), size-append (take a t) s, one, two, rest, g);
     }
 
-pub kept_cut : (ps : List (List ℕ)) (t : List ℕ) (a b bytes : ℕ) (start end : Cut) → text_in ps ≡ t → a ≤ b → IsCut ps a start → IsCut ps b end → bytes ≡ size t → IsKept t a b start.bytes end.bytes bytes
+pub kept_cut : (ps : List (List ℕ)) (t : List ℕ) (a b bytes : ℕ) (start end : Cut) → text_in ps ≡ t → a ≤ b → IsCut ps a start
+    → IsCut ps b end → bytes ≡ size t → IsKept t a b start.bytes end.bytes bytes
 kept_cut ps t a b bytes start end view l p q e =
     kept t a b start.bytes end.bytes bytes l (p.bytes ∙ ap (λ u. units Utf8 (take a u)) view) (q.bytes ∙ ap (λ u. units Utf8 (take b u)) view) e
 

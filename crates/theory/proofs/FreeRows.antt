@@ -38,7 +38,8 @@ no_symbols a f = go f.ts f.roots f.is
     go (t ∷ ts) h e = absurd h
 
 module _ (prefix before after : List Symbol) (q look : Option ℕ) (s : Symbol) where
-  moved : (p : Option ℕ) (x : Symbol) → prefix ≡ [] → record { production = q; before = before; after = s ∷ after; look = look } ≡ item p [] (x ∷ []) → (prefix ++ (s ∷ []) ≡ x ∷ []) × (record { production = q; before = before ++ (s ∷ []); after = after; look = look } ≡ item p (x ∷ []) [])
+  moved : (p : Option ℕ) (x : Symbol) → prefix ≡ [] → record { production = q; before = before; after = s ∷ after; look = look } ≡ item p [] (x ∷ [])
+      → (prefix ++ (s ∷ []) ≡ x ∷ []) × (record { production = q; before = before ++ (s ∷ []); after = after; look = look } ≡ item p (x ∷ []) [])
   moved p x e f =
       let after_is : s ∷ after ≡ x ∷ [] = ap (λ i. i.after) f in
       let symbol : s ≡ x = head-eq_of_cons-eq after_is in
@@ -48,13 +49,16 @@ module _ (prefix before after : List Symbol) (q look : Option ℕ) (s : Symbol) 
   stuck : (p : Option ℕ) (x : Symbol) → record { production = q; before = before; after = s ∷ after; look = look } ≡ item p (x ∷ []) [] → ⊥
   stuck p x f = let e : s ∷ after ≡ [] = ap (λ i. i.after) f in cc e
 
-  passed : Known prefix (record { production = q; before = before; after = s ∷ after; look = look }) → Known (prefix ++ (s ∷ [])) (record { production = q; before = before ++ (s ∷ []); after = after; look = look })
+  passed : Known prefix (record { production = q; before = before; after = s ∷ after; look = look }) → Known (prefix ++ (s ∷ []))
+      (record { production = q; before = before ++ (s ∷ []); after = after; look = look })
   passed (inl h) = inr (inr (inl (moved None (Nonterminal 0) h.0 h.1)))
   passed (inr (inl h)) = inr (inr (inr (moved (Some 0) (Terminal 0) h.0 h.1)))
   passed (inr (inr (inl h))) = absurd (stuck None (Nonterminal 0) h.1)
   passed (inr (inr (inr h))) = absurd (stuck (Some 0) (Terminal 0) h.1)
 
-closed : (prefix before after : List Symbol) (q look : Option ℕ) (n p : ℕ) (right : List Symbol) (a : Option ℕ) → Known prefix (record { production = q; before = before; after = Nonterminal n ∷ after; look = look }) → HasProduction alone p n right → IsFirst alone after look a → Known prefix (record { production = Some p; before = []; after = right; look = a })
+closed : (prefix before after : List Symbol) (q look : Option ℕ) (n p : ℕ) (right : List Symbol) (a : Option ℕ)
+    → Known prefix (record { production = q; before = before; after = Nonterminal n ∷ after; look = look }) → HasProduction alone p n right
+    → IsFirst alone after look a → Known prefix (record { production = Some p; before = []; after = right; look = a })
 closed prefix before after q look n p right a (inl h) g f =
     let after_is : Nonterminal n ∷ after ≡ Nonterminal 0 ∷ [] = ap (λ i. i.after) h.1 in
     let rest : after ≡ [] = tail-eq_of_cons-eq after_is in
@@ -72,7 +76,8 @@ closed prefix before after q look n p right a (inr (inr (inr h))) g f = absurd (
 known : {prefix : List Symbol} {i : Item} → ByRules alone prefix i → Known prefix i
 known Start = inl (refl, refl)
 known (Goto {prefix = prefix} {production = q} {before = before} {s = s} {after = after} {look = look} r) = passed prefix before after q look s (known r)
-known (Close {prefix = prefix} {production = q} {before = before} {n = n} {after = after} {look = look} {p = p} {right = right} {a = a} r h f) = closed prefix before after q look n p right a (known r) h f
+known (Close {prefix = prefix} {production = q} {before = before} {n = n} {after = after} {look = look} {p = p} {right = right} {a = a} r h f) =
+    closed prefix before after q look n p right a (known r) h f
 
 -- each prefix has one move
 abbrev move_at : List Symbol → Move

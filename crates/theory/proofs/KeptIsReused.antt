@@ -42,7 +42,8 @@ nested_past : (u : Tree) (l1 l2 : List Tree) (t1 t2 : Tree) → Nested l1 l2 t1 
 nested_past u l1 l2 t1 t2 (Within i w e) = Within i w (ap (λ l. u ∷ l) e)
 nested_past u l1 l2 t1 t2 (Around i w e) = Around i w (ap (λ l. u ∷ l) e)
 
-nested : {l l1 l2 : List Tree} {t1 t2 : Tree} → StandsIn l l1 t1 → StandsIn l l2 t2 → 0 < length (yield t1) → 0 < length (yield t2) → length (all_kinds l1) ≤ length (all_kinds l2) → length (all_kinds l2) < length (all_kinds l1) + length (yield t1) → Nested l1 l2 t1 t2
+nested : {l l1 l2 : List Tree} {t1 t2 : Tree} → StandsIn l l1 t1 → StandsIn l l2 t2 → 0 < length (yield t1) → 0 < length (yield t2) → length (all_kinds l1) ≤ length (all_kinds l2)
+    → length (all_kinds l2) < length (all_kinds l1) + length (yield t1) → Nested l1 l2 t1 t2
 nested Top Top n m le lt = Within [] Top refl
 nested Top (Below {lefts = l2} w) n m le lt = Within l2 (Below w) refl
 nested (Top {t = t}) (Past {lefts = l2} w) n m le lt = absurd (omega (arith, lt, length-append (yield t) (all_kinds l2)))
@@ -52,10 +53,12 @@ nested (Below {us = us} v) (Past {lefts = l2} w) n m le lt = absurd (omega (arit
 nested (Past {u = u} {lefts = l1} v) Top n m le lt = absurd (omega (arith, le, m, length-append (yield u) (all_kinds l1)))
 nested (Past {lefts = l1} v) (Below {us = us} w) n m le lt = absurd (omega (arith, le, m, below_length us w, length-append (yields us) (all_kinds l1)))
 nested {t1 = t1} {t2 = t2} (Past {u = u} {lefts = l1} v) (Past {lefts = l2} w) n m le lt =
-    nested_past u l1 l2 t1 t2 (nested v w n m (omega (arith, le, length-append (yield u) (all_kinds l1), length-append (yield u) (all_kinds l2))) (omega (arith, lt, length-append (yield u) (all_kinds l1), length-append (yield u) (all_kinds l2))))
+    nested_past u l1 l2 t1 t2 (nested v w n m (omega (arith, le, length-append (yield u) (all_kinds l1), length-append (yield u) (all_kinds l2)))
+    (omega (arith, lt, length-append (yield u) (all_kinds l1), length-append (yield u) (all_kinds l2))))
 
 -- a node before another is among its left siblings
-left_of : {l l1 l2 : List Tree} {t1 t2 : Tree} → StandsIn l l1 t1 → StandsIn l l2 t2 → 0 < length (yield t1) → 0 < length (yield t2) → length (all_kinds l1) + length (yield t1) ≤ length (all_kinds l2) → StandsIn l2 l1 t1
+left_of : {l l1 l2 : List Tree} {t1 t2 : Tree} → StandsIn l l1 t1 → StandsIn l l2 t2 → 0 < length (yield t1) → 0 < length (yield t2)
+    → length (all_kinds l1) + length (yield t1) ≤ length (all_kinds l2) → StandsIn l2 l1 t1
 left_of Top Top n m le = absurd (omega (arith, n, le))
 left_of Top (Below {us = us} w) n m le = absurd (omega (arith, m, le, below_length us w))
 left_of Top (Past w) n m le = Top
@@ -82,7 +85,8 @@ rest_of AtEnd = []
 
 module _ (g : Grammar) where
   -- a node after what is taken stays in the input
-  tries_keeps : {stack input : List Tree} {f : NextInput} → Tries g stack input f → (lefts : List Tree) (w : Tree) (more : List Kind) → StandsIn input lefts w → 0 < length (yield w) → 0 < length (taken_of f) → all_kinds lefts ≡ taken_of f ++ more → (lefts' : List Tree) × StandsIn (rest_of f) lefts' w × (all_kinds lefts' ≡ more)
+  tries_keeps : {stack input : List Tree} {f : NextInput} → Tries g stack input f → (lefts : List Tree) (w : Tree) (more : List Kind) → StandsIn input lefts w
+      → 0 < length (yield w) → 0 < length (taken_of f) → all_kinds lefts ≡ taken_of f ++ more → (lefts' : List Tree) × StandsIn (rest_of f) lefts' w × (all_kinds lefts' ≡ more)
   tries_keeps Nothing_left lefts w more place n m e = absurd (nowhere place refl)
   tries_keeps (Dropped {t = t} h d) lefts w more Top n m e = absurd (omega (arith, n, ap length h))
   tries_keeps (Dropped h d) lefts w more (Below {us = us} place) n m e = absurd (omega (arith, n, ap length h, below_length us place))
@@ -99,7 +103,8 @@ module _ (g : Grammar) where
 
   -- each reduction makes one branch
   reduction_branches : (stack stack' : List Tree) (next : Option Kind) → Reduces g stack next stack' → all_branches stack' ≡ all_branches stack + 1
-  reduction_branches stack stack' next r = omega (arith, ap all_branches r.from_is, ap all_branches r.to_is, branches-append r.below (trees r.ts), branches-append r.below (Branch r.number r.ts ∷ []), branches-trees r.ts)
+  reduction_branches stack stack' next r =
+      omega (arith, ap all_branches r.from_is, ap all_branches r.to_is, branches-append r.below (trees r.ts), branches-append r.below (Branch r.number r.ts ∷ []), branches-trees r.ts)
 
   run_branches : {next : Option Kind} {s b : List Tree} {x : List Kind} → Run g next s x b → x ≡ [] → (all_branches s ≤ all_branches b) × (all_branches b ≤ all_branches s → s ≡ b)
   run_branches Stay e = (omega arith, λ h. refl)
@@ -117,7 +122,8 @@ module _ (g : Grammar) where
   TakesOver (Makes s1 f t n r more) below w = TakesOver more below w
 
   module _ (free : HasNoConflict g) where
-    after_reduction : {look : Option Kind} {s b s1 : List Tree} {read : List Kind} → Run g look s read b → (i r : List Kind) → look ≡ look_at r None → i ≡ read ++ r → Reduces g s (look_at i None) s1 → ((s ≡ b) × (i ≡ r)) ⊎ Passes g s1 i b r
+    after_reduction : {look : Option Kind} {s b s1 : List Tree} {read : List Kind} → Run g look s read b → (i r : List Kind) → look ≡ look_at r None
+        → i ≡ read ++ r → Reduces g s (look_at i None) s1 → ((s ≡ b) × (i ≡ r)) ⊎ Passes g s1 i b r
     after_reduction Stay i r l e m = inl (refl, e)
     after_reduction {look} {s} {b} {s1} {read = read} (Reduced {stack1 = s2} q p) i r l e m =
         let see : look_at read look ≡ look_at i None = ap (λ k. look_at read k) l ∙ sym (look-append read r None) ∙ ap (λ k. look_at k None) (sym e) in
@@ -125,23 +131,34 @@ module _ (g : Grammar) where
         inr (record { read = read; split = e; run = subst (λ k. Run g k s1 read b) l (subst (λ k. Run g look k read b) same p) })
     after_reduction {s = s} {s1 = s1} (Shifted {k = k} q p) i r l e m = absurd (no_reduction_at_shift g free s k q s1 (subst (λ k. Reduces g s k s1) (ap (λ k. look_at k None) e) m))
 
-    after_shift : {look : Option Kind} {s b : List Tree} {read : List Kind} → Run g look s read b → (k : Kind) (i r : List Kind) → look ≡ look_at r None → k ∷ i ≡ read ++ r → Shifts g s k → ((s ≡ b) × (k ∷ i ≡ r)) ⊎ Passes g (s ++ (Leaf k ∷ [])) i b r
+    after_shift : {look : Option Kind} {s b : List Tree} {read : List Kind} → Run g look s read b → (k : Kind) (i r : List Kind) → look ≡ look_at r None
+        → k ∷ i ≡ read ++ r → Shifts g s k → ((s ≡ b) × (k ∷ i ≡ r)) ⊎ Passes g (s ++ (Leaf k ∷ [])) i b r
     after_shift Stay k i r l e m = inl (refl, e)
     after_shift {look} {s} {read = read} (Reduced {stack1 = s2} q p) k i r l e m =
         let see : look_at read look ≡ Some k = ap (λ k. look_at read k) l ∙ sym (look-append read r None) ∙ ap (λ k. look_at k None) (sym e) in
         absurd (no_reduction_at_shift g free s k m s2 (subst (λ k. Reduces g s k s2) see q))
     after_shift {look} {s} {b} (Shifted {k = j} {x = x} q p) k i r l e m =
-        inr (record { read = x; split = tail-eq_of_cons-eq e; run = subst (λ v. Run g v (s ++ (Leaf k ∷ [])) x b) l (subst (λ v. Run g look (s ++ (Leaf v ∷ [])) x b) (sym (head-eq_of_cons-eq e)) p) })
+        inr (record {
+          read = x;
+          split = tail-eq_of_cons-eq e;
+          run = subst (λ v. Run g v (s ++ (Leaf k ∷ [])) x b) l
+              (subst (λ v. Run g look (s ++ (Leaf v ∷ [])) x b) (sym (head-eq_of_cons-eq e)) p);
+        })
 
     module _ (productive : AllProductive g) (below : List Tree) (w : Tree) (rest : List Kind) (can : CanReuse g below w rest) where
       -- where the run stands at the node's left siblings, the node or one above it is taken
-      found_now : (s input : List Tree) (f : NextInput) → Tries g s input f → s ≡ below → (lefts : List Tree) → StandsIn input lefts w → all_kinds s ++ all_kinds lefts ≡ all_kinds below → all_kinds input ≡ all_kinds lefts ++ (yield w ++ rest) → (t : Tree) × (ts : List Tree) × (f ≡ Take t ts) × ((inner : List Tree) × StandsIn (t ∷ []) inner w)
+      found_now : (s input : List Tree) (f : NextInput) → Tries g s input f → s ≡ below → (lefts : List Tree) → StandsIn input lefts w → all_kinds s ++ all_kinds lefts ≡ all_kinds below
+          → all_kinds input ≡ all_kinds lefts ++ (yield w ++ rest) → (t : Tree) × (ts : List Tree) × (f ≡ Take t ts) × ((inner : List Tree) × StandsIn (t ∷ []) inner w)
       found_now s input f d e lefts place at kinds =
           let none = is_nil (all_kinds lefts) (omega (arith, ap length at, ap (λ l. length (all_kinds l)) e, length-append (all_kinds s) (all_kinds lefts))) in
           tries_finds g d lefts w rest place none (kinds ∙ ap (λ l. l ++ (yield w ++ rest)) none) (subst (λ l. CanReuse g l w rest) (sym e) can)
 
       -- a tree is taken: the node is in it, or still ahead
-      reuse_case : (L : Type 0) (s input s' : List Tree) (t : Tree) (ts : List Tree) → Tries g s input (Take t ts) → CanReuse g s t (all_kinds ts) → StandsIn s' s t → (lefts : List Tree) → StandsIn input lefts w → all_kinds s ++ all_kinds lefts ≡ all_kinds below → all_kinds input ≡ all_kinds lefts ++ (yield w ++ rest) → Passes g s (all_kinds input) below (yield w ++ rest) → StandsIn s' below w → ((lefts' : List Tree) → StandsIn ts lefts' w → all_kinds (s ++ (t ∷ [])) ++ all_kinds lefts' ≡ all_kinds below → all_kinds ts ≡ all_kinds lefts' ++ (yield w ++ rest) → Passes g (s ++ (t ∷ [])) (all_kinds ts) below (yield w ++ rest) → L) → ((inner : List Tree) × StandsIn (t ∷ []) inner w × (s ++ inner ≡ below)) ⊎ L
+      reuse_case : (L : Type 0) (s input s' : List Tree) (t : Tree) (ts : List Tree) → Tries g s input (Take t ts) → CanReuse g s t (all_kinds ts) → StandsIn s' s t
+          → (lefts : List Tree) → StandsIn input lefts w → all_kinds s ++ all_kinds lefts ≡ all_kinds below → all_kinds input ≡ all_kinds lefts ++ (yield w ++ rest)
+          → Passes g s (all_kinds input) below (yield w ++ rest) → StandsIn s' below w
+          → ((lefts' : List Tree) → StandsIn ts lefts' w → all_kinds (s ++ (t ∷ [])) ++ all_kinds lefts' ≡ all_kinds below → all_kinds ts ≡ all_kinds lefts' ++ (yield w ++ rest)
+          → Passes g (s ++ (t ∷ [])) (all_kinds ts) below (yield w ++ rest) → L) → ((inner : List Tree) × StandsIn (t ∷ []) inner w × (s ++ inner ≡ below)) ⊎ L
       reuse_case L s input s' t ts d c stands lefts place at kinds pass end later =
           ⊎_elim
           (λ lt. inl (inside (nested stands end c.not_empty can.not_empty (omega (arith, ap length at, length-append (all_kinds s) (all_kinds lefts))) lt)))
@@ -151,22 +168,45 @@ module _ (g : Grammar) where
           inside : Nested s below t w → (inner : List Tree) × StandsIn (t ∷ []) inner w × (s ++ inner ≡ below)
           inside (Within inner p e) = (inner, p, sym e)
           inside (Around inner p e) =
-              let none : all_kinds lefts ≡ [] = is_nil (all_kinds lefts) (omega (arith, ap length at, length-append (all_kinds s) (all_kinds lefts), ap (λ l. length (all_kinds l)) e, ap length (kinds-append below inner), length-append (all_kinds below) (all_kinds inner))) in
+              let none : all_kinds lefts ≡ [] =
+              is_nil (all_kinds lefts) (omega (
+                arith,
+                ap length at,
+                length-append (all_kinds s) (all_kinds lefts),
+                ap (λ l. length (all_kinds l)) e,
+                ap length (kinds-append below inner),
+                length-append (all_kinds below) (all_kinds inner),
+              )) in
               let read : pass.read ≡ [] = append_cancel_right pass.read (all_kinds lefts) (yield w ++ rest) (sym pass.split ∙ kinds) ∙ none in
               let same : s ≡ below = (run_branches pass.run read).1 (omega (arith, ap all_branches e, branches-append below inner)) in
               let f = found_now s input (Take t ts) d same lefts place at kinds in
               let is : t ≡ f.0 = (let k : Take t ts ≡ Take f.0 f.1 = f.2 in cc k) in
               let q = subst (λ u. StandsIn (u ∷ []) f.3.0 w) (sym is) f.3.1 in
-              let top : StandsIn (t ∷ []) [] w = ⊎_elim (λ k. subst (λ u. StandsIn (t ∷ []) [] u) (sym k) Top) (λ less. ⊎_elim (λ k. subst (λ u. StandsIn (t ∷ []) [] u) k Top) (λ more. absurd (omega (arith, less, more))) (inside_same q)) (inside_same p) in
+              let top : StandsIn (t ∷ []) [] w = ⊎_elim (λ k. subst (λ u. StandsIn (t ∷ []) [] u) (sym k) Top)
+              (λ less. ⊎_elim (λ k. subst (λ u. StandsIn (t ∷ []) [] u) k Top) (λ more. absurd (omega (arith, less, more))) (inside_same q)) (inside_same p) in
               ([], top, append-nil s ∙ same)
 
           onward : length (all_kinds s) + length (yield t) ≤ length (all_kinds below) → Passes g (s ++ (t ∷ [])) (all_kinds ts) below (yield w ++ rest)
           onward ge =
-              let step : Passes g s (all_kinds input) (s ++ (t ∷ [])) (all_kinds ts) = record { read = yield t; split = tries_kinds g d; run = reuse g productive t c.root c.is s c.symbols c.roots (look_at (all_kinds ts) None) c.move c.called } in
+              let step : Passes g s (all_kinds input) (s ++ (t ∷ [])) (all_kinds ts) =
+              record { read = yield t; split = tries_kinds g d; run = reuse g productive t c.root c.is s c.symbols c.roots (look_at (all_kinds ts) None) c.move c.called } in
               ⊎_elim
               (λ p. p)
               (λ p.
-              let read : p.read ≡ [] = is_nil p.read (omega (arith, ge, ap length at, length-append (all_kinds s) (all_kinds lefts), ap length kinds, ap length (tries_kinds g d), length-append (yield t) (all_kinds ts), length-append (all_kinds lefts) (yield w ++ rest), ap length p.split, length-append p.read (all_kinds ts))) in
+              let read : p.read ≡ [] = is_nil p.read
+              (omega (
+                arith,
+                ge,
+                ap length at,
+                length-append (all_kinds s) (all_kinds lefts),
+                ap length kinds,
+                ap length (tries_kinds g d),
+                length-append
+                    (yield t) (all_kinds ts),
+                length-append (all_kinds lefts) (yield w ++ rest),
+                ap length p.split,
+                length-append p.read (all_kinds ts),
+              )) in
               let same : below ≡ s ++ (t ∷ []) = (run_branches p.run read).1 (omega (arith, stands_branches (left_of stands end c.not_empty can.not_empty ge), branches-append s (t ∷ []))) in
               record { read = []; split = sym (p.split ∙ ap (λ l. l ++ all_kinds ts) read); run = subst (λ l. Run g (look_at (yield w ++ rest) None) (s ++ (t ∷ [])) [] l) (sym same) Stay })
               (passes_linear g free s (s ++ (t ∷ [])) below (all_kinds input) (all_kinds ts) (yield w ++ rest) step pass)
@@ -174,18 +214,24 @@ module _ (g : Grammar) where
           after : length (all_kinds s) + length (yield t) ≤ length (all_kinds below) → L
           after ge =
               let on = onward ge in
-              let read : all_kinds lefts ≡ yield t ++ on.read = append_cancel_right (all_kinds lefts) (yield t ++ on.read) (yield w ++ rest) (sym kinds ∙ tries_kinds g d ∙ ap (λ l. yield t ++ l) on.split ∙ sym (append_assoc (yield t) on.read (yield w ++ rest))) in
+              let read : all_kinds lefts ≡ yield t ++ on.read = append_cancel_right (all_kinds lefts) (yield t ++ on.read) (yield w ++ rest)
+              (sym kinds ∙ tries_kinds g d ∙ ap (λ l. yield t ++ l) on.split ∙ sym (append_assoc (yield t) on.read (yield w ++ rest))) in
               let kept = tries_keeps d lefts w on.read place can.not_empty c.not_empty read in
-              let at' : all_kinds (s ++ (t ∷ [])) ++ all_kinds kept.0 ≡ all_kinds below = ap (λ l. l ++ all_kinds kept.0) (kinds-append s (t ∷ [])) ∙ ap (λ l. (all_kinds s ++ l) ++ all_kinds kept.0) (append-nil (yield t)) ∙ append_assoc (all_kinds s) (yield t) (all_kinds kept.0) ∙ ap (λ l. all_kinds s ++ (yield t ++ l)) kept.2 ∙ ap (λ l. all_kinds s ++ l) (sym read) ∙ at in
+              let at' : all_kinds (s ++ (t ∷ [])) ++ all_kinds kept.0 ≡ all_kinds below = ap (λ l. l ++ all_kinds kept.0) (kinds-append s (t ∷ []))
+              ∙ ap (λ l. (all_kinds s ++ l) ++ all_kinds kept.0) (append-nil (yield t)) ∙ append_assoc (all_kinds s) (yield t) (all_kinds kept.0)
+              ∙ ap (λ l. all_kinds s ++ (yield t ++ l)) kept.2 ∙ ap (λ l. all_kinds s ++ l) (sym read) ∙ at in
               later kept.0 kept.1 at' (on.split ∙ ap (λ l. l ++ (yield w ++ rest)) (sym kept.2)) on
 
-      pub kept_taken_over : {s input s' input' : List Tree} (run : Goes_on g s input s' input') → (lefts : List Tree) → StandsIn input lefts w → all_kinds s ++ all_kinds lefts ≡ all_kinds below → all_kinds input ≡ all_kinds lefts ++ (yield w ++ rest) → Passes g s (all_kinds input) below (yield w ++ rest) → StandsIn s' below w → TakesOver run below w
+      pub kept_taken_over : {s input s' input' : List Tree} (run : Goes_on g s input s' input') → (lefts : List Tree) → StandsIn input lefts w
+          → all_kinds s ++ all_kinds lefts ≡ all_kinds below → all_kinds input ≡ all_kinds lefts ++ (yield w ++ rest)
+          → Passes g s (all_kinds input) below (yield w ++ rest) → StandsIn s' below w → TakesOver run below w
       kept_taken_over {s} Ends lefts place at kinds pass end =
           absurd (omega (arith, can.not_empty, stands_length end, ap length at, length-append (all_kinds s) (all_kinds lefts)))
       kept_taken_over {s} {input} (Makes s1 f d n r more) lefts place at kinds pass end =
           ⊎_elim
           (λ now. let k = found_now s input f d now.0 lefts place at kinds in absurd (subst IsNoTree k.2 n))
-          (λ on. kept_taken_over more lefts place (ap (λ l. l ++ all_kinds lefts) (run_kinds g {next = look_at (all_kinds input) None} (Reduced {x = []} r Stay) ∙ append-nil (all_kinds s)) ∙ at) kinds on end)
+          (λ on. kept_taken_over more lefts place
+          (ap (λ l. l ++ all_kinds lefts) (run_kinds g {next = look_at (all_kinds input) None} (Reduced {x = []} r Stay) ∙ append-nil (all_kinds s)) ∙ at) kinds on end)
           (after_reduction pass.run (all_kinds input) (yield w ++ rest) refl pass.split r)
       kept_taken_over {s} {input} (Takes_token k ts d m more) lefts place at kinds pass end =
           ⊎_elim
@@ -193,7 +239,8 @@ module _ (g : Grammar) where
           (λ on.
           let read : all_kinds lefts ≡ k ∷ on.read = append_cancel_right (all_kinds lefts) (k ∷ on.read) (yield w ++ rest) (sym kinds ∙ tries_kinds g d ∙ ap (λ l. k ∷ l) on.split) in
           let kept = tries_keeps d lefts w on.read place can.not_empty (omega arith) read in
-          let at' : all_kinds (s ++ (Leaf k ∷ [])) ++ all_kinds kept.0 ≡ all_kinds below = ap (λ l. l ++ all_kinds kept.0) (kinds-append s (Leaf k ∷ [])) ∙ append_assoc (all_kinds s) (k ∷ []) (all_kinds kept.0) ∙ ap (λ l. all_kinds s ++ (k ∷ l)) kept.2 ∙ ap (λ l. all_kinds s ++ l) (sym read) ∙ at in
+          let at' : all_kinds (s ++ (Leaf k ∷ [])) ++ all_kinds kept.0 ≡ all_kinds below = ap (λ l. l ++ all_kinds kept.0) (kinds-append s (Leaf k ∷ []))
+          ∙ append_assoc (all_kinds s) (k ∷ []) (all_kinds kept.0) ∙ ap (λ l. all_kinds s ++ (k ∷ l)) kept.2 ∙ ap (λ l. all_kinds s ++ l) (sym read) ∙ at in
           kept_taken_over more kept.0 kept.1 at' (on.split ∙ ap (λ l. l ++ (yield w ++ rest)) (sym kept.2)) on end)
           (after_shift pass.run k (all_kinds ts) (yield w ++ rest) refl (sym (tries_kinds g d) ∙ pass.split) m)
       kept_taken_over {s} {input} {s'} (Reuses t ts d c more) lefts place at kinds pass end =

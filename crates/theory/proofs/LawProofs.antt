@@ -38,7 +38,8 @@ module _ (g : Grammar) where
   of_verdict free x (FaultAt k) one two h m = settled_unique g free (take k x) one two h m
   of_verdict free x FaultAtEnd one two h k = settled_unique g free x one two h k
 
-  pub document_trees_unique : HasNoConflict g → (x : List Kind) (v w : Verdict) (one two : List Tree) → IsVerdict g x v → IsVerdict g x w → AreDocumentTrees g x v one → AreDocumentTrees g x w two → one ≡ two
+  pub document_trees_unique : HasNoConflict g → (x : List Kind) (v w : Verdict) (one two : List Tree) → IsVerdict g x v
+      → IsVerdict g x w → AreDocumentTrees g x v one → AreDocumentTrees g x w two → one ≡ two
   document_trees_unique free x v w one two h k p q =
       of_verdict free x v one two p (subst (λ u. AreDocumentTrees g x u two) (sym (verdict_unique free x v w h k)) q)
 

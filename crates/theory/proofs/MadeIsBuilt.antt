@@ -31,7 +31,8 @@ in_new Top p ts e = inl (refl, sym (head-eq_of_cons-eq e))
 in_new {m = m} {u = u} (Below {us = us} w) p ts e = inr (subst (λ l. StandsIn (trees l) m u) (ap children_of (head-eq_of_cons-eq e)) w)
 in_new (Past w) p ts e = absurd (nowhere w (tail-eq_of_cons-eq e))
 
-top_case : (p : ℕ) (ts : Forest) (under s below : List Tree) (q : ℕ) (vs : Forest) → s ≡ under ++ trees ts → (A B : Type 0) {m : List Tree} → StandsIn (Branch p ts ∷ []) m (Branch q vs) → below ≡ under ++ m → StandsIn s below (Branch q vs) ⊎ (A ⊎ (((under ≡ below) × (Branch p ts ≡ Branch q vs)) ⊎ B))
+top_case : (p : ℕ) (ts : Forest) (under s below : List Tree) (q : ℕ) (vs : Forest) → s ≡ under ++ trees ts → (A B : Type 0) {m : List Tree}
+    → StandsIn (Branch p ts ∷ []) m (Branch q vs) → below ≡ under ++ m → StandsIn s below (Branch q vs) ⊎ (A ⊎ (((under ≡ below) × (Branch p ts ≡ Branch q vs)) ⊎ B))
 top_case p ts under s below q vs from A B {m} v h =
     ⊎_elim
     (λ a. inr (inr (inl (sym (append-nil under) ∙ ap (λ l. under ++ l) (sym a.0) ∙ sym h, a.1))))
@@ -50,7 +51,8 @@ stamped_stands (StampedPast w) = Past (stamped_stands w)
 
 module _ (g : Grammar) where
   -- each branch was there before, or was taken over, or was made
-  pub made_or_taken : {s i s' i' : List Tree} (run : Goes_on g s i s' i') → (below : List Tree) (q : ℕ) (vs : Forest) → StandsIn s' below (Branch q vs) → StandsIn s below (Branch q vs) ⊎ (TakesOver g run below (Branch q vs) ⊎ MakesAt g run below (Branch q vs))
+  pub made_or_taken : {s i s' i' : List Tree} (run : Goes_on g s i s' i') → (below : List Tree) (q : ℕ) (vs : Forest) → StandsIn s' below (Branch q vs)
+      → StandsIn s below (Branch q vs) ⊎ (TakesOver g run below (Branch q vs) ⊎ MakesAt g run below (Branch q vs))
   made_or_taken Ends below q vs w = inl w
   made_or_taken (Reuses {stack = s} t ts f c more) below q vs w =
       ⊎_elim
@@ -97,7 +99,8 @@ module _ (g : Grammar) where
       (λ b. omega (arith, stands_branches b, one_branch q vs, ap all_branches a.0))
       (λ b. omega (arith, stands_branches b.1, branches-trees r.ts, ap branches a.1))
       (stands_split r.below (trees r.ts) (subst (λ l. StandsIn l below (Branch q vs)) r.from_is w)))
-      (λ b. made_not_before more below q vs (subst (λ l. StandsIn l below (Branch q vs)) (sym r.to_is) (stands_in_fold r.below r.number r.ts (subst (λ l. StandsIn l below (Branch q vs)) r.from_is w))) b)
+      (λ b. made_not_before more below q vs
+      (subst (λ l. StandsIn l below (Branch q vs)) (sym r.to_is) (stands_in_fold r.below r.number r.ts (subst (λ l. StandsIn l below (Branch q vs)) r.from_is w))) b)
       h
 
   -- nothing is both
@@ -111,12 +114,15 @@ module _ (g : Grammar) where
   not_both (Takes_token c ts f m more) below q vs h k = not_both more below q vs h k
   not_both (Makes s1 f t n r more) below q vs h k =
       ⊎_elim
-      (λ a. taken_not_before more below q vs (subst (λ l. StandsIn l below (Branch q vs)) (sym r.to_is) (subst (λ l. StandsIn (r.below ++ (Branch r.number r.ts ∷ [])) l (Branch q vs)) a.0 (subst (λ u. StandsIn (r.below ++ (Branch r.number r.ts ∷ [])) r.below u) a.1 (stands_on_top r.below (Branch r.number r.ts))))) h)
+      (λ a. taken_not_before more below q vs
+      (subst (λ l. StandsIn l below (Branch q vs)) (sym r.to_is) (subst (λ l. StandsIn (r.below ++ (Branch r.number r.ts ∷ [])) l (Branch q vs)) a.0
+      (subst (λ u. StandsIn (r.below ++ (Branch r.number r.ts ∷ [])) r.below u) a.1 (stands_on_top r.below (Branch r.number r.ts))))) h)
       (λ b. not_both more below q vs h b)
       k
 
   -- what lies in what is taken over is taken over
-  takes_inside : {s i s' i' : List Tree} (run : Goes_on g s i s' i') → (at : List Tree) (t : Tree) (inner : List Tree) (w : Tree) → TakesOver g run at t → StandsIn (t ∷ []) inner w → TakesOver g run (at ++ inner) w
+  takes_inside : {s i s' i' : List Tree} (run : Goes_on g s i s' i') → (at : List Tree) (t : Tree) (inner : List Tree) (w : Tree)
+      → TakesOver g run at t → StandsIn (t ∷ []) inner w → TakesOver g run (at ++ inner) w
   takes_inside Ends at t inner w h v = h
   takes_inside (Reuses {stack = s} u ts f c more) at t inner w h v =
       ⊎_elim
@@ -126,7 +132,8 @@ module _ (g : Grammar) where
   takes_inside (Takes_token k ts f m more) at t inner w h v = takes_inside more at t inner w h v
   takes_inside (Makes s1 f n j r more) at t inner w h v = takes_inside more at t inner w h v
 
-  taken_lies : (s : Splice) (old new : List Tree) {stack i s' i' : List Tree} (run : Goes_on g stack i s' i') → EachTaken g (TakenIsKept s old new) run → (below : List Tree) (w : Tree) → TakesOver g run below w → LiesInKept s old new below w
+  taken_lies : (s : Splice) (old new : List Tree) {stack i s' i' : List Tree} (run : Goes_on g stack i s' i') → EachTaken g (TakenIsKept s old new) run
+      → (below : List Tree) (w : Tree) → TakesOver g run below w → LiesInKept s old new below w
   taken_lies s old new Ends each below w h = absurd h
   taken_lies s old new (Reuses {stack = stack} t ts f c more) each below w h =
       ⊎_elim
@@ -140,7 +147,10 @@ module _ (g : Grammar) where
 
   module _ (free : HasNoConflict g) (productive : AllProductive g) where
     -- of the branches of the new trees, the run has made exactly those that lie in no kept node
-    pub made_iff_new : (s : Splice) (old input : List Tree) → IsPrepared s old input → {new input' : List Tree} (run : Goes_on g [] input new input') → ((at : List Tree) (p : ℕ) (us : Forest) → StandsIn new at (Branch p us) → 0 < length (yields us) → Taken g [] at p us (all_kinds input)) → (below : List Tree) (q : ℕ) (vs : Forest) → StandsIn new below (Branch q vs) → (MakesAt g run below (Branch q vs) → LiesInKept s old new below (Branch q vs) → ⊥) × ((LiesInKept s old new below (Branch q vs) → ⊥) → MakesAt g run below (Branch q vs))
+    pub made_iff_new : (s : Splice) (old input : List Tree) → IsPrepared s old input → {new input' : List Tree} (run : Goes_on g [] input new input')
+        → ((at : List Tree) (p : ℕ) (us : Forest) → StandsIn new at (Branch p us) → 0 < length (yields us) → Taken g [] at p us (all_kinds input))
+        → (below : List Tree) (q : ℕ) (vs : Forest) → StandsIn new below (Branch q vs) → (MakesAt g run below (Branch q vs) → LiesInKept s old new below (Branch q vs) → ⊥)
+        × ((LiesInKept s old new below (Branch q vs) → ⊥) → MakesAt g run below (Branch q vs))
     made_iff_new s old input prep {new} run can below q vs w = (made, new_is_made)
       where
         made : MakesAt g run below (Branch q vs) → LiesInKept s old new below (Branch q vs) → ⊥
@@ -157,7 +167,9 @@ module _ (g : Grammar) where
 
   module _ (free : HasNoConflict g) (productive : AllProductive g) where
     -- where the made branches carry the edit's number and no others do, the stamps are exact
-    pub stamps_exact : (n : ℕ) (s : Splice) (old input : List Tree) → IsPrepared s old input → (new : List Stamped) {input' : List Tree} (run : Goes_on g [] input (plain_trees new) input') → ((at : List Tree) (p : ℕ) (us : Forest) → StandsIn (plain_trees new) at (Branch p us) → 0 < length (yields us) → Taken g [] at p us (all_kinds input)) → ((below : List Tree) (p born : ℕ) (us : StampedForest) → StampedIn new below p born us → (born ≡ n) ↔ MakesAt g run below (Branch p (plain_all us))) → AreStampedExactly n s old new
+    pub stamps_exact : (n : ℕ) (s : Splice) (old input : List Tree) → IsPrepared s old input → (new : List Stamped) {input' : List Tree} (run : Goes_on g [] input (plain_trees new) input')
+        → ((at : List Tree) (p : ℕ) (us : Forest) → StandsIn (plain_trees new) at (Branch p us) → 0 < length (yields us) → Taken g [] at p us (all_kinds input))
+        → ((below : List Tree) (p born : ℕ) (us : StampedForest) → StampedIn new below p born us → (born ≡ n) ↔ MakesAt g run below (Branch p (plain_all us))) → AreStampedExactly n s old new
     stamps_exact n s old input prep new run can stamps below p born us w =
         let both = made_iff_new free productive s old input prep run can below p (plain_all us) (stamped_stands w) in
         let stamp = stamps below p born us w in
@@ -168,7 +180,8 @@ module _ (g : Grammar) where
   can_in_tree x t h at p us w = sentence_node g x t h at p us w
 
   -- and each node of the stack where the machine stops at a fault
-  pub can_at_fault : (x tail : List Kind) (settled : List Tree) → (h : IsSettledIn g x settled) → (at : List Tree) (p : ℕ) (us : Forest) → StandsIn (settled ++ (Leaf h.last ∷ [])) at (Branch p us) → Taken g [] at p us (x ++ tail)
+  pub can_at_fault : (x tail : List Kind) (settled : List Tree) → (h : IsSettledIn g x settled) → (at : List Tree) (p : ℕ) (us : Forest)
+      → StandsIn (settled ++ (Leaf h.last ∷ [])) at (Branch p us) → Taken g [] at p us (x ++ tail)
   can_at_fault x tail settled h at p us w =
       ⊎_elim
       (λ a. settled_node g x settled h tail at p us a)
@@ -182,14 +195,16 @@ module _ (g : Grammar) where
   goes_on_join (Takes_token k ts f m more) q = Takes_token k ts f m (goes_on_join more q)
   goes_on_join (Makes s1 f t n r more) q = Makes s1 f t n r (goes_on_join more q)
 
-  pub join_takes : {s1 i1 s2 i2 s3 i3 : List Tree} (p : Goes_on g s1 i1 s2 i2) (q : Goes_on g s2 i2 s3 i3) (below : List Tree) (w : Tree) → TakesOver g p below w ⊎ TakesOver g q below w → TakesOver g (goes_on_join p q) below w
+  pub join_takes : {s1 i1 s2 i2 s3 i3 : List Tree} (p : Goes_on g s1 i1 s2 i2) (q : Goes_on g s2 i2 s3 i3) (below : List Tree) (w : Tree)
+      → TakesOver g p below w ⊎ TakesOver g q below w → TakesOver g (goes_on_join p q) below w
   join_takes Ends q below w h = ⊎_elim (λ a. absurd a) (λ b. b) h
   join_takes (Reuses t ts f c more) q below w h =
       ⊎_elim (λ a. ⊎_elim (λ x. inl x) (λ y. inr (join_takes more q below w (inl y))) a) (λ b. inr (join_takes more q below w (inr b))) h
   join_takes (Takes_token k ts f m more) q below w h = join_takes more q below w h
   join_takes (Makes s1 f t n r more) q below w h = join_takes more q below w h
 
-  pub join_makes : {s1 i1 s2 i2 s3 i3 : List Tree} (p : Goes_on g s1 i1 s2 i2) (q : Goes_on g s2 i2 s3 i3) (below : List Tree) (w : Tree) → MakesAt g p below w ⊎ MakesAt g q below w → MakesAt g (goes_on_join p q) below w
+  pub join_makes : {s1 i1 s2 i2 s3 i3 : List Tree} (p : Goes_on g s1 i1 s2 i2) (q : Goes_on g s2 i2 s3 i3) (below : List Tree) (w : Tree)
+      → MakesAt g p below w ⊎ MakesAt g q below w → MakesAt g (goes_on_join p q) below w
   join_makes Ends q below w h = ⊎_elim (λ a. absurd a) (λ b. b) h
   join_makes (Reuses t ts f c more) q below w h = join_makes more q below w h
   join_makes (Takes_token k ts f m more) q below w h = join_makes more q below w h

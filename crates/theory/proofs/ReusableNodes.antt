@@ -28,14 +28,16 @@ module _ (g : Grammar) where
     tree_moves (Leaf Invalid) n h symbols z reach = absurd h
     tree_moves (Branch p ts) n h symbols z reach = subst (λ l. Moves l (look_at (yields ts) (kind_of (first z)))) (append-nil symbols) (trees_move ts h.0 h.2 [] p n h.1 symbols z reach)
 
-    pub trees_move : (ts : Forest) (ss : List Symbol) → AreTrees g ts ss → (before : List Symbol) (p n : ℕ) → HasProduction g p n (before ++ ss) → (d : List Symbol) (z : List ℕ) → Reaches g d (Some n) z → Moves (d ++ before) (look_at (yields ts) (kind_of (first z)))
+    pub trees_move : (ts : Forest) (ss : List Symbol) → AreTrees g ts ss → (before : List Symbol) (p n : ℕ) → HasProduction g p n (before ++ ss)
+        → (d : List Symbol) (z : List ℕ) → Reaches g d (Some n) z → Moves (d ++ before) (look_at (yields ts) (kind_of (first z)))
     trees_move Nil [] h before p n is_prod d z reach = (end_move (Some p), end_called g (Some p) (Some n) d before z reach (subst (HasProduction g p n) (append-nil before) is_prod))
     trees_move Nil (s ∷ ss) h before p n is_prod d z reach = absurd h
     trees_move (Cons t ts) [] h before p n is_prod d z reach = absurd h
     trees_move (Cons t ts) (Terminal a ∷ ss) h before p n is_prod d z reach =
         subst (λ u. Moves (d ++ before) (look_at (yield u ++ yields ts) (kind_of (first z)))) (sym (leaf_of g t a h.0)) (Shift, inside_called g (Some p) (Some n) d before a ss z reach is_prod)
     trees_move (Cons t ts) (Nonterminal m ∷ ss) h before p n is_prod d z reach =
-        moves_at (d ++ before) _ _ (ap (λ l. look_at (yield t) l) (sees ts ss z h.1) ∙ sym (look-append (yield t) (yields ts) (kind_of (first z)))) (tree_moves t m h.0 (d ++ before) (words ts ++ z) (reach_next g d before m ts ss p n z is_prod h.1 reach))
+        moves_at (d ++ before) _ _ (ap (λ l. look_at (yield t) l) (sees ts ss z h.1) ∙ sym (look-append (yield t) (yields ts) (kind_of (first z))))
+        (tree_moves t m h.0 (d ++ before) (words ts ++ z) (reach_next g d before m ts ss p n z is_prod h.1 reach))
 
   -- a node of trees that the machine is to read: where it comes to the node's left siblings, it has them on
   -- its stack, and could go on after the node's root with what follows the node
@@ -60,13 +62,16 @@ module _ (g : Grammar) where
   moved_dot d before s stack t roots h = subst (HaveRoots g (stack ++ (t ∷ []))) (append_assoc d before (s ∷ [])) (roots-append g stack (t ∷ []) (d ++ before) (s ∷ []) roots (h, tt))
 
   -- among the trees of what stands after the dot of an item
-  pub node_taken : {l lefts : List Tree} {t : Tree} → StandsIn l lefts t → (q : ℕ) (vs : Forest) → t ≡ Branch q vs → (ss : List Symbol) → HaveRoots g l ss → (before : List Symbol) (p n : ℕ) → HasProduction g p n (before ++ ss) → (d : List Symbol) (stack : List Tree) → HaveRoots g stack (d ++ before) → (z : List ℕ) → Reaches g d (Some n) z → Taken stack lefts q vs (all_kinds l ++ tokens z)
+  pub node_taken : {l lefts : List Tree} {t : Tree} → StandsIn l lefts t → (q : ℕ) (vs : Forest) → t ≡ Branch q vs → (ss : List Symbol) → HaveRoots g l ss
+      → (before : List Symbol) (p n : ℕ) → HasProduction g p n (before ++ ss) → (d : List Symbol) (stack : List Tree) → HaveRoots g stack (d ++ before)
+      → (z : List ℕ) → Reaches g d (Some n) z → Taken stack lefts q vs (all_kinds l ++ tokens z)
   node_taken Top q vs e [] h before p n is_prod d stack roots z reach = absurd h
   node_taken Top q vs e (Terminal a ∷ ss) h before p n is_prod d stack roots z reach = absurd (subst (λ u. IsTree g u (Terminal a)) e h.0)
   node_taken (Top {t = t} {ts = l}) q vs e (Nonterminal m ∷ ss) h before p n is_prod d stack roots z reach =
       let are = roots-forest g l ss h.1 in
       let rest = all_kinds l ++ tokens z in
-      let next : look_at rest None ≡ look_at (yields (forest l)) (kind_of (first z)) = look-append (all_kinds l) (tokens z) None ∙ ap (λ k. look_at (all_kinds l) k) (see_word z) ∙ ap (λ k. look_at k (kind_of (first z))) (sym (yields-forest l)) in
+      let next : look_at rest None ≡ look_at (yields (forest l)) (kind_of (first z)) = look-append (all_kinds l) (tokens z) None
+      ∙ ap (λ k. look_at (all_kinds l) k) (see_word z) ∙ ap (λ k. look_at k (kind_of (first z))) (sym (yields-forest l)) in
       let on = trees_move (forest l) ss are (before ++ (Nonterminal m ∷ [])) p n (subst (HasProduction g p n) (sym (append_assoc before (Nonterminal m ∷ []) ss)) is_prod) d z reach in
       record {
         rest = rest;
@@ -77,7 +82,8 @@ module _ (g : Grammar) where
           symbols = d ++ before;
           roots = subst (λ k. HaveRoots g k (d ++ before)) (sym (append-nil stack)) roots;
           run = subst (λ k. Run g (look_at (yields vs ++ rest) None) stack [] k) (sym (append-nil stack)) Stay;
-          goes_on = moves_at ((d ++ before) ++ (Nonterminal m ∷ [])) _ _ (sym next) (subst (λ k. Moves k (look_at (yields (forest l)) (kind_of (first z)))) (sym (append_assoc d before (Nonterminal m ∷ []))) on);
+          goes_on = moves_at ((d ++ before) ++ (Nonterminal m ∷ [])) _ _ (sym next)
+              (subst (λ k. Moves k (look_at (yields (forest l)) (kind_of (first z)))) (sym (append_assoc d before (Nonterminal m ∷ []))) on);
         };
       }
   node_taken (Below w) q vs e [] h before p n is_prod d stack roots z reach = absurd h
@@ -85,17 +91,21 @@ module _ (g : Grammar) where
   node_taken (Below {p = p'} {us = us} {ts = l} {lefts = lefts} w) q vs e (Nonterminal m ∷ ss) h before p n is_prod d stack roots z reach =
       let are = roots-forest g l ss h.1 in
       let z' = words (forest l) ++ z in
-      let inner = node_taken w q vs e h.0.0 (roots-trees g us h.0.0 h.0.2) [] p' m h.0.1 (d ++ before) stack (subst (HaveRoots g stack) (sym (append-nil (d ++ before))) roots) z' (reach_next g d before m (forest l) ss p n z is_prod are reach) in
+      let inner = node_taken w q vs e h.0.0 (roots-trees g us h.0.0 h.0.2) [] p' m h.0.1 (d ++ before) stack (subst (HaveRoots g stack) (sym (append-nil (d ++ before))) roots) z'
+      (reach_next g d before m (forest l) ss p n z is_prod are reach) in
       let tail : tokens z' ≡ all_kinds l ++ tokens z = tokens-append (words (forest l)) z ∙ ap (λ k. k ++ tokens z) (sym (yields-words g (forest l) ss are) ∙ yields-forest l) in
       subst (Taken stack lefts q vs) (ap (λ k. k ++ tokens z') (kinds-trees us) ∙ ap (λ k. yields us ++ k) tail ∙ sym (append_assoc (yields us) (all_kinds l) (tokens z))) inner
   node_taken (Past w) q vs e [] h before p n is_prod d stack roots z reach = absurd h
   node_taken (Past {u = u} {ts = l} {lefts = lefts} w) q vs e (s ∷ ss) h before p n is_prod d stack roots z reach =
       let are = roots-forest g l ss h.1 in
-      let inner = node_taken w q vs e ss h.1 (before ++ (s ∷ [])) p n (subst (HasProduction g p n) (sym (append_assoc before (s ∷ []) ss)) is_prod) d (stack ++ (u ∷ [])) (moved_dot d before s stack u roots h.0) z reach in
+      let inner = node_taken w q vs e ss h.1 (before ++ (s ∷ [])) p n (subst (HasProduction g p n) (sym (append_assoc before (s ∷ []) ss)) is_prod) d
+      (stack ++ (u ∷ [])) (moved_dot d before s stack u roots h.0) z reach in
       let c = inner.can in
       let joined = append_assoc stack (u ∷ []) lefts in
       let head = head_run g u s (forest l) ss before p n d stack z h.0 are is_prod roots reach in
-      let next : look_at (yields (forest l)) (kind_of (first z)) ≡ look_at (all_kinds lefts) (look_at (yields vs ++ inner.rest) None) = ap (λ k. look_at k (kind_of (first z))) (yields-forest l) ∙ ap (λ k. look_at (all_kinds l) k) (sym (see_word z)) ∙ sym (look-append (all_kinds l) (tokens z) None) ∙ ap (λ k. look_at k None) inner.kinds ∙ look-append (all_kinds lefts) (yields vs ++ inner.rest) None in
+      let next : look_at (yields (forest l)) (kind_of (first z)) ≡ look_at (all_kinds lefts) (look_at (yields vs ++ inner.rest) None) =
+      ap (λ k. look_at k (kind_of (first z))) (yields-forest l) ∙ ap (λ k. look_at (all_kinds l) k) (sym (see_word z)) ∙ sym (look-append (all_kinds l) (tokens z) None)
+      ∙ ap (λ k. look_at k None) inner.kinds ∙ look-append (all_kinds lefts) (yields vs ++ inner.rest) None in
       let run = run_join g (all_kinds lefts) (subst (λ k. Run g k stack (yield u) (stack ++ (u ∷ []))) next head) c.run in
       record {
         rest = inner.rest;
@@ -110,7 +120,8 @@ module _ (g : Grammar) where
         };
       }
 
-  in_one : {l lefts : List Tree} {t : Tree} → StandsIn l lefts t → (whole : Tree) → l ≡ whole ∷ [] → (q : ℕ) (vs : Forest) → t ≡ Branch q vs → IsTree g whole (Nonterminal g.start) → Taken [] lefts q vs (yield whole ++ [])
+  in_one : {l lefts : List Tree} {t : Tree} → StandsIn l lefts t → (whole : Tree) → l ≡ whole ∷ [] → (q : ℕ) (vs : Forest) → t ≡ Branch q vs
+      → IsTree g whole (Nonterminal g.start) → Taken [] lefts q vs (yield whole ++ [])
   in_one (Top {t = t}) whole e q vs f h =
       let same : whole ≡ Branch q vs = sym (head-eq_of_cons-eq e) ∙ f in
       record {

@@ -76,7 +76,8 @@ seen_later ts c cs h =
 -- each node, seen from the trees of all
 pub cell_at : (ts : List Stamped) (cs : List Cell) → AreCells ts cs → (i : ℕ) (c d : Cell) → i < length cs → c ≡ get_or cs i d → IsAt (trees_from ts cs) (length ts + i) c
 cell_at ts [] h i c d l e = absurd (omega (arith, l))
-cell_at ts (b ∷ cs) h zero c d l e = let n : length ts ≡ length ts + 0 = omega arith in subst (λ k. IsAt (trees_from ts (b ∷ cs)) k c) n (subst (λ x. IsAt (trees_from ts (b ∷ cs)) (length ts) x) (sym e) (seen_later ts b cs h.0))
+cell_at ts (b ∷ cs) h zero c d l e = let n : length ts ≡ length ts + 0 = omega arith in subst (λ k. IsAt (trees_from ts (b ∷ cs)) k c) n
+    (subst (λ x. IsAt (trees_from ts (b ∷ cs)) (length ts) x) (sym e) (seen_later ts b cs h.0))
 cell_at ts (b ∷ cs) h (suc i) c d l e =
     let more = ts ++ (branch_of ts b ∷ []) in
     let n : length more + i ≡ length ts + suc i = omega (arith, length-append ts (branch_of ts b ∷ [])) in
@@ -99,7 +100,8 @@ below-at n (b ∷ cs) zero c d h l e = subst (IsBelow n) (sym e) h.0
 below-at n (b ∷ cs) (suc i) c d h l e = below-at n cs i c d h.1 (omega (arith, l)) e
 
 -- what is to be added fits the store
-pub cell_made : (cells : List Cell) (c : Cell) (cs : List Child) → c.children ≡ cs → AreBelow (length cells) cs → c.tokens ≡ min most (tokens_below cells cs) → c.size ≡ min most (1 + branches_below cells cs) → IsCell (trees_from [] cells) c
+pub cell_made : (cells : List Cell) (c : Cell) (cs : List Child) → c.children ≡ cs → AreBelow (length cells) cs → c.tokens ≡ min most (tokens_below cells cs)
+    → c.size ≡ min most (1 + branches_below cells cs) → IsCell (trees_from [] cells) c
 cell_made cells c cs e h t s =
     let n : length cells ≤ length (trees_from [] cells) = omega (arith, from-length [] cells) in
     record {
@@ -116,7 +118,8 @@ grown-trees cells c = from-append [] cells (c ∷ [])
 pub grown-tree : (cells : List Cell) (c : Cell) (child : Child) → IsBelow (length cells) child → tree (cells ++ (c ∷ [])) child ≡ tree cells child
 grown-tree cells c child h =
     let n : length cells ≤ length (trees_from [] cells) = omega (arith, from-length [] cells) in
-    ap (λ l. tree_of l child) (grown-trees cells c) ∙ tree-more (trees_from [] cells) (branch_of (trees_from [] cells) c ∷ []) child (below-more (length cells) (length (trees_from [] cells)) n child h)
+    ap (λ l. tree_of l child) (grown-trees cells c) ∙ tree-more (trees_from [] cells) (branch_of (trees_from [] cells) c ∷ []) child
+    (below-more (length cells) (length (trees_from [] cells)) n child h)
 
 -- the tree of the new node
 pub grown-new : (cells : List Cell) (c : Cell) (id : NodeId) → id.index ≡ length cells → tree (cells ++ (c ∷ [])) (Node id) ≡ branch_of (trees_from [] cells) c
@@ -132,7 +135,8 @@ cut-tree cells n child h l =
     let all : one ++ drop n cells ≡ cells = take-append-drop n cells in
     let long : n ≤ length (trees_from [] one) = omega (arith, from-length [] one, length-take n cells, l) in
     let r = from-prefix (trees_from [] one) (drop n cells) in
-    sym (tree-more (trees_from [] one) r.0 child (below-more n (length (trees_from [] one)) long child h)) ∙ ap (λ l. tree_of l child) (sym r.1 ∙ sym (from-append [] one (drop n cells)) ∙ ap (trees_from []) all)
+    sym (tree-more (trees_from [] one) r.0 child (below-more n (length (trees_from [] one)) long child h))
+    ∙ ap (λ l. tree_of l child) (sym r.1 ∙ sym (from-append [] one (drop n cells)) ∙ ap (trees_from []) all)
 
 pub take-tree : (cells : List Cell) (n : ℕ) (child : Child) → IsBelow n child → tree (take n cells) child ≡ tree cells child
 take-tree cells n child h =

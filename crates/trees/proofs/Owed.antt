@@ -28,7 +28,8 @@ owed_all n ts marks (Token k ∷ cs) h = omega (arith, owed_all n ts marks cs h.
 owed_all n ts marks (Node id ∷ cs) h = omega (arith, owed_set n ts marks id.index h.0, owed_all n ts (set marks id.index true) cs h.1)
 
 -- the branches of a marked tree are one for its mark, and those below
-owed_yes : (i : ℕ) (ts : List Stamped) (marks : List Bool) → i < length ts → get_or marks i false ≡ true → owed (suc i) ts marks + 1 ≡ owed i ts marks + branches (plain (get_or ts i (StampedLeaf Invalid)))
+owed_yes : (i : ℕ) (ts : List Stamped) (marks : List Bool) → i < length ts → get_or marks i false ≡ true
+    → owed (suc i) ts marks + 1 ≡ owed i ts marks + branches (plain (get_or ts i (StampedLeaf Invalid)))
 owed_yes i [] marks l e = absurd (omega (arith, l))
 owed_yes i (t ∷ ts) [] l e = let f : ⊥ = cc e in absurd f
 owed_yes zero (t ∷ ts) (true ∷ marks) l e =
@@ -47,7 +48,8 @@ owed_no zero (t ∷ ts) (false ∷ marks) l e = sum_by-cons (λ mark. cond mark 
 owed_no (suc i) (t ∷ ts) (mark ∷ marks) l e = omega (arith, owed_no i ts marks (omega (arith, l)) e)
 
 -- a marked node pays for its children
-pub owed_next : (cells : List Cell) (marks : List Bool) (i : ℕ) → IsStore cells → i < length cells → get_or marks i false ≡ true → owed i (trees_from [] cells) (mark_all marks (get_or cells i blank).children) ≤ owed (suc i) (trees_from [] cells) marks
+pub owed_next : (cells : List Cell) (marks : List Bool) (i : ℕ) → IsStore cells → i < length cells → get_or marks i false ≡ true
+    → owed i (trees_from [] cells) (mark_all marks (get_or cells i blank).children) ≤ owed (suc i) (trees_from [] cells) marks
 owed_next cells marks i s l e =
     let ts = trees_from [] cells in
     let cell = get_or cells i blank in
@@ -55,5 +57,6 @@ owed_next cells marks i s l e =
     omega (arith, owed_all i ts marks cell.children at.inside, owed_yes i ts marks (omega (arith, l, from-length [] cells)) e, ap (λ t. branches (plain t)) at.is, branches-forest ts cell.children)
 
 -- the branches from a root on
-pub sizes_from : (cells : List Cell) (ids : List NodeId) (i : ℕ) (none : NodeId) → i < length ids → sizes cells (nodes (drop i ids)) ≡ branches (plain (tree cells (Node (get_or ids i none)))) + sizes cells (nodes (drop (i + 1) ids))
+pub sizes_from : (cells : List Cell) (ids : List NodeId) (i : ℕ) (none : NodeId) → i < length ids → sizes cells (nodes (drop i ids))
+    ≡ branches (plain (tree cells (Node (get_or ids i none)))) + sizes cells (nodes (drop (i + 1) ids))
 sizes_from cells ids i none l = ap (λ l. sizes cells (nodes l)) (drop_more ids i none l)

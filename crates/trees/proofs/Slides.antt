@@ -71,7 +71,8 @@ mark-above n marks (Node id ∷ cs) h j l =
     mark-above n (set marks id.index true) cs h.1 j l ∙ get_or-set_other marks id.index j true false other
 
 -- the children of one more node are marked
-pub closed_next : (cells : List Cell) (marks : List Bool) (i : ℕ) → IsStore cells → i < length cells → length marks ≡ length cells → IsClosedFrom (i + 1) cells marks → IsClosedFrom i cells (mark_all marks (get_or cells i blank).children)
+pub closed_next : (cells : List Cell) (marks : List Bool) (i : ℕ) → IsStore cells → i < length cells → length marks ≡ length cells
+    → IsClosedFrom (i + 1) cells marks → IsClosedFrom i cells (mark_all marks (get_or cells i blank).children)
 closed_next cells marks i s l m h j le e =
     let cs = (get_or cells i blank).children in
     let inside = (store_at cells s i (get_or cells i blank) blank l refl).inside in
@@ -122,12 +123,14 @@ rank_lt marks i j e l =
 abbrev pub Slid : List Cell → List Bool → List ℕ → ℕ → List Cell → Type 0
 Slid old marks ranks i new = (id : NodeId) → id.index < i → IsMarked marks (Node id) → tree new (renamed ranks (Node id)) ≡ tree old (Node id)
 
-slid_forest : (old new : List Cell) (marks : List Bool) (ranks : List ℕ) (i : ℕ) (cs : List Child) → Slid old marks ranks i new → AreBelow i cs → AreMarked marks cs → forest_in new (map (renamed ranks) cs) ≡ forest_in old cs
+slid_forest : (old new : List Cell) (marks : List Bool) (ranks : List ℕ) (i : ℕ) (cs : List Child) → Slid old marks ranks i new
+    → AreBelow i cs → AreMarked marks cs → forest_in new (map (renamed ranks) cs) ≡ forest_in old cs
 slid_forest old new marks ranks i [] h b m = refl
 slid_forest old new marks ranks i (Token k ∷ cs) h b m = λ j. StampedCons (StampedLeaf k) (slid_forest old new marks ranks i cs h b.1 m.1 j)
 slid_forest old new marks ranks i (Node id ∷ cs) h b m = λ j. StampedCons (h id b.0 m.0 j) (slid_forest old new marks ranks i cs h b.1 m.1 j)
 
-pub slid_below : (marks : List Bool) (ranks : List ℕ) (i : ℕ) (cs : List Child) → AreRanks marks ranks → i ≤ length marks → AreBelow i cs → AreMarked marks cs → AreBelow (rank marks i) (map (renamed ranks) cs)
+pub slid_below : (marks : List Bool) (ranks : List ℕ) (i : ℕ) (cs : List Child) → AreRanks marks ranks → i ≤ length marks
+    → AreBelow i cs → AreMarked marks cs → AreBelow (rank marks i) (map (renamed ranks) cs)
 slid_below marks ranks i [] r l b m = tt
 slid_below marks ranks i (Token k ∷ cs) r l b m = (tt, slid_below marks ranks i cs r l b.1 m.1)
 slid_below marks ranks i (Node id ∷ cs) r l b m =
@@ -142,7 +145,9 @@ pub record IsNext (old : List Cell) (marks : List Bool) (ranks : List ℕ) (i : 
   pub store : IsStore new
   pub trees : Slid old marks ranks (i + 1) new
 
-pub slid_next : (old new : List Cell) (marks : List Bool) (ranks : List ℕ) (i : ℕ) → IsStore old → IsStore new → i < length old → length marks ≡ length old → IsClosed old marks → AreRanks marks ranks → get_or marks i false ≡ true → length new ≡ rank marks i → Slid old marks ranks i new → IsNext old marks ranks i (new ++ (slid_cell ranks (get_or old i blank) ∷ []))
+pub slid_next : (old new : List Cell) (marks : List Bool) (ranks : List ℕ) (i : ℕ) → IsStore old → IsStore new → i < length old → length marks ≡ length old
+    → IsClosed old marks → AreRanks marks ranks → get_or marks i false ≡ true → length new ≡ rank marks i → Slid old marks ranks i new
+    → IsNext old marks ranks i (new ++ (slid_cell ranks (get_or old i blank) ∷ []))
 slid_next old new marks ranks i so sn l m cl r e n h =
     let c = get_or old i blank in
     let next = slid_cell ranks c in
@@ -150,7 +155,8 @@ slid_next old new marks ranks i so sn l m cl r e n h =
     let marked = cl i (omega arith) e in
     let forest = slid_forest old new marks ranks i c.children h at.inside marked in
     let below = slid_below marks ranks i c.children r (omega (arith, l, m)) at.inside marked in
-    let is : IsCell (trees_from [] new) next = cell_made new next (map (renamed ranks) c.children) refl (subst (λ k. AreBelow k (map (renamed ranks) c.children)) (sym n) below) (subst (λ f. c.tokens ≡ min most (length (yields (plain_all f)))) (sym forest) at.cell.tokens) (subst (λ f. c.size ≡ min most (1 + branches_of (plain_all f))) (sym forest) at.cell.size) in
+    let is : IsCell (trees_from [] new) next = cell_made new next (map (renamed ranks) c.children) refl (subst (λ k. AreBelow k (map (renamed ranks) c.children)) (sym n) below)
+    (subst (λ f. c.tokens ≡ min most (length (yields (plain_all f)))) (sym forest) at.cell.tokens) (subst (λ f. c.size ≡ min most (1 + branches_of (plain_all f))) (sym forest) at.cell.size) in
     let meant : branch_of (trees_from [] new) next ≡ get_or (trees_from [] old) i (StampedLeaf Invalid) = ap (λ f. StampedBranch c.production c.born f) forest ∙ sym at.is in
     record {
       store = cells-push [] new next sn is;
@@ -163,7 +169,8 @@ slid_next old new marks ranks i so sn l m cl r e n h =
     }
 
 -- all nodes have slid: the trees of marked children are what they were, under the new names
-pub slid_trees : (old new : List Cell) (marks : List Bool) (ranks : List ℕ) (cs : List Child) → ((c : Child) → IsMarked marks c → tree new (renamed ranks c) ≡ tree old c) → AreMarked marks cs → all_trees new (map (renamed ranks) cs) ≡ all_trees old cs
+pub slid_trees : (old new : List Cell) (marks : List Bool) (ranks : List ℕ) (cs : List Child) → ((c : Child) → IsMarked marks c → tree new (renamed ranks c) ≡ tree old c)
+    → AreMarked marks cs → all_trees new (map (renamed ranks) cs) ≡ all_trees old cs
 slid_trees old new marks ranks [] h m = refl
 slid_trees old new marks ranks (c ∷ cs) h m = λ i. h c m.0 i ∷ slid_trees old new marks ranks cs h m.1 i
 
@@ -193,7 +200,8 @@ pub record IsSlidTo (old : List Cell) (marks : List Bool) (ranks : List ℕ) (i 
   pub store : IsStore (take next cells)
   pub trees : Slid old marks ranks i (take next cells)
 
-pub slid_skip : (old : List Cell) (marks : List Bool) (ranks : List ℕ) (i : ℕ) (cells : List Cell) (next : ℕ) → i < length marks → get_or marks i false ≡ false → IsSlidTo old marks ranks i cells next → IsSlidTo old marks ranks (i + 1) cells next
+pub slid_skip : (old : List Cell) (marks : List Bool) (ranks : List ℕ) (i : ℕ) (cells : List Cell) (next : ℕ) → i < length marks → get_or marks i false ≡ false
+    → IsSlidTo old marks ranks i cells next → IsSlidTo old marks ranks (i + 1) cells next
 slid_skip old marks ranks i cells next l e h = record {
   long = h.long;
   next_is = h.next_is ∙ sym (rank_same marks i l e);
@@ -207,25 +215,32 @@ slid_skip old marks ranks i cells next l e h = record {
   ];
 }
 
-pub slid_step : (old : List Cell) (marks : List Bool) (ranks : List ℕ) (i : ℕ) (cells : List Cell) (next : ℕ) (swapped : List Cell) (was cell : Cell) → IsStore old → length marks ≡ length old → IsClosed old marks → AreRanks marks ranks → get_or marks i false ≡ true → IsSlidTo old marks ranks i cells next → SwappedAt cells swapped next i → was ≡ get_or swapped next was → cell ≡ slid_cell ranks was → IsSlidTo old marks ranks (i + 1) (set swapped next cell) (next + 1)
+pub slid_step : (old : List Cell) (marks : List Bool) (ranks : List ℕ) (i : ℕ) (cells : List Cell) (next : ℕ) (swapped : List Cell) (was cell : Cell) → IsStore old
+    → length marks ≡ length old → IsClosed old marks → AreRanks marks ranks → get_or marks i false ≡ true → IsSlidTo old marks ranks i cells next
+    → SwappedAt cells swapped next i → was ≡ get_or swapped next was → cell ≡ slid_cell ranks was → IsSlidTo old marks ranks (i + 1) (set swapped next cell) (next + 1)
 slid_step old marks ranks i cells next swapped was cell so m cl r e h s read is =
     let within = set_within marks i e in
     let le : next ≤ i = omega (arith, h.next_is, rank_le marks i) in
     let l : i < length cells = omega (arith, within, m, h.long) in
-    let is_slid : cell ≡ slid_cell ranks (get_or old i blank) = is ∙ ap (slid_cell ranks) (get_or_read_under old i (length old) was blank (read ∙ s.0 was ∙ same_next cells old i was h.rest) (omega (arith, within, m)) refl) in
-    let all : set swapped next cell ≡ set (set (set cells next (get_or cells i blank)) i (get_or cells next blank)) next (slid_cell ranks (get_or old i blank)) = λ k. set (s.3 blank k) next (is_slid k) in
+    let is_slid : cell ≡ slid_cell ranks (get_or old i blank) =
+    is ∙ ap (slid_cell ranks) (get_or_read_under old i (length old) was blank (read ∙ s.0 was ∙ same_next cells old i was h.rest) (omega (arith, within, m)) refl) in
+    let all : set swapped next cell ≡ set (set (set cells next (get_or cells i blank)) i (get_or cells next blank)) next
+    (slid_cell ranks (get_or old i blank)) = λ k. set (s.3 blank k) next (is_slid k) in
     let taken = ap (take (next + 1)) all ∙ swapped_take cells next i (get_or cells i blank) (get_or cells next blank) (slid_cell ranks (get_or old i blank)) le l in
     let long : length (take next cells) ≡ rank marks i = omega (arith, length-take next cells, le, l, h.next_is) in
     let more = slid_next old (take next cells) marks ranks i so h.store (omega (arith, within, m)) m cl r e long h.trees in
     record {
-      long = ap length all ∙ length-set (set (set cells next (get_or cells i blank)) i (get_or cells next blank)) next (slid_cell ranks (get_or old i blank)) ∙ length-set (set cells next (get_or cells i blank)) i (get_or cells next blank) ∙ length-set cells next (get_or cells i blank) ∙ h.long;
+      long = ap length all ∙ length-set (set (set cells next (get_or cells i blank)) i (get_or cells next blank)) next (slid_cell ranks (get_or old i blank))
+          ∙ length-set (set cells next (get_or cells i blank)) i (get_or cells next blank) ∙ length-set cells next (get_or cells i blank) ∙ h.long;
       next_is = omega (arith, h.next_is, rank_more marks i e);
       rest = ap (drop (i + 1)) all ∙ swapped_drop cells next i (get_or cells i blank) (get_or cells next blank) (slid_cell ranks (get_or old i blank)) le ∙ rest_more cells old i h.rest;
       store = subst IsStore (sym taken) more.store;
       trees = subst (Slid old marks ranks (i + 1)) (sym taken) more.trees;
     }
 
-pub swapped_below : (old : List Cell) (marks : List Bool) (ranks : List ℕ) (i : ℕ) (cells : List Cell) (next : ℕ) (swapped : List Cell) (cell : Cell) → IsStore old → length marks ≡ length old → AreRanks marks ranks → get_or marks i false ≡ true → IsSlidTo old marks ranks i cells next → SwappedAt cells swapped next i → cell ≡ get_or swapped next cell → AreBelow (length ranks) cell.children
+pub swapped_below : (old : List Cell) (marks : List Bool) (ranks : List ℕ) (i : ℕ) (cells : List Cell) (next : ℕ) (swapped : List Cell) (cell : Cell) → IsStore old
+    → length marks ≡ length old → AreRanks marks ranks → get_or marks i false ≡ true → IsSlidTo old marks ranks i cells next
+    → SwappedAt cells swapped next i → cell ≡ get_or swapped next cell → AreBelow (length ranks) cell.children
 swapped_below old marks ranks i cells next swapped cell so m r e h s is =
     let within = set_within marks i e in
     let at = store_at old so i cell cell (omega (arith, within, m)) (is ∙ s.0 cell ∙ same_next cells old i cell h.rest) in

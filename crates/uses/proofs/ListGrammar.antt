@@ -68,7 +68,8 @@ lists_sound = record {
 }
 
 -- productions that are pushed as in the examples are this grammar
-pub pushed : (none one both : Shape) (first second : List Symbol) → none ≡ no_productions 1 1 0 → first ≡ [] → one ≡ with_production none (record { left = 0; right = first }) → second ≡ Nonterminal 0 ∷ Terminal 0 ∷ [] → both ≡ with_production one (record { left = 0; right = second }) → both ≡ lists
+pub pushed : (none one both : Shape) (first second : List Symbol) → none ≡ no_productions 1 1 0 → first ≡ [] → one ≡ with_production none (record { left = 0; right = first })
+    → second ≡ Nonterminal 0 ∷ Terminal 0 ∷ [] → both ≡ with_production one (record { left = 0; right = second }) → both ≡ lists
 pushed none one both first second a b c d e = e ∙ (λ i. with_production ((c ∙ (λ j. with_production (a j) (record { left = 0; right = b j }))) i) (record { left = 0; right = d i }))
 
 -- what holds of a value holds of what `ok` returns

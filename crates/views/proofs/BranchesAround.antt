@@ -20,7 +20,8 @@ module _ (reached first : ℕ) where
   none_all from (t ∷ ts) l = λ i. none_of from t l i ++ none_all (from + length (yield t)) ts (omega arith) i
 
   -- a branch that stands around the offset, and others
-  pub around_span : (from p : ℕ) (us : Forest) → is_around reached first from (from + length (yields us)) ≡ true → spans_of reached first from (Branch p us) ≡ (from, from + length (yields us)) ∷ spans_in reached first from us
+  pub around_span : (from p : ℕ) (us : Forest) → is_around reached first from (from + length (yields us)) ≡ true
+      → spans_of reached first from (Branch p us) ≡ (from, from + length (yields us)) ∷ spans_in reached first from us
   around_span from p us e = rw e refl
 
   pub around_none : (from : ℕ) (t : Tree) → is_around reached first from (from + length (yield t)) ≡ false → spans_of reached first from t ≡ []
@@ -28,7 +29,8 @@ module _ (reached first : ℕ) where
   around_none from (Branch p us) e = rw e refl
 
   -- where a tree stands around the offset, none after it does
-  pub only_first : reached ≤ first + 1 → (from : ℕ) (t : Tree) (ts : List Tree) → is_around reached first from (from + length (yield t)) ≡ true → spans_all reached first from (t ∷ ts) ≡ spans_of reached first from t
+  pub only_first : reached ≤ first + 1 → (from : ℕ) (t : Tree) (ts : List Tree) → is_around reached first from (from + length (yield t)) ≡ true
+      → spans_all reached first from (t ∷ ts) ≡ spans_of reached first from t
   only_first near from t ts e =
       let ends : first < from + length (yield t) = ltb-true first (from + length (yield t)) (and_parts (nat_lt from reached) (nat_lt first (from + length (yield t))) e).1 in
       ap (λ ss. spans_of reached first from t ++ ss) (none_all (from + length (yield t)) ts (omega arith)) ∙ append-nil (spans_of reached first from t)
@@ -49,7 +51,8 @@ module _ (g : Grammar) (reached first : ℕ) where
   joined from t ts s (inl h) = (h.0, (nodes_from_append g from (t ∷ []) ts h.0).1 (inl h.1), h.2, h.3, h.4, h.5)
   joined from t ts s (inr h) = (h.0, (nodes_from_append g from (t ∷ []) ts h.0).1 (inr (subst (λ k. IsNodeFrom g k ts h.0) (sym (alone from t)) h.1)), h.2, h.3, h.4, h.5)
 
-  either : (from : ℕ) (t : Tree) (ts : List Tree) (ss rs : List (ℕ × ℕ)) (s : ℕ × ℕ) → (Contains ss s → IsSpan from (t ∷ []) s) → (Contains rs s → IsSpan (from + length (yield t)) ts s) → Contains ss s ⊎ Contains rs s → IsSpan from (t ∷ ts) s
+  either : (from : ℕ) (t : Tree) (ts : List Tree) (ss rs : List (ℕ × ℕ)) (s : ℕ × ℕ) → (Contains ss s → IsSpan from (t ∷ []) s)
+      → (Contains rs s → IsSpan (from + length (yield t)) ts s) → Contains ss s ⊎ Contains rs s → IsSpan from (t ∷ ts) s
   either from t ts ss rs s one two (inl d) = joined from t ts s (inl (one d))
   either from t ts ss rs s one two (inr d) = joined from t ts s (inr (two d))
 
@@ -65,7 +68,8 @@ module _ (g : Grammar) (reached first : ℕ) where
         here : Node
         here = record { symbol = n; from = from; to = to }
 
-        cases : is_around reached first from to ≡ true → (Contains (spans_in reached first from us) s → IsSpan from (trees us) s) → ((from, to) ≡ s) ⊎ Contains (spans_in reached first from us) s → IsSpan from (Branch p us ∷ []) s
+        cases : is_around reached first from to ≡ true → (Contains (spans_in reached first from us) s → IsSpan from (trees us) s)
+            → ((from, to) ≡ s) ⊎ Contains (spans_in reached first from us) s → IsSpan from (Branch p us ∷ []) s
         cases e below (inl f) =
             let parts = and_parts _ _ e in
             (here, (nodes_from_branch g from p us [] here).1 (inl (h.0, h.1, refl, refl)), ap (λ (x : ℕ × ℕ). x.0) f, ap (λ (x : ℕ × ℕ). x.1) f, ltb-true _ _ parts.0, ltb-true _ _ parts.1)
@@ -73,7 +77,8 @@ module _ (g : Grammar) (reached first : ℕ) where
             let b = below d in
             (b.0, (nodes_from_branch g from p us [] b.0).1 (inr (inl b.1)), b.2, b.3, b.4, b.5)
 
-        go : (b : Bool) → is_around reached first from to ≡ b → Contains (cond b ((from, to) ∷ spans_in reached first from us) []) s → (Contains (spans_in reached first from us) s → IsSpan from (trees us) s) → IsSpan from (Branch p us ∷ []) s
+        go : (b : Bool) → is_around reached first from to ≡ b → Contains (cond b ((from, to) ∷ spans_in reached first from us) []) s
+            → (Contains (spans_in reached first from us) s → IsSpan from (trees us) s) → IsSpan from (Branch p us ∷ []) s
         go true e d below = cases e below (Contains-cases (from, to) (spans_in reached first from us) s d)
         go false e d below = absurd (Contains-none s d)
 
@@ -81,7 +86,8 @@ module _ (g : Grammar) (reached first : ℕ) where
     span_in from Nil symbols s h c = absurd (Contains-none s c)
     span_in from (Cons t us) [] s h c = absurd h
     span_in from (Cons t us) (x ∷ xs) s h c =
-        either from t (trees us) (spans_of reached first from t) (spans_in reached first (from + length (yield t)) us) s (λ d. span_of from t x s h.0 d) (λ d. span_in (from + length (yield t)) us xs s h.1 d)
+        either from t (trees us) (spans_of reached first from t) (spans_in reached first (from + length (yield t)) us) s
+        (λ d. span_of from t x s h.0 d) (λ d. span_in (from + length (yield t)) us xs s h.1 d)
         (Contains-append_cases (spans_of reached first from t) (spans_in reached first (from + length (yield t)) us) s c)
 
   -- each span is that of a node
@@ -96,7 +102,8 @@ module _ (g : Grammar) (reached first : ℕ) where
   abbrev Shown : List (ℕ × ℕ) → Node → Type 0
   Shown ss n = n.from < reached → first < n.to → Contains ss (n.from, n.to)
 
-  parted : (from : ℕ) (t : Tree) (ts : List Tree) (ss rs : List (ℕ × ℕ)) (n : Node) → (IsNodeFrom g from (t ∷ []) n → Contains ss (n.from, n.to)) → (IsNodeFrom g (from + length (yield t)) ts n → Contains rs (n.from, n.to)) → ListParts g from (t ∷ []) ts n → Contains (ss ++ rs) (n.from, n.to)
+  parted : (from : ℕ) (t : Tree) (ts : List Tree) (ss rs : List (ℕ × ℕ)) (n : Node) → (IsNodeFrom g from (t ∷ []) n → Contains ss (n.from, n.to))
+      → (IsNodeFrom g (from + length (yield t)) ts n → Contains rs (n.from, n.to)) → ListParts g from (t ∷ []) ts n → Contains (ss ++ rs) (n.from, n.to)
   parted from t ts ss rs n one two (inl w) = Contains-append_left ss rs (n.from, n.to) (one w)
   parted from t ts ss rs n one two (inr w) = Contains-append_right ss rs (n.from, n.to) (two (subst (λ k. IsNodeFrom g k ts n) (alone from t) w))
 
@@ -117,17 +124,20 @@ module _ (g : Grammar) (reached first : ℕ) where
         here : spans_of reached first from (Branch p us) ≡ (from, to) ∷ spans_in reached first from us
         here = around_span reached first from p us (and_from (nat_lt from reached) (nat_lt first to) (lt-ltb from reached (omega (arith, within.0))) (lt-ltb first to (omega (arith, within.2, ends))))
 
-        go : (IsNodeFrom g from (trees us) n → Contains (spans_in reached first from us) (n.from, n.to)) → BranchParts g from p us [] n → Contains (spans_of reached first from (Branch p us)) (n.from, n.to)
+        go : (IsNodeFrom g from (trees us) n → Contains (spans_in reached first from us) (n.from, n.to)) → BranchParts g from p us [] n
+            → Contains (spans_of reached first from (Branch p us)) (n.from, n.to)
         go below (inl e) =
             let same : (from, to) ≡ (n.from, n.to) = λ i. (sym e.2 i, sym e.3 i) in
-            subst (λ ss. Contains ss (n.from, n.to)) (sym here) (subst (λ s. Contains ((from, to) ∷ spans_in reached first from us) s) same (Contains-first (from, to) (spans_in reached first from us)))
+            subst (λ ss. Contains ss (n.from, n.to)) (sym here)
+            (subst (λ s. Contains ((from, to) ∷ spans_in reached first from us) s) same (Contains-first (from, to) (spans_in reached first from us)))
         go below (inr (inl w)) = subst (λ ss. Contains ss (n.from, n.to)) (sym here) (Contains-later (from, to) (spans_in reached first from us) (n.from, n.to) (below w))
         go below (inr (inr w)) = absurd (nodes_from_none g to n w)
 
     node_in : (from : ℕ) (us : Forest) (n : Node) → IsNodeFrom g from (trees us) n → Shown (spans_in reached first from us) n
     node_in from Nil n h a b = absurd (nodes_from_none g from n h)
     node_in from (Cons t us) n h a b =
-        parted from t (trees us) (spans_of reached first from t) (spans_in reached first (from + length (yield t)) us) n (λ w. node_of from t n w a b) (λ w. node_in (from + length (yield t)) us n w a b)
+        parted from t (trees us) (spans_of reached first from t) (spans_in reached first (from + length (yield t)) us) n
+        (λ w. node_of from t n w a b) (λ w. node_in (from + length (yield t)) us n w a b)
         ((nodes_from_append g from (t ∷ []) (trees us) n).0 h)
 
   pub node_all : (from : ℕ) (ts : List Tree) (n : Node) → IsNodeFrom g from ts n → Shown (spans_all reached first from ts) n
@@ -140,7 +150,8 @@ module _ (g : Grammar) (reached first : ℕ) where
   module _ (near : reached ≤ first + 1) where
     one_empty : (from : ℕ) (t : Tree) (ts : List Tree) → (spans_of reached first from t ≡ []) ⊎ (spans_all reached first (from + length (yield t)) ts ≡ [])
     one_empty from t ts = elim (cases_Bool (is_around reached first from (from + length (yield t)))) [
-      | inl e ↦ let ends : first < from + length (yield t) = ltb-true first (from + length (yield t)) (and_parts (nat_lt from reached) (nat_lt first (from + length (yield t))) e).1 in inr (none_all reached first (from + length (yield t)) ts (omega arith))
+      | inl e ↦ let ends : first < from + length (yield t) = ltb-true first (from + length (yield t)) (and_parts (nat_lt from reached) (nat_lt first (from + length (yield t))) e).1 in
+          inr (none_all reached first (from + length (yield t)) ts (omega arith))
       | inr e ↦ inl (around_none reached first from t e)
     ]
 
@@ -176,4 +187,5 @@ module _ (g : Grammar) (reached first : ℕ) where
     pub nested_all : (from : ℕ) (ts : List Tree) (symbols : List Symbol) → HaveRoots g ts symbols → AllPairs Holds (spans_all reached first from ts)
     nested_all from [] symbols h = AllPairs-none Holds
     nested_all from (t ∷ ts) [] h = absurd h
-    nested_all from (t ∷ ts) (x ∷ xs) h = AllPairs-one Holds (spans_of reached first from t) (spans_all reached first (from + length (yield t)) ts) (nested_of from t x h.0) (nested_all (from + length (yield t)) ts xs h.1) (one_empty from t ts)
+    nested_all from (t ∷ ts) (x ∷ xs) h = AllPairs-one Holds (spans_of reached first from t) (spans_all reached first (from + length (yield t)) ts)
+        (nested_of from t x h.0) (nested_all (from + length (yield t)) ts xs h.1) (one_empty from t ts)

@@ -48,7 +48,8 @@ module _ (cells : List Cell) (children : List Child) (from : ℕ) (point : Point
     -- the child doesn't stand around the offset
     pub searching_next : is_around point.reached point.first start (start + n) ≡ false → IsSearching cells children from point next (start + n)
     searching_next e =
-        let none : spans_of point.reached point.first start (plain (tree cells c)) ≡ [] = around_none point.reached point.first start (plain (tree cells c)) (ap (λ m. is_around point.reached point.first start (start + m)) (sym exact) ∙ e) in
+        let none : spans_of point.reached point.first start (plain (tree cells c)) ≡ [] = around_none point.reached point.first start (plain (tree cells c))
+        (ap (λ m. is_around point.reached point.first start (start + m)) (sym exact) ∙ e) in
         record {
           kept = omega (arith, left, long, exact);
           spans = after
@@ -60,12 +61,16 @@ module _ (cells : List Cell) (children : List Child) (from : ℕ) (point : Point
     -- it does
     module _ (near : point.reached ≤ point.first + 1) (e : is_around point.reached point.first start (start + n) ≡ true) where
       own : spans_all point.reached point.first from (trees_of_roots cells children) ≡ spans_of point.reached point.first start (plain (tree cells c))
-      own = after ∙ only_first point.reached point.first near start (plain (tree cells c)) (trees_of_roots cells next) (ap (λ m. is_around point.reached point.first start (start + m)) (sym exact) ∙ e)
+      own = after ∙ only_first point.reached point.first near start (plain (tree cells c)) (trees_of_roots cells next)
+          (ap (λ m. is_around point.reached point.first start (start + m)) (sym exact) ∙ e)
 
-      pub searching_found : (r : Option Found) → r ≡ branch_at c start (start + n) → MatchOption r (spans_all point.reached point.first from (trees_of_roots cells children) ≡ []) (λ b. IsBranchAround cells children from point b)
-      searching_found r f = subst (λ o. MatchOption o (spans_all point.reached point.first from (trees_of_roots cells children) ≡ []) (λ b. IsBranchAround cells children from point b)) (sym f) (go c searching_below exact own)
+      pub searching_found : (r : Option Found) → r ≡ branch_at c start (start + n)
+          → MatchOption r (spans_all point.reached point.first from (trees_of_roots cells children) ≡ []) (λ b. IsBranchAround cells children from point b)
+      searching_found r f = subst (λ o. MatchOption o (spans_all point.reached point.first from (trees_of_roots cells children) ≡ []) (λ b. IsBranchAround cells children from point b))
+          (sym f) (go c searching_below exact own)
         where
-          go : (d : Child) → ((m : ℕ) → AreBelow m children → IsBelow m d) → n ≡ length (yield (plain (tree cells d))) → spans_all point.reached point.first from (trees_of_roots cells children) ≡ spans_of point.reached point.first start (plain (tree cells d))
+          go : (d : Child) → ((m : ℕ) → AreBelow m children → IsBelow m d) → n ≡ length (yield (plain (tree cells d))) → spans_all point.reached point.first from
+              (trees_of_roots cells children) ≡ spans_of point.reached point.first start (plain (tree cells d))
               → MatchOption (branch_at d start (start + n)) (spans_all point.reached point.first from (trees_of_roots cells children) ≡ []) (λ b. IsBranchAround cells children from point b)
           go (Token kind) among counted spans = spans
           go (Node id) among counted spans = record {
@@ -89,11 +94,13 @@ pub record IsNext (cells : List Cell) (point : Point) (b : Found) : Type 0 where
   pub fits : b.to < 2 ^ 64
 
 module _ (cells : List Cell) (children : List Child) (from : ℕ) (point : Point) where
-  pub found_next : (r : Option Found) → AreBelow (length cells) children → MatchOption r (spans_all point.reached point.first from (trees_of_roots cells children) ≡ []) (λ b. IsBranchAround cells children from point b) → IfSome r (IsNext cells point)
+  pub found_next : (r : Option Found) → AreBelow (length cells) children → MatchOption r (spans_all point.reached point.first from (trees_of_roots cells children) ≡ [])
+      (λ b. IsBranchAround cells children from point b) → IfSome r (IsNext cells point)
   found_next None h m = tt
   found_next (Some b) h m = record { below = m.below (length cells) h; around = m.around; to = m.to; fits = m.fits }
 
-  pub found_pending : (r : Option Found) → MatchOption r (spans_all point.reached point.first from (trees_of_roots cells children) ≡ []) (λ b. IsBranchAround cells children from point b) → pending cells point r ≡ spans_all point.reached point.first from (trees_of_roots cells children)
+  pub found_pending : (r : Option Found) → MatchOption r (spans_all point.reached point.first from (trees_of_roots cells children) ≡ []) (λ b. IsBranchAround cells children from point b)
+      → pending cells point r ≡ spans_all point.reached point.first from (trees_of_roots cells children)
   found_pending None m = sym m
   found_pending (Some b) m = sym m.spans
 

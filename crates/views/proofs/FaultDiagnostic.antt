@@ -2,7 +2,6 @@
 use Rattle.std.specs.Prelude.{◌≡◌, ℕ, ◌<◌, Bool, true, false, List, [], ◌∷◌, ◌++◌, length, map, take, flat_map, codes, slice_get, Option, Some, None, IsSomeAnd, option_map, All}
 use Rattle.std.specs.Str.{chars, IsUtf8}
 use Rattle.std.proofs.Common.{arith, refl, sym, ap, subst, ◌∙◌, append_assoc, length-take}
-use Rattle.std.proofs.lemmas.List.{append-nil}
 use Rattle.std.proofs.lemmas.List.Concat.{flat_map-cons}
 use Rattle.std.proofs.lemmas.Option.{slice_get_past}
 use Rattle.std.proofs.lemmas.Str.{chars-append}
@@ -62,21 +61,24 @@ listing_more names all bytes separator look rest between new name h u v e f name
     let x = name_or_end names (option_map Rule look) in
     let xs = names_of names rest in
     let more = flat_map (λ y. codes ", " ++ y) xs in
-    ap (λ y. y ++ continued (chars (codes ", ")) xs) (ap chars f ∙ chars-append between name v ∙ ap (λ y. y ++ chars name) (ap chars e ∙ chars-append bytes separator u) ∙ ap (λ y. (chars bytes ++ chars separator) ++ y) named)
+    ap (λ y. y ++ continued (chars (codes ", ")) xs) (ap chars f ∙ chars-append between name v ∙ ap (λ y. y ++ chars name) (ap chars e ∙ chars-append bytes separator u)
+    ∙ ap (λ y. (chars bytes ++ chars separator) ++ y) named)
     ∙ ap (λ y. ((chars bytes ++ chars separator) ++ x) ++ y) (continued-comma xs)
     ∙ append_assoc (chars bytes ++ chars separator) x more
     ∙ append_assoc (chars bytes) (chars separator) (x ++ more)
     ∙ h
 
 -- a message is written in four steps
-pub message_written : (names : List (List ℕ)) (found : Option Kind) (expected : List (Option ℕ)) (none one name two three four : List ℕ) → none ≡ [] → one ≡ none ++ codes "unexpected " → two ≡ one ++ name → three ≡ two ++ codes "; expected "
+pub message_written : (names : List (List ℕ)) (found : Option Kind) (expected : List (Option ℕ)) (none one name two three four : List ℕ) → none ≡ []
+    → one ≡ none ++ codes "unexpected " → two ≡ one ++ name → three ≡ two ++ codes "; expected "
     → chars four ≡ chars three ++ listed (names_of names expected) → chars name ≡ name_or_end names found → IsUtf8 one → IsUtf8 two
     → chars four ≡ message names found (map (option_map Rule) expected)
 unfolding chars message
 message_written names found expected none one name two three four a b c d e named u v =
     let first : chars one ≡ codes "unexpected " = ap chars (b ∙ ap (λ x. x ++ codes "unexpected ") a) in
     let second : chars two ≡ codes "unexpected " ++ name_or_end names found = ap chars c ∙ chars-append one name u ∙ ap (λ x. x ++ chars name) first ∙ ap (λ x. codes "unexpected " ++ x) named in
-    let third : chars three ≡ (codes "unexpected " ++ name_or_end names found) ++ codes "; expected " = ap chars d ∙ chars-append two (codes "; expected ") v ∙ ap (λ x. x ++ codes "; expected ") second in
+    let third : chars three ≡ (codes "unexpected " ++ name_or_end names found) ++ codes "; expected " = ap chars d
+    ∙ chars-append two (codes "; expected ") v ∙ ap (λ x. x ++ codes "; expected ") second in
     e ∙ ap (λ x. x ++ listed (names_of names expected)) third
 
 -- what the tables expect, as what is reported
@@ -116,12 +118,14 @@ module _ (encoding : Encoding) (f : FileGrammar) (t : List ℕ) (items : List To
       long : length (take k all) ≡ k
       long = omega (arith, length-take k all, within)
 
-      go : (found : Option Placed) → slice_get parts k ≡ found → IsSomeAnd found (λ y. (start ≡ y.start) × (end ≡ end_of y) × (kind ≡ y.token.kind)) → IsFaultAfter encoding f t (map plain items) (take k all) (Some d)
+      go : (found : Option Placed) → slice_get parts k ≡ found → IsSomeAnd found (λ y. (start ≡ y.start) × (end ≡ end_of y) × (kind ≡ y.token.kind))
+          → IsFaultAfter encoding f t (map plain items) (take k all) (Some d)
       go None at h = absurd h
       go (Some y) at h =
           let first = from ∙ ap (position encoding t) h.0 in
           let last = to ∙ ap (position encoding t) h.1 in
-          reported (take k all) d (Some y) (ap (slice_get parts) long ∙ at) e (λ i. record { start = first i; end = last i }) (spelled ∙ ap (λ j. message f.names (Some j) (map (option_map Rule) expected)) h.2)
+          reported (take k all) d (Some y) (ap (slice_get parts) long ∙ at) e (λ i. record { start = first i; end = last i })
+          (spelled ∙ ap (λ j. message f.names (Some j) (map (option_map Rule) expected)) h.2)
 
   -- at the end
   pub shown_at_end : (d : Diagnostic) → AreExpected f.grammar all expected

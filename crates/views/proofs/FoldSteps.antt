@@ -97,7 +97,8 @@ module _ (g : Grammar) (folds : List Bool) (lines : List (ℕ × ℕ)) (all : Li
 
       -- the nodes of the last list are those of the tree, and those after it
       split : (n : Node) → IsNodeFrom g a.from a.trees n ↔ (IsNodeFrom g a.from (t ∷ []) n ⊎ IsNodeFrom g to ts n)
-      split n = subst (λ us. IsNodeFrom g a.from us n ↔ (IsNodeFrom g a.from (t ∷ []) n ⊎ IsNodeFrom g to ts n)) (sym e) (subst (λ m. IsNodeFrom g a.from (t ∷ ts) n ↔ (IsNodeFrom g a.from (t ∷ []) n ⊎ IsNodeFrom g m ts n)) (sym end) (nodes_from_first g a.from t ts n))
+      split n = subst (λ us. IsNodeFrom g a.from us n ↔ (IsNodeFrom g a.from (t ∷ []) n ⊎ IsNodeFrom g to ts n)) (sym e)
+          (subst (λ m. IsNodeFrom g a.from (t ∷ ts) n ↔ (IsNodeFrom g a.from (t ∷ []) n ⊎ IsNodeFrom g m ts n)) (sym end) (nodes_from_first g a.from t ts n))
 
       -- of which no node is to be gathered
       pub gathered_past : ((n : Node) (p : ℕ × ℕ) → IsNodeFrom g a.from (t ∷ []) n → IsFold folds lines n p → ⊥) → IsGathered g folds lines all (stack ++ after ∷ []) pairs
@@ -144,7 +145,9 @@ module _ (g : Grammar) (folds : List Bool) (lines : List (ℕ × ℕ)) (all : Li
         parts n =
             let place : a.from + length (yields us) ≡ to = ap (λ u. a.from + length (yield u)) (sym f) ∙ sym end in
             let list : Branch q us ∷ ts ≡ a.trees = ap (λ u. u ∷ ts) (sym f) ∙ sym e in
-            subst (λ l. IsNodeFrom g a.from l n ↔ (IsBranchAt g a.from q us n ⊎ (IsNodeFrom g a.from (trees us) n ⊎ IsNodeFrom g to ts n))) list (subst (λ m. IsNodeFrom g a.from (Branch q us ∷ ts) n ↔ (IsBranchAt g a.from q us n ⊎ (IsNodeFrom g a.from (trees us) n ⊎ IsNodeFrom g m ts n))) place (nodes_from_branch g a.from q us ts n))
+            subst (λ l. IsNodeFrom g a.from l n ↔ (IsBranchAt g a.from q us n ⊎ (IsNodeFrom g a.from (trees us) n ⊎ IsNodeFrom g to ts n))) list
+            (subst (λ m. IsNodeFrom g a.from (Branch q us ∷ ts) n ↔ (IsBranchAt g a.from q us n ⊎ (IsNodeFrom g a.from (trees us) n ⊎ IsNodeFrom g m ts n))) place
+            (nodes_from_branch g a.from q us ts n))
 
         pushed : (n : Node) → IsAhead g (stack ++ after ∷ [] ++ inner ∷ []) n ↔ ((IsAhead g stack n ⊎ IsNodeFrom g to ts n) ⊎ IsNodeFrom g a.from (trees us) n)
         pushed n =
@@ -155,7 +158,9 @@ module _ (g : Grammar) (folds : List Bool) (lines : List (ℕ × ℕ)) (all : Li
         own : (n : Node) → IsBranchAt g a.from q us n → IsNodeOf g all n
         own n h = w.inside n ((ahead_push g stack a n).1 (inr ((parts n).1 (inl h))))
 
-        pub gathered_into : (new : List (ℕ × ℕ)) → ((p : ℕ × ℕ) → Contains pairs p → Contains new p) → ((p : ℕ × ℕ) → Contains new p → Contains pairs p ⊎ ((n : Node) × IsBranchAt g a.from q us n × IsFold folds lines n p)) → ((n : Node) (p : ℕ × ℕ) → IsBranchAt g a.from q us n → IsFold folds lines n p → Contains new p) → IsGathered g folds lines all (stack ++ after ∷ [] ++ inner ∷ []) new
+        pub gathered_into : (new : List (ℕ × ℕ)) → ((p : ℕ × ℕ) → Contains pairs p → Contains new p)
+            → ((p : ℕ × ℕ) → Contains new p → Contains pairs p ⊎ ((n : Node) × IsBranchAt g a.from q us n × IsFold folds lines n p))
+            → ((n : Node) (p : ℕ × ℕ) → IsBranchAt g a.from q us n → IsFold folds lines n p → Contains new p) → IsGathered g folds lines all (stack ++ after ∷ [] ++ inner ∷ []) new
         gathered_into new kept only_own all_own = record {
           rooted = All-push (IsRooted g (length lines)) (stack ++ after ∷ []) inner rest_rooted inner_rooted;
           inside = λ n h.
@@ -173,7 +178,18 @@ module _ (g : Grammar) (folds : List Bool) (lines : List (ℕ × ℕ)) (all : Li
         }
 
         pub smaller_into : work (stack ++ after ∷ [] ++ inner ∷ []) < work (stack ++ a ∷ [])
-        smaller_into = omega (arith, work-push (stack ++ after ∷ []) inner, work-push stack after, work-push stack a, ap (λ l. length (all_kinds l)) e, ap all_branches e, length-append (yield t) (all_kinds ts), kinds, ap branches f, branches-trees us)
+        smaller_into = omega (
+          arith,
+          work-push (stack ++ after ∷ []) inner,
+          work-push stack after,
+          work-push stack a,
+          ap (λ l. length (all_kinds l)) e,
+          ap all_branches e,
+          length-append (yield t) (all_kinds ts),
+          kinds,
+          ap branches f,
+          branches-trees us,
+        )
 
   -- a leaf has no node
   pub free_leaf : (from : ℕ) (t : Tree) (k : Kind) → t ≡ Leaf k → (n : Node) → IsNodeFrom g from (t ∷ []) n → ⊥
@@ -189,20 +205,23 @@ earlier lines up i j l m = go (cases_lt i j)
         let same : i ≡ j = omega arith in
         (omega (arith, ap (λ k. (line_at lines k).0) same), omega (arith, ap (λ k. (line_at lines k).1) same))
 
-pub wider : (lines : List (ℕ × ℕ)) → AreAscending lines → (a b c d : ℕ) (p : ℕ × ℕ) → a ≤ b → c ≤ d → d ≤ length lines → SpanLines lines b c p → SpanLines lines a d ((line_at lines a).0, (line_at lines (d - 1)).1)
+pub wider : (lines : List (ℕ × ℕ)) → AreAscending lines → (a b c d : ℕ) (p : ℕ × ℕ) → a ≤ b → c ≤ d → d ≤ length lines
+    → SpanLines lines b c p → SpanLines lines a d ((line_at lines a).0, (line_at lines (d - 1)).1)
 wider lines up a b c d p l m within s =
     let first = earlier lines up a b l (omega (arith, s.0)) in
     let last = earlier lines up (c - 1) (d - 1) (omega (arith, s.0)) (omega (arith, s.0)) in
     (omega (arith, s.0), refl, refl, omega (arith, first.0, last.1, s.1, s.2, s.3))
 
 -- a tree whose tokens span no lines has no node to be gathered
-pub free_line : (g : Grammar) (folds : List Bool) (lines : List (ℕ × ℕ)) → AreAscending lines → (from to : ℕ) (t : Tree) → to ≡ from + length (yield t) → to ≤ length lines → ((p : ℕ × ℕ) → SpanLines lines from to p → ⊥) → (n : Node) (p : ℕ × ℕ) → IsNodeFrom g from (t ∷ []) n → IsFold folds lines n p → ⊥
+pub free_line : (g : Grammar) (folds : List Bool) (lines : List (ℕ × ℕ)) → AreAscending lines → (from to : ℕ) (t : Tree) → to ≡ from + length (yield t)
+    → to ≤ length lines → ((p : ℕ × ℕ) → SpanLines lines from to p → ⊥) → (n : Node) (p : ℕ × ℕ) → IsNodeFrom g from (t ∷ []) n → IsFold folds lines n p → ⊥
 free_line g folds lines up from to t end within none n p h f =
     let w = nodes_from_within g from (t ∷ []) n h in
     none _ (wider lines up from n.from n.to to p w.0 (omega (arith, w.2, end, ap length (append-nil (yield t)))) within f.1)
 
 -- a branch adds its own lines where its symbol folds
-module _ (g : Grammar) (folds : List Bool) (lines : List (ℕ × ℕ)) (q m : ℕ) (right : List Symbol) (made : HasProduction g q m right) (from to : ℕ) (us : Forest) (end : to ≡ from + length (yields us)) (pair : ℕ × ℕ) (spans : SpanLines lines from to pair) (pairs : List (ℕ × ℕ)) where
+module _ (g : Grammar) (folds : List Bool) (lines : List (ℕ × ℕ)) (q m : ℕ) (right : List Symbol) (made : HasProduction g q m right) (from to : ℕ) (us : Forest)
+    (end : to ≡ from + length (yields us)) (pair : ℕ × ℕ) (spans : SpanLines lines from to pair) (pairs : List (ℕ × ℕ)) where
   pub own_kept : (b : Bool) (p : ℕ × ℕ) → Contains pairs p → Contains (with_own b pair pairs) p
   own_kept false p c = c
   own_kept true p c = Contains-append_left pairs (pair ∷ []) p c

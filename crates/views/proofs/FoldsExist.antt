@@ -117,7 +117,15 @@ module _ (g : Grammar) (t : List ℕ) (tokens : List Placed) (folds : List Bool)
       last = line_of t (span tokens m).1
 
       nothing : ((p : ℕ × ℕ) → IsTrue (slice_index_or folds m.symbol false) → SpansLines t tokens m p → ⊥) → HaveFolds Is
-      nothing none = ([], record { ascending = none_ascends; only = λ p c. absurd (Contains-none p c); all = λ n p h f s. absurd (none p (subst (λ k. IsTrue (slice_index_or folds k.symbol false)) (sym (same n h)) f) (subst (λ k. SpansLines t tokens k p) (sym (same n h)) s)) })
+      nothing none = (
+        [],
+        record {
+          ascending = none_ascends;
+          only = λ p c. absurd (Contains-none p c);
+          all =
+              λ n p h f s. absurd (none p (subst (λ k. IsTrue (slice_index_or folds k.symbol false)) (sym (same n h)) f) (subst (λ k. SpansLines t tokens k p) (sym (same n h)) s));
+        },
+      )
 
       go : (b : Bool) → slice_index_or folds m.symbol false ≡ b → (m.from < m.to) ⊎ (m.to ≤ m.from) → (first < last) ⊎ (last ≤ first) → HaveFolds Is
       go false e l k = nothing (λ p f s. absurd (cc (e, f)))
@@ -141,7 +149,8 @@ module _ (g : Grammar) (t : List ℕ) (tokens : List Placed) (folds : List Bool)
     where
       go : (r : Option Production) → slice_get g.productions p ≡ r → HaveFolds (IsBranchAt g from p us)
       go None e = folds_none (IsBranchAt g from p us) (λ n h. absurd (cc (e, h.1)))
-      go (Some r) e = folds_one (IsBranchAt g from p us) (record { symbol = r.left; from = from; to = from + length (yields us) }) (r.right, e, refl, refl) (λ n h. let s : r.left ≡ n.symbol = (production_unique g p r.left n.symbol r.right h.0 e h.1).0 in λ i. record { symbol = s i; from = sym h.2 i; to = sym h.3 i })
+      go (Some r) e = folds_one (IsBranchAt g from p us) (record { symbol = r.left; from = from; to = from + length (yields us) }) (r.right, e, refl, refl)
+          (λ n h. let s : r.left ≡ n.symbol = (production_unique g p r.left n.symbol r.right h.0 e h.1).0 in λ i. record { symbol = s i; from = sym h.2 i; to = sym h.3 i })
 
   mutual
     folds_tree : (u : Tree) (from : ℕ) → HaveFolds (IsNodeFrom g from (u ∷ []))
@@ -156,11 +165,13 @@ module _ (g : Grammar) (t : List ℕ) (tokens : List Placed) (folds : List Bool)
 
     folds_forest : (us : Forest) (from : ℕ) → HaveFolds (IsNodeFrom g from (trees us))
     folds_forest Nil from = folds_none (IsNodeFrom g from []) (nodes_from_none g from)
-    folds_forest (Cons u us) from = folds_both (IsNodeFrom g from (u ∷ [])) (IsNodeFrom g (from + length (yield u)) (trees us)) (IsNodeFrom g from (u ∷ trees us)) (nodes_from_first g from u (trees us)) (folds_tree u from) (folds_forest us (from + length (yield u)))
+    folds_forest (Cons u us) from = folds_both (IsNodeFrom g from (u ∷ [])) (IsNodeFrom g (from + length (yield u)) (trees us)) (IsNodeFrom g from (u ∷ trees us))
+        (nodes_from_first g from u (trees us)) (folds_tree u from) (folds_forest us (from + length (yield u)))
 
   folds_list : (us : List Tree) (from : ℕ) → HaveFolds (IsNodeFrom g from us)
   folds_list [] from = folds_none (IsNodeFrom g from []) (nodes_from_none g from)
-  folds_list (u ∷ us) from = folds_both (IsNodeFrom g from (u ∷ [])) (IsNodeFrom g (from + length (yield u)) us) (IsNodeFrom g from (u ∷ us)) (nodes_from_first g from u us) (folds_tree u from) (folds_list us (from + length (yield u)))
+  folds_list (u ∷ us) from = folds_both (IsNodeFrom g from (u ∷ [])) (IsNodeFrom g (from + length (yield u)) us) (IsNodeFrom g from (u ∷ us))
+      (nodes_from_first g from u us) (folds_tree u from) (folds_list us (from + length (yield u)))
 
   pub folds_exist : (us : List Tree) → HaveFolds (IsNodeOf g us)
   folds_exist us = folds_same (IsNodeFrom g 0 us) (IsNodeOf g us) (λ n. let same = nodes_from_start g us n in (same.1, same.0)) (folds_list us 0)

@@ -46,7 +46,9 @@ less_before p q e = go (nat_cmp p.0 q.0) refl (nat_cmp p.1 q.1) refl e
 ascending : (ps : List (ℕ × ℕ)) → IsStrictlySortedBy pair_cmp ps → AllPairs IsBefore ps
 ascending ps s i j d l m = less_before _ _ (Less-from_sorted pair_cmp ps i j d s l m)
 
-module _ (f : FileGrammar) (t : List ℕ) (tokens : List Token) (trees : List Tree) (raw sorted reported : List (ℕ × ℕ)) (foldable_lines : AreSpanned f.grammar f.folds (lines_of t (placed_parts f tokens)) trees raw) (covered : length (all_kinds trees) ≤ length (kinds f.skips tokens)) (moved : IsPermutation raw sorted) (is : reported ≡ dedup pair_eq sorted) where
+module _ (f : FileGrammar) (t : List ℕ) (tokens : List Token) (trees : List Tree) (raw sorted reported : List (ℕ × ℕ))
+    (foldable_lines : AreSpanned f.grammar f.folds (lines_of t (placed_parts f tokens)) trees raw) (covered : length (all_kinds trees) ≤ length (kinds f.skips tokens))
+    (moved : IsPermutation raw sorted) (is : reported ≡ dedup pair_eq sorted) where
   within : (n : Node) → IsNodeOf f.grammar trees n → n.to ≤ length (placed_parts f tokens)
   within n h =
       let w = nodes_from_within f.grammar 0 trees n ((nodes_from_start f.grammar trees n).1 h) in

@@ -28,7 +28,8 @@ line-position t o = refl
 line-place : (t : List ℕ) (at : Place) (o : ℕ) → at.unit ≡ Utf16 → at.text ≡ t → at.offset ≡ min o (length t) → (position at.unit at.text at.offset).line ≡ line_of t o
 line-place t at o w e p = ap (λ q. q.line) (position-place Utf16 t at o w e p) ∙ line-position t o
 
-module _ (skips : List Bool) (t : List ℕ) (items : List Token) (lines : List (ℕ × ℕ)) (at next : Place) (x : Token) (rest : List Token) (h : IsLined skips t items lines at (x ∷ rest)) (v : next.unit ≡ at.unit) (e : next.text ≡ at.text) (p : next.offset ≡ min (at.offset + x.length) (length at.text)) where
+module _ (skips : List Bool) (t : List ℕ) (items : List Token) (lines : List (ℕ × ℕ)) (at next : Place) (x : Token) (rest : List Token) (h : IsLined skips t items lines at (x ∷ rest))
+    (v : next.unit ≡ at.unit) (e : next.text ≡ at.text) (p : next.offset ≡ min (at.offset + x.length) (length at.text)) where
   more : ℕ
   more = h.offset + x.length
 
@@ -48,10 +49,13 @@ module _ (skips : List Bool) (t : List ℕ) (items : List Token) (lines : List (
   first_line : ℕ × ℕ
   first_line = (line_of t h.offset, line_of t (h.offset + x.length))
 
-  from_first : (b : Bool) → is_skipped skips (kind_in x) ≡ b → lines_from skips t h.offset (x ∷ rest) ≡ cond b (lines_from skips t (h.offset + x.length) rest) (first_line ∷ lines_from skips t (h.offset + x.length) rest)
+  from_first : (b : Bool) → is_skipped skips (kind_in x) ≡ b → lines_from skips t h.offset (x ∷ rest) ≡ cond b
+      (lines_from skips t (h.offset + x.length) rest) (first_line ∷ lines_from skips t (h.offset + x.length) rest)
   unfolding first_line
-  from_first false s = ap (λ c. lines_of t (cond (not c) (record { start = h.offset; token = plain x } ∷ significant skips (placed (h.offset + x.length) (map plain rest))) (significant skips (placed (h.offset + x.length) (map plain rest))))) s
-  from_first true s = ap (λ c. lines_of t (cond (not c) (record { start = h.offset; token = plain x } ∷ significant skips (placed (h.offset + x.length) (map plain rest))) (significant skips (placed (h.offset + x.length) (map plain rest))))) s
+  from_first false s = ap (λ c. lines_of t (cond (not c) (record { start = h.offset; token = plain x } ∷ significant skips (placed (h.offset + x.length) (map plain rest)))
+      (significant skips (placed (h.offset + x.length) (map plain rest))))) s
+  from_first true s = ap (λ c. lines_of t (cond (not c) (record { start = h.offset; token = plain x } ∷ significant skips (placed (h.offset + x.length) (map plain rest)))
+      (significant skips (placed (h.offset + x.length) (map plain rest))))) s
 
   pub lined_skipped : x.skipped ≡ true → IsLined skips t items lines next rest
   lined_skipped s = record {
@@ -63,7 +67,8 @@ module _ (skips : List Bool) (t : List ℕ) (items : List Token) (lines : List (
     marked = marks;
   }
 
-  pub lined_more : x.skipped ≡ false → (l : ℕ × ℕ) → l.0 ≡ (position at.unit at.text at.offset).line → l.1 ≡ (position next.unit next.text next.offset).line → IsLined skips t items (lines ++ l ∷ []) next rest
+  pub lined_more : x.skipped ≡ false → (l : ℕ × ℕ) → l.0 ≡ (position at.unit at.text at.offset).line
+      → l.1 ≡ (position next.unit next.text next.offset).line → IsLined skips t items (lines ++ l ∷ []) next rest
   unfolding first_line
   lined_more s l from to =
       let start = from ∙ line-place t at h.offset h.unit h.text h.place in
@@ -106,7 +111,8 @@ IsEarlier a b = (a.start ≤ b.start) × (end_of a ≤ end_of b)
 
 placed_from : (o : ℕ) (xs : List PlainToken) → All (IsFrom o) (placed o xs)
 placed_from o [] = All-nil (IsFrom o)
-placed_from o (x ∷ xs) = All-cons (IsFrom o) (record { start = o; token = x }) (placed (o + x.length) xs) (omega arith) (All-weaker (IsFrom (o + x.length)) (IsFrom o) (λ y l. omega arith) (placed (o + x.length) xs) (placed_from (o + x.length) xs))
+placed_from o (x ∷ xs) = All-cons (IsFrom o) (record { start = o; token = x }) (placed (o + x.length) xs) (omega arith)
+    (All-weaker (IsFrom (o + x.length)) (IsFrom o) (λ y l. omega arith) (placed (o + x.length) xs) (placed_from (o + x.length) xs))
 
 placed_ascend : (o : ℕ) (xs : List PlainToken) → AllPairs IsEarlier (placed o xs)
 placed_ascend o [] = λ i j d l m. absurd (omega (arith, m))
@@ -118,7 +124,8 @@ placed_ascend o (x ∷ xs) =
 pub length-lines : (t : List ℕ) (xs : List Placed) → length (lines_of t xs) ≡ length xs
 length-lines t xs = length-map {B = ℕ × ℕ} xs (λ (y : Placed). (line_of t y.start, line_of t (end_of y)))
 
-line-map : (t : List ℕ) (xs : List Placed) (x : Placed) (d : ℕ × ℕ) (k : ℕ) → k < length xs → slice_index_or (lines_of t xs) k d ≡ (line_of t (slice_index_or xs k x).start, line_of t (end_of (slice_index_or xs k x)))
+line-map : (t : List ℕ) (xs : List Placed) (x : Placed) (d : ℕ × ℕ) (k : ℕ) → k < length xs → slice_index_or (lines_of t xs) k d
+    ≡ (line_of t (slice_index_or xs k x).start, line_of t (end_of (slice_index_or xs k x)))
 line-map t [] x d k l = absurd (omega (arith, l))
 line-map t (y ∷ ys) x d zero l = refl
 line-map t (y ∷ ys) x d (suc k) l = line-map t ys x d k (omega (arith, l))

@@ -92,7 +92,8 @@ module _ (file : FileGrammar) (t : List ℕ) (items : List Token) (h : AreTokens
     point_inside x at e = around (before.significant + 1) (count_one items p x at ∙ ap (λ n. n + (if x.skipped then 0 else 1)) counted ∙ ap (λ b. before.significant + (if b then 0 else 1)) e)
 
     pub point_skipped : (x : Token) → slice_get items p ≡ Some x → x.skipped ≡ true → IsAround (significant file.skips (placed 0 (plain_all items))) o before.significant before.significant
-    point_skipped x at e = around before.significant (count_one items p x at ∙ ap (λ n. n + (if x.skipped then 0 else 1)) counted ∙ ap (λ b. before.significant + (if b then 0 else 1)) e ∙ omega arith)
+    point_skipped x at e = around before.significant (count_one items p x at ∙ ap (λ n. n + (if x.skipped then 0 else 1)) counted
+        ∙ ap (λ b. before.significant + (if b then 0 else 1)) e ∙ omega arith)
 
     pub point_after : slice_get items p ≡ None → IsAround (significant file.skips (placed 0 (plain_all items))) o before.significant before.significant
     point_after at = around before.significant (ap (λ xs. count_by is_significant xs) (count_none items p at) ∙ counted)

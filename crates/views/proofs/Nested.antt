@@ -1,6 +1,6 @@
 -- Lists of spans of which each holds the later ones.
 use Rattle.views.proofs.Common.{dedup, append-nil, All-nil, All-head, All-weaker, All-contains, All-contains_itself, AllPairs-cons, Contains-from_dedup, Encloses, Holds, Contains-cases}
-use Rattle.std.proofs.Common.{arith, refl, sym, ap, subst, inl, inr, cond, slice_index_or, drop, ◌≡◌, ◌≢◌, ℕ, zero, suc, ◌⊎◌, Bool, true, false, List, [], ◌∷◌, ◌++◌, All, AllPairs, Contains}
+use Rattle.std.proofs.Common.{arith, refl, sym, ap, subst, inl, inr, cond, drop, ◌≡◌, ◌≢◌, ℕ, zero, suc, ◌⊎◌, Bool, true, false, List, [], ◌∷◌, ◌++◌, All, AllPairs, Contains}
 
 pub All-each : {X : Type 0} (P : X → Type 0) (xs : List X) → ((x : X) → Contains xs x → P x) → All P xs
 All-each P xs h = All-weaker (Contains xs) P h xs (All-contains_itself xs)
@@ -49,7 +49,8 @@ module _ (same : ℕ × ℕ → ℕ × ℕ → Bool) (shows : (r s : ℕ × ℕ)
       without : s ≡ r → AllPairs Holds (r ∷ ss)
       without e = subst (λ z. AllPairs Holds (z ∷ ss)) e (AllPairs-tail Holds r (s ∷ ss) h)
 
-      go : (b : Bool) → same s r ≡ b → AllPairs Encloses (dedup same (s ∷ ss)) → ((s ≡ r) → AllPairs Encloses (dedup same (r ∷ ss))) → AllPairs Encloses (cond b (dedup same (r ∷ ss)) (r ∷ dedup same (s ∷ ss)))
+      go : (b : Bool) → same s r ≡ b → AllPairs Encloses (dedup same (s ∷ ss)) → ((s ≡ r) → AllPairs Encloses (dedup same (r ∷ ss)))
+          → AllPairs Encloses (cond b (dedup same (r ∷ ss)) (r ∷ dedup same (s ∷ ss)))
       go true e later skipped = skipped (shows s r e)
       go false e later skipped = AllPairs-cons Encloses r (dedup same (s ∷ ss)) (encloses_rest r s ss (λ f. knows s r e (sym f)) h) later
 

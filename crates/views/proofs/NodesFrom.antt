@@ -14,7 +14,8 @@ BranchParts g from p us ts n = IsBranchAt g from p us n ⊎ (IsNodeFrom g from (
 abbrev pub ListParts : Grammar → ℕ → List Tree → List Tree → Node → Type 0
 ListParts g from ts us n = IsNodeFrom g from ts n ⊎ IsNodeFrom g (from + length (all_kinds ts)) us n
 
-past_leaf : (k : Kind) (ts : List Tree) {lefts : List Tree} {q : ℕ} {vs : Forest} → StandsIn (Leaf k ∷ ts) lefts (Branch q vs) → (rest : List Tree) × StandsIn ts rest (Branch q vs) × (lefts ≡ Leaf k ∷ rest)
+past_leaf : (k : Kind) (ts : List Tree) {lefts : List Tree} {q : ℕ} {vs : Forest} → StandsIn (Leaf k ∷ ts) lefts (Branch q vs)
+    → (rest : List Tree) × StandsIn ts rest (Branch q vs) × (lefts ≡ Leaf k ∷ rest)
 past_leaf k ts (Past {lefts = rest} w) = (rest, w, refl)
 
 abbrev Stands : ℕ → Forest → List Tree → List Tree → Tree → Type 0
@@ -102,7 +103,8 @@ module _ (g : Grammar) where
 
   -- those of the first tree, and those of the others
   pub nodes_from_first : (from : ℕ) (t : Tree) (ts : List Tree) (n : Node) → IsNodeFrom g from (t ∷ ts) n ↔ (IsNodeFrom g from (t ∷ []) n ⊎ IsNodeFrom g (from + length (yield t)) ts n)
-  nodes_from_first from t ts n = subst (λ k. IsNodeFrom g from (t ∷ ts) n ↔ (IsNodeFrom g from (t ∷ []) n ⊎ IsNodeFrom g (from + length k) ts n)) (append-nil (yield t)) (nodes_from_append from (t ∷ []) ts n)
+  nodes_from_first from t ts n = subst (λ k. IsNodeFrom g from (t ∷ ts) n ↔ (IsNodeFrom g from (t ∷ []) n ⊎ IsNodeFrom g (from + length k) ts n))
+      (append-nil (yield t)) (nodes_from_append from (t ∷ []) ts n)
 
   -- each lies within the kinds of the list
   pub nodes_from_within : (from : ℕ) (ts : List Tree) (n : Node) → IsNodeFrom g from ts n → (from ≤ n.from) × (n.from ≤ n.to) × (n.to ≤ from + length (all_kinds ts))

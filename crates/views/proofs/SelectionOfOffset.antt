@@ -16,9 +16,17 @@ module _ (encoding : Encoding) (file : FileGrammar) (t : List ℕ) (tokens : Lis
   abbrev pub reported : ℕ → ℕ → List (ℕ × ℕ)
   reported reached first = shortened ((0, length t) ∷ inside (0, length t) (map (offsets_of (placed_parts file tokens)) (dedup is_same (spans_all reached first 0 trees))))
 
-  pub selected : (o reached first : ℕ) → IsAround (placed_parts file tokens) o reached first → IsSelectionOf encoding file t tokens trees o (reverse (map (range_of encoding t) (reported reached first)))
-  selected o reached first a =
-      (reported reached first, (inside (0, length t) (map (offsets_of (placed_parts file tokens)) (dedup is_same (spans_all reached first 0 trees))), shown_cover file.patterns file.skips t tokens h file.grammar trees symbols roots o reached first parts_cover a, refl), refl)
+  pub selected : (o reached first : ℕ) → IsAround (placed_parts file tokens) o reached first
+      → IsSelectionOf encoding file t tokens trees o (reverse (map (range_of encoding t) (reported reached first)))
+  selected o reached first a = (
+    reported reached first,
+    (
+      inside (0, length t) (map (offsets_of (placed_parts file tokens)) (dedup is_same (spans_all reached first 0 trees))),
+      shown_cover file.patterns file.skips t tokens h file.grammar trees symbols roots o reached first parts_cover a,
+      refl,
+    ),
+    refl,
+  )
 
   spans_lie : (o reached first : ℕ) → IsAround (placed_parts file tokens) o reached first → All (IsSpanOf (length (placed_parts file tokens))) (dedup is_same (spans_all reached first 0 trees))
   spans_lie o reached first a = are_spans file.patterns file.skips t tokens h file.grammar trees symbols roots o reached first parts_cover a
@@ -32,7 +40,8 @@ module _ (encoding : Encoding) (file : FileGrammar) (t : List ℕ) (tokens : Lis
       (reverse (map (range_of encoding t) (reported reached first)), selected o reached first (places_around file.patterns file.skips o 0 t tokens p.0 h p.1))
 
 -- the same of stored tokens and of roots in a store
-module _ (encoding : Encoding) (file : FileGrammar) (t : List ℕ) (items : List Stored) (cells : List Cell) (roots : List Child) (h : AreTokensOf (lexicon_of file) t items) (r : AreRootsOf file cells (map plain items) roots) where
+module _ (encoding : Encoding) (file : FileGrammar) (t : List ℕ) (items : List Stored) (cells : List Cell) (roots : List Child)
+    (h : AreTokensOf (lexicon_of file) t items) (r : AreRootsOf file cells (map plain items) roots) where
   counted : length (placed_parts file (map plain items)) ≡ count_by is_significant items
   counted = count_of_parts file.skips items h.marked
 
@@ -42,7 +51,8 @@ module _ (encoding : Encoding) (file : FileGrammar) (t : List ℕ) (items : List
       let covered = parts_cover encoding file t (map plain items) (trees_of_roots cells roots) r.symbols h.tokens r.are_trees r.covered in
       omega (arith, covered, counted, count_by-le-length is_significant items, few file t items h short)
 
-  pub spans_stand : (o reached first : ℕ) → IsAround (placed_parts file (map plain items)) o reached first → All (IsSpanOf (count_by is_significant items)) (dedup is_same (spans_all reached first 0 (trees_of_roots cells roots)))
+  pub spans_stand : (o reached first : ℕ) → IsAround (placed_parts file (map plain items)) o reached first
+      → All (IsSpanOf (count_by is_significant items)) (dedup is_same (spans_all reached first 0 (trees_of_roots cells roots)))
   spans_stand o reached first a =
       subst (λ n. All (IsSpanOf n) (dedup is_same (spans_all reached first 0 (trees_of_roots cells roots)))) counted
       (spans_lie encoding file t (map plain items) (trees_of_roots cells roots) r.symbols h.tokens r.are_trees r.covered o reached first a)

@@ -1,6 +1,6 @@
 -- The significant tokens of a list at their places.
 use Rattle.std.proofs.Common.{arith, refl, sym, ap, subst, ◌∙◌, ◌≡◌, ℕ, zero, suc, ◌+◌, Bool, true, false, List, [], ◌∷◌, length, map, take, count_by, slice_get, Some, IsSomeAnd, All, if◌then◌else◌}
-use Rattle.views.proofs.Common.{length-map, All-head, All-tail, Kind, end_of, Placed, is_skipped, kinds, placed, significant, Token, characters, is_significant, kind_in, plain, significant_kinds, characters-cons, count-cons, length-kinds, kinds_plain}
+use Rattle.views.proofs.Common.{length-map, All-head, All-tail, Kind, end_of, Placed, is_skipped, placed, significant, Token, characters, is_significant, kind_in, plain, significant_kinds, characters-cons, count-cons, length-kinds}
 
 -- the token is marked where its kind is skipped
 abbrev pub IsMarked : List Bool → Token → Type 0
@@ -50,7 +50,8 @@ part_from skips o (y ∷ xs) (suc p) k x marked is before at =
 
     go : (b : Bool) → y.skipped ≡ b → is_skipped skips (kind_in y) ≡ y.skipped
         → (k : ℕ) → count_by is_significant (y ∷ take p xs) ≡ k → count_by is_significant (y ∷ take (suc p) xs) ≡ suc k
-        → ((j : ℕ) → count_by is_significant (take p xs) ≡ j → count_by is_significant (take (suc p) xs) ≡ suc j → slice_get (parts_from skips (o + y.length) xs) j ≡ Some (part_at (o + y.length + characters (take p xs)) x))
+        → ((j : ℕ) → count_by is_significant (take p xs) ≡ j → count_by is_significant (take (suc p) xs) ≡ suc j
+        → slice_get (parts_from skips (o + y.length) xs) j ≡ Some (part_at (o + y.length + characters (take p xs)) x))
         → slice_get (parts_from skips o (y ∷ xs)) k ≡ Some (part_at (o + characters (y ∷ take p xs)) x)
     go true e m k before at later =
         ap (λ ps. slice_get ps k) (parts-skipped skips o y xs (m ∙ e))
@@ -76,14 +77,16 @@ pub part_shown : (skips : List Bool) (xs : List Token) (p k start : ℕ) (kind :
     → count_by is_significant (take p xs) ≡ k → count_by is_significant (take (p + 1) xs) ≡ k + 1 → start ≡ characters (take p xs) → kind ≡ kind_in x
     → IsSomeAnd (slice_get (parts_from skips 0 xs) k) (λ y. (start ≡ y.start) × (start + x.length ≡ end_of y) × (kind ≡ y.token.kind))
 part_shown skips xs p k start kind x marked is before at begins is_kind =
-    subst (λ o. IsSomeAnd o (λ y. (start ≡ y.start) × (start + x.length ≡ end_of y) × (kind ≡ y.token.kind))) (sym (part_is skips xs p k x marked is before at)) (begins, ap (λ n. n + x.length) begins, is_kind)
+    subst (λ o. IsSomeAnd o (λ y. (start ≡ y.start) × (start + x.length ≡ end_of y) × (kind ≡ y.token.kind)))
+    (sym (part_is skips xs p k x marked is before at)) (begins, ap (λ n. n + x.length) begins, is_kind)
 
 -- the kinds of the significant ones
 pub kinds_of_parts : (skips : List Bool) (o : ℕ) (xs : List Token) → All (IsMarked skips) xs → map (λ x. x.token.kind) (parts_from skips o xs) ≡ significant_kinds xs
 kinds_of_parts skips o [] marked = refl
 kinds_of_parts skips o (x ∷ xs) marked = go x.skipped refl (sym (All-head (IsMarked skips) x xs marked)) (kinds_of_parts skips (o + x.length) xs (All-tail (IsMarked skips) x xs marked))
   where
-    go : (b : Bool) → x.skipped ≡ b → is_skipped skips (kind_in x) ≡ x.skipped → map (λ y. y.token.kind) (parts_from skips (o + x.length) xs) ≡ significant_kinds xs → map (λ y. y.token.kind) (parts_from skips o (x ∷ xs)) ≡ significant_kinds (x ∷ xs)
+    go : (b : Bool) → x.skipped ≡ b → is_skipped skips (kind_in x) ≡ x.skipped → map (λ y. y.token.kind) (parts_from skips (o + x.length) xs) ≡ significant_kinds xs
+        → map (λ y. y.token.kind) (parts_from skips o (x ∷ xs)) ≡ significant_kinds (x ∷ xs)
     go true e m rest = ap (map (λ y. y.token.kind)) (parts-skipped skips o x xs (m ∙ e)) ∙ rest ∙ rw e refl
     go false e m rest = ap (map (λ y. y.token.kind)) (parts-kept skips o x xs (m ∙ e)) ∙ ap (λ ks. kind_in x ∷ ks) rest ∙ rw e refl
 

@@ -38,7 +38,8 @@ module _ (rules : List Expression) (skips : List Bool) where
       end = omega (arith, length-drop x.length t, piece.1)
 
       wider : All (IsWithin (o + x.length) (o + x.length + length (drop x.length t))) rest → All (IsWithin o (o + length t)) rest
-      wider k = All-weaker (IsWithin (o + x.length) (o + length t)) (IsWithin o (o + length t)) (within_more (o + x.length) o (o + length t) (omega arith)) rest (subst (λ e. All (IsWithin (o + x.length) e) rest) end k)
+      wider k = All-weaker (IsWithin (o + x.length) (o + length t)) (IsWithin o (o + length t)) (within_more (o + x.length) o (o + length t) (omega arith)) rest
+          (subst (λ e. All (IsWithin (o + x.length) e) rest) end k)
 
       go : (b : Bool) → All (IsWithin o (o + length t)) rest → All (IsWithin o (o + length t)) (cond b (first ∷ rest) rest)
       go true later = All-cons (IsWithin o (o + length t)) first rest (record { from = omega arith; filled = omega (arith, piece.0); to = omega (arith, piece.1) }) later
@@ -59,7 +60,8 @@ module _ (rules : List Expression) (skips : List Bool) where
       after y w = w.from
 
       go : (b : Bool) → AllPairs Ends rest → AllPairs Ends (cond b (first ∷ rest) rest)
-      go true later = AllPairs-cons Ends first rest (All-weaker (IsWithin (o + x.length) (o + x.length + length (drop x.length t))) (Ends first) after rest (significant_within (o + x.length) (drop x.length t) xs h.1)) later
+      go true later = AllPairs-cons Ends first rest (All-weaker (IsWithin (o + x.length) (o + x.length + length (drop x.length t)))
+          (Ends first) after rest (significant_within (o + x.length) (drop x.length t) xs h.1)) later
       go false later = later
 
 abbrev blank : Placed
@@ -145,7 +147,8 @@ place_of_offset b o (x ∷ xs) l = go (cases_lt o (b + x.length)) (λ m. place_o
 
 -- its place among all tokens gives the two places among the significant ones
 module _ (rules : List Expression) (skips : List Bool) (o : ℕ) where
-  pub places_around : (b : ℕ) (t : List ℕ) (xs : List Token) (p : ℕ) → AreTokens rules t xs → IsPlaceOf b o xs p → IsAround (significant skips (placed b xs)) o (length (kinds skips (take (suc p) xs))) (length (kinds skips (take p xs)))
+  pub places_around : (b : ℕ) (t : List ℕ) (xs : List Token) (p : ℕ) → AreTokens rules t xs → IsPlaceOf b o xs p
+      → IsAround (significant skips (placed b xs)) o (length (kinds skips (take (suc p) xs))) (length (kinds skips (take p xs)))
   places_around b t [] zero h q = record { near = omega arith; starts = λ k m. absurd (omega arith); ends = λ k m. absurd (omega arith) }
   places_around b t [] (suc p) h q = absurd (omega (arith, q.within))
   places_around b t (x ∷ xs) zero h q = go (not (is_skipped skips x.kind))
@@ -187,6 +190,7 @@ module _ (rules : List Expression) (skips : List Bool) (o : ℕ) where
       past = omega (arith, q.before, chars-cons x (take p xs))
 
       go : (s : Bool) → IsAround rest o (length (kinds skips (take (suc p) xs))) (length (kinds skips (take p xs)))
-          → IsAround (cond s (first ∷ rest) rest) o (length (cond s (x.kind ∷ kinds skips (take (suc p) xs)) (kinds skips (take (suc p) xs)))) (length (cond s (x.kind ∷ kinds skips (take p xs)) (kinds skips (take p xs))))
+          → IsAround (cond s (first ∷ rest) rest) o (length (cond s (x.kind ∷ kinds skips (take (suc p) xs)) (kinds skips (take (suc p) xs))))
+          (length (cond s (x.kind ∷ kinds skips (take p xs)) (kinds skips (take p xs))))
       go true later = around_after o (length (kinds skips (take (suc p) xs))) (length (kinds skips (take p xs))) first rest (omega (arith, past)) past later
       go false later = later

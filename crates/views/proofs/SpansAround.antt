@@ -38,7 +38,8 @@ Contains-map_from {X} f (x ∷ xs) y c = go (Contains-cases (f x) (map f xs) y c
     go (inl e) later = (x, Contains-first x xs, e)
     go (inr d) later = let r = later d in (r.0, Contains-later x xs r.0 r.1, r.2)
 
-AllPairs-map : {X Y : Type 0} (P : X → Type 0) (R : X → X → Type 0) (S : Y → Y → Type 0) (f : X → Y) → ((x y : X) → P x → P y → R x y → S (f x) (f y)) → (xs : List X) → All P xs → AllPairs R xs → AllPairs S (map f xs)
+AllPairs-map : {X Y : Type 0} (P : X → Type 0) (R : X → X → Type 0) (S : Y → Y → Type 0) (f : X → Y) → ((x y : X) → P x → P y → R x y → S (f x) (f y))
+    → (xs : List X) → All P xs → AllPairs R xs → AllPairs S (map f xs)
 AllPairs-map P R S f into [] p h = AllPairs-none S
 AllPairs-map {X} P R S f into (x ∷ xs) p h =
     AllPairs-cons S (f x) (map f xs)
@@ -171,13 +172,16 @@ module _ (rules : List Expression) (skips : List Bool) (t : List ℕ) (tokens : 
     node_of s c = span_all g reached first 0 trees symbols s roots (Contains-from_dedup is_same (spans_all reached first 0 trees) s c)
 
     pub are_spans : All (IsSpanOf (length parts)) spans
-    are_spans = All-each (IsSpanOf (length parts)) spans (λ s c. let b = node_of s c in let w = nodes_from_within g 0 trees b.0 b.1 in record { filled = omega (arith, b.2, b.3, b.4, b.5, a.near); to = omega (arith, b.3, w.2, covered) })
+    are_spans = All-each (IsSpanOf (length parts)) spans (λ s c. let b = node_of s c in let w = nodes_from_within g 0 trees b.0 b.1 in
+        record { filled = omega (arith, b.2, b.3, b.4, b.5, a.near); to = omega (arith, b.3, w.2, covered) })
 
     nested : AllPairs Encloses reported
-    nested = AllPairs-map (IsSpanOf (length parts)) Encloses Encloses (offsets_of parts) (offsets_enclose (length t) parts lie apart) spans are_spans (nested_dedup is_same same_shows same_knows (spans_all reached first 0 trees) (nested_all g reached first a.near 0 trees symbols roots))
+    nested = AllPairs-map (IsSpanOf (length parts)) Encloses Encloses (offsets_of parts) (offsets_enclose (length t) parts lie apart) spans are_spans
+        (nested_dedup is_same same_shows same_knows (spans_all reached first 0 trees) (nested_all g reached first a.near 0 trees symbols roots))
 
     in_text : All (Holds (0, length t)) reported
-    in_text = All-map (Holds (0, length t)) (offsets_of parts) spans (All-weaker (IsSpanOf (length parts)) (λ s. Holds (0, length t) (offsets_of parts s)) (offsets_within (length t) parts lie apart) spans are_spans)
+    in_text = All-map (Holds (0, length t)) (offsets_of parts) spans
+        (All-weaker (IsSpanOf (length parts)) (λ s. Holds (0, length t) (offsets_of parts s)) (offsets_within (length t) parts lie apart) spans are_spans)
 
     only : (r : ℕ × ℕ) → Contains (inside (0, length t) reported) r → (r ≢ (0, length t)) × (n : Node) × IsNodeOf g trees n × Covers parts o n × (r ≡ span parts n)
     only r c =
@@ -197,7 +201,8 @@ module _ (rules : List Expression) (skips : List Bool) (t : List ℕ) (tokens : 
         let from : n.from < reached = (a.starts n.from (omega (arith, w.2, covered, c.0))).0 c.1 in
         let to : first ≤ n.to - 1 = (a.ends (n.to - 1) (omega (arith, w.2, covered, c.0))).0 c.2 in
         let here : Contains (spans_all reached first 0 trees) (n.from, n.to) = node_all g reached first 0 trees n b from (omega (arith, to, c.0)) in
-        inside_all (0, length t) reported (span parts n) (Contains-map (offsets_of parts) spans (n.from, n.to) (Contains-dedup same_equiv same_shows (spans_all reached first 0 trees) (n.from, n.to) here)) other
+        inside_all (0, length t) reported (span parts n)
+        (Contains-map (offsets_of parts) spans (n.from, n.to) (Contains-dedup same_equiv same_shows (spans_all reached first 0 trees) (n.from, n.to) here)) other
 
     -- these are the ranges of the nodes that cover the offset
     pub shown_cover : AreCovering t parts (IsNodeOf g trees) o (inside (0, length t) reported)

@@ -24,12 +24,14 @@ trees-forest ts [] = refl
 trees-forest ts (c ∷ cs) = ap (λ l. plain (tree_of ts c) ∷ l) (trees-forest ts cs)
 
 module _ (f : FileGrammar) (lines : List (ℕ × ℕ)) (cells : List Cell) (roots : List Child) where
-  pub walking_none : (s : Siblings) → s.children ≡ roots → s.from ≡ 0 → AreBelow (length cells) roots → (symbols : List Symbol) × HaveRoots f.grammar (trees_of_roots cells roots) symbols → length (all_kinds (trees_of_roots cells roots)) ≤ length lines → IsWalking f lines cells roots (s ∷ []) []
+  pub walking_none : (s : Siblings) → s.children ≡ roots → s.from ≡ 0 → AreBelow (length cells) roots → (symbols : List Symbol) × HaveRoots f.grammar (trees_of_roots cells roots) symbols
+      → length (all_kinds (trees_of_roots cells roots)) ≤ length lines → IsWalking f lines cells roots (s ∷ []) []
   walking_none s e start below h short =
       let same : record { trees = trees_of_roots cells roots; from = 0 } ≡ ahead cells s = λ i. record { trees = trees_of_roots cells (sym e i); from = sym start i } in
       record {
         stored = All-push (AreStored cells) [] s (All-nil (AreStored cells)) (subst (AreBelow (length cells)) (sym e) below);
-        gathered = subst (λ (a : Ahead). IsGathered f.grammar f.folds lines (trees_of_roots cells roots) (a ∷ []) []) same (gathered_none f.grammar f.folds lines (trees_of_roots cells roots) h.0 h.1 short);
+        gathered = subst (λ (a : Ahead). IsGathered f.grammar f.folds lines (trees_of_roots cells roots) (a ∷ []) []) same
+            (gathered_none f.grammar f.folds lines (trees_of_roots cells roots) h.0 h.1 short);
       }
 
   -- where no siblings are ahead, all is gathered
@@ -56,7 +58,11 @@ module _ (f : FileGrammar) (lines : List (ℕ × ℕ)) (cells : List Cell) (root
 
     -- are none
     pub walking_end : s.children ≡ [] → IsWalking f lines cells roots stack pairs
-    walking_end e = record { stored = others; gathered = gathered_end f.grammar f.folds lines (trees_of_roots cells roots) (map (ahead cells) stack) (ahead cells s) pairs gathered (ap (trees_of_roots cells) e) }
+    walking_end e = record {
+      stored = others;
+      gathered = gathered_end f.grammar f.folds lines (trees_of_roots cells roots)
+          (map (ahead cells) stack) (ahead cells s) pairs gathered (ap (trees_of_roots cells) e);
+    }
 
     pub walking_end-smaller : work (map (ahead cells) stack) < work (map (ahead cells) old)
     walking_end-smaller = subst (λ l. work (map (ahead cells) stack) < work l) was (smaller_end (map (ahead cells) stack) (ahead cells s))
@@ -67,7 +73,8 @@ module _ (f : FileGrammar) (lines : List (ℕ × ℕ)) (cells : List Cell) (root
       first = ap (trees_of_roots cells) e
 
       within : (to : ℕ) → to ≡ s.from + length (yield (plain (tree cells c))) → to + length (all_kinds (trees_of_roots cells rest.children)) ≤ length lines
-      within to end = first_within f.grammar f.folds lines (trees_of_roots cells roots) (map (ahead cells) stack) (ahead cells s) pairs gathered (plain (tree cells c)) (trees_of_roots cells rest.children) (ap (trees_of_roots cells) e) to end
+      within to end = first_within f.grammar f.folds lines (trees_of_roots cells roots) (map (ahead cells) stack) (ahead cells s) pairs gathered
+          (plain (tree cells c)) (trees_of_roots cells rest.children) (ap (trees_of_roots cells) e) to end
 
       pub exact : s.from + count ≡ s.from + length (yield (plain (tree cells c)))
       exact = omega (arith, counted, short, within (s.from + length (yield (plain (tree cells c)))) refl)
@@ -92,7 +99,9 @@ module _ (f : FileGrammar) (lines : List (ℕ × ℕ)) (cells : List Cell) (root
         walking_past : ((n : Place) (p : ℕ × ℕ) → IsNodeFrom f.grammar s.from (plain (tree cells c) ∷ []) n → IsFold f.folds lines n p → ⊥) → IsWalking f lines cells roots new pairs
         walking_past free = record {
           stored = subst (All (AreStored cells)) (sym pushed) rest_stored;
-          gathered = subst (λ l. IsGathered f.grammar f.folds lines (trees_of_roots cells roots) l pairs) is_new (gathered_past f.grammar f.folds lines (trees_of_roots cells roots) (map (ahead cells) stack) (ahead cells s) pairs gathered (plain (tree cells c)) (trees_of_roots cells rest.children) (ap (trees_of_roots cells) e) rest.from (after ∙ exact) free);
+          gathered = subst (λ l. IsGathered f.grammar f.folds lines (trees_of_roots cells roots) l pairs) is_new
+              (gathered_past f.grammar f.folds lines (trees_of_roots cells roots) (map (ahead cells) stack) (ahead cells s) pairs gathered (plain (tree cells c))
+              (trees_of_roots cells rest.children) (ap (trees_of_roots cells) e) rest.from (after ∙ exact) free);
         }
 
         pub walking_token : (k : Kind) → c ≡ Token k → IsWalking f lines cells roots new pairs
@@ -102,7 +111,8 @@ module _ (f : FileGrammar) (lines : List (ℕ × ℕ)) (cells : List Cell) (root
         walking_line up none = walking_past (free_line f.grammar f.folds lines up s.from rest.from (plain (tree cells c)) (after ∙ exact) (omega (arith, after, count_within)) none)
 
         pub walking_past-smaller : work (map (ahead cells) new) < work (map (ahead cells) old)
-        walking_past-smaller = subst₂ (λ l m. work l < work m) is_new was (smaller_past f.grammar f.folds lines (trees_of_roots cells roots) (map (ahead cells) stack) (ahead cells s) pairs gathered (plain (tree cells c)) (trees_of_roots cells rest.children) (ap (trees_of_roots cells) e) rest.from (after ∙ exact))
+        walking_past-smaller = subst₂ (λ l m. work l < work m) is_new was (smaller_past f.grammar f.folds lines (trees_of_roots cells roots) (map (ahead cells) stack)
+            (ahead cells s) pairs gathered (plain (tree cells c)) (trees_of_roots cells rest.children) (ap (trees_of_roots cells) e) rest.from (after ∙ exact))
 
         -- which is a node of this production over these children
         module _ (id : NodeId) (is : c ≡ Node id) (q : ℕ) (made : (born : ℕ) × (under : StampedForest) × (tree cells (Node id) ≡ StampedBranch q born under)) where
@@ -110,12 +120,14 @@ module _ (f : FileGrammar) (lines : List (ℕ × ℕ)) (cells : List Cell) (root
           branch = (made.1, ap (λ d. plain (tree cells d)) is ∙ ap plain made.2)
 
           production : (m : ℕ) × (right : List Symbol) × HasProduction f.grammar q m right
-          production = left_side f.grammar f.folds lines (trees_of_roots cells roots) (map (ahead cells) stack) (ahead cells s) pairs gathered (plain (tree cells c)) (trees_of_roots cells rest.children) (ap (trees_of_roots cells) e) rest.from (after ∙ exact) q (plain_all branch.0) branch.1
+          production = left_side f.grammar f.folds lines (trees_of_roots cells roots) (map (ahead cells) stack) (ahead cells s) pairs gathered (plain (tree cells c))
+              (trees_of_roots cells rest.children) (ap (trees_of_roots cells) e) rest.from (after ∙ exact) q (plain_all branch.0) branch.1
 
           pub production_within : q < length f.grammar.productions
           production_within = slice_get_within f.grammar.productions q (record { left = production.0; right = production.1 }) production.2
 
-          module _ (inner : Siblings) (over : (p born : ℕ) × (tree cells (Node id) ≡ StampedBranch p born (forest_of (trees_from [] cells) inner.children))) (start : inner.from ≡ s.from) (newer : List Siblings) (opened : newer ≡ new ++ inner ∷ []) where
+          module _ (inner : Siblings) (over : (p born : ℕ) × (tree cells (Node id) ≡ StampedBranch p born (forest_of (trees_from [] cells) inner.children)))
+              (start : inner.from ≡ s.from) (newer : List Siblings) (opened : newer ≡ new ++ inner ∷ []) where
             abbrev under : Forest
             under = plain_all (forest_of (trees_from [] cells) inner.children)
 
@@ -131,7 +143,8 @@ module _ (f : FileGrammar) (lines : List (ℕ × ℕ)) (cells : List Cell) (root
                 ∙ ap (map (ahead cells)) (sym opened)
 
             pub walking_into-smaller : work (map (ahead cells) newer) < work (map (ahead cells) old)
-            walking_into-smaller = subst₂ (λ l m. work l < work m) is_newer was (smaller_into f.grammar f.folds lines (trees_of_roots cells roots) (map (ahead cells) stack) (ahead cells s) pairs gathered (plain (tree cells c)) (trees_of_roots cells rest.children) (ap (trees_of_roots cells) e) rest.from (after ∙ exact) q under is_branch)
+            walking_into-smaller = subst₂ (λ l m. work l < work m) is_newer was (smaller_into f.grammar f.folds lines (trees_of_roots cells roots) (map (ahead cells) stack)
+                (ahead cells s) pairs gathered (plain (tree cells c)) (trees_of_roots cells rest.children) (ap (trees_of_roots cells) e) rest.from (after ∙ exact) q under is_branch)
 
             module _ (inside : AreBelow id.index inner.children) (pair : ℕ × ℕ) (spans : SpanLines lines s.from rest.from pair) where
               inner_stored : AreStored cells inner
@@ -152,5 +165,10 @@ module _ (f : FileGrammar) (lines : List (ℕ × ℕ)) (cells : List Cell) (root
                   let flag : slice_index_or f.folds production.0 false ≡ own = ap (λ k. slice_index_or f.folds k false) (sym side) in
                   record {
                     stored = subst (All (AreStored cells)) (sym opened) (All-push (AreStored cells) new inner (subst (All (AreStored cells)) (sym pushed) rest_stored) inner_stored);
-                    gathered = subst₂ (IsGathered f.grammar f.folds lines (trees_of_roots cells roots)) is_newer (sym is_own) (gathered_into f.grammar f.folds lines (trees_of_roots cells roots) (map (ahead cells) stack) (ahead cells s) pairs gathered (plain (tree cells c)) (trees_of_roots cells rest.children) (ap (trees_of_roots cells) e) rest.from (after ∙ exact) q under is_branch (with_own own pair pairs) (own_kept f.grammar f.folds lines q production.0 production.1 production.2 s.from rest.from under end pair spans pairs own) (own_only f.grammar f.folds lines q production.0 production.1 production.2 s.from rest.from under end pair spans pairs own flag) (all_own f.grammar f.folds lines q production.0 production.1 production.2 s.from rest.from under end pair spans pairs own flag));
+                    gathered = subst₂ (IsGathered f.grammar f.folds lines (trees_of_roots cells roots)) is_newer (sym is_own)
+                        (gathered_into f.grammar f.folds lines (trees_of_roots cells roots) (map (ahead cells) stack) (ahead cells s) pairs gathered (plain (tree cells c))
+                        (trees_of_roots cells rest.children) (ap (trees_of_roots cells) e) rest.from (after ∙ exact) q under is_branch (with_own own pair pairs)
+                        (own_kept f.grammar f.folds lines q production.0 production.1 production.2 s.from rest.from under end pair spans pairs own)
+                        (own_only f.grammar f.folds lines q production.0 production.1 production.2 s.from rest.from under end pair spans pairs own flag)
+                        (all_own f.grammar f.folds lines q production.0 production.1 production.2 s.from rest.from under end pair spans pairs own flag));
                   }

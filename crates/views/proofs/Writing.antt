@@ -19,7 +19,8 @@ texts-forest f ts [] = refl
 texts-forest f ts (c ∷ cs) = ap (λ r. text_of f (plain (tree_of ts c)) ∷ r) (texts-forest f ts cs)
 
 -- the text of a node is its beginning and what is left before its children
-pub text-node : (f : FileGrammar) (cells : List Cell) (s : Stamped) (p born : ℕ) (cs : List Child) → s ≡ StampedBranch p born (forest_of (trees_from [] cells) cs) → text_of f (plain s) ≡ codes "(" ++ name f p ++ rest_text f cells cs
+pub text-node : (f : FileGrammar) (cells : List Cell) (s : Stamped) (p born : ℕ) (cs : List Child) → s ≡ StampedBranch p born (forest_of (trees_from [] cells) cs)
+    → text_of f (plain s) ≡ codes "(" ++ name f p ++ rest_text f cells cs
 text-node f cells s p born cs e =
     let ts = trees_from [] cells in
     let texts : flat_map (λ c. codes " " ++ c) (tree_texts f.names f.nonterminals (lefts f) (plain_all (forest_of ts cs))) ≡ flat_map (λ c. codes " " ++ child_text f cells c) cs =
@@ -58,7 +59,8 @@ begun f cells id old middle new n p cs made over u v e g named below =
     let same : over.0 ≡ p = same_production (tree cells (Node id)) p over.0 made.0 over.1 made.1 (forest_of (trees_from [] cells) cs) made.2 over.2 in
     record {
       prefix = codes "(" ++ name f p;
-      written = ap chars g ∙ chars-append middle n v ∙ ap (λ x. x ++ chars n) (ap chars e ∙ chars-append old (codes "(") u) ∙ append_assoc (chars old) (codes "(") (chars n) ∙ ap (λ x. chars old ++ (codes "(" ++ x)) named;
+      written = ap chars g ∙ chars-append middle n v ∙ ap (λ x. x ++ chars n) (ap chars e ∙ chars-append old (codes "(") u)
+          ∙ append_assoc (chars old) (codes "(") (chars n) ∙ ap (λ x. chars old ++ (codes "(" ++ x)) named;
       rest = ap (λ k. codes "(" ++ name f k ++ rest_text f cells cs) (sym same) ∙ sym (text-node f cells (tree cells (Node id)) over.0 over.1 cs over.2);
       below = below;
     }
@@ -74,7 +76,8 @@ Below cells s = AreBelow (length cells) s
 below-push : (cells : List Cell) (stack : List (List Child)) (s : List Child) → All (Below cells) stack → Below cells s → All (Below cells) (stack ++ s ∷ [])
 below-push cells stack s h k = All-append (Below cells) stack (s ∷ []) h (All-cons (Below cells) s [] k (All-nil (Below cells)))
 
-pub writing_begun : (f : FileGrammar) (cells : List Cell) (id : NodeId) (old new : List ℕ) (s : List Child) → old ≡ [] → IsBegun f cells id old new s → IsWriting f cells (text_of f (plain (tree cells (Node id)))) new (s ∷ [])
+pub writing_begun : (f : FileGrammar) (cells : List Cell) (id : NodeId) (old new : List ℕ) (s : List Child) → old ≡ [] → IsBegun f cells id old new s
+    → IsWriting f cells (text_of f (plain (tree cells (Node id)))) new (s ∷ [])
 writing_begun f cells id old new s e b = record {
   below = below-push cells [] s (All-nil (Below cells)) b.below;
   whole = ap (λ x. x ++ rest_text f cells s) (b.written ∙ ap (λ x. x ++ b.prefix) (ap chars e ∙ chars-nil)) ∙ b.rest;
@@ -159,13 +162,23 @@ module _ (f : FileGrammar) (cells : List Cell) (all bytes : List ℕ) (stack : L
         whole = ap (λ x. chars new ++ x) (pending-push f cells (stack ++ r ∷ []) d)
             ∙ ap (λ x. x ++ (rest_text f cells d ++ pending f cells (stack ++ r ∷ []))) b.written
             ∙ append_assoc (chars spaced) b.prefix (rest_text f cells d ++ pending f cells (stack ++ r ∷ []))
-            ∙ ap (λ x. chars spaced ++ x) (sym (append_assoc b.prefix (rest_text f cells d) (pending f cells (stack ++ r ∷ []))) ∙ ap (λ x. x ++ pending f cells (stack ++ r ∷ [])) (b.rest ∙ ap (child_text f cells) (sym is)))
+            ∙ ap (λ x. chars spaced ++ x) (sym (append_assoc b.prefix (rest_text f cells d) (pending f cells (stack ++ r ∷ [])))
+            ∙ ap (λ x. x ++ pending f cells (stack ++ r ∷ [])) (b.rest ∙ ap (child_text f cells) (sym is)))
             ∙ spaced_left;
       }
 
-      pub smaller_node : (id : NodeId) (new : List ℕ) (d : List Child) → c ≡ Node id → IsBegun f cells id spaced new d → length (pending f cells (stack ++ r ∷ [] ++ d ∷ [])) < length (pending f cells (stack ++ s ∷ []))
+      pub smaller_node : (id : NodeId) (new : List ℕ) (d : List Child) → c ≡ Node id → IsBegun f cells id spaced new d
+          → length (pending f cells (stack ++ r ∷ [] ++ d ∷ [])) < length (pending f cells (stack ++ s ∷ []))
       smaller_node id new d is b =
           let long = ap length (pending-push f cells stack s ∙ next) in
           let one = ap length (pending-push f cells (stack ++ r ∷ []) d) in
           let node = ap length (b.rest ∙ ap (child_text f cells) (sym is)) in
-          omega (arith, long, one, node, length-append b.prefix (rest_text f cells d), length-append (rest_text f cells d) (pending f cells (stack ++ r ∷ [])), length-append (child_text f cells c) (pending f cells (stack ++ r ∷ [])))
+          omega (
+            arith,
+            long,
+            one,
+            node,
+            length-append b.prefix (rest_text f cells d),
+            length-append (rest_text f cells d) (pending f cells (stack ++ r ∷ [])),
+            length-append (child_text f cells c) (pending f cells (stack ++ r ∷ [])),
+          )

@@ -23,6 +23,7 @@ returns-in-Err-2 c words begins utf8 =
     let simple : is_simple_and_free app ≡ true = ap is_simple_and_free c.in_ok-command.ensures ∙ simple_and_free in
     none_of_refused app (map (λ s. s.now) c.args.line.now) words c.in_ok-command.ensures begins utf8 (λ none. no_kind none (c.in-Err.ensures.kinds simple))
   where
-    no_kind : fault_of (app_of c.in_ok-command.field-0) (map (λ s. s.now) c.args.line.now) ≡ [] → HasKind (fault_of (app_of c.in_ok-command.field-0) (map (λ s. s.now) c.args.line.now)) c.in-Err.error → ⊥
+    no_kind : fault_of (app_of c.in_ok-command.field-0) (map (λ s. s.now) c.args.line.now) ≡ []
+        → HasKind (fault_of (app_of c.in_ok-command.field-0) (map (λ s. s.now) c.args.line.now)) c.in-Err.error → ⊥
     no_kind none (inl memory) = let same = rw (c.kind.ensures, memory) at c.eq.ensures in cc
     no_kind none (inr among) = absurd (subst (IsAmong (kind_of c.in-Err.error)) none among)

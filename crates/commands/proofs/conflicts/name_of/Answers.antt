@@ -10,4 +10,5 @@ returns-in-Rule c =
 
 pub returns-in-Nonterminal : goal.returns-in-Nonterminal
 returns-in-Nonterminal c =
-    sym (encodes-chars c.nonterminal_name.result.now c.nonterminal_name.utf8) ∙ (ap encode_utf8_all c.nonterminal_name.ensures ∙ ap (λ (s : Symbol). name_bytes c.args.grammar.now s) (sym c.in-Nonterminal.is))
+    sym (encodes-chars c.nonterminal_name.result.now c.nonterminal_name.utf8)
+    ∙ (ap encode_utf8_all c.nonterminal_name.ensures ∙ ap (λ (s : Symbol). name_bytes c.args.grammar.now s) (sym c.in-Nonterminal.is))

@@ -10,4 +10,5 @@ returns c =
     let first : string_bytes c.push_str.new.self ≡ before ++ head = c.in_ok-push_str.ensures.bytes in
     let second : string_bytes c.push_str-2.new.self ≡ (before ++ head) ++ name = c.in_ok-push_str-2.ensures.bytes ∙ ap (λ l. l ++ name) first in
     let third : string_bytes c.push_str-3.new.self ≡ ((before ++ head) ++ name) ++ codes "\n" = c.in_ok-push_str-3.ensures.bytes ∙ ap (λ l. l ++ codes "\n") second in
-    third ∙ (append_assoc (before ++ head) name (codes "\n") ∙ (append_assoc before head (name ++ codes "\n") ∙ ap (λ n. before ++ (head ++ (n ++ codes "\n"))) (sym (encodes-chars name c.utf8.name))))
+    third ∙ (append_assoc (before ++ head) name (codes "\n")
+    ∙ (append_assoc before head (name ++ codes "\n") ∙ ap (λ n. before ++ (head ++ (n ++ codes "\n"))) (sym (encodes-chars name c.utf8.name))))

@@ -12,7 +12,8 @@ loop-pattern-preserved c =
     let e = c.expression.result.now in
     let here = at_element rules i c.pattern-item.result e c.expression.ensures.value c.loop-pattern-test.true c.pattern-item.is in
     record {
-      cuts = one_more c.cuts.new.out.items c.loop-pattern.out.items (cuts e) (all_cuts (drop i rules)) (all_cuts (drop (i + 1) rules)) (all_cuts rules) c.in_ok-cuts.ensures.cuts (ap all_cuts here) c.loop-pattern.invariant.cuts;
+      cuts = one_more c.cuts.new.out.items c.loop-pattern.out.items (cuts e) (all_cuts (drop i rules)) (all_cuts (drop (i + 1) rules))
+          (all_cuts rules) c.in_ok-cuts.ensures.cuts (ap all_cuts here) c.loop-pattern.invariant.cuts;
       characters = c.in_ok-cuts.ensures.characters c.loop-pattern.invariant.characters;
     }
 

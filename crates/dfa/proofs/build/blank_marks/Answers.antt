@@ -14,7 +14,8 @@ loop-pattern-preserved c =
     let new = c.in_ok-blank.ensures ∙ ap (λ y. c.loop-pattern.marks.items ++ unmarked (positions y)) c.expression.ensures.value in
     let made : IsWellMade x = subst IsWellMade c.expression.ensures.value c.expression.ensures.well_made in
     record {
-      blank = one_more c.blank.new.out.items c.loop-pattern.marks.items (unmarked (positions x)) (unmarked (all_positions (drop i xs))) (unmarked later) (unmarked (all_positions xs)) new (ap unmarked at ∙ sym (unmarked-add (positions x) later)) c.loop-pattern.invariant.blank;
+      blank = one_more c.blank.new.out.items c.loop-pattern.marks.items (unmarked (positions x)) (unmarked (all_positions (drop i xs))) (unmarked later)
+          (unmarked (all_positions xs)) new (ap unmarked at ∙ sym (unmarked-add (positions x) later)) c.loop-pattern.invariant.blank;
       made = λ h. c.loop-pattern.invariant.made (all_made xs i x c.loop-pattern-test.true (sym c.pattern-item.is) made h);
     }
 

@@ -23,8 +23,10 @@ add_rows-requires c =
       rules = (
         c.args.patterns.now,
         c.args.starts.now,
-        rules_are c.args.patterns.now c.args.starts.now c.in_ok-trees.trees.items c.deref.result.now c.in_ok-parts.parts.items c.deref-2.result.now c.deref.ensures.value c.deref-2.ensures.value c.in_ok-trees.ensures c.in_ok-parts.ensures.length c.in_ok-parts.ensures.each c.requires.ascending c.requires.cuts c.requires.characters,
-        rows_none c.args.patterns.now c.args.starts.now (members c.in_ok-states.states.sets.keys) c.in_ok-states.states.next.items c.in_ok-states.states.accepts.items (c.in_ok-states.ensures.states c.args.patterns.now) c.in_ok-states.ensures.sets c.in_ok-states.ensures.next c.in_ok-states.ensures.accepts,
+        rules_are c.args.patterns.now c.args.starts.now c.in_ok-trees.trees.items c.deref.result.now c.in_ok-parts.parts.items c.deref-2.result.now c.deref.ensures.value
+            c.deref-2.ensures.value c.in_ok-trees.ensures c.in_ok-parts.ensures.length c.in_ok-parts.ensures.each c.requires.ascending c.requires.cuts c.requires.characters,
+        rows_none c.args.patterns.now c.args.starts.now (members c.in_ok-states.states.sets.keys) c.in_ok-states.states.next.items c.in_ok-states.states.accepts.items
+            (c.in_ok-states.ensures.states c.args.patterns.now) c.in_ok-states.ensures.sets c.in_ok-states.ensures.next c.in_ok-states.ensures.accepts,
       );
       blank = λ p. ap (λ l. mark l p) c.in_ok-marks.ensures.blank ∙ no_mark (all_positions c.args.patterns.now) p;
       all = many ∙ (sym counts ∙ ap all_counts (sym c.deref.ensures.value));
@@ -33,11 +35,15 @@ add_rows-requires c =
 pub returns-in-Ok-clause-rows : goal.returns-in-Ok-clause-rows
 returns-in-Ok-clause-rows c =
     c.in-Ok.ensures.rows c.args.patterns.now c.args.starts.now
-    (rules_are c.args.patterns.now c.args.starts.now c.in_ok-trees.trees.items c.deref.result.now c.in_ok-parts.parts.items c.deref-2.result.now c.deref.ensures.value c.deref-2.ensures.value c.in_ok-trees.ensures c.in_ok-parts.ensures.length c.in_ok-parts.ensures.each c.requires.ascending c.requires.cuts c.requires.characters)
-    (rows_none c.args.patterns.now c.args.starts.now (members c.in_ok-states.states.sets.keys) c.in_ok-states.states.next.items c.in_ok-states.states.accepts.items (c.in_ok-states.ensures.states c.args.patterns.now) c.in_ok-states.ensures.sets c.in_ok-states.ensures.next c.in_ok-states.ensures.accepts)
+    (rules_are c.args.patterns.now c.args.starts.now c.in_ok-trees.trees.items c.deref.result.now c.in_ok-parts.parts.items c.deref-2.result.now c.deref.ensures.value
+    c.deref-2.ensures.value c.in_ok-trees.ensures c.in_ok-parts.ensures.length c.in_ok-parts.ensures.each c.requires.ascending c.requires.cuts c.requires.characters)
+    (rows_none c.args.patterns.now c.args.starts.now (members c.in_ok-states.states.sets.keys) c.in_ok-states.states.next.items c.in_ok-states.states.accepts.items
+    (c.in_ok-states.ensures.states c.args.patterns.now) c.in_ok-states.ensures.sets c.in_ok-states.ensures.next c.in_ok-states.ensures.accepts)
 
 pub returns-clause-many : goal.returns-clause-many
 returns-clause-many c = λ e.
     c.in-Err.ensures.many e c.args.patterns.now c.args.starts.now
-    (rules_are c.args.patterns.now c.args.starts.now c.in_ok-trees.trees.items c.deref.result.now c.in_ok-parts.parts.items c.deref-2.result.now c.deref.ensures.value c.deref-2.ensures.value c.in_ok-trees.ensures c.in_ok-parts.ensures.length c.in_ok-parts.ensures.each c.requires.ascending c.requires.cuts c.requires.characters)
-    (rows_none c.args.patterns.now c.args.starts.now (members c.in_ok-states.states.sets.keys) c.in_ok-states.states.next.items c.in_ok-states.states.accepts.items (c.in_ok-states.ensures.states c.args.patterns.now) c.in_ok-states.ensures.sets c.in_ok-states.ensures.next c.in_ok-states.ensures.accepts)
+    (rules_are c.args.patterns.now c.args.starts.now c.in_ok-trees.trees.items c.deref.result.now c.in_ok-parts.parts.items c.deref-2.result.now c.deref.ensures.value
+    c.deref-2.ensures.value c.in_ok-trees.ensures c.in_ok-parts.ensures.length c.in_ok-parts.ensures.each c.requires.ascending c.requires.cuts c.requires.characters)
+    (rows_none c.args.patterns.now c.args.starts.now (members c.in_ok-states.states.sets.keys) c.in_ok-states.states.next.items c.in_ok-states.states.accepts.items
+    (c.in_ok-states.ensures.states c.args.patterns.now) c.in_ok-states.ensures.sets c.in_ok-states.ensures.next c.in_ok-states.ensures.accepts)

@@ -15,4 +15,6 @@ returns-in_ok-blank-in-Sequence t c =
       | inr f ↦ unmarked-add (positions x) (positions y) ∙ sym (ap (λ e. unmarked (positions e)) f)
     ] in
     IfOk-weaker c.blank-in-Sequence-2.result _ _ (λ u made.
-    joined_at (λ e. unmarked (positions e)) (λ k e. unmarked (positions e)) a b x y 0 (0 + positions a) c.args.out.now.items c.blank-in-Sequence.new.out.items c.blank-in-Sequence-2.new.out.items (unmarked (positions c.args.e.now)) c.deref-in-Sequence.ensures c.deref-in-Sequence-2.ensures refl c.in_ok-blank-in-Sequence.ensures made all) c.blank-in-Sequence-2.ensures
+    joined_at (λ e. unmarked (positions e)) (λ k e. unmarked (positions e)) a b x y 0 (0 + positions a) c.args.out.now.items c.blank-in-Sequence.new.out.items
+    c.blank-in-Sequence-2.new.out.items (unmarked (positions c.args.e.now)) c.deref-in-Sequence.ensures c.deref-in-Sequence-2.ensures refl c.in_ok-blank-in-Sequence.ensures made all)
+    c.blank-in-Sequence-2.ensures

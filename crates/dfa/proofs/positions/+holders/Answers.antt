@@ -10,7 +10,9 @@ returns-in_ok-holders-in-Sequence-clause-past t c =
       | inr f ↦ sym (ap positions f)
     ] in
     IfOk-weaker c.holders-in-Sequence-2.result _ _ (λ u past.
-    sum_at c.deref-in-Sequence.result.now c.deref-in-Sequence-2.result.now c.in-Sequence.a.value c.in-Sequence.b.value c.args.at.now c.holders-in-Sequence.new.at c.holders-in-Sequence-2.new.at (positions c.args.e.now) c.deref-in-Sequence.ensures c.deref-in-Sequence-2.ensures c.in_ok-holders-in-Sequence.ensures.past past sum) c.holders-in-Sequence-2.ensures.past
+    sum_at c.deref-in-Sequence.result.now c.deref-in-Sequence-2.result.now c.in-Sequence.a.value c.in-Sequence.b.value c.args.at.now c.holders-in-Sequence.new.at
+    c.holders-in-Sequence-2.new.at (positions c.args.e.now) c.deref-in-Sequence.ensures c.deref-in-Sequence-2.ensures c.in_ok-holders-in-Sequence.ensures.past past sum)
+    c.holders-in-Sequence-2.ensures.past
 
 pub returns-in_ok-holders-in-Sequence-clause-holders : goal.returns-in_ok-holders-in-Sequence-clause-holders
 returns-in_ok-holders-in-Sequence-clause-holders t c =
@@ -23,4 +25,6 @@ returns-in_ok-holders-in-Sequence-clause-holders t c =
       | inr f ↦ sym (ap (held at) f)
     ] in
     IfOk-weaker c.holders-in-Sequence-2.result _ _ (λ u made.
-    joined_at (held at) held c.deref-in-Sequence.result.now c.deref-in-Sequence-2.result.now x y at c.holders-in-Sequence.new.at c.args.out.now.items c.holders-in-Sequence.new.out.items c.holders-in-Sequence-2.new.out.items (held at c.args.e.now) c.deref-in-Sequence.ensures c.deref-in-Sequence-2.ensures c.in_ok-holders-in-Sequence.ensures.past c.in_ok-holders-in-Sequence.ensures.holders made whole) c.holders-in-Sequence-2.ensures.holders
+    joined_at (held at) held c.deref-in-Sequence.result.now c.deref-in-Sequence-2.result.now x y at c.holders-in-Sequence.new.at c.args.out.now.items
+    c.holders-in-Sequence.new.out.items c.holders-in-Sequence-2.new.out.items (held at c.args.e.now) c.deref-in-Sequence.ensures c.deref-in-Sequence-2.ensures
+    c.in_ok-holders-in-Sequence.ensures.past c.in_ok-holders-in-Sequence.ensures.holders made whole) c.holders-in-Sequence-2.ensures.holders

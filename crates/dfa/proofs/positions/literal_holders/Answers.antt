@@ -18,7 +18,8 @@ loop-d-preserved c =
     record {
       past = omega arith;
       holders = elim c.if-d-c.branch [
-        | then-d-c+in_ok-push w ↦ held_more held at d (drop i all) (drop (i + 1) all) out c.if-d-c.out.items whole here w.if-d-c.true (ap (λ (v : Vec ℕ Global). v.items) w.out-is ∙ w.in_ok-push.ensures.items) c.loop-d.invariant.holders
+        | then-d-c+in_ok-push w ↦ held_more held at d (drop i all) (drop (i + 1) all) out c.if-d-c.out.items whole here w.if-d-c.true
+            (ap (λ (v : Vec ℕ Global). v.items) w.out-is ∙ w.in_ok-push.ensures.items) c.loop-d.invariant.holders
         | else-d-c w ↦ other_more held at d (drop i all) (drop (i + 1) all) out c.if-d-c.out.items whole here w.if-d-c.false (ap (λ (v : Vec ℕ Global). v.items) w.out-is) c.loop-d.invariant.holders
       ];
     }

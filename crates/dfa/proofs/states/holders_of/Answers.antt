@@ -21,9 +21,11 @@ loop-pattern-preserved c =
     let here = at_element rules i c.pattern-item.result e c.expression.ensures.value c.loop-pattern-test.true c.pattern-item.is in
     record {
       many = positions_more e (drop i rules) (drop (i + 1) rules) at c.holders.new.at (all_positions rules) here c.in_ok-holders.ensures.past c.loop-pattern.invariant.many;
-      holders = rule_more (all_holders c.args.c) e (drop i rules) (drop (i + 1) rules) at c.holders.new.at c.loop-pattern.places.items (holders c.args.c at e) c.holders.new.out.items (all_holders c.args.c 0 rules) here refl c.in_ok-holders.ensures.past c.in_ok-holders.ensures.holders c.loop-pattern.invariant.holders;
+      holders = rule_more (all_holders c.args.c) e (drop i rules) (drop (i + 1) rules) at c.holders.new.at c.loop-pattern.places.items (holders c.args.c at e) c.holders.new.out.items
+          (all_holders c.args.c 0 rules) here refl c.in_ok-holders.ensures.past c.in_ok-holders.ensures.holders c.loop-pattern.invariant.holders;
     }
 
 pub returns : goal.returns
 returns c =
-    all_done (all_holders c.args.c c.loop-pattern.at) c.args.patterns.now c.loop-pattern.pattern-index c.loop-pattern.places.items (all_holders c.args.c 0 c.args.patterns.now) refl c.loop-pattern-test.false c.loop-pattern.invariant.holders
+    all_done (all_holders c.args.c c.loop-pattern.at) c.args.patterns.now c.loop-pattern.pattern-index c.loop-pattern.places.items
+    (all_holders c.args.c 0 c.args.patterns.now) refl c.loop-pattern-test.false c.loop-pattern.invariant.holders

@@ -7,7 +7,8 @@ returns-clause-always c =
     let file = c.args.language.now.file in
     let same = ap (λ (t : Sets). t.grammar) c.tables-2.ensures.is ∙ c.tables-2.ensures.grammar in
     let accepted : IsAccepted file.grammar = subst (λ (g : Grammar). IsAccepted g) same c.start-start.ensures.accepted in
-    let decided : AreMovesDecided file.grammar = subst (λ (g : Grammar). AreMovesDecided g) (ap (λ (t : Sets). t.grammar) c.tables.ensures.is ∙ c.tables.ensures.grammar) c.moves_are_decided.ensures in
+    let decided : AreMovesDecided file.grammar = subst (λ (g : Grammar). AreMovesDecided g)
+    (ap (λ (t : Sets). t.grammar) c.tables.ensures.is ∙ c.tables.ensures.grammar) c.moves_are_decided.ensures in
     let first = accepted.productive.start in
     let begins : IsViable file.grammar [] = (yield first.0, (first.0, record { root = first.1; kinds = refl })) in
     let always : LayersAnswer file = record {

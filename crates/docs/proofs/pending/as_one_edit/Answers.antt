@@ -21,4 +21,5 @@ returns-clause-leads c was now s inside long leads =
       inserted = c.max-end.result - c.min-at.result - (to - from) + c.args.inserted;
       number = c.args.number;
     } in
-    leads_by_both was now s first both from to c.max-end.result leads c.requires.ordered inside (omega (arith, at, l)) (omega (arith, at, r)) (omega (arith, end, u)) (omega (arith, end, v)) (omega (arith, end, w)) refl (ap (λ n. c.max-end.result - c.min-at.result - (to - from) + n) long)
+    leads_by_both was now s first both from to c.max-end.result leads c.requires.ordered inside (omega (arith, at, l)) (omega (arith, at, r)) (omega (arith, end, u))
+    (omega (arith, end, v)) (omega (arith, end, w)) refl (ap (λ n. c.max-end.result - c.min-at.result - (to - from) + n) long)

@@ -16,7 +16,8 @@ loop-size-preserved c =
     let frame = begins (drop at.used bytes) c.bytes_from-rest.result.now content c.in-Announces.size c.in-Announces.len c.bytes_from-rest.ensures c.in-Announces.ensures.value len (same ∙ here.2) in
     let room : c.in-Announces.size + c.in-Announces.len ≤ length (drop at.used bytes) = subst (λ (l : List ℕ). c.in-Announces.size + c.in-Announces.len ≤ length l) c.bytes_from-rest.ensures here.0 in
     let more = one_more bytes (contents at.frames.items) at.used c.in-Announces.size content at.invariant (omega (arith, len, room, length-drop at.used bytes)) frame in
-    let found : contents at.frames.items ++ content ∷ [] ≡ contents c.push.new.self.items = sym (ap contents c.in_ok-push-in-Some.ensures.items ∙ map-append (λ (f : Frame). f.content.items) at.frames.items _) in
+    let found : contents at.frames.items ++ content ∷ [] ≡ contents c.push.new.self.items =
+    sym (ap contents c.in_ok-push-in-Some.ensures.items ∙ map-append (λ (f : Frame). f.content.items) at.frames.items _) in
     let P : List (List ℕ) → ℕ → Type 0 = IsSplitTo bytes in
     subst (λ k. P (contents c.push.new.self.items) (at.used + (c.in-Announces.size + k))) len (subst (λ cs. P cs (at.used + (c.in-Announces.size + length content))) found more)
 

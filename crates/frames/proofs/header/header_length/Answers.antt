@@ -7,7 +7,8 @@ use Rattle.frames.proofs.header.header_length.Goals as goal
 failed : (c : goal.After-from_residual) → c.from_residual.result ≡ header_length c.args.part.now
 failed c =
     let p = err_from_is_err_and c.from_residual.result c.from_residual.ensures.1 in
-    p.1 ∙ ap (λ (fault : FrameFault). Err fault) p.2 ∙ sym (c.loop-size.invariant ∙ line_failed c.loop-size.rest.now c.in-Some.size c.loop-size.given (sym c.in-Some.ensures.value) c.in_err-given.field-0.0 c.in_err-given.ensures)
+    p.1 ∙ ap (λ (fault : FrameFault). Err fault) p.2
+    ∙ sym (c.loop-size.invariant ∙ line_failed c.loop-size.rest.now c.in-Some.size c.loop-size.given (sym c.in-Some.ensures.value) c.in_err-given.field-0.0 c.in_err-given.ensures)
 
 pub returns-in_err-given-clause-value : goal.returns-in_err-given-clause-value
 returns-in_err-given-clause-value c = failed c
@@ -27,7 +28,8 @@ loop-size-smaller c =
 
 pub loop-size-preserved : goal.loop-size-preserved
 loop-size-preserved c =
-    c.loop-size.invariant ∙ line_passed c.loop-size.rest.now c.in-Some.size c.loop-size.given (sym c.in-Some.ensures.value) c.bytes_from-rest.result.now c.in_ok-given.given c.bytes_from-rest.ensures c.in_ok-given.ensures
+    c.loop-size.invariant ∙ line_passed c.loop-size.rest.now c.in-Some.size c.loop-size.given
+    (sym c.in-Some.ensures.value) c.bytes_from-rest.result.now c.in_ok-given.given c.bytes_from-rest.ensures c.in_ok-given.ensures
 
 given : (c : goal.After-ok_or) → c.ok_or.result ≡ header_length c.args.part.now
 given c = c.ok_or.ensures.value ∙ sym (c.loop-size.invariant ∙ lines_passed c.loop-size.rest.now c.loop-size.given (sym c.in_default.ensures.value))

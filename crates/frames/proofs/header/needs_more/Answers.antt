@@ -10,7 +10,13 @@ returns-then-bytes-ge-LONGEST_HEADER-clause-start c = elim c.then-bytes-ge-LONGE
 ]
 
 pub returns-clause-start : goal.returns-clause-start
-returns-clause-start c = ((λ h. (needs_more_shown c.args.bytes.now c.bytes_from-unsearched.result.now c.args.searched c.saturating_sub.result c.through.result c.is_none.result (omega arith) (sym c.if-starts_with.ensures.value) c.requires.searched c.saturating_sub.ensures c.bytes_from-unsearched.ensures c.through.ensures.value c.is_none.ensures h).0), needs_more_none c.args.bytes.now c.bytes_from-unsearched.result.now c.saturating_sub.result c.through.result c.is_none.result c.bytes_from-unsearched.ensures c.through.ensures.value c.is_none.ensures)
+returns-clause-start c = (
+  (λ h. (needs_more_shown c.args.bytes.now c.bytes_from-unsearched.result.now c.args.searched c.saturating_sub.result c.through.result c.is_none.result
+      (omega arith) (sym c.if-starts_with.ensures.value) c.requires.searched c.saturating_sub.ensures c.bytes_from-unsearched.ensures c.through.ensures.value c.is_none.ensures h).0),
+  needs_more_none c.args.bytes.now c.bytes_from-unsearched.result.now c.saturating_sub.result c.through.result c.is_none.result
+      c.bytes_from-unsearched.ensures c.through.ensures.value c.is_none.ensures,
+)
 
 pub returns-clause-holds : goal.returns-clause-holds
-returns-clause-holds c h = (needs_more_shown c.args.bytes.now c.bytes_from-unsearched.result.now c.args.searched c.saturating_sub.result c.through.result c.is_none.result (omega arith) (sym c.if-starts_with.ensures.value) c.requires.searched c.saturating_sub.ensures c.bytes_from-unsearched.ensures c.through.ensures.value c.is_none.ensures h).1
+returns-clause-holds c h = (needs_more_shown c.args.bytes.now c.bytes_from-unsearched.result.now c.args.searched c.saturating_sub.result c.through.result c.is_none.result
+    (omega arith) (sym c.if-starts_with.ensures.value) c.requires.searched c.saturating_sub.ensures c.bytes_from-unsearched.ensures c.through.ensures.value c.is_none.ensures h).1

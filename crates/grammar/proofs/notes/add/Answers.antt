@@ -15,4 +15,5 @@ returns-then-is_skip c = λ f ss skips same all notes.
 pub returns : goal.returns
 returns c = λ f ss skips same all notes.
     subst (λ ns. AreNotes f (ss ++ c.args.symbol ∷ []) ns) (sym c.in_ok-push.ensures.items)
-    (shown_last f ss c.args.notes.now.items c.args.symbol notes (sym (c.is_skip.ensures f skips) ∙ c.if-is_skip.false) (λ u. true_not_false (sym ((c.is_used.ensures f.grammar same all).1 u) ∙ c.if-is_used.false)))
+    (shown_last f ss c.args.notes.now.items c.args.symbol notes (sym (c.is_skip.ensures f skips) ∙ c.if-is_skip.false)
+    (λ u. true_not_false (sym ((c.is_used.ensures f.grammar same all).1 u) ∙ c.if-is_used.false)))

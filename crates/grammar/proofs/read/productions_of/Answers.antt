@@ -14,7 +14,8 @@ returns-in_err-test_productive-clause-fault c =
     let ss = lines_view c.args.statements.now in
     let are = c.deref.ensures.value ∙ productions_are c.args.names.now ss c.in_ok-productions.productions.items c.requires c.in_ok-productions.ensures in
     let fault = c.in_err-test_productive.field-0.0 in
-    let h : Reports fault (IsUnproductive ss) = IfSome_then _ c.in_err-test_productive.ensures.fault (unproductive_is ss c.as_slice.result.now c.deref.result.now (c.as_slice.ensures ∙ c.requires.nonterminals) are fault.line) in
+    let h : Reports fault (IsUnproductive ss) = IfSome_then _ c.in_err-test_productive.ensures.fault
+    (unproductive_is ss c.as_slice.result.now c.deref.result.now (c.as_slice.ensures ∙ c.requires.nonterminals) are fault.line) in
     let p = err_from_is_err_and c.from_residual-in_err-test_productive.result c.from_residual-in_err-test_productive.ensures.1 in
     rw (p.1, p.2) h
 

@@ -13,7 +13,8 @@ grammar_of-requires-clause-grammar c =
 pub returns-clause-grammar : goal.returns-clause-grammar
 returns-clause-grammar c =
     let read = c.in_ok-statements.ensures in
-    is_meant c.args.text.now c.in_ok-statements.field-0 read.whole read.written read.referents c.deref.result.now c.deref.ensures.value c.grammar_of.result c.grammar_of.ensures.productive c.grammar_of.ensures.grammar
+    is_meant c.args.text.now c.in_ok-statements.field-0 read.whole read.written read.referents c.deref.result.now c.deref.ensures.value
+    c.grammar_of.result c.grammar_of.ensures.productive c.grammar_of.ensures.grammar
 
 pub returns-clause-fault : goal.returns-clause-fault
 returns-clause-fault c =

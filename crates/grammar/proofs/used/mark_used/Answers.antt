@@ -11,7 +11,8 @@ loop-nonterminal-init c =
     let long : length marks ≡ c.args.nonterminals = ap length blank ∙ length-replicate c.args.nonterminals false in (
       length-set marks c.args.start true ∙ long,
       get_or-set_same marks c.args.start true false (omega (arith, long, c.requires.start)),
-      subst (λ (m : List Bool). AreOnlyUsed c.args.start c.args.productions.now (set m c.args.start true)) (sym blank) (start_used c.args.start c.args.nonterminals c.args.productions.now c.requires.start),
+      subst (λ (m : List Bool). AreOnlyUsed c.args.start c.args.productions.now (set m c.args.start true)) (sym blank)
+          (start_used c.args.start c.args.nonterminals c.args.productions.now c.requires.start),
     )
 
 pub loop-nonterminal-smaller : goal.loop-nonterminal-smaller

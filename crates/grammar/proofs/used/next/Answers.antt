@@ -16,4 +16,5 @@ returns-in-Some c =
 
 pub loop-production-preserved : goal.loop-production-preserved
 loop-production-preserved c =
-    spread_more c.args.productions.now c.args.marks.now c.loop-production.production-index c.production-item.result c.loop-production-test.true c.production-item.is c.loop-production.invariant (c.next_of.ensures.none c.in_default.is)
+    spread_more c.args.productions.now c.args.marks.now c.loop-production.production-index c.production-item.result c.loop-production-test.true
+    c.production-item.is c.loop-production.invariant (c.next_of.ensures.none c.in_default.is)

@@ -13,7 +13,8 @@ returns-in_default-clause-fault c =
 
 pub returns-in_err-add_lines-clause-fault : goal.returns-in_err-add_lines-clause-fault
 returns-in_err-add_lines-clause-fault c =
-    let v = version_is c.deref.result.now c.in_ok-lines.lines.items c.args.text.now c.version_of.result (Some c.in-Some.version) c.version_of.ensures c.deref.ensures.value c.in_ok-lines.ensures c.in-Some.is in
+    let v = version_is c.deref.result.now c.in_ok-lines.lines.items c.args.text.now c.version_of.result
+    (Some c.in-Some.version) c.version_of.ensures c.deref.ensures.value c.in_ok-lines.ensures c.in-Some.is in
     let h = line_fault c.args.text.now (statements_in c.in-Some.version (texts c.after_first.result.now)) c.in_err-add_lines.field-0.0 c.if-text-gt-LARGEST_FILE.false
     (headed c.args.text.now (Some c.in-Some.version) v)
     (statements_are c.deref-2.result.now c.in_ok-lines.lines.items c.after_first.result.now c.args.text.now c.in-Some.version c.after_first.ensures c.deref-2.ensures.value c.in_ok-lines.ensures v)
@@ -22,7 +23,8 @@ returns-in_err-add_lines-clause-fault c =
 
 pub returns-then-not-file-clause-fault : goal.returns-then-not-file-clause-fault
 returns-then-not-file-clause-fault c =
-    let v = version_is c.deref.result.now c.in_ok-lines.lines.items c.args.text.now c.version_of.result (Some c.in-Some.version) c.version_of.ensures c.deref.ensures.value c.in_ok-lines.ensures c.in-Some.is in
+    let v = version_is c.deref.result.now c.in_ok-lines.lines.items c.args.text.now c.version_of.result
+    (Some c.in-Some.version) c.version_of.ensures c.deref.ensures.value c.in_ok-lines.ensures c.in-Some.is in
     no_start_fault c.args.text.now (statements_in c.in-Some.version (texts c.after_first.result.now)) c.add_lines.new.self c.if-text-gt-LARGEST_FILE.false
     (headed c.args.text.now (Some c.in-Some.version) v)
     (statements_are c.deref-2.result.now c.in_ok-lines.lines.items c.after_first.result.now c.args.text.now c.in-Some.version c.after_first.ensures c.deref-2.ensures.value c.in_ok-lines.ensures v)
@@ -30,7 +32,8 @@ returns-then-not-file-clause-fault c =
 
 pub returns-clause-whole : goal.returns-clause-whole
 returns-clause-whole c =
-    let v = version_is c.deref.result.now c.in_ok-lines.lines.items c.args.text.now c.version_of.result (Some c.in-Some.version) c.version_of.ensures c.deref.ensures.value c.in_ok-lines.ensures c.in-Some.is in
+    let v = version_is c.deref.result.now c.in_ok-lines.lines.items c.args.text.now c.version_of.result
+    (Some c.in-Some.version) c.version_of.ensures c.deref.ensures.value c.in_ok-lines.ensures c.in-Some.is in
     is_whole c.args.text.now (statements_in c.in-Some.version (texts c.after_first.result.now)) c.add_lines.new.self c.if-text-gt-LARGEST_FILE.false
     (headed c.args.text.now (Some c.in-Some.version) v)
     (statements_are c.deref-2.result.now c.in_ok-lines.lines.items c.after_first.result.now c.args.text.now c.in-Some.version c.after_first.ensures c.deref-2.ensures.value c.in_ok-lines.ensures v)

@@ -8,5 +8,7 @@ returns-clause-names c =
     on_ok_weaker c.add_line.result
     (λ same.
     subst (AreNames c.note.new.self) (sym same)
-    (names-step c.args.names.now c.note.new.self (lines_view c.args.statements.now.items) 0 (Production c.args.left.now (texts c.in_ok-to_vec.field-0.items)) c.requires.names c.in_ok-note.ensures.rules c.in_ok-note.ensures.skips c.in_ok-note.ensures.nonterminals c.in_ok-note.ensures.marked c.in_ok-note.ensures.sides c.in_ok-note.ensures.productions c.in_ok-note.ensures.started))
+    (names-step c.args.names.now c.note.new.self (lines_view c.args.statements.now.items) 0 (Production c.args.left.now (texts c.in_ok-to_vec.field-0.items))
+    c.requires.names c.in_ok-note.ensures.rules c.in_ok-note.ensures.skips c.in_ok-note.ensures.nonterminals c.in_ok-note.ensures.marked
+    c.in_ok-note.ensures.sides c.in_ok-note.ensures.productions c.in_ok-note.ensures.started))
     c.add_line.ensures

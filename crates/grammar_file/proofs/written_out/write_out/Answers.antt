@@ -7,7 +7,8 @@ use Rattle.grammar_file.proofs.written_out.write_out.Goals as goal
 pub loop-word-preserved : goal.loop-word-preserved
 loop-word-preserved c =
     record {
-      statements = added_more (lines_view c.args.statements.now.items) (lines_view c.loop-word.statements.items) (lines_view c.add_productions.new.statements.items) c.deref-word-items.result.now c.loop-word.word-index _ c.loop-word-test.true c.loop-word.invariant.statements c.in_ok-add_productions.ensures.statements;
+      statements = added_more (lines_view c.args.statements.now.items) (lines_view c.loop-word.statements.items) (lines_view c.add_productions.new.statements.items)
+          c.deref-word-items.result.now c.loop-word.word-index _ c.loop-word-test.true c.loop-word.invariant.statements c.in_ok-add_productions.ensures.statements;
       names = c.in_ok-add_productions.ensures.names;
       few = omega (arith, c.in_ok-add_productions.ensures.few, c.loop-word.invariant.few);
     }

@@ -15,7 +15,8 @@ returns c =
     let called : AreCalledFor g kernel w.rows = subst (λ h. AreCalledFor h kernel w.rows) grammar c.in_ok-insert_all.ensures.called in
     IfOk-weaker c.items.result (λ v. HaveBeginnings w.grammar kernel w.rows (length w.grammar.grammar.productions) 0 v.items) (λ v. IsSetOf g kernel v.items)
     (λ v e.
-    let h : HaveBeginnings g kernel w.rows (length g.grammar.productions) 0 v.items = subst (λ x. HaveBeginnings x kernel w.rows (length x.grammar.productions) 0 v.items) (c.in_ok-insert_all.ensures.grammar ∙ grammar) e in
+    let h : HaveBeginnings g kernel w.rows (length g.grammar.productions) 0 v.items =
+    subst (λ x. HaveBeginnings x kernel w.rows (length x.grammar.productions) 0 v.items) (c.in_ok-insert_all.ensures.grammar ∙ grammar) e in
     let each = only_in g sound kernel known w.rows called v.items h in
     record {
       known = λ k d l. in_known g sound kernel known (each (slice_index_or v.items k d) (Contains-get_or v.items k d l));

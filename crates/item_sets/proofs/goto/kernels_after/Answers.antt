@@ -35,8 +35,10 @@ loop-item-preserved c =
           let in_row = w.number_of.ensures.below in
           let there : w.number_of.result < length old = omega (arith, count, in_row) in
           let within : n < length old = subst (λ m. m < length old) w.number_of.ensures.number there in
-          let row : w.add.new.self ≡ slice_index_or old n [] ++ step item ∷ [] = w.in_ok-add.ensures ∙ ap (λ r. r ++ step item ∷ []) (w.index_mut-kernel.ensures.value ∙ get_or_default old w.number_of.result w.index_mut-kernel.result.now [] there ∙ ap (λ m. slice_index_or old m []) w.number_of.ensures.number) in
-          let new : c.match-next.kernels.items ≡ slice_set old n (slice_index_or old n [] ++ step item ∷ []) = ap (λ v. v.items) w.kernels-is ∙ (λ k. slice_set old (w.number_of.ensures.number k) (row k)) in
+          let row : w.add.new.self ≡ slice_index_or old n [] ++ step item ∷ [] = w.in_ok-add.ensures ∙ ap (λ r. r ++ step item ∷ [])
+          (w.index_mut-kernel.ensures.value ∙ get_or_default old w.number_of.result w.index_mut-kernel.result.now [] there ∙ ap (λ m. slice_index_or old m []) w.number_of.ensures.number) in
+          let new : c.match-next.kernels.items ≡ slice_set old n (slice_index_or old n [] ++ step item ∷ []) =
+          ap (λ v. v.items) w.kernels-is ∙ (λ k. slice_set old (w.number_of.ensures.number k) (row k)) in
           rw new (record {
             count = length-set old n (slice_index_or old n [] ++ step item ∷ []) ∙ count;
             each = kernels_more g items at zero below old i.each c.requires.rising s known stands within;

@@ -31,7 +31,8 @@ token_at-token-requires-clause-window g c = λ i w.
     let u = g.S.Source.text c.args.source.now in
     let xs = c.args.old.items in
     let old = c.loop-at.invariant in
-    let here : is_rejoined c.args.edit (plain_all xs) c.loop-at.at ≡ false = subst (λ ys. is_rejoined c.args.edit (plain_all ys) c.loop-at.at ≡ false) old.items (c.in_default.ensures.is old.passed) in
+    let here : is_rejoined c.args.edit (plain_all xs) c.loop-at.at ≡ false =
+    subst (λ ys. is_rejoined c.args.edit (plain_all ys) c.loop-at.at ≡ false) old.items (c.in_default.ensures.is old.passed) in
     c.requires.window i
     (needed c.args.scan.now c.args.edit xs u c.requires.edited c.loop-at.made.items old.leads old.earlier
     (subst (λ n. is_rejoined c.args.edit (plain_all xs) n ≡ false) old.sum here)

@@ -2,11 +2,13 @@ use Rattle.std.proofs.Common.{refl, sym, ap, ◌≡◌, ◌∙◌, ℕ, true, fa
 use Rattle.lexer.proofs.Common.{Kind, same_kinds, is_significant, significant_kinds, change, Token}
 use Rattle.lexer.proofs.tokens.splice_of.Goals as goal
 
-same_change : (xs : List Token) (kept_before to from : ℕ) (kinds : List Kind) → from ≡ count_by is_significant (take kept_before xs) → same_kinds (significant_kinds (slice_range xs kept_before to)) kinds ≡ true
+same_change : (xs : List Token) (kept_before to from : ℕ) (kinds : List Kind) → from ≡ count_by is_significant (take kept_before xs)
+    → same_kinds (significant_kinds (slice_range xs kept_before to)) kinds ≡ true
     → record { from = from; to = from; kinds = [] } ≡ change xs kept_before to kinds
 same_change xs kept_before to from kinds f e = rw (e, f) refl
 
-other_change : (xs : List Token) (kept_before to from past : ℕ) (kinds : List Kind) → from ≡ count_by is_significant (take kept_before xs) → past ≡ count_by is_significant (take to xs) → same_kinds (significant_kinds (slice_range xs kept_before to)) kinds ≡ false
+other_change : (xs : List Token) (kept_before to from past : ℕ) (kinds : List Kind) → from ≡ count_by is_significant (take kept_before xs)
+    → past ≡ count_by is_significant (take to xs) → same_kinds (significant_kinds (slice_range xs kept_before to)) kinds ≡ false
     → record { from = from; to = past; kinds = kinds } ≡ change xs kept_before to kinds
 other_change xs kept_before to from past kinds f t e = rw (e, f, t) refl
 

@@ -35,8 +35,10 @@ edge-preserved c =
       | then-tokens-gt0 w ↦
           let kids = w.children-trees.result in
           let tree = w.children-trees.ensures.tree in
-          subst (λ l. AreBelow (length cells) l × ((more : List Kind) × (all ≡ all_kinds (plain_of cells l) ++ more))) (sym w.trees-is)
-          (all_below-more id.index (length cells) (omega (arith, below.0)) kids w.children-trees.ensures.below, (all_kinds (plain_of cells rest) ++ more, into_node cells id rest kids tree.0 tree.1 all more tree.2 kinds))
+          subst (λ l. AreBelow (length cells) l × ((more : List Kind) × (all ≡ all_kinds (plain_of cells l) ++ more))) (sym w.trees-is) (
+            all_below-more id.index (length cells) (omega (arith, below.0)) kids w.children-trees.ensures.below,
+            (all_kinds (plain_of cells rest) ++ more, into_node cells id rest kids tree.0 tree.1 all more tree.2 kinds),
+          )
       | else-tokens-gt0 w ↦
           let zero_tokens : c.tokens.result ≡ 0 = omega (arith, w.if-tokens-gt0.false) in
           let none = no_kinds (yield (plain (tree cells (Node id)))) (none_counted (length (yield (plain (tree cells (Node id))))) (sym c.tokens.ensures.is ∙ zero_tokens)) in

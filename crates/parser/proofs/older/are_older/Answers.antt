@@ -15,7 +15,8 @@ returns-then-born-number c =
     let is = c.born.ensures.tree in
     let node = StampedBranch is.0 c.born.result is.1 in
     let first : StampedIn (node ∷ all_trees cells rest) [] is.0 c.born.result is.1 = StampedTop in
-    let here : StampedIn (all_trees cells c.trees.rest) [] is.0 c.born.result is.1 = subst (λ l. StampedIn (all_trees cells l) [] is.0 c.born.result is.1) (sym old) (subst (λ s. StampedIn (s ∷ all_trees cells rest) [] is.0 c.born.result is.1) (sym is.2) first) in
+    let here : StampedIn (all_trees cells c.trees.rest) [] is.0 c.born.result is.1 = subst (λ l. StampedIn (all_trees cells l) [] is.0 c.born.result is.1)
+    (sym old) (subst (λ s. StampedIn (s ∷ all_trees cells rest) [] is.0 c.born.result is.1) (sym is.2) first) in
     let one = c.trees.invariant.came.1 [] is.0 c.born.result is.1 here in
     let never : AreOlder c.args.number (all_trees cells c.args.children.now) → ⊥ = λ older. omega (arith, older one.0 is.0 c.born.result is.1 one.1, c.if-born-number.true) in (
       (λ e. absurd (let f : ⊥ = cc in f)),
@@ -29,7 +30,8 @@ trees-smaller-in-Continue-branch-2 c =
     let old : c.trees.rest ≡ Node c.in-Node.id ∷ rest = c.in-Some.ensures ∙ ap (λ x. x ∷ rest) c.in-Node.is in
     let is = c.children.ensures in
     let of_id : AreChildren cells c.in-Node.id c.children.result = record { below = is.below; production = is.tree.0; born = is.tree.1; is = is.tree.2 } in
-    subst (λ l. weight (plain_of cells l) < weight (plain_of cells c.trees.rest)) (sym c.in_ok-put_all-2.ensures) (subst (λ l. weight (plain_of cells (c.children.result ++ rest)) < weight (plain_of cells l)) (sym old) (opened_lighter cells of_id rest))
+    subst (λ l. weight (plain_of cells l) < weight (plain_of cells c.trees.rest)) (sym c.in_ok-put_all-2.ensures)
+    (subst (λ l. weight (plain_of cells (c.children.result ++ rest)) < weight (plain_of cells l)) (sym old) (opened_lighter cells of_id rest))
 
 pub trees-preserved-in-Continue-branch-2 : goal.trees-preserved-in-Continue-branch-2
 trees-preserved-in-Continue-branch-2 c =
@@ -47,9 +49,11 @@ trees-preserved-in-Continue-branch-2 c =
     let opened = come_on place 0 all (all_trees cells (Node id ∷ rest)) (all_trees cells (kids ++ rest)) came (opened_came cells kids rest id is.tree.0 is.tree.1 is.tree.2) in
     let same : c.born.result ≡ is.tree.1 = born_once (sym c.born.ensures.tree.2 ∙ is.tree.2) in
     let f = forest_of (trees_from [] cells) kids in
-    let parts : all_trees cells (kids ++ rest) ≡ stamped_trees f ++ all_trees cells rest = trees_of-append (trees_from [] cells) kids rest ∙ ap (λ l. l ++ all_trees cells rest) (sym (stamped-children (trees_from [] cells) kids)) in
+    let parts : all_trees cells (kids ++ rest) ≡ stamped_trees f ++ all_trees cells rest = trees_of-append (trees_from [] cells) kids rest
+    ∙ ap (λ l. l ++ all_trees cells rest) (sym (stamped-children (trees_from [] cells) kids)) in
     let closed : AreOlder c.args.number (all_trees cells (kids ++ rest)) → AreOlder c.args.number (all_trees cells (Node id ∷ rest)) = λ older.
-    subst (λ s. AreOlder c.args.number (s ∷ all_trees cells rest)) (sym is.tree.2) (older_node c.args.number is.tree.0 is.tree.1 f (all_trees cells rest) (omega (arith, same, c.if-born-number.false)) (subst (AreOlder c.args.number) parts older)) in
+    subst (λ s. AreOlder c.args.number (s ∷ all_trees cells rest)) (sym is.tree.2)
+    (older_node c.args.number is.tree.0 is.tree.1 f (all_trees cells rest) (omega (arith, same, c.if-born-number.false)) (subst (AreOlder c.args.number) parts older)) in
     record {
       below = subst (AreBelow (length cells)) (sym new) (opened_below cells of_id (length cells) rest (subst (AreBelow (length cells)) old c.trees.invariant.below));
       came = (place + 0, subst (λ l. ComeFrom all (place + 0) (all_trees cells l)) (sym new) opened);

@@ -17,7 +17,10 @@ run-requires-clause-so_far g c =
     let input = c.args.input in
     let first = begun t kinds n cells start input made.states.1 c.requires.input c.requires.older in
     let whole = input_of cells input kinds 0 in
-    subst (λ read_from. SoFar t (input_of cells input read_from 0) read_from (length cells) n cells m.stack.items m.states.items m.read input) (sym c.new-reader.ensures) (subst (λ stack. SoFar t whole kinds (length cells) n cells stack m.states.items m.read input) (sym made.stack) (subst (λ states. SoFar t whole kinds (length cells) n cells [] states m.read input) (sym made.states.2) (subst (λ r. SoFar t whole kinds (length cells) n cells [] (start ∷ []) r input) (sym made.read) first)))
+    subst (λ read_from. SoFar t (input_of cells input read_from 0) read_from (length cells) n cells m.stack.items m.states.items m.read input) (sym c.new-reader.ensures)
+    (subst (λ stack. SoFar t whole kinds (length cells) n cells stack m.states.items m.read input) (sym made.stack)
+    (subst (λ states. SoFar t whole kinds (length cells) n cells [] states m.read input) (sym made.states.2)
+    (subst (λ r. SoFar t whole kinds (length cells) n cells [] (start ∷ []) r input) (sym made.read) first)))
 
 pub run-requires-clause-came : goal.run-requires-clause-came
 run-requires-clause-came g c =
@@ -27,7 +30,8 @@ run-requires-clause-came g c =
     let made = c.in_ok-machine.ensures in
     let input = c.args.input in
     let first = came_begins n cells input in
-    subst (λ stack. CameFrom (all_trees cells input) (length cells) n cells stack m.read input) (sym made.stack) (subst (λ r. CameFrom (all_trees cells input) (length cells) n cells [] r input) (sym made.read) first)
+    subst (λ stack. CameFrom (all_trees cells input) (length cells) n cells stack m.read input) (sym made.stack)
+    (subst (λ r. CameFrom (all_trees cells input) (length cells) n cells [] r input) (sym made.read) first)
 
 pub returns-clause-came : goal.returns-clause-came
 returns-clause-came g c = let there = c.in_ok-halt.ensures.came in (c.run.new.self.read, there.0, there.1)
@@ -35,7 +39,14 @@ returns-clause-came g c = let there = c.in_ok-halt.ensures.came in (c.run.new.se
 pub returns-clause-run : goal.returns-clause-run
 returns-clause-run g c =
     let there = c.in_ok-halt.ensures.so_far in
-    record { states = c.run.new.self.states.items; read = c.run.new.self.read; rest = there.0; so_far = subst (λ kinds. SoFar c.args.tables.now (input_of c.args.store.now c.args.input kinds 0) kinds (length c.args.store.now) c.args.number c.run.new.store c.run.new.self.stack.items c.run.new.self.states.items c.run.new.self.read there.0) c.new-reader.ensures there.1 }
+    record {
+      states = c.run.new.self.states.items;
+      read = c.run.new.self.read;
+      rest = there.0;
+      so_far =
+          subst (λ kinds. SoFar c.args.tables.now (input_of c.args.store.now c.args.input kinds 0) kinds (length c.args.store.now) c.args.number c.run.new.store
+          c.run.new.self.stack.items c.run.new.self.states.items c.run.new.self.read there.0) c.new-reader.ensures there.1;
+    }
 
 pub returns-clause-parse : goal.returns-clause-parse
 returns-clause-parse g c =
@@ -46,7 +57,8 @@ returns-clause-parse g c =
     let made = returns-clause-run g c in
     let stops = c.in_ok-halt.ensures.stops.1 in
     record {
-      stop = subst (λ ks. IsStop t ks new (verdict_of c.in_ok-halt.halt stack) stack c.state-state.result) c.new-reader.ensures (subst (IsStop t _ new (verdict_of c.in_ok-halt.halt stack) stack) (sym c.state-state.ensures) stops);
+      stop = subst (λ ks. IsStop t ks new (verdict_of c.in_ok-halt.halt stack) stack c.state-state.result) c.new-reader.ensures
+          (subst (IsStop t _ new (verdict_of c.in_ok-halt.halt stack) stack) (sym c.state-state.ensures) stops);
       branches = c.in_ok-branches.ensures ∙ ap (λ l. all_branches (plain_of new l)) c.deref.ensures.value;
       built = omega (arith, c.len.ensures.is, c.len-before.ensures.is, made.so_far.count, made.so_far.made);
       older = made.so_far.up_to;

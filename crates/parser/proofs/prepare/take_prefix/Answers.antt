@@ -12,13 +12,15 @@ kinds-preserved-in-Continue-1 c =
     let child = c.in-Some.child in
     let rest = c.take_next.new.children ++ c.take_next.new.trees in
     let old : c.kinds.children ++ c.kinds.trees ≡ child ∷ rest = c.in-Some.ensures in
-    let shorter : kinds_in cells child + place_of (plain_of cells rest) ≤ most = omega (arith, c.kinds.invariant.countable, ap (λ l. place_of (plain_of cells l)) old, length-append (yield (plain (tree cells child))) (all_kinds (plain_of cells rest))) in
+    let shorter : kinds_in cells child + place_of (plain_of cells rest) ≤ most =
+    omega (arith, c.kinds.invariant.countable, ap (λ l. place_of (plain_of cells l)) old, length-append (yield (plain (tree cells child))) (all_kinds (plain_of cells rest))) in
     let count : c.tokens_of-count.result ≡ kinds_in cells child = c.tokens_of-count.ensures ∙ counted (kinds_in cells child) (omega (arith, shorter)) in
     let new : c.push.new.self.items ≡ c.kinds.taken.items ++ (child ∷ []) = c.in_ok-push.ensures.items in
     record {
       below = (subst (AreBelow (length cells)) old c.kinds.invariant.below).1;
       countable = omega (arith, shorter);
-      cut = λ prefix back d. subst (λ l. IsSplitAt cells c.args.n c.args.trees.now l back) (sym (ap (λ l. l ++ prefix) new ∙ append_assoc c.kinds.taken.items (child ∷ []) prefix)) (c.kinds.invariant.cut (child ∷ prefix) back (subst (λ l. IsSplitAt cells c.kinds.left l (child ∷ prefix) back) (sym old) (Whole (omega (arith, count, c.if-count-left.true)) d)));
+      cut = λ prefix back d. subst (λ l. IsSplitAt cells c.args.n c.args.trees.now l back) (sym (ap (λ l. l ++ prefix) new ∙ append_assoc c.kinds.taken.items (child ∷ []) prefix))
+          (c.kinds.invariant.cut (child ∷ prefix) back (subst (λ l. IsSplitAt cells c.kinds.left l (child ∷ prefix) back) (sym old) (Whole (omega (arith, count, c.if-count-left.true)) d)));
       left = omega (arith, ap (λ l. place_of (plain_of cells l)) new, place_push cells c.kinds.taken.items child, count, c.kinds.invariant.left, c.if-count-left.true);
     }
 
@@ -35,7 +37,8 @@ kinds-smaller-in-Node c =
     let old : c.kinds.children ++ c.kinds.trees ≡ Node c.in-Node.id ∷ rest = c.in-Some.ensures ∙ ap (λ x. x ∷ rest) c.in-Node.is in
     let is = c.children-children.ensures in
     let of_id : AreChildren cells c.in-Node.id c.children-children.result = record { below = is.below; production = is.tree.0; born = is.tree.1; is = is.tree.2 } in
-    subst (λ l. weight (plain_of cells (c.children-children.result ++ l)) < weight (plain_of cells (c.kinds.children ++ c.kinds.trees))) (sym c.in_ok-put_all.ensures) (subst (λ l. weight (plain_of cells (c.children-children.result ++ rest)) < weight (plain_of cells l)) (sym old) (opened_lighter cells of_id rest))
+    subst (λ l. weight (plain_of cells (c.children-children.result ++ l)) < weight (plain_of cells (c.kinds.children ++ c.kinds.trees))) (sym c.in_ok-put_all.ensures)
+    (subst (λ l. weight (plain_of cells (c.children-children.result ++ rest)) < weight (plain_of cells l)) (sym old) (opened_lighter cells of_id rest))
 
 pub kinds-preserved-in-Node : goal.kinds-preserved-in-Node
 kinds-preserved-in-Node c =
@@ -51,7 +54,8 @@ kinds-preserved-in-Node c =
     record {
       below = subst (AreBelow (length cells)) (sym new) (opened_below cells of_id (length cells) rest (subst (AreBelow (length cells)) old c.kinds.invariant.below));
       countable = omega (arith, c.kinds.invariant.countable, ap (λ l. place_of (plain_of cells l)) old, ap length (opened_kinds cells of_id rest), ap (λ l. place_of (plain_of cells l)) new);
-      cut = λ prefix back d. c.kinds.invariant.cut prefix back (subst (λ l. IsSplitAt cells c.kinds.left l prefix back) (sym old) (Opened c.kinds-test.true less of_id (subst (λ l. IsSplitAt cells c.kinds.left l prefix back) new d)));
+      cut = λ prefix back d. c.kinds.invariant.cut prefix back (subst (λ l. IsSplitAt cells c.kinds.left l prefix back) (sym old)
+          (Opened c.kinds-test.true less of_id (subst (λ l. IsSplitAt cells c.kinds.left l prefix back) new d)));
       left = c.kinds.invariant.left;
     }
 
@@ -60,7 +64,8 @@ returns-clause-cut c =
     let cells = c.args.store.now in
     let old = c.kinds.children ++ c.kinds.trees in
     let rest = c.kinds-test.children ++ c.kinds-test.trees in
-    let all : (back : List Child) → IsSplitAt cells c.kinds.left old [] back → IsSplitAt cells c.args.n c.args.trees.now c.kinds.taken.items back = λ back d. subst (λ l. IsSplitAt cells c.args.n c.args.trees.now l back) (append-nil c.kinds.taken.items) (c.kinds.invariant.cut [] back d) in
+    let all : (back : List Child) → IsSplitAt cells c.kinds.left old [] back → IsSplitAt cells c.args.n c.args.trees.now c.kinds.taken.items back =
+    λ back d. subst (λ l. IsSplitAt cells c.args.n c.args.trees.now l back) (append-nil c.kinds.taken.items) (c.kinds.invariant.cut [] back d) in
     let cut : IsSplitAt cells c.kinds.left old [] rest = elim c.kinds-test.branch [
       | else-kinds-test w ↦
           let none : 0 ≡ c.kinds.left = omega (arith, w.kinds-test.false) in

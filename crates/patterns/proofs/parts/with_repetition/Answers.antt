@@ -16,7 +16,8 @@ returns-in-Some-strip-clause-repeated c =
 pub returns-in-Some-strip-2-clause-repeated : goal.returns-in-Some-strip-2-clause-repeated
 returns-in-Some-strip-2-clause-repeated c =
     let a = c.in-Some-strip-2 in
-    signed a.field-0-0 63 a.rest.now a.ensures c.skip_blanks-in-Some-strip-2.ensures (ap is_sound c.in_ok-optional.ensures.1) (λ d us s. rw c.in_ok-optional.ensures.1 (optional d us _ _ refl refl s)) (λ d n. refl)
+    signed a.field-0-0 63 a.rest.now a.ensures c.skip_blanks-in-Some-strip-2.ensures (ap is_sound c.in_ok-optional.ensures.1)
+    (λ d us s. rw c.in_ok-optional.ensures.1 (optional d us _ _ refl refl s)) (λ d n. refl)
 
 pub returns-clause-repeated : goal.returns-clause-repeated
 returns-clause-repeated c = record {

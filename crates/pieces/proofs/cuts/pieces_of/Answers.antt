@@ -24,8 +24,10 @@ loop-rest-preserved c =
     let size : units Utf8 piece ≡ at = ap (units Utf8) c.in_ok-new.ensures ∙ units-chars prefix u ∙ c.split_at.ensures.front_len in
     record {
       text = v;
-      cut = more (λ p. p) (units Utf8) 509 1024 bytes_measure (chars c.args.text.now) c.loop-rest.pieces.items (chars rest) c.loop-rest.invariant.cut _ piece c.in_ok-push.ensures.items (chars back) cut
-          (omega (arith, c.prefix_len.ensures.few, size)) (omega (arith, units-chars rest c.loop-rest.invariant.text)) (omega (arith, c.prefix_len.ensures.large, size)) (omega (arith, c.prefix_len.ensures.rest, c.split_at.ensures.back_len, units-chars back v));
+      cut = more (λ p. p) (units Utf8) 509 1024 bytes_measure (chars c.args.text.now) c.loop-rest.pieces.items
+          (chars rest) c.loop-rest.invariant.cut _ piece c.in_ok-push.ensures.items (chars back) cut
+          (omega (arith, c.prefix_len.ensures.few, size)) (omega (arith, units-chars rest c.loop-rest.invariant.text)) (omega (arith, c.prefix_len.ensures.large, size))
+          (omega (arith, c.prefix_len.ensures.rest, c.split_at.ensures.back_len, units-chars back v));
     }
 
 empty : (bs : List ℕ) → length bs ≤ 0 → chars bs ≡ []
@@ -38,9 +40,11 @@ returns-clause-cut c =
     let pieces : List (List ℕ) = c.loop-rest.pieces.items in
     elim c.if-rest-gt0.branch [
       | then-rest-gt0+in_ok-new-2+in_ok-push-2 w ↦
-          last (λ p. p) (units Utf8) 509 1024 bytes_measure (chars c.args.text.now) pieces (chars rest) c.loop-rest.invariant.cut _ w.in_ok-new-2.field-0 (ap (λ p. p.items) w.pieces-is ∙ w.in_ok-push-2.ensures.items) [] (sym w.in_ok-new-2.ensures ∙ sym (append-nil _))
+          last (λ p. p) (units Utf8) 509 1024 bytes_measure (chars c.args.text.now) pieces (chars rest) c.loop-rest.invariant.cut _ w.in_ok-new-2.field-0
+          (ap (λ p. p.items) w.pieces-is ∙ w.in_ok-push-2.ensures.items) [] (sym w.in_ok-new-2.ensures ∙ sym (append-nil _))
           (omega (arith, ap (units Utf8) w.in_ok-new-2.ensures, units-chars rest c.loop-rest.invariant.text, c.loop-rest-test.false)) refl
           (omega (arith, ap (units Utf8) w.in_ok-new-2.ensures, units-chars rest c.loop-rest.invariant.text, w.if-rest-gt0))
       | else-rest-gt0 w ↦
-          done (λ p. p) (units Utf8) 509 1024 bytes_measure (chars c.args.text.now) pieces (chars rest) c.loop-rest.invariant.cut _ (ap (λ p. p.items) w.pieces-is) (empty rest (omega (arith, w.if-rest-gt0)))
+          done (λ p. p) (units Utf8) 509 1024 bytes_measure (chars c.args.text.now) pieces (chars rest) c.loop-rest.invariant.cut _
+          (ap (λ p. p.items) w.pieces-is) (empty rest (omega (arith, w.if-rest-gt0)))
     ]

@@ -23,11 +23,13 @@ left t n = omega (arith, units-bytes (drop n t), units-append Utf8 (take n t) (d
 pub overflow_sub-result : goal.overflow_sub-result
 overflow_sub-result c =
     let done : c.loop.counter ≡ c.args.count = omega arith in
-    let rest : length c.as_str.result.now ≡ length (encode_utf8_all (drop c.args.count c.args.piece.now)) = ap length (c.as_str.ensures ∙ c.loop.invariant) ∙ ap (λ n. length (encode_utf8_all (drop n c.args.piece.now))) done in
+    let rest : length c.as_str.result.now ≡ length (encode_utf8_all (drop c.args.count c.args.piece.now)) = ap length (c.as_str.ensures ∙ c.loop.invariant)
+    ∙ ap (λ n. length (encode_utf8_all (drop n c.args.piece.now))) done in
     omega (arith, rest, left c.args.piece.now c.args.count, ap (units Utf8) c.text-text.ensures.characters, units-chars c.text-text.result.now c.text-text.utf8)
 
 pub returns : goal.returns
 returns c =
     let done : c.loop.counter ≡ c.args.count = omega arith in
-    let rest : length c.as_str.result.now ≡ length (encode_utf8_all (drop c.args.count c.args.piece.now)) = ap length (c.as_str.ensures ∙ c.loop.invariant) ∙ ap (λ n. length (encode_utf8_all (drop n c.args.piece.now))) done in
+    let rest : length c.as_str.result.now ≡ length (encode_utf8_all (drop c.args.count c.args.piece.now)) = ap length (c.as_str.ensures ∙ c.loop.invariant)
+    ∙ ap (λ n. length (encode_utf8_all (drop n c.args.piece.now))) done in
     omega (arith, rest, left c.args.piece.now c.args.count, ap (units Utf8) c.text-text.ensures.characters, units-chars c.text-text.result.now c.text-text.utf8)

@@ -19,7 +19,8 @@ loop-byte-preserved c =
             (λ i. joined (w.sums-is i) (line_sums (ascii_units (w.line-is i))))
             ∙ sums_laws.right_unit w.join-sums.result
             ∙ w.join-sums.ensures
-            ∙ sums_of-more (take n t) (slice_index t n) w.join.result w.of_character.result (λ few. w.join.ensures ∙ ap (joined c.loop-byte.sums) (w.of_line.ensures ∙ ap line_sums w.ascii_units.ensures) ∙ c.loop-byte.invariant.summed) w.of_character.ensures fits
+            ∙ sums_of-more (take n t) (slice_index t n) w.join.result w.of_character.result
+            (λ few. w.join.ensures ∙ ap (joined c.loop-byte.sums) (w.of_line.ensures ∙ ap line_sums w.ascii_units.ensures) ∙ c.loop-byte.invariant.summed) w.of_character.ensures fits
             ∙ ap sums_of (sym next);
       }
       | else-byte-le13 w ↦
@@ -32,7 +33,8 @@ loop-byte-preserved c =
             few = omega (arith, w.line-is, c.loop-byte.invariant.few);
             summed =
                 (λ i. joined (w.sums-is i) (line_sums (ascii_units (w.line-is i))))
-                ∙ ascii-more c.loop-byte.sums c.loop-byte.line (take n t) (slice_index t n) (c.requires.ascii n) other.0 other.1 (omega (arith, c.loop-byte.invariant.few, c.loop-byte-test.true, c.requires.few)) c.loop-byte.invariant.summed fits
+                ∙ ascii-more c.loop-byte.sums c.loop-byte.line (take n t) (slice_index t n) (c.requires.ascii n) other.0 other.1
+                (omega (arith, c.loop-byte.invariant.few, c.loop-byte-test.true, c.requires.few)) c.loop-byte.invariant.summed fits
                 ∙ ap sums_of (sym next);
           }
     ]

@@ -25,13 +25,15 @@ loop-c-preserved-then-c-eq13 c = λ fits.
     ap (λ u. joined c.join-sums.result (line_sums u)) c.no_units-line-then-c-eq13.ensures
     ∙ sums_laws.right_unit c.join-sums.result
     ∙ c.join-sums.ensures
-    ∙ sums_of-more c.loop-c.yielded c.in-Some.c c.join.result c.of_character.result (λ few. c.join.ensures ∙ ap (joined c.loop-c.sums) c.of_line.ensures ∙ c.loop-c.invariant few) c.of_character.ensures fits
+    ∙ sums_of-more c.loop-c.yielded c.in-Some.c c.join.result c.of_character.result
+    (λ few. c.join.ensures ∙ ap (joined c.loop-c.sums) c.of_line.ensures ∙ c.loop-c.invariant few) c.of_character.ensures fits
 
 pub returns-then-is_ascii : goal.returns-then-is_ascii
 returns-then-is_ascii c = c.of_ascii.ensures ∙ ap sums_of (c.as_bytes.ensures.value ∙ sym (chars-IsAscii c.args.text.now c.if-is_ascii.ensures.cases))
 
 pub returns : goal.returns
 returns c =
-    let whole : chars c.args.text.now ≡ c.loop-c.yielded = sym (all-from (YieldsList-from_chars c.args.text.now c.utf8.text cc) c.loop-c.yielded _ c.loop-c.yielded_by _ _ c.in-None.is c.next.ensures.steps) in
+    let whole : chars c.args.text.now ≡ c.loop-c.yielded =
+    sym (all-from (YieldsList-from_chars c.args.text.now c.utf8.text cc) c.loop-c.yielded _ c.loop-c.yielded_by _ _ c.in-None.is c.next.ensures.steps) in
     let fits : units Utf8 c.loop-c.yielded ≤ most = subst (λ t. units Utf8 t ≤ most) whole (subst (λ n. n ≤ most) (sym (units-chars c.args.text.now c.utf8.text)) c.requires) in
     c.join-2.ensures ∙ ap (joined c.loop-c.sums) c.of_line-2.ensures ∙ c.loop-c.invariant fits ∙ ap sums_of (sym whole)

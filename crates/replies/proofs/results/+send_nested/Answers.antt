@@ -11,7 +11,8 @@ pub returns : goal.returns
 returns g t c =
     let w = g.S.Serializer.written in
     let none : Range = record { start = record { line = 0; character = 0 }; end = record { line = 0; character = 0 } } in
-    subst (λ o. OnOk c.end_map.result (SendsValue (with_parent (range_data c.args.range) o) (w c.args.out.now) (w c.end_map.new.self))) (sym (nested_more c.args.outer.now none c.in-len1-up.len_at_least))
+    subst (λ o. OnOk c.end_map.result (SendsValue (with_parent (range_data c.args.range) o) (w c.args.out.now) (w c.end_map.new.self)))
+    (sym (nested_more c.args.outer.now none c.in-len1-up.len_at_least))
     (sends_object _ _ _ c.end_map.result c.in_ok-begin_map.ensures
     (λ e. sends_member _ _ c.in_ok-key.ensures c.in_ok-send_nested.ensures
     (sends_member _ _ c.in_ok-key-2.ensures c.in_ok-send_range.ensures e))

@@ -7,7 +7,8 @@ pub loop-row-preserved : goal.loop-row-preserved
 loop-row-preserved g c = λ end rest.
     let w = g.S.Serializer.written in
     c.loop-row.invariant end (sent_more (λ r. row_data (row_view r)) (λ l. items_of (map row_data (map row_view l))) refl (λ x l. refl) c.args.rows.now c.loop-row.row-index _
-    (w c.loop-row.out) (w c.send_row.new.out) end (omega arith) (subst (λ r. SendsValue (row_data (row_view r)) (w c.loop-row.out) (w c.send_row.new.out)) c.row-item.is c.in_ok-send_row.ensures) rest)
+    (w c.loop-row.out) (w c.send_row.new.out) end (omega arith)
+    (subst (λ r. SendsValue (row_data (row_view r)) (w c.loop-row.out) (w c.send_row.new.out)) c.row-item.is c.in_ok-send_row.ensures) rest)
 
 pub returns : goal.returns
 returns g c =

@@ -6,7 +6,8 @@ use Rattle.replies.proofs.results.send_selections.Goals as goal
 pub loop-ranges-preserved : goal.loop-ranges-preserved
 loop-ranges-preserved g c = λ end rest.
     let w = g.S.Serializer.written in
-    c.loop-ranges.invariant end (sent_more (λ s. selection_data s.items) (λ l. items_of (map selection_data (map (λ s. s.items) l))) refl (λ x l. refl) c.args.selections.now c.loop-ranges.ranges-index _
+    c.loop-ranges.invariant end (sent_more (λ s. selection_data s.items) (λ l. items_of (map selection_data (map (λ s. s.items) l))) refl
+    (λ x l. refl) c.args.selections.now c.loop-ranges.ranges-index _
     (w c.loop-ranges.out) (w c.send_selection.new.out) end (omega arith)
     (subst (λ l. SendsValue (selection_data l) (w c.loop-ranges.out) (w c.send_selection.new.out)) (c.deref.ensures.value ∙ ap (λ s. s.items) c.ranges-item.is) c.in_ok-send_selection.ensures) rest)
 

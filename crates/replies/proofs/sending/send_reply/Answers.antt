@@ -3,7 +3,8 @@ use Rattle.replies.proofs.Common.{OnOk, ⊤, Log, SendsValue, Reply, id_view, te
 use Rattle.replies.proofs.sending.send_reply.Goals as goal
 
 -- what was sent of the reply that it is
-sent_of : {E : Type 0} (result : Result ⊤ E) (old new : Log) (reply is : Reply) → reply ≡ is → OnOk result (SendsValue (reply_data (reply_view is)) old new) → OnOk result (SendsValue (reply_data (reply_view reply)) old new)
+sent_of : {E : Type 0} (result : Result ⊤ E) (old new : Log) (reply is : Reply) → reply ≡ is → OnOk result (SendsValue (reply_data (reply_view is)) old new)
+    → OnOk result (SendsValue (reply_data (reply_view reply)) old new)
 sent_of result old new reply is same = subst (λ r. OnOk result (SendsValue (reply_data (reply_view r)) old new)) (sym same)
 
 pub returns-in-Capabilities : goal.returns-in-Capabilities
@@ -22,7 +23,8 @@ returns-in-Text g c =
 
 pub returns-in-Stats : goal.returns-in-Stats
 returns-in-Stats g c =
-    sent_of c.send_result-in-Stats.result (g.S.Serializer.written c.args.out.now) (g.S.Serializer.written c.send_result-in-Stats.new.out) c.args.reply.now _ c.in-Stats.is c.send_result-in-Stats.ensures
+    sent_of c.send_result-in-Stats.result (g.S.Serializer.written c.args.out.now)
+    (g.S.Serializer.written c.send_result-in-Stats.new.out) c.args.reply.now _ c.in-Stats.is c.send_result-in-Stats.ensures
 
 pub returns-in-Selections : goal.returns-in-Selections
 returns-in-Selections g c =

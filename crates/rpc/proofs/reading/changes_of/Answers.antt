@@ -5,7 +5,8 @@ use Rattle.rpc.proofs.reading.changes_of.Goals as goal
 
 pub loop-item-preserved : goal.loop-item-preserved
 loop-item-preserved c =
-    read_more change_of changes_of refl (λ d ds. refl) c.args.items.now c.loop-item.item-index c.item-item.result (change_view c.in-Some.change) (map change_view c.loop-item.changes.items) (map change_view c.push.new.self.items)
+    read_more change_of changes_of refl (λ d ds. refl) c.args.items.now c.loop-item.item-index c.item-item.result (change_view c.in-Some.change)
+    (map change_view c.loop-item.changes.items) (map change_view c.push.new.self.items)
     (omega arith) c.item-item.is
     (sym (ap (option_map change_view) c.in-Some.is) ∙ c.in_ok-change.ensures)
     (ap (map change_view) c.in_ok-push-in-Some.ensures.items ∙ map-append change_view c.loop-item.changes.items _)

@@ -42,7 +42,8 @@ returns-clause-cut g c =
     let ends = ends_after m laws runs few o place (c.locate-place.ensures.reached (within_chunks runs place run at)) in
     let count : c.locate-place.result.1.items ≡ length (prefix runs place) = ap (λ s. s.items) c.locate-place.ensures.before ∙ items_before m laws runs few o place in
     let same = c.items.ensures.same in
-    cut_in (λ r. r) runs place run at o starts ends c.split_at.result.0.now c.split_at.result.1.now (c.split_at.ensures.front ∙ (λ i. take (o - count i) (same i))) (c.split_at.ensures.back ∙ (λ i. drop (o - count i) (same i)))
+    cut_in (λ r. r) runs place run at o starts ends c.split_at.result.0.now c.split_at.result.1.now (c.split_at.ensures.front ∙ (λ i. take (o - count i) (same i)))
+    (c.split_at.ensures.back ∙ (λ i. drop (o - count i) (same i)))
 
 pub returns-in_default-clause-cut : goal.returns-in_default-clause-cut
 returns-in_default-clause-cut g c =

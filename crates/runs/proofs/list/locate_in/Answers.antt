@@ -5,10 +5,12 @@ use Rattle.runs.proofs.list.locate_in.Goals.{After-reached}
 use Rattle.runs.proofs.list.locate_in.Goals as goal
 
 -- the sum past the item, and whether it reaches the goal
-past : (g : _) (c : After-reached g) → let sum = g.T.Sum.Monoid.op c.args.before (total g.T.Sum.Monoid.empty g.T.Sum.Monoid.op g.T.Measured.measure (take (c.loop-item.item-index + 1) c.args.items.now)) in
+past : (g : _) (c : After-reached g) → let sum = g.T.Sum.Monoid.op c.args.before
+    (total g.T.Sum.Monoid.empty g.T.Sum.Monoid.op g.T.Measured.measure (take (c.loop-item.item-index + 1) c.args.items.now)) in
     (c.join-past.result ≡ sum) × (g.G.Goal.reaches c.args.goal.now sum ≡ c.reached.result)
 past g c =
-    let is = walked g.T.Measured.measure g.met.T.Sum.Monoid.laws c.args.before c.args.items.now c.loop-item.item-index c.item-item.result c.loop-item.sum c.sum.result c.join-past.result (omega (arith, c.loop-item-test.true)) c.item-item.is c.loop-item.invariant.summed c.sum.ensures c.join-past.ensures in
+    let is = walked g.T.Measured.measure g.met.T.Sum.Monoid.laws c.args.before c.args.items.now c.loop-item.item-index c.item-item.result c.loop-item.sum c.sum.result c.join-past.result
+    (omega (arith, c.loop-item-test.true)) c.item-item.is c.loop-item.invariant.summed c.sum.ensures c.join-past.ensures in
     (is, ap (g.G.Goal.reaches c.args.goal.now) (sym is) ∙ sym c.reached.ensures)
 
 pub returns-then-reached : goal.returns-then-reached

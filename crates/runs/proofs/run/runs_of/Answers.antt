@@ -28,7 +28,8 @@ returns g c =
     let runs = c.loop-rest.runs.items in
     elim c.if-rest-gt0.branch [
       | then-rest-gt0+in_ok-new-2+in_ok-push-2 w ↦
-          last (λ r. r) length 32 64 length_measures c.args.items.now runs rest c.loop-rest.invariant _ w.in_ok-new-2.field-0 (ap (λ p. p.items) w.runs-is ∙ w.in_ok-push-2.ensures.items) [] (sym w.in_ok-new-2.ensures ∙ sym (append-nil _)) (omega (arith, ap length w.in_ok-new-2.ensures, c.loop-rest-test.false)) refl
+          last (λ r. r) length 32 64 length_measures c.args.items.now runs rest c.loop-rest.invariant _ w.in_ok-new-2.field-0 (ap (λ p. p.items) w.runs-is ∙ w.in_ok-push-2.ensures.items)
+          [] (sym w.in_ok-new-2.ensures ∙ sym (append-nil _)) (omega (arith, ap length w.in_ok-new-2.ensures, c.loop-rest-test.false)) refl
           (omega (arith, ap length w.in_ok-new-2.ensures, w.if-rest-gt0))
       | else-rest-gt0 w ↦
           done (λ r. r) length 32 64 length_measures c.args.items.now runs rest c.loop-rest.invariant _ (ap (λ p. p.items) w.runs-is) (empty rest (omega (arith, w.if-rest-gt0)))

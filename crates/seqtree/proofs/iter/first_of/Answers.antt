@@ -7,7 +7,8 @@ use Rattle.seqtree.proofs.iter.first_of.Goals.{then-before-count, else-before-co
 
 pub returns-then-skipped-before-clause-items : goal.returns-then-skipped-before-clause-items
 returns-then-skipped-before-clause-items g c =
-    let is : items_of c.loop-below.below.now ≡ items_of c.node.inside.left ++ c.node.inside.item ∷ items_of c.node.inside.right = ap items_of c.in-Some.is ∙ sym (ap (λ d. d.0) (c.node.view_is ∙ c.deref-node.ensures)) in
+    let is : items_of c.loop-below.below.now ≡ items_of c.node.inside.left ++ c.node.inside.item ∷ items_of c.node.inside.right =
+    ap items_of c.in-Some.is ∙ sym (ap (λ d. d.0) (c.node.view_is ∙ c.deref-node.ensures)) in
     let count = length_around _ _ _ _ is in
     let parts = c.loop-below.parts in
     let rest : items_ahead c.if-before-count.parts ≡ items_of c.node.inside.right ++ items_ahead parts = elim c.if-before-count.branch [
@@ -21,7 +22,8 @@ returns-then-skipped-before-clause-items g c =
 
 pub returns-then-skipped-before-clause-parts : goal.returns-then-skipped-before-clause-parts
 returns-then-skipped-before-clause-parts g c =
-    let is : items_of c.loop-below.below.now ≡ items_of c.node.inside.left ++ c.node.inside.item ∷ items_of c.node.inside.right = ap items_of c.in-Some.is ∙ sym (ap (λ d. d.0) (c.node.view_is ∙ c.deref-node.ensures)) in
+    let is : items_of c.loop-below.below.now ≡ items_of c.node.inside.left ++ c.node.inside.item ∷ items_of c.node.inside.right =
+    ap items_of c.in-Some.is ∙ sym (ap (λ d. d.0) (c.node.view_is ∙ c.deref-node.ensures)) in
     let tall : height_of c.loop-below.below.now ≡ c.node.inside.tall = ap height_of c.in-Some.is ∙ sym (ap (λ d. d.1) (c.node.view_is ∙ c.deref-node.ensures)) in
     let count = length_around _ _ _ _ is in
     let all = c.loop-below.invariant in
@@ -35,7 +37,8 @@ returns-then-skipped-before-clause-parts g c =
 
 pub loop-below-preserved-then-skipped-before-2 : goal.loop-below-preserved-then-skipped-before-2
 loop-below-preserved-then-skipped-before-2 g c =
-    let is : items_of c.loop-below.below.now ≡ items_of c.node.inside.left ++ c.node.inside.item ∷ items_of c.node.inside.right = ap items_of c.in-Some.is ∙ sym (ap (λ d. d.0) (c.node.view_is ∙ c.deref-node.ensures)) in
+    let is : items_of c.loop-below.below.now ≡ items_of c.node.inside.left ++ c.node.inside.item ∷ items_of c.node.inside.right =
+    ap items_of c.in-Some.is ∙ sym (ap (λ d. d.0) (c.node.view_is ∙ c.deref-node.ensures)) in
     let tall : height_of c.loop-below.below.now ≡ c.node.inside.tall = ap height_of c.in-Some.is ∙ sym (ap (λ d. d.1) (c.node.view_is ∙ c.deref-node.ensures)) in
     let count = length_around _ _ _ _ is in
     let all = c.loop-below.invariant in
@@ -53,7 +56,8 @@ loop-below-preserved-then-skipped-before-2 g c =
 
 pub loop-below-preserved : goal.loop-below-preserved
 loop-below-preserved g c =
-    let is : items_of c.loop-below.below.now ≡ items_of c.node.inside.left ++ c.node.inside.item ∷ items_of c.node.inside.right = ap items_of c.in-Some.is ∙ sym (ap (λ d. d.0) (c.node.view_is ∙ c.deref-node.ensures)) in
+    let is : items_of c.loop-below.below.now ≡ items_of c.node.inside.left ++ c.node.inside.item ∷ items_of c.node.inside.right =
+    ap items_of c.in-Some.is ∙ sym (ap (λ d. d.0) (c.node.view_is ∙ c.deref-node.ensures)) in
     let tall : height_of c.loop-below.below.now ≡ c.node.inside.tall = ap height_of c.in-Some.is ∙ sym (ap (λ d. d.1) (c.node.view_is ∙ c.deref-node.ensures)) in
     let count = length_around _ _ _ _ is in
     let all = c.loop-below.invariant in

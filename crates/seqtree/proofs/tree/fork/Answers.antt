@@ -18,7 +18,8 @@ invariant_of-node g c =
       low = λ k h. let e = IsLow-fork _ _ _ _ c.height.ensures.low c.height-2.ensures.low c.requires.balanced k (omega arith) in omega arith;
       high = high-fork c.height.result c.height-2.result _ _ _ _ (search rules) (search rules) c.height.ensures.high c.height-2.ensures.high;
       fits = omega arith;
-      all_is = c.sum_with_right.ensures ∙ (ap (λ s. op s right) (c.sum_with_left.ensures ∙ ap (op left) c.sum.ensures) ∙ total-around g.T.Measured.measure g.met.T.Sum.Monoid.laws _ c.node.inside.item _);
+      all_is = c.sum_with_right.ensures ∙ (ap (λ s. op s right) (c.sum_with_left.ensures ∙ ap (op left) c.sum.ensures)
+          ∙ total-around g.T.Measured.measure g.met.T.Sum.Monoid.laws _ c.node.inside.item _);
     }
 
 pub returns-clause-items : goal.returns-clause-items

@@ -10,7 +10,8 @@ returns-in-Ok-clause-becomes c =
     let e = open_document c.in-Ok.doc in
     let state = entry_view c.apply_each-in-Ok.result in
     let after = subst (λ l. IsAfter file d (map change_view l) e) c.split_at.ensures.front c.in-Ok.ensures.after in
-    let rest = subst (λ l. Becomes file c.args.version e (map change_view l) state) c.split_at.ensures.back (subst (λ (v : ℤ). Becomes file v e (map change_view c.split_at.result.1.now) state) (to_z-of_z w32 c.args.version c.ranges.version) c.apply_each-in-Ok.ensures.becomes) in
+    let rest = subst (λ l. Becomes file c.args.version e (map change_view l) state) c.split_at.ensures.back
+    (subst (λ (v : ℤ). Becomes file v e (map change_view c.split_at.result.1.now) state) (to_z-of_z w32 c.args.version c.ranges.version) c.apply_each-in-Ok.ensures.becomes) in
     becomes_by_parts changes (length changes - 1) file c.args.version d (omega (arith, c.if-count-le1.false)) e state after rest
 
 pub returns-in-Err-clause-becomes : goal.returns-in-Err-clause-becomes

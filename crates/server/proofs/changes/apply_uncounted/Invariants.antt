@@ -10,6 +10,7 @@ invariant-loop-change l =
       edits : edited l.fn.doc.unit l.fn.doc.text (map change_view (take l.change-index l.changes)) ≡ Some (pending_text l.pending);
       fits : fits (pending_text l.pending) ≡ true;
       number : pending_number l.pending ≡ number_of (last_edit l.fn.doc) + l.change-index;
-      last : (last : Option LastEdit) × IsLastAfter l.fn.doc.unit l.language.file l.fn.doc.text (map change_view (take l.change-index l.changes)) (last_edit l.fn.doc) last × (number_of last ≡ pending_number l.pending);
+      last : (last : Option LastEdit) × IsLastAfter l.fn.doc.unit l.language.file l.fn.doc.text (map change_view (take l.change-index l.changes))
+          (last_edit l.fn.doc) last × (number_of last ≡ pending_number l.pending);
       first : l.change-index ≡ 0 → HasNone l.pending;
     }

@@ -25,7 +25,9 @@ returns-in-Some-2 g c =
     let here = subst (λ (o : Option ℕ). Served between new mid (frame.content.items ∷ []) o after) c.in-Some-2.is c.in_ok-status.ensures.written in
     let upto = served_then old between new first mid after (contents done) (frame.content.items ∷ []) (Some c.in-Some-2.status) c.loop-frame.invariant.served here in
     record {
-      written = subst (λ (cs : List (List ℕ)). Served old new first cs (Some c.in-Some-2.status) after) (contents_all c.args.frames.items done rest frame (ap (λ l. done ++ l) (sym c.in-Some.ensures.steps.0) ∙ c.loop-frame.invariant.all)) (served_stops old new first after _ (contents rest) c.in-Some-2.status upto);
+      written = subst (λ (cs : List (List ℕ)). Served old new first cs (Some c.in-Some-2.status) after)
+          (contents_all c.args.frames.items done rest frame (ap (λ l. done ++ l) (sym c.in-Some.ensures.steps.0) ∙ c.loop-frame.invariant.all))
+          (served_stops old new first after _ (contents rest) c.in-Some-2.status upto);
       part = tt;
       device = c.in_ok-status.ensures.device;
     }
@@ -44,7 +46,8 @@ loop-frame-preserved g c =
     let rest = into_iter_items c.next.new.self in
     let here = subst (λ (o : Option ℕ). Served between new mid (frame.content.items ∷ []) o after) c.in_default.is c.in_ok-status.ensures.written in
     record {
-      served = subst (λ (cs : List (List ℕ)). Served old new first cs None after) (sym (contents_more done frame)) (served_then old between new first mid after (contents done) (frame.content.items ∷ []) None c.loop-frame.invariant.served here);
+      served = subst (λ (cs : List (List ℕ)). Served old new first cs None after) (sym (contents_more done frame))
+          (served_then old between new first mid after (contents done) (frame.content.items ∷ []) None c.loop-frame.invariant.served here);
       works = c.in_ok-status.ensures.device;
       all = append_assoc done (frame ∷ []) rest ∙ ap (λ l. done ++ l) (sym c.in-Some.ensures.steps.0) ∙ c.loop-frame.invariant.all;
     }

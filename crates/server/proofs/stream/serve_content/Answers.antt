@@ -9,7 +9,8 @@ returns g c =
     let answers = map reply_view c.in_ok-out.out.replies.items in
     let before = state_view c.args.server.now in
     let after = state_view c.handle.new.self in
-    let step = step_of_received (received_of c.message_of-message.result) (received_in c.args.content.items) before answers c.in_ok-out.out.stop after c.message_of-message.ensures c.in_ok-out.ensures.step in
+    let step = step_of_received (received_of c.message_of-message.result) (received_in c.args.content.items) before answers
+    c.in_ok-out.out.stop after c.message_of-message.ensures c.in_ok-out.ensures.step in
     record {
       written = record {
         answers = answers;
@@ -39,7 +40,8 @@ returns-in_err-write_replies g c =
     let after = state_view c.handle.new.self in
     let p = err_from_is_err_and c.from_residual-in_err-write_replies.result c.from_residual-in_err-write_replies.ensures.1 in
     let cut : IsCutShort p.0 failures = subst (λ (e : RunFault). IsCutShort e failures) (sym p.2) c.in_err-write_replies.ensures.fault in
-    let step = step_of_received (received_of c.message_of-message.result) (received_in c.args.content.items) before answers c.in_ok-out.out.stop after c.message_of-message.ensures c.in_ok-out.ensures.step in
+    let step = step_of_received (received_of c.message_of-message.result) (received_in c.args.content.items) before answers
+    c.in_ok-out.out.stop after c.message_of-message.ensures c.in_ok-out.ensures.step in
     let part : ServedInPart old new before (c.args.content.items ∷ []) = record {
       answers = answers;
       stop = c.in_ok-out.out.stop;

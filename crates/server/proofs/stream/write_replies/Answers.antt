@@ -11,10 +11,12 @@ in_parts replies n =
     ∙ (ap bytes_of (sym (map-append reply_view (take n replies) (drop n replies))) ∙ ap (λ l. bytes_of (map reply_view l)) (take-append-drop n replies))
 
 -- those through one more reply
-one_more : (replies : List Reply) (i : ℕ) (reply : Reply) → i < length replies → reply ≡ get_or replies i reply → bytes_of (map reply_view (take (i + 1) replies)) ≡ bytes_of (map reply_view (take i replies)) ++ frame (compact_text (reply_data (reply_view reply)))
+one_more : (replies : List Reply) (i : ℕ) (reply : Reply) → i < length replies → reply ≡ get_or replies i reply → bytes_of (map reply_view (take (i + 1) replies))
+    ≡ bytes_of (map reply_view (take i replies)) ++ frame (compact_text (reply_data (reply_view reply)))
 one_more replies i reply h e =
     ap (λ l. bytes_of (map reply_view l)) (take_more replies i reply h ∙ ap (λ r. take i replies ++ r ∷ []) (sym e))
-    ∙ (ap bytes_of (map-append reply_view (take i replies) (reply ∷ [])) ∙ (bytes_then (map reply_view (take i replies)) (reply_view reply ∷ []) ∙ ap (λ l. bytes_of (map reply_view (take i replies)) ++ l) (append-nil (frame (compact_text (reply_data (reply_view reply)))))))
+    ∙ (ap bytes_of (map-append reply_view (take i replies) (reply ∷ [])) ∙ (bytes_then (map reply_view (take i replies)) (reply_view reply ∷ [])
+    ∙ ap (λ l. bytes_of (map reply_view (take i replies)) ++ l) (append-nil (frame (compact_text (reply_data (reply_view reply)))))))
 
 pub returns-in_err-content-clause-prefix : goal.returns-in_err-content-clause-prefix
 returns-in_err-content-clause-prefix g c =

@@ -8,7 +8,16 @@ returns c =
     elim c.if-is_in_order.branch [
       | then-is_in_order w ↦ rw w.t-17-is (record { conflict = k; order = c.is_in_order.ensures.yes w.if-is_in_order.true; first_dot = c.requires.clash.one.at; second_dot = c.requires.clash.two.at })
       | else-is_in_order w ↦ rw w.t-17-is (record {
-        conflict = record { one_valid = k.two_valid; two_valid = k.one_valid; one_move = k.two_move; two_move = k.one_move; one_calls = k.two_calls; two_calls = k.one_calls; differ = λ e. k.differ (sym e) };
+        conflict = record {
+          one_valid = k.two_valid;
+          two_valid = k.one_valid;
+          one_move = k.two_move;
+          two_move = k.one_move;
+          one_calls =
+              k.two_calls;
+          two_calls = k.one_calls;
+          differ = λ e. k.differ (sym e);
+        };
         order = c.is_in_order.ensures.no w.if-is_in_order.false;
         first_dot = c.requires.clash.two.at;
         second_dot = c.requires.clash.one.at;

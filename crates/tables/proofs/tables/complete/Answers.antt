@@ -19,4 +19,5 @@ returns-in-Some-clause-refused c =
 pub returns-clause-few : goal.returns-clause-few
 returns-clause-few c =
     let i = c.loop-states.invariant in
-    few_sets c.args.grammar.now c.loop-states.states i.states c.loop-states.made i.made (omega (arith, c.len.ensures, c.len-in-loop-states.ensures, c.loop-states-test.false, i.made.within)) 8192 i.few
+    few_sets c.args.grammar.now c.loop-states.states i.states c.loop-states.made i.made
+    (omega (arith, c.len.ensures, c.len-in-loop-states.ensures, c.loop-states-test.false, i.made.within)) 8192 i.few

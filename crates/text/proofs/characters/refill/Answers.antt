@@ -8,4 +8,5 @@ none (b ∷ bs) e = absurd (omega (arith, e))
 
 pub returns-in-Some-clause-same : goal.returns-in-Some-clause-same
 returns-in-Some-clause-same c =
-    ap (λ t. t ++ text_in c.next.new.self) c.text.ensures.characters ∙ ap text_in (sym c.in-Some.ensures.steps) ∙ ap (λ t. t ++ text_in c.args.pieces.now) (sym (none c.args.present.now (omega arith)))
+    ap (λ t. t ++ text_in c.next.new.self) c.text.ensures.characters ∙ ap text_in (sym c.in-Some.ensures.steps)
+    ∙ ap (λ t. t ++ text_in c.args.pieces.now) (sym (none c.args.present.now (omega arith)))

@@ -11,5 +11,7 @@ returns-then-c-eq13 c t i rest e next is = after_return c.args.unit t rest i c.a
 
 pub returns : goal.returns
 returns c t i rest e next is =
-    let join_three : ◌≡◌ {A = Position} (record { line = c.args.position.line; character = c.args.position.character + c.units_of.result }) (record { line = c.args.position.line; character = c.args.position.character + unit c.args.unit c.args.c }) = λ k. record { line = c.args.position.line; character = c.args.position.character + c.units_of.ensures.is k } in
+    let join_three : ◌≡◌ {A = Position} (record { line = c.args.position.line; character = c.args.position.character + c.units_of.result })
+    (record { line = c.args.position.line; character = c.args.position.character + unit c.args.unit c.args.c }) =
+    λ k. record { line = c.args.position.line; character = c.args.position.character + c.units_of.ensures.is k } in
     join_three ∙ after_other c.args.unit t rest i c.args.c c.args.position e is (sym (c.is_break_end.ensures rest next) ∙ c.if-is_break_end.false) c.if-c-eq13.false

@@ -8,7 +8,8 @@ pub bounds-names-id : goal.bounds-names-id
 bounds-names-id c =
     let i = c.loop-number.number-index in
     let same = same_next c.loop-number.numbers c.args.numbers.now i 0 c.loop-number.invariant.rest in
-    subst (IsBelow (length c.args.names.now)) (ap unpack (sym same) ∙ sym c.unpack.ensures ∙ c.in-Node.is) (unpacked_below (length c.args.names.now) c.args.numbers.now i 0 c.requires.below c.loop-number-test.true)
+    subst (IsBelow (length c.args.names.now)) (ap unpack (sym same) ∙ sym c.unpack.ensures ∙ c.in-Node.is)
+    (unpacked_below (length c.args.names.now) c.args.numbers.now i 0 c.requires.below c.loop-number-test.true)
 
 pub loop-number-preserved : goal.loop-number-preserved
 loop-number-preserved c = grind (arith, common_steps)

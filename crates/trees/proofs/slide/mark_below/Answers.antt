@@ -11,7 +11,8 @@ mark-requires c =
     let i = c.loop-i.i - 1 in
     let within : i < n = omega (arith, c.loop-i-test.true, c.loop-i.invariant.within) in
     let at = store_at c.args.stored.now c.requires.store i c.index-stored-i.result c.index-stored-i.result within c.index-stored-i.is in
-    subst (AreBelow (length c.loop-i.marks)) (sym c.children.ensures) (all_below-more i (length c.loop-i.marks) (omega (arith, within, c.loop-i.invariant.long)) c.index-stored-i.result.children at.inside)
+    subst (AreBelow (length c.loop-i.marks)) (sym c.children.ensures)
+    (all_below-more i (length c.loop-i.marks) (omega (arith, within, c.loop-i.invariant.long)) c.index-stored-i.result.children at.inside)
 
 pub loop-i-preserved-then-marks-i : goal.loop-i-preserved-then-marks-i
 loop-i-preserved-then-marks-i c =
@@ -29,7 +30,8 @@ loop-i-preserved-then-marks-i c =
       within = omega (arith, within);
       long = ap length is ∙ mark-long marks cs ∙ c.loop-i.invariant.long;
       kept = λ children h. subst (λ l. AreMarked l children) (sym is) (all-kept marks cs children (c.loop-i.invariant.kept children h));
-      closed = subst (IsClosedFrom i stored) (sym is) (closed_next stored marks i c.requires.store within c.loop-i.invariant.long (subst (λ k. IsClosedFrom k stored marks) next c.loop-i.invariant.closed));
+      closed = subst (IsClosedFrom i stored) (sym is) (closed_next stored marks i c.requires.store within c.loop-i.invariant.long
+          (subst (λ k. IsClosedFrom k stored marks) next c.loop-i.invariant.closed));
       few = omega (arith, ap (owed i ts) is, owed_next stored marks i c.requires.store within c.if-marks-i.true, ap (λ k. owed k ts marks) again, c.loop-i.invariant.few);
     }
 

@@ -20,7 +20,12 @@ loop-root-init c =
     }
 
 pub index_mut-requires : goal.index_mut-requires
-index_mut-requires c = omega (arith, c.loop-root.invariant.long, root_below (length c.args.stored.now) c.args.roots.now c.loop-root.root-index (record { index = 0 }) c.requires.below c.loop-root-test.true)
+index_mut-requires c = omega (
+  arith,
+  c.loop-root.invariant.long,
+  root_below (length c.args.stored.now) c.args.roots.now c.loop-root.root-index
+      (record { index = 0 }) c.requires.below c.loop-root-test.true,
+)
 
 pub loop-root-preserved : goal.loop-root-preserved
 loop-root-preserved c =
@@ -31,8 +36,14 @@ loop-root-preserved c =
     let below : root.index < length marks = omega (arith, c.loop-root.invariant.long, root_below (length c.args.stored.now) roots i (record { index = 0 }) c.requires.below c.loop-root-test.true) in
     record {
       long = length-set marks root.index true ∙ c.loop-root.invariant.long;
-      few = omega (arith, owed_set (length c.args.stored.now) (trees_from [] c.args.stored.now) marks root.index (omega (arith, below, c.loop-root.invariant.long)), sizes_from c.args.stored.now roots i (record { index = 0 }) c.loop-root-test.true, c.loop-root.invariant.few);
-      marked = subst (λ l. AreMarked (set marks root.index true) (nodes l)) (sym (take_more roots i (record { index = 0 }) c.loop-root-test.true)) (roots-marked marks (take i roots) root below c.loop-root.invariant.marked);
+      few = omega (
+        arith,
+        owed_set (length c.args.stored.now) (trees_from [] c.args.stored.now) marks root.index (omega (arith, below, c.loop-root.invariant.long)),
+        sizes_from c.args.stored.now roots i (record { index = 0 }) c.loop-root-test.true,
+        c.loop-root.invariant.few,
+      );
+      marked = subst (λ l. AreMarked (set marks root.index true) (nodes l)) (sym (take_more roots i (record { index = 0 }) c.loop-root-test.true))
+          (roots-marked marks (take i roots) root below c.loop-root.invariant.marked);
     }
 
 pub returns-clause-few : goal.returns-clause-few
@@ -41,7 +52,13 @@ returns-clause-few c =
     let new = c.mark_below.new.marks in
     let n : c.loop-root.marks.len ≡ length marks = search rules in
     let is = written new marks c.loop-root.marks.len n (c.mark_below.ensures.long ∙ sym c.loop-root.invariant.long) in
-    omega (arith, ap (λ l. rank l (length l)) is, c.mark_below.ensures.few, ap (owed (length c.args.stored.now) (trees_from [] c.args.stored.now)) c.deref_mut.ensures.value, c.loop-root.invariant.few)
+    omega (
+      arith,
+      ap (λ l. rank l (length l)) is,
+      c.mark_below.ensures.few,
+      ap (owed (length c.args.stored.now) (trees_from [] c.args.stored.now)) c.deref_mut.ensures.value,
+      c.loop-root.invariant.few,
+    )
 
 pub returns-clause-roots : goal.returns-clause-roots
 returns-clause-roots c =
@@ -50,7 +67,9 @@ returns-clause-roots c =
     let roots = c.args.roots.now in
     let n : c.loop-root.marks.len ≡ length marks = search rules in
     let is = written new marks c.loop-root.marks.len n (c.mark_below.ensures.long ∙ sym c.loop-root.invariant.long) in
-    let before : AreMarked c.deref_mut.result.now (nodes roots) = (subst (λ l. AreMarked l (nodes roots)) (sym c.deref_mut.ensures.value) (subst (λ l. AreMarked marks (nodes l)) (take_all c.loop-root.root-index roots c.loop-root-test.false) c.loop-root.invariant.marked)) in
+    let before : AreMarked c.deref_mut.result.now (nodes roots) =
+    (subst (λ l. AreMarked l (nodes roots)) (sym c.deref_mut.ensures.value)
+    (subst (λ l. AreMarked marks (nodes l)) (take_all c.loop-root.root-index roots c.loop-root-test.false) c.loop-root.invariant.marked)) in
     subst (λ l. AreMarked l (nodes roots)) (sym is) (c.mark_below.ensures.kept (nodes roots) before)
 
 pub returns-clause-closed : goal.returns-clause-closed

@@ -5,7 +5,8 @@ use Rattle.trees.proofs.slide.slide.Goals.{then-marks-i, else-marks-i}
 use Rattle.trees.proofs.slide.slide.Goals as goal
 
 pub rename-requires-clause-below : goal.rename-requires-clause-below
-rename-requires-clause-below c = swapped_below c.args.stored.now.items c.args.marks.now c.args.ranks.now c.loop-i.i c.loop-i.stored.items c.loop-i.next c.swap.new.self.items c.index_mut.result.now c.requires.store c.requires.long c.requires.ranks c.if-marks-i.true c.loop-i.invariant.slid c.swap.ensures.by_index c.index_mut.ensures.value
+rename-requires-clause-below c = swapped_below c.args.stored.now.items c.args.marks.now c.args.ranks.now c.loop-i.i c.loop-i.stored.items c.loop-i.next
+    c.swap.new.self.items c.index_mut.result.now c.requires.store c.requires.long c.requires.ranks c.if-marks-i.true c.loop-i.invariant.slid c.swap.ensures.by_index c.index_mut.ensures.value
 
 pub loop-i-preserved : goal.loop-i-preserved
 loop-i-preserved c =
@@ -17,10 +18,18 @@ loop-i-preserved c =
       | then-marks-i w ↦
           let swapped = w.swap.new.self.items in
           let next = c.loop-i.next in
-          let step = slid_step old marks ranks i c.loop-i.stored.items next swapped w.index_mut.result.now w.rename.new.self c.requires.store c.requires.long c.requires.closed c.requires.ranks w.if-marks-i.true c.loop-i.invariant.slid w.swap.ensures.by_index w.index_mut.ensures.value w.rename.ensures in
-          record { slid = subst (λ v. IsSlidTo old marks ranks (i + 1) v.items c.if-marks-i.next) (sym w.stored-is) (subst (IsSlidTo old marks ranks (i + 1) (set swapped next w.rename.new.self)) (sym w.next-is) step) }
+          let step = slid_step old marks ranks i c.loop-i.stored.items next swapped w.index_mut.result.now w.rename.new.self c.requires.store c.requires.long
+          c.requires.closed c.requires.ranks w.if-marks-i.true c.loop-i.invariant.slid w.swap.ensures.by_index w.index_mut.ensures.value w.rename.ensures in
+          record {
+            slid = subst (λ v. IsSlidTo old marks ranks (i + 1) v.items c.if-marks-i.next) (sym w.stored-is)
+                (subst (IsSlidTo old marks ranks (i + 1) (set swapped next w.rename.new.self)) (sym w.next-is) step);
+          }
       | else-marks-i w ↦
-          record { slid = subst (λ v. IsSlidTo old marks ranks (i + 1) v.items c.if-marks-i.next) (sym w.stored-is) (subst (λ n. IsSlidTo old marks ranks (i + 1) c.loop-i.stored.items n) (sym w.next-is) (slid_skip old marks ranks i c.loop-i.stored.items c.loop-i.next c.loop-i-test.true w.if-marks-i.false c.loop-i.invariant.slid)) }
+          record {
+            slid = subst (λ v. IsSlidTo old marks ranks (i + 1) v.items c.if-marks-i.next) (sym w.stored-is)
+                (subst (λ n. IsSlidTo old marks ranks (i + 1) c.loop-i.stored.items n) (sym w.next-is)
+                (slid_skip old marks ranks i c.loop-i.stored.items c.loop-i.next c.loop-i-test.true w.if-marks-i.false c.loop-i.invariant.slid));
+          }
     ]
 
 pub returns-clause-store : goal.returns-clause-store

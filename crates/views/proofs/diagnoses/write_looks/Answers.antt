@@ -29,5 +29,7 @@ loop-look-preserved c =
     let mapped : c.map.result ≡ option_map Rule c.in-Some.look = (let m = c.map.ensures.cases in search rules) in
     record {
       text = (codes ", ", (refl, refl));
-      listing = listing_more names all (string_bytes c.loop-look.reported) c.loop-look.separator.now c.in-Some.look c.next.new.self (string_bytes c.push_str.new.self) (string_bytes c.push_str-in-loop-look.new.self) c.name_or_end.result.now before (IsUtf8-string_bytes c.loop-look.reported) (IsUtf8-string_bytes c.push_str.new.self) c.in_ok-push_str.ensures.bytes c.in_ok-push_str-2.ensures.bytes (c.name_or_end.ensures ∙ ap (name_or_end names) mapped);
+      listing = listing_more names all (string_bytes c.loop-look.reported) c.loop-look.separator.now c.in-Some.look c.next.new.self (string_bytes c.push_str.new.self)
+          (string_bytes c.push_str-in-loop-look.new.self) c.name_or_end.result.now before (IsUtf8-string_bytes c.loop-look.reported)
+          (IsUtf8-string_bytes c.push_str.new.self) c.in_ok-push_str.ensures.bytes c.in_ok-push_str-2.ensures.bytes (c.name_or_end.ensures ∙ ap (name_or_end names) mapped);
     }

@@ -7,7 +7,8 @@ pub loop-children-init : goal.loop-children-init
 loop-children-init c =
     let first : Siblings = record { children = c.of.result; from = 0 } in
     let items : c.push.new.self.items ≡ first ∷ [] = c.in_ok-push.ensures.items ∙ ap (λ l. l ++ first ∷ []) c.new-open.ensures.items in
-    subst₂ (IsWalking c.args.grammar.now c.args.lines.now c.args.store.now c.args.roots.now) (sym items) (sym c.new-pairs.ensures.items) (walking_none _ _ _ _ first c.of.ensures refl c.requires.below c.requires.trees c.requires.covered)
+    subst₂ (IsWalking c.args.grammar.now c.args.lines.now c.args.store.now c.args.roots.now) (sym items) (sym c.new-pairs.ensures.items)
+    (walking_none _ _ _ _ first c.of.ensures refl c.requires.below c.requires.trees c.requires.covered)
 
 pub loop-children-smaller-in_default-next : goal.loop-children-smaller-in_default-next
 loop-children-smaller-in_default-next c =
@@ -34,7 +35,8 @@ pub loop-children-preserved-in_default-child : goal.loop-children-preserved-in_d
 loop-children-preserved-in_default-child c =
     let short : length c.args.lines.now ≤ most = omega arith in
     let rest : Siblings = record { children = c.next.new.self; from = c.in-Some.field-0.from + c.tokens_of.result } in
-    walking_token _ _ _ _ _ _ _ _ c.loop-children.invariant c.in-Some.ensures.items _ rest c.in-Some-next.ensures.steps _ c.tokens_of.ensures short refl _ c.in_ok-push-2.ensures.items _ c.in_default-child.is
+    walking_token _ _ _ _ _ _ _ _ c.loop-children.invariant c.in-Some.ensures.items _ rest c.in-Some-next.ensures.steps _
+    c.tokens_of.ensures short refl _ c.in_ok-push-2.ensures.items _ c.in_default-child.is
 
 pub span-requires : goal.span-requires
 span-requires c =
@@ -52,39 +54,46 @@ pub loop-children-preserved-in_default-span : goal.loop-children-preserved-in_de
 loop-children-preserved-in_default-span c =
     let short : length c.args.lines.now ≤ most = omega arith in
     let rest : Siblings = record { children = c.next.new.self; from = c.in-Some.field-0.from + c.tokens_of.result } in
-    walking_line _ _ _ _ _ _ _ _ c.loop-children.invariant c.in-Some.ensures.items _ rest c.in-Some-next.ensures.steps _ c.tokens_of.ensures short refl _ c.in_ok-push-2.ensures.items c.requires.ascending c.in_default-span.ensures
+    walking_line _ _ _ _ _ _ _ _ c.loop-children.invariant c.in-Some.ensures.items _ rest c.in-Some-next.ensures.steps _ c.tokens_of.ensures
+    short refl _ c.in_ok-push-2.ensures.items c.requires.ascending c.in_default-span.ensures
 
 pub production-requires : goal.production-requires
 production-requires c =
     let short : length c.args.lines.now ≤ most = omega arith in
     let rest : Siblings = record { children = c.next.new.self; from = 0 } in
-    subst (IsBelow (length c.args.store.now)) c.in-Node.is (child_below _ _ _ _ _ _ _ _ c.loop-children.invariant c.in-Some.ensures.items _ rest c.in-Some-next.ensures.steps _ c.tokens_of.ensures short)
+    subst (IsBelow (length c.args.store.now)) c.in-Node.is
+    (child_below _ _ _ _ _ _ _ _ c.loop-children.invariant c.in-Some.ensures.items _ rest c.in-Some-next.ensures.steps _ c.tokens_of.ensures short)
 
 pub add_own-requires : goal.add_own-requires
 add_own-requires c =
     let short : length c.args.lines.now ≤ most = omega arith in
     let rest : Siblings = record { children = c.next.new.self; from = c.in-Some.field-0.from + c.tokens_of.result } in
-    production_within _ _ _ _ _ _ _ _ c.loop-children.invariant c.in-Some.ensures.items _ rest c.in-Some-next.ensures.steps _ c.tokens_of.ensures short refl _ c.in_ok-push-2.ensures.items _ c.in-Node.is _ c.production.ensures.tree
+    production_within _ _ _ _ _ _ _ _ c.loop-children.invariant c.in-Some.ensures.items _ rest c.in-Some-next.ensures.steps _ c.tokens_of.ensures
+    short refl _ c.in_ok-push-2.ensures.items _ c.in-Node.is _ c.production.ensures.tree
 
 pub children-requires : goal.children-requires
 children-requires c =
     let short : length c.args.lines.now ≤ most = omega arith in
     let rest : Siblings = record { children = c.next.new.self; from = 0 } in
-    subst (IsBelow (length c.args.store.now)) c.in-Node.is (child_below _ _ _ _ _ _ _ _ c.loop-children.invariant c.in-Some.ensures.items _ rest c.in-Some-next.ensures.steps _ c.tokens_of.ensures short)
+    subst (IsBelow (length c.args.store.now)) c.in-Node.is
+    (child_below _ _ _ _ _ _ _ _ c.loop-children.invariant c.in-Some.ensures.items _ rest c.in-Some-next.ensures.steps _ c.tokens_of.ensures short)
 
 pub loop-children-smaller : goal.loop-children-smaller
 loop-children-smaller c =
     let short : length c.args.lines.now ≤ most = omega arith in
     let rest : Siblings = record { children = c.next.new.self; from = c.in-Some.field-0.from + c.tokens_of.result } in
     let inner : Siblings = record { children = c.children.result; from = c.in-Some.field-0.from } in
-    walking_into-smaller _ _ _ _ _ _ _ _ c.loop-children.invariant c.in-Some.ensures.items _ rest c.in-Some-next.ensures.steps _ c.tokens_of.ensures short refl _ c.in_ok-push-2.ensures.items _ c.in-Node.is _ c.production.ensures.tree inner c.children.ensures.tree refl _ c.in_ok-push-3.ensures.items
+    walking_into-smaller _ _ _ _ _ _ _ _ c.loop-children.invariant c.in-Some.ensures.items _ rest c.in-Some-next.ensures.steps _ c.tokens_of.ensures short refl
+    _ c.in_ok-push-2.ensures.items _ c.in-Node.is _ c.production.ensures.tree inner c.children.ensures.tree refl _ c.in_ok-push-3.ensures.items
 
 pub loop-children-preserved : goal.loop-children-preserved
 loop-children-preserved c =
     let short : length c.args.lines.now ≤ most = omega arith in
     let rest : Siblings = record { children = c.next.new.self; from = c.in-Some.field-0.from + c.tokens_of.result } in
     let inner : Siblings = record { children = c.children.result; from = c.in-Some.field-0.from } in
-    walking_into _ _ _ _ _ _ _ _ c.loop-children.invariant c.in-Some.ensures.items _ rest c.in-Some-next.ensures.steps _ c.tokens_of.ensures short refl _ c.in_ok-push-2.ensures.items _ c.in-Node.is _ c.production.ensures.tree inner c.children.ensures.tree refl _ c.in_ok-push-3.ensures.items c.children.ensures.below _ c.in-Some-span.ensures _ c.in_ok-add_own.ensures
+    walking_into _ _ _ _ _ _ _ _ c.loop-children.invariant c.in-Some.ensures.items _ rest c.in-Some-next.ensures.steps _ c.tokens_of.ensures short refl _
+    c.in_ok-push-2.ensures.items _ c.in-Node.is _ c.production.ensures.tree inner c.children.ensures.tree refl _ c.in_ok-push-3.ensures.items
+    c.children.ensures.below _ c.in-Some-span.ensures _ c.in_ok-add_own.ensures
 
 pub returns : goal.returns
 returns c =

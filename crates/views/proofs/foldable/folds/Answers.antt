@@ -20,4 +20,5 @@ returns c =
     let lines = c.deref.ensures.value ∙ c.in_ok-lines.ensures c.args.grammar.now.skips c.requires.tokens.marked in
     let trees = trees_of_roots c.args.store.now c.args.roots.now in
     let foldable_lines = subst (λ (ls : List (ℕ × ℕ)). AreSpanned c.args.grammar.now.grammar c.args.grammar.now.folds ls trees c.in_ok-pairs.pairs.items) lines c.in_ok-pairs.ensures in
-    shown_are_folds c.args.grammar.now c.args.text.now (map plain c.args.tokens.now.items) trees c.in_ok-pairs.pairs.items c.sort_unstable.new.self.items c.dedup.new.self.items foldable_lines c.requires.roots.covered c.sort_unstable.ensures.permutation (dedup_is _ _ _ c.dedup.ensures.filtered) c.sort_unstable.ensures.sorted
+    shown_are_folds c.args.grammar.now c.args.text.now (map plain c.args.tokens.now.items) trees c.in_ok-pairs.pairs.items c.sort_unstable.new.self.items
+    c.dedup.new.self.items foldable_lines c.requires.roots.covered c.sort_unstable.ensures.permutation (dedup_is _ _ _ c.dedup.ensures.filtered) c.sort_unstable.ensures.sorted

@@ -15,7 +15,8 @@ overflow_add-end c =
 pub returns-then-point-end : goal.returns-then-point-end
 returns-then-point-end c =
     let end = c.loop-child.start + c.tokens_of.result in
-    let here : is_around c.args.point.reached c.args.point.first c.loop-child.start end ≡ true = and_from (nat_lt c.loop-child.start c.args.point.reached) (nat_lt c.args.point.first end) (lt-ltb _ _ c.if-start-point.true) (lt-ltb _ _ c.if-point-end.true) in
+    let here : is_around c.args.point.reached c.args.point.first c.loop-child.start end ≡ true = and_from (nat_lt c.loop-child.start c.args.point.reached)
+    (nat_lt c.args.point.first end) (lt-ltb _ _ c.if-start-point.true) (lt-ltb _ _ c.if-point-end.true) in
     searching_found _ _ _ _ _ _ c.loop-child.invariant _ _ c.in-Some.ensures.steps c.requires.fits _ c.tokens_of.ensures c.requires.near here c.branch_at.result c.branch_at.ensures
 
 pub loop-child-preserved : goal.loop-child-preserved

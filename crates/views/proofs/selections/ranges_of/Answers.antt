@@ -10,7 +10,8 @@ one_more f reported old rest x e =
 pub loop-start-init : goal.loop-start-init
 loop-start-init c =
     let f = range_of c.args.unit c.args.text.now in
-    let all = ap (λ (r : List (ℕ × ℕ)). reverse (map f r)) (ap (λ r. r.iter.rest.now) c.into_iter-start-iterator.ensures.into_iter_gives ∙ ap (λ r. r.rest.now) c.rev-start-items.ensures.source ∙ c.iter.ensures.rest) in
+    let all = ap (λ (r : List (ℕ × ℕ)). reverse (map f r)) (ap (λ r. r.iter.rest.now) c.into_iter-start-iterator.ensures.into_iter_gives
+    ∙ ap (λ r. r.rest.now) c.rev-start-items.ensures.source ∙ c.iter.ensures.rest) in
     ap (λ rs. rs ++ reverse (map f c.into_iter-start-iterator.result.iter.rest.now)) c.in_ok-ranges.ensures.items ∙ all
 
 pub loop-start-preserved : goal.loop-start-preserved

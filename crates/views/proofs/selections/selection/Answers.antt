@@ -12,15 +12,20 @@ pub selection_offsets-requires : goal.selection_offsets-requires
 selection_offsets-requires c =
     let short : length c.args.text.now ≤ 1073741824 = omega (arith, c.len.ensures.count, c.len.ensures.few) in
     let file : FileGrammar = c.requires.0 in
-    let around : IsAround (placed_parts file (map plain c.args.tokens.now.items)) c.args.offset c.point_of.result.reached c.point_of.result.first = c.point_of.ensures.around file c.args.text.now c.requires.1 short in
+    let around : IsAround (placed_parts file (map plain c.args.tokens.now.items)) c.args.offset c.point_of.result.reached c.point_of.result.first =
+    c.point_of.ensures.around file c.args.text.now c.requires.1 short in
     subst (All (IsSpanOf (count_by is_significant c.args.tokens.now.items))) (sym (c.deref.ensures.value ∙ c.in_ok-spans.ensures))
-    (spans_stand c.args.unit file c.args.text.now c.args.tokens.now.items c.args.store.now c.args.roots.now c.requires.1 c.requires.2 c.args.offset c.point_of.result.reached c.point_of.result.first around)
+    (spans_stand c.args.unit file c.args.text.now c.args.tokens.now.items c.args.store.now c.args.roots.now c.requires.1
+    c.requires.2 c.args.offset c.point_of.result.reached c.point_of.result.first around)
 
 pub returns : goal.returns
 returns c = λ file h r.
     let short : length c.args.text.now ≤ 1073741824 = omega (arith, c.len.ensures.count, c.len.ensures.few) in
-    let around : IsAround (placed_parts file (map plain c.args.tokens.now.items)) c.args.offset c.point_of.result.reached c.point_of.result.first = c.point_of.ensures.around file c.args.text.now h short in
+    let around : IsAround (placed_parts file (map plain c.args.tokens.now.items)) c.args.offset c.point_of.result.reached c.point_of.result.first =
+    c.point_of.ensures.around file c.args.text.now h short in
     let spans = c.deref.ensures.value ∙ c.in_ok-spans.ensures in
     IfOk-weaker c.ranges_of.result _ _
-    (λ ranges is. selected_roots c.args.unit file c.args.text.now c.args.tokens.now.items c.args.store.now c.args.roots.now h r c.args.offset c.point_of.result.reached c.point_of.result.first around c.len.result c.deref.result.now c.in_ok-offsets.offsets.items c.len.ensures.count spans (c.in_ok-offsets.ensures file.skips h.marked) ranges.items (is ∙ ap (λ ss. reverse (map (range_of c.args.unit c.args.text.now) ss)) c.deref-2.ensures.value))
+    (λ ranges is. selected_roots c.args.unit file c.args.text.now c.args.tokens.now.items c.args.store.now c.args.roots.now h r c.args.offset c.point_of.result.reached
+    c.point_of.result.first around c.len.result c.deref.result.now c.in_ok-offsets.offsets.items c.len.ensures.count spans (c.in_ok-offsets.ensures file.skips h.marked) ranges.items
+    (is ∙ ap (λ ss. reverse (map (range_of c.args.unit c.args.text.now) ss)) c.deref-2.ensures.value))
     c.ranges_of.ensures

@@ -14,7 +14,8 @@ pub loop-span-preserved : goal.loop-span-preserved
 loop-span-preserved c = λ skips h.
     let parts : List Placed = significant skips (placed 0 (map plain c.args.tokens.now.items)) in
     let last : List (ℕ × ℕ) = between c.saturating_sub.result (length c.spans_inside-inner.result.now) c.spans_inside-inner.result.now in
-    shown_more (offsets_of parts) c.args.whole last c.loop-span.offsets.items c.push-in-loop-span.new.self.items c.loop-span.span-index (0, 0) c.offsets_of.result c.loop-span-test.true (c.offsets_of.ensures skips h) (c.loop-span.invariant skips h) c.in_ok-push-2.ensures.items
+    shown_more (offsets_of parts) c.args.whole last c.loop-span.offsets.items c.push-in-loop-span.new.self.items c.loop-span.span-index (0, 0) c.offsets_of.result c.loop-span-test.true
+    (c.offsets_of.ensures skips h) (c.loop-span.invariant skips h) c.in_ok-push-2.ensures.items
 
 pub returns : goal.returns
 returns c = λ skips h.

@@ -8,7 +8,8 @@ loop-next-init c = record {
   reported = ap (λ ss. ss ++ pending c.args.store.now c.args.point c.branch_around-next.result) c.new-spans.ensures.items
       ∙ found_pending c.args.store.now c.of.result 0 c.args.point c.branch_around-next.result c.branch_around-next.ensures
       ∙ ap (λ cs. spans_all c.args.point.reached c.args.point.first 0 (trees_of_roots c.args.store.now cs)) c.of.ensures;
-  next = found_next c.args.store.now c.of.result 0 c.args.point c.branch_around-next.result (subst (AreBelow (length c.args.store.now)) (sym c.of.ensures) c.requires.below) c.branch_around-next.ensures;
+  next = found_next c.args.store.now c.of.result 0 c.args.point c.branch_around-next.result
+      (subst (AreBelow (length c.args.store.now)) (sym c.of.ensures) c.requires.below) c.branch_around-next.ensures;
 }
 
 pub branch_around-next-requires-in-Some-clause-below : goal.branch_around-next-requires-in-Some-clause-below
@@ -24,18 +25,22 @@ branch_around-next-requires-in-Some-clause-fits c =
 pub loop-next-smaller : goal.loop-next-smaller
 loop-next-smaller c =
     let next : IsNext c.args.store.now c.args.point c.in-Some.branch = subst (λ r. IfSome r (IsNext c.args.store.now c.args.point)) c.in-Some.is c.loop-next.invariant.next in
-    let later : pending c.args.store.now c.args.point c.branch_around-next-in-Some.result ≡ spans_all c.args.point.reached c.args.point.first c.in-Some.branch.from (trees_of_roots c.args.store.now c.children.result) =
+    let later : pending c.args.store.now c.args.point c.branch_around-next-in-Some.result ≡ spans_all c.args.point.reached c.args.point.first c.in-Some.branch.from
+    (trees_of_roots c.args.store.now c.children.result) =
     found_pending c.args.store.now c.children.result c.in-Some.branch.from c.args.point c.branch_around-next-in-Some.result c.branch_around-next-in-Some.ensures in
-    let now : pending c.args.store.now c.args.point c.loop-next.next ≡ (c.in-Some.branch.from, c.in-Some.branch.to) ∷ spans_all c.args.point.reached c.args.point.first c.in-Some.branch.from (trees_of_roots c.args.store.now c.children.result) =
+    let now : pending c.args.store.now c.args.point c.loop-next.next ≡ (c.in-Some.branch.from, c.in-Some.branch.to) ∷ spans_all c.args.point.reached
+    c.args.point.first c.in-Some.branch.from (trees_of_roots c.args.store.now c.children.result) =
     ap (pending c.args.store.now c.args.point) c.in-Some.is ∙ children_pending c.args.store.now c.args.point c.in-Some.branch next c.children.result c.children.ensures.tree in
     omega (arith, ap length later, ap length now)
 
 pub loop-next-preserved : goal.loop-next-preserved
 loop-next-preserved c =
     let next : IsNext c.args.store.now c.args.point c.in-Some.branch = subst (λ r. IfSome r (IsNext c.args.store.now c.args.point)) c.in-Some.is c.loop-next.invariant.next in
-    let later : pending c.args.store.now c.args.point c.branch_around-next-in-Some.result ≡ spans_all c.args.point.reached c.args.point.first c.in-Some.branch.from (trees_of_roots c.args.store.now c.children.result) =
+    let later : pending c.args.store.now c.args.point c.branch_around-next-in-Some.result ≡ spans_all c.args.point.reached c.args.point.first c.in-Some.branch.from
+    (trees_of_roots c.args.store.now c.children.result) =
     found_pending c.args.store.now c.children.result c.in-Some.branch.from c.args.point c.branch_around-next-in-Some.result c.branch_around-next-in-Some.ensures in
-    let now : pending c.args.store.now c.args.point c.loop-next.next ≡ (c.in-Some.branch.from, c.in-Some.branch.to) ∷ spans_all c.args.point.reached c.args.point.first c.in-Some.branch.from (trees_of_roots c.args.store.now c.children.result) =
+    let now : pending c.args.store.now c.args.point c.loop-next.next ≡ (c.in-Some.branch.from, c.in-Some.branch.to) ∷ spans_all c.args.point.reached
+    c.args.point.first c.in-Some.branch.from (trees_of_roots c.args.store.now c.children.result) =
     ap (pending c.args.store.now c.args.point) c.in-Some.is ∙ children_pending c.args.store.now c.args.point c.in-Some.branch next c.children.result c.children.ensures.tree in
     let below = children_below c.args.store.now c.args.point c.in-Some.branch next c.children.result c.children.ensures.tree c.children.ensures.below in
     record {
@@ -50,5 +55,6 @@ loop-next-preserved c =
 pub returns : goal.returns
 returns c =
     let once : c.dedup.new.self.items ≡ dedup is_same c.loop-next.spans.items = dedup_is _ c.loop-next.spans.items c.dedup.new.self.items c.dedup.ensures.filtered in
-    let none : c.loop-next.spans.items ++ pending c.args.store.now c.args.point c.loop-next.next ≡ c.loop-next.spans.items ++ [] = ap (λ r. c.loop-next.spans.items ++ pending c.args.store.now c.args.point r) c.in_default.is in
+    let none : c.loop-next.spans.items ++ pending c.args.store.now c.args.point c.loop-next.next ≡ c.loop-next.spans.items ++ [] =
+    ap (λ r. c.loop-next.spans.items ++ pending c.args.store.now c.args.point r) c.in_default.is in
     once ∙ ap (dedup is_same) (sym (append-nil c.loop-next.spans.items) ∙ sym none ∙ c.loop-next.invariant.reported)

@@ -17,7 +17,8 @@ record Goes (f : FileGrammar) (cells : List Cell) (root : NodeId) (bytes : List 
   preserved : IsWriting f cells (whole_text f cells root) bytes after
 
 -- what holds of open nodes that are equal to these
-goes : (f : FileGrammar) (cells : List Cell) (root : NodeId) (bytes : List ℕ) (before after old new : List (List Child)) → before ≡ old → after ≡ new → length (pending f cells new) < length (pending f cells old) → IsWriting f cells (whole_text f cells root) bytes new → Goes f cells root bytes before after
+goes : (f : FileGrammar) (cells : List Cell) (root : NodeId) (bytes : List ℕ) (before after old new : List (List Child)) → before ≡ old → after ≡ new
+    → length (pending f cells new) < length (pending f cells old) → IsWriting f cells (whole_text f cells root) bytes new → Goes f cells root bytes before after
 goes f cells root bytes before after old new was is less w = record { smaller = rw (was, is) less; preserved = rw is w }
 
 -- the last open node has no more children, so it is closed
@@ -26,7 +27,8 @@ closed c =
     let items : c.loop-children.open.items ≡ c.pop.new.self.items ++ c.in-Some.children ∷ [] = c.in-Some.ensures.items in
     let w = rw items at c.loop-children.invariant in
     let wrote = c.in_ok-push-2.ensures.bytes ∙ ap (λ x. string_bytes c.loop-children.text ++ x) (c.in_ok-push-2.ensures.ascii (lit< tt)) in
-    goes _ _ _ _ _ _ _ _ items refl (smaller_closed _ _ _ _ c.pop.new.self.items c.in-Some.children w c.in_default-next.ensures.steps.0) (writing_closed _ _ _ _ c.pop.new.self.items c.in-Some.children w _ (IsUtf8-string_bytes c.loop-children.text) c.in_default-next.ensures.steps.0 wrote)
+    goes _ _ _ _ _ _ _ _ items refl (smaller_closed _ _ _ _ c.pop.new.self.items c.in-Some.children w c.in_default-next.ensures.steps.0)
+    (writing_closed _ _ _ _ c.pop.new.self.items c.in-Some.children w _ (IsUtf8-string_bytes c.loop-children.text) c.in_default-next.ensures.steps.0 wrote)
 
 -- its next child is a token
 token : (c : In_ok-push_str-in-Token) → Goes c.args.grammar.now c.args.store.now c.args.root (string_bytes c.push_str.new.self) c.loop-children.open.items c.push-in-Some.new.self.items
@@ -36,7 +38,8 @@ token c =
     let spaced = c.in_ok-push-4.ensures.bytes ∙ ap (λ x. string_bytes c.loop-children.text ++ x) (c.in_ok-push-4.ensures.ascii (lit< tt)) in
     let named = c.kind_name.ensures ∙ ap (child_text c.args.grammar.now c.args.store.now) (sym c.in-Token.is) in
     goes _ _ _ _ _ _ _ _ items c.in_ok-push-3.ensures.items (smaller_token _ _ _ _ c.pop.new.self.items c.in-Some.children w _ _ c.in-Some-next.ensures.steps)
-    (writing_token _ _ _ _ c.pop.new.self.items c.in-Some.children w _ _ c.in-Some-next.ensures.steps (string_bytes c.push-in-Some-2.new.self) (IsUtf8-string_bytes c.loop-children.text) spaced _ _ (IsUtf8-string_bytes c.push-in-Some-2.new.self) c.in_ok-push_str-in-Token.ensures.bytes named)
+    (writing_token _ _ _ _ c.pop.new.self.items c.in-Some.children w _ _ c.in-Some-next.ensures.steps (string_bytes c.push-in-Some-2.new.self)
+    (IsUtf8-string_bytes c.loop-children.text) spaced _ _ (IsUtf8-string_bytes c.push-in-Some-2.new.self) c.in_ok-push_str-in-Token.ensures.bytes named)
 
 -- its next child is a node, which is begun
 node : (c : In_ok-push-in-Node) → Goes c.args.grammar.now c.args.store.now c.args.root (string_bytes c.begin-in-Node.new.text) c.loop-children.open.items c.push-in-Node.new.self.items
@@ -45,13 +48,16 @@ node c =
     let w = rw items at c.loop-children.invariant in
     let spaced = c.in_ok-push-4.ensures.bytes ∙ ap (λ x. string_bytes c.loop-children.text ++ x) (c.in_ok-push-4.ensures.ascii (lit< tt)) in
     let both = c.in_ok-push-in-Node.ensures.items ∙ ap (λ xs. xs ++ c.in_ok-begin-in-Node.field-0 ∷ []) c.in_ok-push-3.ensures.items in
-    goes _ _ _ _ _ _ _ _ items both (smaller_node _ _ _ _ c.pop.new.self.items c.in-Some.children w _ _ c.in-Some-next.ensures.steps _ (IsUtf8-string_bytes c.loop-children.text) spaced c.in-Node.id _ c.in_ok-begin-in-Node.field-0 c.in-Node.is c.in_ok-begin-in-Node.ensures)
-    (writing_node _ _ _ _ c.pop.new.self.items c.in-Some.children w _ _ c.in-Some-next.ensures.steps _ (IsUtf8-string_bytes c.loop-children.text) spaced c.in-Node.id _ c.in_ok-begin-in-Node.field-0 c.in-Node.is c.in_ok-begin-in-Node.ensures)
+    goes _ _ _ _ _ _ _ _ items both (smaller_node _ _ _ _ c.pop.new.self.items c.in-Some.children w _ _ c.in-Some-next.ensures.steps _
+    (IsUtf8-string_bytes c.loop-children.text) spaced c.in-Node.id _ c.in_ok-begin-in-Node.field-0 c.in-Node.is c.in_ok-begin-in-Node.ensures)
+    (writing_node _ _ _ _ c.pop.new.self.items c.in-Some.children w _ _ c.in-Some-next.ensures.steps _ (IsUtf8-string_bytes c.loop-children.text)
+    spaced c.in-Node.id _ c.in_ok-begin-in-Node.field-0 c.in-Node.is c.in_ok-begin-in-Node.ensures)
 
 pub loop-children-init : goal.loop-children-init
 loop-children-init c =
     let items : c.push.new.self.items ≡ c.in_ok-begin.field-0 ∷ [] = c.in_ok-push.ensures.items ∙ ap (λ xs. xs ++ c.in_ok-begin.field-0 ∷ []) c.new-open.ensures.items in
-    rw items (writing_begun c.args.grammar.now c.args.store.now c.args.root (string_bytes c.new-text.result) (string_bytes c.begin.new.text) c.in_ok-begin.field-0 c.new-text.ensures.bytes c.in_ok-begin.ensures)
+    rw items (writing_begun c.args.grammar.now c.args.store.now c.args.root (string_bytes c.new-text.result)
+    (string_bytes c.begin.new.text) c.in_ok-begin.field-0 c.new-text.ensures.bytes c.in_ok-begin.ensures)
 
 pub loop-children-smaller-in_default-next : goal.loop-children-smaller-in_default-next
 loop-children-smaller-in_default-next c = (closed c).smaller

@@ -73,14 +73,16 @@ loop-read-preserved-then-is_ascii g c =
     record {
       in_text = omega (arith, c.stay-read.ensures.inside);
       state_is = old.invariant.state_is;
-      before = subst (λ i. g.S.Source.is_before c.args.source.now i c.stay-read.new.ahead) (let h : c.args.from + (old.read + 1) + k ≡ c.args.from + (old.read + 1 + k) = omega arith in h) c.stay-read.ensures.moved;
+      before = subst (λ i. g.S.Source.is_before c.args.source.now i c.stay-read.new.ahead)
+          (let h : c.args.from + (old.read + 1) + k ≡ c.args.from + (old.read + 1 + k) = omega arith in h) c.stay-read.ensures.moved;
       bounds = old.invariant.bounds;
       stands = subst (λ (m : ℕ). state_after table (take m t) ≡ Some s) e kept.1;
       text = subst (λ (m : ℕ). IsText (take m t)) e kept.0;
       so_far = λ ps a.
           let h = old.invariant.so_far ps a in (
             λ m p q. kept_prefixes ps table a t s old.read old.invariant.text old.invariant.stands (suc k) keeps h.0 m p (omega (arith, q)),
-            subst (λ (m : ℕ). IsNoted ps t m old.state.rule old.best.rule old.best.length) e (kept_noted ps table a t s old.read old.invariant.text old.invariant.stands (suc k) keeps old.state.rule old.best.rule old.best.length (sym old.invariant.state_is.rule) h.1),
+            subst (λ (m : ℕ). IsNoted ps t m old.state.rule old.best.rule old.best.length) e
+                (kept_noted ps table a t s old.read old.invariant.text old.invariant.stands (suc k) keeps old.state.rule old.best.rule old.best.length (sym old.invariant.state_is.rule) h.1),
           );
     }
 
@@ -126,13 +128,15 @@ loop-read-preserved g c =
     let read : c.next-c.result ≡ slice_index_or t old.read 0 = c.next-c.ensures.is ∙ sym (get_or-drop c.args.from text old.read 0) in
     let character : IsCharacter c.next-c.result = IsCharacter-from_scalar c.next-c.result c.next-c.type_inv.1.1 in
     let next : follower table old.state.number c.next-c.result ≡ Some c.in-Some.next = cc in
-    let rule : slice_index_or table.accepts c.in-Some.next None ≡ c.state-state.result.rule = ap (λ n. slice_index_or table.accepts n None) (sym c.state-state.ensures.number) ∙ sym c.state-state.ensures.is.rule in
+    let rule : slice_index_or table.accepts c.in-Some.next None ≡ c.state-state.result.rule =
+    ap (λ n. slice_index_or table.accepts n None) (sym c.state-state.ensures.number) ∙ sym c.state-state.ensures.is.rule in
     record {
       in_text = omega arith;
       state_is = c.state-state.ensures.is;
       before = subst (λ i. g.S.Source.is_before c.args.source.now i c.next-c.new.ahead) (let h : c.args.from + old.read + 1 ≡ c.args.from + (old.read + 1) = omega arith in h) c.next-c.ensures.moved;
       bounds = longer_is rest old.read old.best best.result within best.ensures.either old.invariant.bounds;
-      stands = more_state c.requires.window.0 _ c.requires.window.1 t old.read old.state.number c.next-c.result old.invariant.text character lt read old.invariant.stands (Some c.in-Some.next) next ∙ ap (λ n. Some n) (sym c.state-state.ensures.number);
+      stands = more_state c.requires.window.0 _ c.requires.window.1 t old.read old.state.number c.next-c.result old.invariant.text character lt read old.invariant.stands
+          (Some c.in-Some.next) next ∙ ap (λ n. Some n) (sym c.state-state.ensures.number);
       text = more_text c.requires.window.0 _ c.requires.window.1 t old.read old.state.number c.next-c.result old.invariant.text character lt read old.invariant.stands;
       so_far = λ ps a.
           let h = old.invariant.so_far ps a in

@@ -12,7 +12,8 @@ invariant-loop-read g l =
       bounds : AreBounds l.rest l.best;
       stands : state_after l.self (take l.read (drop l.from (g.S.Source.text l.source))) ≡ Some l.state.number;
       text : IsText (take l.read (drop l.from (g.S.Source.text l.source)));
-      so_far : (rules : List Expression) → IsAutomaton rules l.self → ((m : ℕ) → 1 ≤ m → m ≤ l.read → IsRulePrefix rules (take m (drop l.from (g.S.Source.text l.source)))) × IsNoted rules (drop l.from (g.S.Source.text l.source)) l.read l.state.rule l.best.rule l.best.length;
+      so_far : (rules : List Expression) → IsAutomaton rules l.self → ((m : ℕ) → 1 ≤ m → m ≤ l.read → IsRulePrefix rules (take m (drop l.from (g.S.Source.text l.source))))
+          × IsNoted rules (drop l.from (g.S.Source.text l.source)) l.read l.state.rule l.best.rule l.best.length;
     }
 
 abbrev pub decreases-loop-read : goal.decreases-loop-read

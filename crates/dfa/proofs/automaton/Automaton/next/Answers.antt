@@ -28,7 +28,8 @@ returns-else-next-eq0-clause-is c =
     let a = c.self.inside in
     let there = goal.at.returns-else-next-eq0-clause-is c in
     let (at, p, within) = entry there.After-part in
-    sym (entry_is a.starts.items a.next.items a.accepts.items c.args.state c.part.result c.args.c at p ∙ ap numbered (read there.After-from within) ∙ numbered_some c.from.result (omega (arith, c.if-next-eq0.false, c.from.ensures)))
+    sym (entry_is a.starts.items a.next.items a.accepts.items c.args.state c.part.result c.args.c at p ∙ ap numbered (read there.After-from within)
+    ∙ numbered_some c.from.result (omega (arith, c.if-next-eq0.false, c.from.ensures)))
     ∙ ap (λ t. follower t c.args.state.number c.args.c) c.self.view_is
 
 pub returns-else-next-eq0-clause-inside : goal.returns-else-next-eq0-clause-inside
@@ -37,4 +38,5 @@ returns-else-next-eq0-clause-inside c =
     let there = goal.at.returns-else-next-eq0-clause-inside c in
     let (at, p, within) = entry there.After-part in
     let inside = c.self.invariant.table.inside c.args.state.number (part a.starts.items c.args.c) at.inside (omega (arith, prefix_len-le-length (λ x. nat_le x c.args.c) a.starts.items)) in
-    subst (λ t. c.from.result < length t.accepts) c.self.view_is (subst (λ n. n < length a.accepts.items) ((λ j. slice_index_or a.next.items (sym at.row j + sym p j) 0) ∙ read there.After-from within) inside)
+    subst (λ t. c.from.result < length t.accepts) c.self.view_is
+    (subst (λ n. n < length a.accepts.items) ((λ j. slice_index_or a.next.items (sym at.row j + sym p j) 0) ∙ read there.After-from within) inside)

@@ -25,7 +25,8 @@ returns c = λ number x some lt e.
     let s = c.args.state in
     let is = subst (λ t. IsState t s) (sym c.self.view_is) c.requires in
     let entries = from_there a.next.items c.deref.result.now s.row c.deref.ensures.value in
-    let read : slice_index_or (drop s.row a.next.items) (slice_index_or a.ascii.items x 0) 0 ≡ number = (λ i. slice_index_or (entries i) (slice_index_or (sym c.as_slice.ensures.value i) x 0) 0) ∙ e in
+    let read : slice_index_or (drop s.row a.next.items) (slice_index_or a.ascii.items x 0) 0 ≡ number =
+    (λ i. slice_index_or (entries i) (slice_index_or (sym c.as_slice.ensures.value i) x 0) 0) ∙ e in
     subst (λ t. follower t s.number x ≡ Some number) c.self.view_is (row_follower a.starts.items a.ascii.items a.next.items a.accepts.items c.self.invariant s is number x some lt read)
 
 pub offset_bounds-deref-state : goal.offset_bounds-deref-state

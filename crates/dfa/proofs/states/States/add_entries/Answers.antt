@@ -23,7 +23,8 @@ returns-in_err-to-clause-states c =
     let i = c.loop-holders.holders-index in
     let at : c.holders-item.result ≡ slice_index_or parts i [] = c.holders-item.is ∙ get_or_default parts i c.holders-item.result [] c.loop-holders-test.true in
     let set : c.in_ok-set.set.items ≡ kept (marks_of c.args.followers.now) (slice_index_or parts i []) = c.in_ok-set.ensures ∙ ap (kept (marks_of c.args.followers.now)) at in
-    λ rules s r. placed_states rules (members c.loop-holders.self.sets.keys) (members c.number.new.sets.keys) c.in_ok-set.set.items (c.loop-holders.invariant.states rules s r) (subst (IsReached rules) (sym set) (r i c.loop-holders-test.true)) c.in_err-to.ensures.placed
+    λ rules s r. placed_states rules (members c.loop-holders.self.sets.keys) (members c.number.new.sets.keys) c.in_ok-set.set.items (c.loop-holders.invariant.states rules s r)
+    (subst (IsReached rules) (sym set) (r i c.loop-holders-test.true)) c.in_err-to.ensures.placed
 
 pub returns-in_err-push-clause-states : goal.returns-in_err-push-clause-states
 returns-in_err-push-clause-states c =
@@ -31,7 +32,8 @@ returns-in_err-push-clause-states c =
     let i = c.loop-holders.holders-index in
     let at : c.holders-item.result ≡ slice_index_or parts i [] = c.holders-item.is ∙ get_or_default parts i c.holders-item.result [] c.loop-holders-test.true in
     let set : c.in_ok-set.set.items ≡ kept (marks_of c.args.followers.now) (slice_index_or parts i []) = c.in_ok-set.ensures ∙ ap (kept (marks_of c.args.followers.now)) at in
-    λ rules s r. placed_states rules (members c.loop-holders.self.sets.keys) (members c.number.new.sets.keys) c.in_ok-set.set.items (c.loop-holders.invariant.states rules s r) (subst (IsReached rules) (sym set) (r i c.loop-holders-test.true)) c.in_ok-to.ensures.placed
+    λ rules s r. placed_states rules (members c.loop-holders.self.sets.keys) (members c.number.new.sets.keys) c.in_ok-set.set.items (c.loop-holders.invariant.states rules s r)
+    (subst (IsReached rules) (sym set) (r i c.loop-holders-test.true)) c.in_ok-to.ensures.placed
 
 pub loop-holders-preserved : goal.loop-holders-preserved
 loop-holders-preserved c =
@@ -49,7 +51,8 @@ loop-holders-preserved c =
       states = λ rules s r. placed_states rules sets new c.in_ok-set.set.items (old.states rules s r) (subst (IsReached rules) (sym set) (r i c.loop-holders-test.true)) c.in_ok-to.ensures.placed;
       grows = grows_more (members c.args.self.now.sets.keys) sets new old.grows g;
       bound = λ le. c.in_ok-to.ensures.bound (old.bound le);
-      entries = entries_more c.args.self.now.next.items c.loop-holders.self.next.items c.push.new.self.items sets new (marks_of c.args.followers.now) parts i c.in_ok-to.to old.entries g c.in_ok-push.ensures.items n;
+      entries = entries_more c.args.self.now.next.items c.loop-holders.self.next.items c.push.new.self.items sets new
+          (marks_of c.args.followers.now) parts i c.in_ok-to.to old.entries g c.in_ok-push.ensures.items n;
     }
 
 pub loop-holders-init : goal.loop-holders-init

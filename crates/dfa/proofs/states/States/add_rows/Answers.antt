@@ -7,7 +7,8 @@ pub returns-in_err-add_row-clause-many : goal.returns-in_err-add_row-clause-many
 returns-in_err-add_row-clause-many c =
     let sets = members c.add_row.new.self.sets.keys in
     let many : IfErr c.from_residual.result (λ e. e ≡ TooManyStates → 4096 < length sets) = search rules in
-    IfErr-weaker c.from_residual.result _ _ (λ fault more e rules starts a r. many_states rules sets (c.in_err-add_row.ensures.states rules starts a (c.rows.invariant.rows rules starts a r).states) (more e)) many
+    IfErr-weaker c.from_residual.result _ _
+    (λ fault more e rules starts a r. many_states rules sets (c.in_err-add_row.ensures.states rules starts a (c.rows.invariant.rows rules starts a r).states) (more e)) many
 
 pub add_row-requires-clause-rules : goal.add_row-requires-clause-rules
 add_row-requires-clause-rules c =

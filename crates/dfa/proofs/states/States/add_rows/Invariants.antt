@@ -4,7 +4,8 @@ use Rattle.dfa.proofs.states.States.add_rows.Given as goal
 
 abbrev pub invariant-rows : goal.invariant-rows
 invariant-rows l = record {
-  rows : (rules : List Expression) (starts : List ℕ) → AreRules rules starts l.trees l.parts → AreRows rules starts (members l.fn.self.sets.keys) l.fn.self.next.items l.fn.self.accepts.items → AreRows rules starts (members l.self.sets.keys) l.self.next.items l.self.accepts.items;
+  rows : (rules : List Expression) (starts : List ℕ) → AreRules rules starts l.trees l.parts
+      → AreRows rules starts (members l.fn.self.sets.keys) l.fn.self.next.items l.fn.self.accepts.items → AreRows rules starts (members l.self.sets.keys) l.self.next.items l.self.accepts.items;
   blank : AreBlank l.marks.items;
   all : length l.marks.items ≡ all_counts l.trees;
 }

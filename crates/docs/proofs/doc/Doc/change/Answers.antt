@@ -39,7 +39,8 @@ returns-clause-changed c =
     let text = same.2 ∙ (c.in_ok-replace.ensures.edited ∙ sym (c.span-from.ensures.edits s)) in
     let number = settled.number ∙ (c.saturating_add.ensures ∙ ap (λ n. min (n + 1) 18_446_744_073_709_551_615) c.number.ensures) in
     let long = length-edit old.text s c.span-from.result.0 c.span-from.result.1 c.span-from.ensures.ordered c.span-from.ensures.in_range in
-    let inserted : c.len.result - (c.len-before.result - (c.span-from.result.1 - c.span-from.result.0)) ≡ length s = omega (arith, long, c.len.ensures.count, ap length c.in_ok-replace.ensures.edited, c.len-before.ensures.count, c.span-from.ensures.ordered, c.span-from.ensures.in_range) in
+    let inserted : c.len.result - (c.len-before.result - (c.span-from.result.1 - c.span-from.result.0)) ≡ length s =
+    omega (arith, long, c.len.ensures.count, ap length c.in_ok-replace.ensures.edited, c.len-before.ensures.count, c.span-from.ensures.ordered, c.span-from.ensures.in_range) in
     let edit = same_edit old.unit old.text c.args.range s c.span-from.result _ c.saturating_add.result next.parse.number c.span-from.ensures.is inserted (sym settled.number) in
     let stamped : AreStamped l.file _ old next = record {
       tokens = settled.stamps.tokens;
@@ -61,17 +62,20 @@ returns-clause-changed c =
 
 pub returns-in_err-replace-clause-too_large : goal.returns-in_err-replace-clause-too_large
 returns-in_err-replace-clause-too_large c =
-    let by = large_edit c.replace.result (IsText-changed c.args.self.unit c.args.self.text c.args.range c.args.new.now c.len-before.ensures.characters c.utf8.new) (c.span-from.ensures.edits (chars c.args.new.now)) c.replace.ensures.too_large in
+    let by = large_edit c.replace.result (IsText-changed c.args.self.unit c.args.self.text c.args.range c.args.new.now c.len-before.ensures.characters c.utf8.new)
+    (c.span-from.ensures.edits (chars c.args.new.now)) c.replace.ensures.too_large in
     passed_on c.replace.result _ by _ c.in_err-replace.field-0.0 c.in_err-replace.was c.from_residual.ensures.1
 
 pub returns-in_err-settle-clause-too_large : goal.returns-in_err-settle-clause-too_large
 returns-in_err-settle-clause-too_large c =
-    let by = large_edit c.replace.result (IsText-changed c.args.self.unit c.args.self.text c.args.range c.args.new.now c.len-before.ensures.characters c.utf8.new) (c.span-from.ensures.edits (chars c.args.new.now)) c.replace.ensures.too_large in
+    let by = large_edit c.replace.result (IsText-changed c.args.self.unit c.args.self.text c.args.range c.args.new.now c.len-before.ensures.characters c.utf8.new)
+    (c.span-from.ensures.edits (chars c.args.new.now)) c.replace.ensures.too_large in
     after_text c.replace.result _ by _ c.in_ok-replace.field-0 c.in_ok-replace.was c.from_residual-in_err-settle.ensures.1
 
 pub returns-clause-too_large : goal.returns-clause-too_large
 returns-clause-too_large c =
-    let by = large_edit c.replace.result (IsText-changed c.args.self.unit c.args.self.text c.args.range c.args.new.now c.len-before.ensures.characters c.utf8.new) (c.span-from.ensures.edits (chars c.args.new.now)) c.replace.ensures.too_large in
+    let by = large_edit c.replace.result (IsText-changed c.args.self.unit c.args.self.text c.args.range c.args.new.now c.len-before.ensures.characters c.utf8.new)
+    (c.span-from.ensures.edits (chars c.args.new.now)) c.replace.ensures.too_large in
     all_made c.replace.result _ by _ c.in_ok-replace.field-0 _ c.in_ok-replace.was refl
 
 pub overflow_sub-edit-4 : goal.overflow_sub-edit-4

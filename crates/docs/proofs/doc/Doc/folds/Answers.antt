@@ -10,4 +10,5 @@ folds-requires-clause-roots c =
 pub returns : goal.returns
 returns c =
     let has = has_the_nodes c.stack_has_the_nodes_of_the_document.ensures c.args.language.now c.args.self.now c.requires in
-    IfOk-weaker c.folds.result _ _ (λ pairs are. folds_shown c.args.language.now c.args.self.now c.grammar.result.now c.stack.result.now pairs.items c.requires has c.grammar.ensures c.stack.ensures are) c.folds.ensures
+    IfOk-weaker c.folds.result _ _ (λ pairs are. folds_shown c.args.language.now c.args.self.now c.grammar.result.now c.stack.result.now
+    pairs.items c.requires has c.grammar.ensures c.stack.ensures are) c.folds.ensures

@@ -20,7 +20,8 @@ returns-in_err-parse-clause-too_large c =
     after_text c.open.result _ (large_text c.open.result c.args.text.now c.utf8.text c.open.ensures.too_large) _ c.in_ok-made.made c.in_ok-made.was c.from_residual-in_err-parse.ensures.1
 
 pub returns-clause-fits : goal.returns-clause-fits
-returns-clause-fits c = unless (fits (chars c.args.text.now)) (text_made c.open.result _ (large_text c.open.result c.args.text.now c.utf8.text c.open.ensures.too_large) c.in_ok-made.made c.in_ok-made.was)
+returns-clause-fits c = unless (fits (chars c.args.text.now))
+    (text_made c.open.result _ (large_text c.open.result c.args.text.now c.utf8.text c.open.ensures.too_large) c.in_ok-made.made c.in_ok-made.was)
 
 pub returns-clause-too_large : goal.returns-clause-too_large
 returns-clause-too_large c =

@@ -11,4 +11,5 @@ selection-requires c =
 pub returns : goal.returns
 returns c = λ language current.
     let has = has_the_nodes c.stack_has_the_nodes_of_the_document.ensures language c.args.self.now current in
-    selection_answered c.args.self.now.unit language c.args.self.now c.stack.result.now c.selection.result c.offset.result c.args.position current has c.stack.ensures c.offset.ensures.is (c.selection.ensures language.file)
+    selection_answered c.args.self.now.unit language c.args.self.now c.stack.result.now c.selection.result c.offset.result c.args.position
+    current has c.stack.ensures c.offset.ensures.is (c.selection.ensures language.file)

@@ -14,8 +14,10 @@ loop-position-preserved c = λ language current.
     let one = c.in_ok-selection.field-0.items in
     let more = selections_more d.unit language d.text reading (take i positions) p before one (c.loop-position.invariant language current) (c.in_ok-selection.ensures language current) in
     let asked : take (i + 1) positions ≡ take i positions ++ p ∷ [] = take_more positions i (record { line = 0; character = 0 }) c.loop-position-test.true in
-    let found : map (λ s. s.items) c.push.new.self.items ≡ before ++ one ∷ [] = ap (map (λ s. s.items)) c.in_ok-push.ensures.items ∙ map-append (λ s. s.items) c.loop-position.selections.items (c.in_ok-selection.field-0 ∷ []) in
-    subst (λ (ps : List Position). AreSelections d.unit language.file d.text reading ps (map (λ s. s.items) c.push.new.self.items)) (sym asked) (subst (λ (ss : List (List Range)). AreSelections d.unit language.file d.text reading (take i positions ++ p ∷ []) ss) (sym found) more)
+    let found : map (λ s. s.items) c.push.new.self.items ≡ before ++ one ∷ [] = ap (map (λ s. s.items)) c.in_ok-push.ensures.items
+    ∙ map-append (λ s. s.items) c.loop-position.selections.items (c.in_ok-selection.field-0 ∷ []) in
+    subst (λ (ps : List Position). AreSelections d.unit language.file d.text reading ps (map (λ s. s.items) c.push.new.self.items)) (sym asked)
+    (subst (λ (ss : List (List Range)). AreSelections d.unit language.file d.text reading (take i positions ++ p ∷ []) ss) (sym found) more)
 
 pub returns : goal.returns
 returns c = λ language current.
@@ -25,5 +27,6 @@ returns c = λ language current.
     let has = has_the_nodes c.stack_has_the_nodes_of_the_document.ensures language d current in
     let reading = reading_of d (trees_of_roots d.store d.parse.stack) in
     let found : List (List Range) = map (λ s. s.items) c.loop-position.selections.items in
-    let all : AreSelections d.unit language.file d.text reading positions found = subst (λ (ps : List Position). AreSelections d.unit language.file d.text reading ps found) (take_all i positions c.loop-position-test.false) (c.loop-position.invariant language current) in
+    let all : AreSelections d.unit language.file d.text reading positions found = subst (λ (ps : List Position). AreSelections d.unit language.file d.text reading ps found)
+    (take_all i positions c.loop-position-test.false) (c.loop-position.invariant language current) in
     selections_read d.unit language d positions found current has all

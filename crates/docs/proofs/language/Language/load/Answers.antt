@@ -36,7 +36,8 @@ pub returns-in-Err-Conflict-clause-fault : goal.returns-in-Err-Conflict-clause-f
 returns-in-Err-Conflict-clause-fault c =
     let kept = sym (c.into_grammar.ensures ∙ c.in-Ok-new.ensures.grammar) in
     let lent = c.grammar.ensures.is ∙ sym c.into_grammar.ensures in
-    let right : IsRight c.grammar.result.now.grammar 8192 (Conflict c.in-Err-Conflict.conflict) = subst (λ (e : TableFault). IsRight c.grammar.result.now.grammar 8192 e) c.in-Err-Conflict.field-0-is c.in-Err-Conflict.ensures.refused in (
+    let right : IsRight c.grammar.result.now.grammar 8192 (Conflict c.in-Err-Conflict.conflict) =
+    subst (λ (e : TableFault). IsRight c.grammar.result.now.grammar 8192 e) c.in-Err-Conflict.field-0-is c.in-Err-Conflict.ensures.refused in (
       subst (HasAutomaton c.args.text.now) kept (record { grammar = c.in-Ok.ensures.grammar; few_states = c.in-Ok-new.ensures.few }),
       subst (λ (f : FileGrammar). HasMoreSetsThan f.grammar 8192 → ⊥) lent right.1,
       subst (λ (x : Shown). IsReport c.into_grammar.result.grammar x) (sym c.in-Err-Conflict.conflict-is)

@@ -30,7 +30,9 @@ returns-in_err-replace-clause-memory c refused none =
     let s = chars c.args.new.now in
     let old = c.args.self.now.doc in
     let same = ap (λ t. edit t c.span-from.result.0 c.span-from.result.1 s) c.in_ok-settle_apart.ensures.text ∙ sym (c.span-from.ensures.edits s) in
-    let by = large_edit c.replace.result (IsText-changed old.unit old.text c.args.range c.args.new.now (subst IsText c.in_ok-settle_apart.ensures.text c.len-before.ensures.characters) c.utf8.new) (sym same) c.replace.ensures.too_large in
+    let by = large_edit c.replace.result
+    (IsText-changed old.unit old.text c.args.range c.args.new.now (subst IsText c.in_ok-settle_apart.ensures.text c.len-before.ensures.characters) c.utf8.new)
+    (sym same) c.replace.ensures.too_large in
     let large = passed_on c.replace.result _ by c.from_residual-in_err-replace.result c.in_err-replace.field-0.0 c.in_err-replace.was c.from_residual-in_err-replace.ensures.1 in
     unless _ (λ f. let both : Err TooLarge ≡ Err Memory = sym (large.1 f) ∙ refused in let g : ⊥ = cc in g)
 
@@ -39,7 +41,9 @@ returns-clause-text c =
     let s = chars c.args.new.now in
     let old = c.args.self.now.doc in
     let same = ap (λ t. edit t c.span-from.result.0 c.span-from.result.1 s) c.in_ok-settle_apart.ensures.text ∙ sym (c.span-from.ensures.edits s) in
-    let by = large_edit c.replace.result (IsText-changed old.unit old.text c.args.range c.args.new.now (subst IsText c.in_ok-settle_apart.ensures.text c.len-before.ensures.characters) c.utf8.new) (sym same) c.replace.ensures.too_large in
+    let by = large_edit c.replace.result
+    (IsText-changed old.unit old.text c.args.range c.args.new.now (subst IsText c.in_ok-settle_apart.ensures.text c.len-before.ensures.characters) c.utf8.new)
+    (sym same) c.replace.ensures.too_large in
     (c.in_ok-replace.ensures.edited ∙ same, unless _ (text_made c.replace.result _ by c.in_ok-replace.field-0 c.in_ok-replace.was))
 
 pub returns-clause-pending : goal.returns-clause-pending
@@ -51,7 +55,8 @@ returns-clause-pending c =
     let p = c.in_ok-settle_apart.ensures.pending in
     let within : b ≤ length mid.doc.text = omega (arith, c.span-from.ensures.in_range, ap length c.in_ok-settle_apart.ensures.text) in
     let long = length-edit mid.doc.text s a b c.span-from.ensures.ordered within in
-    let inserted : c.len.result - (c.len-before.result - (b - a)) ≡ length s = omega (arith, long, c.len.ensures.count, ap length c.in_ok-replace.ensures.edited, c.len-before.ensures.count, c.span-from.ensures.ordered, within) in
+    let inserted : c.len.result - (c.len-before.result - (b - a)) ≡ length s =
+    omega (arith, long, c.len.ensures.count, ap length c.in_ok-replace.ensures.edited, c.len-before.ensures.count, c.span-from.ensures.ordered, within) in
     let start : a ≤ length mid.doc.text = omega (arith, c.span-from.ensures.ordered, within) in
     let first = leads_first mid.edit p.was mid.doc.text _ start refl refl (leads_alone mid.edit _ _ _ _ p.leads) in
     let leads = c.as_one_edit.ensures.leads p.was mid.doc.text s within inserted (subst (λ (e : Edit). LeadsTo p.was e mid.doc.text) (sym c.unwrap_or-first.ensures) first) in
@@ -63,7 +68,11 @@ returns-clause-pending c =
       was = p.was;
       short = p.short;
       current = p.current;
-      leads = (subst (LeadsTo p.was c.as_one_edit.result) (sym c.in_ok-replace.ensures.edited) leads, omega (arith, later, next, c.number.ensures, c.as_one_edit.ensures.number), omega (arith, positive, c.as_one_edit.ensures.number));
+      leads = (
+        subst (LeadsTo p.was c.as_one_edit.result) (sym c.in_ok-replace.ensures.edited) leads,
+        omega (arith, later, next, c.number.ensures, c.as_one_edit.ensures.number),
+        omega (arith, positive, c.as_one_edit.ensures.number),
+      );
     }
 
 pub overflow_sub-inserted-3 : goal.overflow_sub-inserted-3

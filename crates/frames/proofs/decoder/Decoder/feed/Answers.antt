@@ -65,7 +65,8 @@ returns-in-Ok-clause-fault c =
 
 pub returns-in-Ok-clause-memory : goal.returns-in-Ok-clause-memory
 returns-in-Ok-clause-memory c is =
-    absurd (not_err_of c.answer.result Memory (IfErr-weaker c.answer.result _ _ (λ met h. (fault_is c.take_frames.new.rest.items c.in-Ok.found.fault met c.in-Ok.ensures.kept.tail h.1).1) c.answer.ensures.fault) is)
+    absurd (not_err_of c.answer.result Memory
+    (IfErr-weaker c.answer.result _ _ (λ met h. (fault_is c.take_frames.new.rest.items c.in-Ok.found.fault met c.in-Ok.ensures.kept.tail h.1).1) c.answer.ensures.fault) is)
 
 pub returns-in-Ok-clause-kind : goal.returns-in-Ok-clause-kind
 returns-in-Ok-clause-kind c = IfErr-weaker c.answer.result _ _ (λ met h. (fault_is c.take_frames.new.rest.items c.in-Ok.found.fault met c.in-Ok.ensures.kept.tail h.1).0) c.answer.ensures.fault

@@ -12,4 +12,5 @@ loop-end-preserved g c =
     let character : IsCharacter c.from.result = IsCharacter-from_scalar c.from.result (search rules) in
     let passes : goal.F-post g c.args.test c.from.result true = search rules in
     let read : c.from.result ≡ slice_index_or t c.loop-end.end 0 = search rules in
-    one_more_passed (λ x. IsCharacter x × goal.F-post g c.args.test x true) t c.args.i c.loop-end.end c.loop-end.invariant (omega arith) (subst (λ x. IsCharacter x × goal.F-post g c.args.test x true) read (character, passes))
+    one_more_passed (λ x. IsCharacter x × goal.F-post g c.args.test x true) t c.args.i c.loop-end.end c.loop-end.invariant (omega arith)
+    (subst (λ x. IsCharacter x × goal.F-post g c.args.test x true) read (character, passes))

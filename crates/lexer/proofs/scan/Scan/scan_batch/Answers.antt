@@ -7,7 +7,9 @@ pub loop-at-preserved : goal.loop-at-preserved
 loop-at-preserved g c =
     let x = c.token_at-token.result in
     let h = c.loop-at.invariant in
-    rw (c.in_ok-push.ensures.items, c.length.ensures) (next_one _ _ _ _ _ x h c.token_at-token.ensures.token (made_more _ _ _ x h.made c.token_at-token.ensures.marked c.token_at-token.ensures.born c.token_at-token.ensures.nonempty c.token_at-token.ensures.near) c.token_at-token.ensures.inside)
+    rw (c.in_ok-push.ensures.items, c.length.ensures)
+    (next_one _ _ _ _ _ x h c.token_at-token.ensures.token
+    (made_more _ _ _ x h.made c.token_at-token.ensures.marked c.token_at-token.ensures.born c.token_at-token.ensures.nonempty c.token_at-token.ensures.near) c.token_at-token.ensures.inside)
 
 pub returns-clause-some : goal.returns-clause-some
 returns-clause-some g c =

@@ -9,7 +9,8 @@ returns-then-k-significant c =
     sym (slice_get_past (significant_kinds xs) c.args.k (omega (arith, c.if-k-significant.true, c.significant.ensures, length-kinds xs)))
 
 pub returns-in_err-token : goal.returns-in_err-token
-returns-in_err-token c = absurd (get_none c.self.inside.items c.place.result (omega (arith, c.place.ensures.within, ap (λ d. length d.items) c.self.view_is)) (sym c.get.ensures ∙ ap option_copied c.in_err-token.was))
+returns-in_err-token c = absurd (get_none c.self.inside.items c.place.result (omega (arith, c.place.ensures.within, ap (λ d. length d.items) c.self.view_is))
+    (sym c.get.ensures ∙ ap option_copied c.in_err-token.was))
 
 pub returns : goal.returns
 returns c =

@@ -15,7 +15,8 @@ record IsReplacement (lexicon : Lexicon) (e : Edit) (xs : List Token) (u : List 
   fits : Fits (take n xs ++ (made ++ drop to xs))
   after : (scanned : ℕ) (s : Splice) → s ≡ change xs n to (significant_kinds made) → AreTokensAfter lexicon e u s (next_of xs scanned) (next_of (take n xs ++ (made ++ drop to xs)) (length made))
 
-replacement : (g : _) (c : In_ok-made g) → IsReplacement (lexicon_of c.args.grammar.now) c.args.edit c.self.inside.items (g.S.Source.text c.args.source.now) c.in_ok-made.made.items c.in_ok-made.to c.kept_prefix-kept_before.result.0
+replacement : (g : _) (c : In_ok-made g) → IsReplacement (lexicon_of c.args.grammar.now) c.args.edit c.self.inside.items
+    (g.S.Source.text c.args.source.now) c.in_ok-made.made.items c.in_ok-made.to c.kept_prefix-kept_before.result.0
 replacement g c =
     let xs = c.self.inside.items in
     let e = c.args.edit in
@@ -24,7 +25,8 @@ replacement g c =
     let made = c.in_ok-made.made.items in
     let to = c.in_ok-made.to in
     let h : IsEdited lexicon e xs u = subst (λ d. IsEdited lexicon e d.items u) (sym c.self.view_is) c.requires.edited in
-    let r : IsRemade lexicon e xs u made to = subst (λ f. IsRemade f e xs u made to) c.new-scan.ensures (subst (λ s. IsRemade c.new-scan.result e s.items u made to) c.new-old.ensures c.in_ok-made.ensures) in
+    let r : IsRemade lexicon e xs u made to = subst (λ f. IsRemade f e xs u made to) c.new-scan.ensures
+    (subst (λ s. IsRemade c.new-scan.result e s.items u made to) c.new-old.ensures c.in_ok-made.ensures) in
     subst (IsReplacement lexicon e xs u made to) (sym (c.kept_prefix-kept_before.ensures.kept_before lexicon.patterns h.text h.tokens.tokens)) (record {
       ordered = prefix_to lexicon e xs u h made to r c.self.invariant;
       within = r.within;

@@ -9,7 +9,8 @@ use Rattle.parser.proofs.machine.Machine.first_input.Goals.{In_ok-put_all-in-Nod
 use Rattle.parser.proofs.machine.Machine.first_input.Goals as goal
 
 -- the node that the input began with, and the step that puts its children in its place
-step : (g : _) (c : In_ok-put_all-in-Node g) → (c.edge.input ≡ Node c.in-Node.id ∷ c.take.new.self) × Step c.args.tables.now.grammar (plain_of c.args.store.now c.args.self.now.stack.items) c.args.kinds.now c.args.self.now.read (plain_of c.args.store.now c.put_all.new.self) (plain_of c.args.store.now c.edge.input)
+step : (g : _) (c : In_ok-put_all-in-Node g) → (c.edge.input ≡ Node c.in-Node.id ∷ c.take.new.self) × Step c.args.tables.now.grammar
+    (plain_of c.args.store.now c.args.self.now.stack.items) c.args.kinds.now c.args.self.now.read (plain_of c.args.store.now c.put_all.new.self) (plain_of c.args.store.now c.edge.input)
 step g c =
     let gr = c.args.tables.now.grammar in
     let kinds = c.args.kinds.now in
@@ -24,8 +25,12 @@ step g c =
     let first = c.in-Some.ensures.0 in
     let old : c.edge.input ≡ Node id ∷ rest = taken c.take.result c.edge.input rest first (Node id) c.take.ensures (c.in-Some.ensures.1 ∙ ap (λ x. x ∷ first) c.in-Node.is) in
     let inp = subst (λ l. IsInput gr cells l kinds read) old c.edge.invariant.input in
-    let made = opened gr cells stack kinds read id rest kids is.0 is.1 is.2 inp.parts inp.covers (subst (λ kinds. CanReuse gr stack u (drop (read + length (yield u)) kinds) → ⊥) c.edge.invariant.same c.in_default-passes.ensures.is) in
-    (old, subst (λ l. Step gr stack kinds read (plain_of cells l) (plain_of cells c.edge.input)) (sym c.in_ok-put_all-in-Node.ensures) (subst (λ l. Step gr stack kinds read (plain_of cells (kids ++ rest)) (plain_of cells l)) (sym old) made))
+    let made = opened gr cells stack kinds read id rest kids is.0 is.1 is.2 inp.parts inp.covers
+    (subst (λ kinds. CanReuse gr stack u (drop (read + length (yield u)) kinds) → ⊥) c.edge.invariant.same c.in_default-passes.ensures.is) in (
+      old,
+      subst (λ l. Step gr stack kinds read (plain_of cells l) (plain_of cells c.edge.input)) (sym c.in_ok-put_all-in-Node.ensures)
+          (subst (λ l. Step gr stack kinds read (plain_of cells (kids ++ rest)) (plain_of cells l)) (sym old) made),
+    )
 
 pub passes-requires-clause-root : goal.passes-requires-clause-root
 passes-requires-clause-root g c =
@@ -49,11 +54,19 @@ edge-preserved-in-Continue-1 g c =
     let below : AreBelow (length cells) (Node id ∷ rest) = subst (AreBelow (length cells)) old h.input.below in
     let inside : id.index < length cells = below.0 in
     record {
-      input = record { below = subst (AreBelow (length cells)) (sym new) (below-append (length cells) kids rest (all_below-more id.index (length cells) (omega (arith, inside)) kids c.children.ensures.below) below.1); parts = made.0; covers = made.1 };
+      input = record {
+        below = subst (AreBelow (length cells)) (sym new)
+            (below-append (length cells) kids rest (all_below-more id.index (length cells) (omega (arith, inside)) kids c.children.ensures.below) below.1);
+        parts = made.0;
+        covers = made.1;
+      };
       offers = λ f d. h.offers f (made.2 f d);
-      came = come_on 0 0 (all_trees cells c.args.input.now) (all_trees cells c.edge.input) (all_trees cells c.put_all.new.self) h.came (subst (λ l. ComeFrom (all_trees cells c.edge.input) 0 (all_trees cells l)) (sym new) (subst (λ l. ComeFrom (all_trees cells l) 0 (all_trees cells (kids ++ rest))) (sym old) (opened_came cells kids rest id is.0 is.1 is.2)));
+      came = come_on 0 0 (all_trees cells c.args.input.now) (all_trees cells c.edge.input) (all_trees cells c.put_all.new.self) h.came
+          (subst (λ l. ComeFrom (all_trees cells c.edge.input) 0 (all_trees cells l)) (sym new)
+          (subst (λ l. ComeFrom (all_trees cells l) 0 (all_trees cells (kids ++ rest))) (sym old) (opened_came cells kids rest id is.0 is.1 is.2)));
       same = c.in_default-passes.ensures.same ∙ h.same;
-      opening = subst (IsOpening cells c.args.input.now) (sym new) (opening_on cells c.args.input.now c.edge.input rest kids (Node id) c.requires.full h.opening old (kids_kinds cells kids id is.0 is.1 is.2));
+      opening = subst (IsOpening cells c.args.input.now) (sym new)
+          (opening_on cells c.args.input.now c.edge.input rest kids (Node id) c.requires.full h.opening old (kids_kinds cells kids id is.0 is.1 is.2));
     }
 
 pub edge-smaller-in-Continue-1 : goal.edge-smaller-in-Continue-1
@@ -69,7 +82,8 @@ edge-preserved g c =
     let id = c.in-Node.id in
     let rest = c.take-else-tokens-gt0.new.self in
     let first = c.in-Some.ensures.0 in
-    let old : c.edge.input ≡ Node id ∷ rest = taken c.take-else-tokens-gt0.result c.edge.input rest first (Node id) c.take-else-tokens-gt0.ensures (c.in-Some.ensures.1 ∙ ap (λ x. x ∷ first) c.in-Node.is) in
+    let old : c.edge.input ≡ Node id ∷ rest = taken c.take-else-tokens-gt0.result c.edge.input rest first
+    (Node id) c.take-else-tokens-gt0.ensures (c.in-Some.ensures.1 ∙ ap (λ x. x ∷ first) c.in-Node.is) in
     let inp = subst (λ l. IsInput gr cells l kinds read) old c.edge.invariant.input in
     let none : c.tokens.result ≡ 0 = omega (arith, c.if-tokens-gt0.false) in
     let empty = none_counted (length (yield (plain (tree cells (Node id))))) (sym c.tokens.ensures.is ∙ none) in
@@ -77,7 +91,9 @@ edge-preserved g c =
     record {
       input = record { below = inp.below.1; parts = step.0; covers = step.1 };
       offers = (λ f d. c.edge.invariant.offers f (subst (λ l. Tries gr stack (input_of cells l kinds read) f) (sym old) (step.2 f d)));
-      came = come_on 0 0 (all_trees cells c.args.input.now) (all_trees cells c.edge.input) (all_trees cells rest) c.edge.invariant.came (subst (λ l. ComeFrom (all_trees cells l) 0 (all_trees cells rest)) (sym old) (subst (λ n. ComeFrom (all_trees cells (Node id ∷ rest)) n (all_trees cells rest)) empty (come_after (tree cells (Node id)) (all_trees cells rest))));
+      came = come_on 0 0 (all_trees cells c.args.input.now) (all_trees cells c.edge.input) (all_trees cells rest) c.edge.invariant.came
+          (subst (λ l. ComeFrom (all_trees cells l) 0 (all_trees cells rest)) (sym old)
+          (subst (λ n. ComeFrom (all_trees cells (Node id ∷ rest)) n (all_trees cells rest)) empty (come_after (tree cells (Node id)) (all_trees cells rest))));
       same = c.edge.invariant.same;
       opening = opening_on cells c.args.input.now c.edge.input rest [] (Node id) c.requires.full c.edge.invariant.opening old (sym (no_kinds (yield (plain (tree cells (Node id)))) empty));
     }
@@ -94,7 +110,14 @@ returns-in-Token-clause-offer g c =
     (look_first kinds read k _ inp.covers, subst BeginsWithNoNode (sym token) tt)
 
 pub edge-init : goal.edge-init
-edge-init g c = record { input = c.requires.input; offers = λ f d. d; came = come_all (all_trees c.args.store.now c.args.input.now); same = refl; opening = opening_begins c.args.store.now c.args.input.now }
+edge-init g c = record {
+  input = c.requires.input;
+  offers = λ f d. d;
+  came = come_all (all_trees c.args.store.now c.args.input.now);
+  same =
+      refl;
+  opening = opening_begins c.args.store.now c.args.input.now;
+}
 
 pub passes-requires-clause-not_empty : goal.passes-requires-clause-not_empty
 passes-requires-clause-not_empty g c = search rules

@@ -7,7 +7,8 @@ use Rattle.parser.proofs.machine.Machine.kind_after.Goals as goal
 pub returns-in-Some-clause-is : goal.returns-in-Some-clause-is
 returns-in-Some-clause-is g c =
     let found = c.in-Some.ensures in
-    second_is c.args.store.now c.args.kinds.now c.args.self.now.read c.args.id c.args.input.now c.requires.first.0 found.1 found.0 c.in-Some.kind found.2 c.requires.first.1 found.3 found.4 c.requires.covers
+    second_is c.args.store.now c.args.kinds.now c.args.self.now.read c.args.id c.args.input.now c.requires.first.0 found.1
+    found.0 c.in-Some.kind found.2 c.requires.first.1 found.3 found.4 c.requires.covers
 
 pub returns-clause-is : goal.returns-clause-is
 returns-clause-is g c =

@@ -10,20 +10,23 @@ root : (g : _) (c : After-production-root g) → IsTree c.args.tables.now.gramma
 root g c =
     let s = tree c.args.store.now (Node c.args.id) in
     let made = c.production.ensures.tree in
-    tree_left c.args.tables.now.grammar (plain s) s c.production.result made.0 made.1 refl made.2 c.requires.root.0 c.requires.root.1 c.production-root.result.0 c.production-root.ensures.0 c.production-root.ensures.1
+    tree_left c.args.tables.now.grammar (plain s) s c.production.result made.0 made.1 refl made.2 c.requires.root.0 c.requires.root.1
+    c.production-root.result.0 c.production-root.ensures.0 c.production-root.ensures.1
 
 -- the state after it
 there : (g : _) (c : In-Some g) → IsStateOf c.args.tables.now (c.requires.states.symbols ++ (Nonterminal c.production-root.result.0 ∷ [])) c.in-Some.next
 there g c =
     let h = c.requires.states in
-    (c.in-Some.ensures h.symbols (subst (IsStateOf c.args.tables.now h.symbols) (sym c.state.ensures) (top_stands c.args.tables.now (plain_of c.args.store.now c.args.self.now.stack.items) c.args.self.now.states.items h))).1
+    (c.in-Some.ensures h.symbols (subst (IsStateOf c.args.tables.now h.symbols) (sym c.state.ensures)
+    (top_stands c.args.tables.now (plain_of c.args.store.now c.args.self.now.stack.items) c.args.self.now.states.items h))).1
 
 pub returns-in_default-clause-is : goal.returns-in_default-clause-is
 returns-in_default-clause-is g c =
     let t = c.args.tables.now in
     let stack = plain_of c.args.store.now c.args.self.now.stack.items in
     let u = plain (tree c.args.store.now (Node c.args.id)) in
-    no_goto t stack c.args.self.now.states.items c.requires.states u c.production-root.result.0 (root g (goal.at.returns-in_default-clause-is g c).After-production-root) _ (λ prefix k i. c.in_default.ensures prefix (subst (IsStateOf t prefix) (sym c.state.ensures) k) i)
+    no_goto t stack c.args.self.now.states.items c.requires.states u c.production-root.result.0 (root g (goal.at.returns-in_default-clause-is g c).After-production-root) _
+    (λ prefix k i. c.in_default.ensures prefix (subst (IsStateOf t prefix) (sym c.state.ensures) k) i)
 
 pub returns-then-is_some-clause-is : goal.returns-then-is_some-clause-is
 returns-then-is_some-clause-is g c =
@@ -58,4 +61,5 @@ returns-else-is_some-clause-is g c =
     let left = c.production-root.result.0 in
     let none = none_is c.action.result (sym c.is_some.ensures ∙ c.if-is_some.false) in
     let act = subst (IsAction t.grammar (h.symbols ++ (Nonterminal left ∷ [])) c.kind_after-look.result) none (c.action.ensures.is (h.symbols ++ (Nonterminal left ∷ [])) (there g at.In-Some)) in
-    no_action t (plain_of c.args.store.now c.args.self.now.stack.items) c.args.self.now.states.items h u left (root g at.After-production-root) (drop end kinds) c.kind_after-look.result (c.kind_after-look.ensures.is ∙ look_drop kinds end) act
+    no_action t (plain_of c.args.store.now c.args.self.now.stack.items) c.args.self.now.states.items h u left (root g at.After-production-root)
+    (drop end kinds) c.kind_after-look.result (c.kind_after-look.ensures.is ∙ look_drop kinds end) act

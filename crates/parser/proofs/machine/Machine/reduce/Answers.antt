@@ -62,7 +62,16 @@ returns-clause-reduced c look symbols roots called =
     let d = deep gr stack k.under k.kids k.d sized.0 c.len.result k.stack_is k.kids_roots (n ∙ sym (plain-length cells items)) in
     let cut : c.truncate.new.self.items ≡ take m items = c.truncate.ensures.items in
     let pushed : c.push.new.self.stack.items ≡ c.truncate.new.self.items ++ (Node c.in_ok-id.id ∷ []) = search rules in
-    let made : HasMade cells items c.args.production c.args.number c.branch-store.new.self c.push.new.self.stack.items = record { under = take m items; kids = take (length c.deref.result.now - m) (drop m c.deref.result.now); id = c.in_ok-id.id; stack_is = parts m items c.deref.result.now c.deref.ensures.value; stack_is' = pushed ∙ ap (λ l. l ++ (Node c.in_ok-id.id ∷ [])) cut; grown = c.in_ok-id.ensures.ok } in
+    let made : HasMade cells items c.args.production c.args.number c.branch-store.new.self c.push.new.self.stack.items =
+    record {
+      under = take m items;
+      kids = take (length c.deref.result.now - m) (drop m c.deref.result.now);
+      id = c.in_ok-id.id;
+      stack_is =
+          parts m items c.deref.result.now c.deref.ensures.value;
+      stack_is' = pushed ∙ ap (λ l. l ++ (Node c.in_ok-id.id ∷ [])) cut;
+      grown = c.in_ok-id.ensures.ok;
+    } in
     let long : length made.kids ≡ length sized.0 = omega (arith, d, n, sized.2, ap length made.stack_is, length-append made.under made.kids, length-take m items) in
     reduced gr cells c.branch-store.new.self items c.push.new.self.stack.items c.args.production c.args.number made c.requires.below look symbols roots called left sized.0 sized.1 long
 
@@ -84,10 +93,20 @@ returns-clause-states c =
     let at : m + length sized.0 ≡ length stack = omega (arith, d, n, sized.2, plain-length cells items) in
     let cut : c.truncate.new.self.items ≡ take m items = c.truncate.ensures.items in
     let pushed : c.push.new.self.stack.items ≡ c.truncate.new.self.items ++ (Node c.in_ok-id.id ∷ []) = search rules in
-    let made : HasMade cells items c.args.production c.args.number c.branch-store.new.self c.push.new.self.stack.items = record { under = take m items; kids = take (length c.deref.result.now - m) (drop m c.deref.result.now); id = c.in_ok-id.id; stack_is = parts m items c.deref.result.now c.deref.ensures.value; stack_is' = pushed ∙ ap (λ l. l ++ (Node c.in_ok-id.id ∷ [])) cut; grown = c.in_ok-id.ensures.ok } in
+    let made : HasMade cells items c.args.production c.args.number c.branch-store.new.self c.push.new.self.stack.items =
+    record {
+      under = take m items;
+      kids = take (length c.deref.result.now - m) (drop m c.deref.result.now);
+      id = c.in_ok-id.id;
+      stack_is =
+          parts m items c.deref.result.now c.deref.ensures.value;
+      stack_is' = pushed ∙ ap (λ l. l ++ (Node c.in_ok-id.id ∷ [])) cut;
+      grown = c.in_ok-id.ensures.ok;
+    } in
     let long : length made.kids ≡ length sized.0 = omega (arith, d, n, sized.2, ap length made.stack_is, length-append made.under made.kids, length-take m items) in
     let new = plain_of c.branch-store.new.self c.push.new.self.stack.items in
-    let r = reduced gr cells c.branch-store.new.self items c.push.new.self.stack.items c.args.production c.args.number made c.requires.below called.0 called.1 called.2 called.3 left sized.0 sized.1 long in
+    let r = reduced gr cells c.branch-store.new.self items c.push.new.self.stack.items c.args.production c.args.number made
+    c.requires.below called.0 called.1 called.2 called.3 left sized.0 sized.1 long in
     let roots = left_after gr stack new called.0 r k.d k.symbols_are in
     let there = state_under t stack states c.requires.states called.1 called.2 left sized.0 k m at in
     let state : c.state.result ≡ get_or (take (m + 1) states) (length (take (m + 1) states) - 1) 0 = c.state.ensures ∙ ap (λ l. get_or l (length l - 1) 0) c.truncate-2.ensures.items in

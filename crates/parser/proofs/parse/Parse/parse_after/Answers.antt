@@ -28,12 +28,15 @@ returns-clause-changed g c =
     let old = plain_of cells before.stack in
     let prepared : AreOlder n (all_trees cells before.stack) → IsPrepared change old (input_of cells c.in_ok-input.input kinds 0) = λ above. c.in_ok-input.ensures.prepared above kinds in
     let whole = input_of cells c.in_ok-input.input kinds 0 in
-    let stamps : AreOlder n (all_trees cells before.stack) → AreStampedExactly n change old (all_trees new p.stack) = λ above. stamped_exactly t c.parse_from.ensures.accepted kinds whole (length cells) n new p.stack done.run change old (prepared above) (verdict_in new p.verdict) done.parse.stop.verdict done.parse.stop.stack in
+    let stamps : AreOlder n (all_trees cells before.stack) → AreStampedExactly n change old (all_trees new p.stack) =
+    λ above. stamped_exactly t c.parse_from.ensures.accepted kinds whole (length cells) n new p.stack done.run change old
+    (prepared above) (verdict_in new p.verdict) done.parse.stop.verdict done.parse.stop.stack in
     let built : AreOlder n (all_trees cells before.stack) → Built change old 0 (plain_of new p.stack) p.built = λ above.
     let made = built_exactly t c.parse_from.ensures.accepted kinds whole (length cells) n new p.stack done.run change old (prepared above) (stamps above) in
     subst (Built change old 0 (plain_of new p.stack)) (sym (subst (λ k. p.built ≡ all_branches_by k (all_trees new p.stack)) done.number done.parse.built)) made in
     let kept = keep_stamps change (all_trees cells before.stack) (all_trees cells c.in_ok-input.input) (length cells) n new p.stack done.came.0 done.came.1 done.came.2 c.in_ok-input.ensures.moved in
-    let anew : ¬ AreOlder n (all_trees cells before.stack) → AreMadeBy n (forest_in new p.stack) = λ not_above. plain_stamps t (drop (0 + 0) kinds) kinds (length cells) n new p.stack (subst (λ l. IsMadeByRun t (input_of cells l kinds 0) kinds (length cells) n new p.stack) (c.in_ok-input.ensures.anew not_above) done.run) in
+    let anew : ¬ AreOlder n (all_trees cells before.stack) → AreMadeBy n (forest_in new p.stack) = λ not_above. plain_stamps t (drop (0 + 0) kinds) kinds
+    (length cells) n new p.stack (subst (λ l. IsMadeByRun t (input_of cells l kinds 0) kinds (length cells) n new p.stack) (c.in_ok-input.ensures.anew not_above) done.run) in
     let last = c.within_bound.new.store in
     with_both c.within_bound.result _ _ (IsParseAfter t kinds change n cells before last)
     (λ q same within. record {

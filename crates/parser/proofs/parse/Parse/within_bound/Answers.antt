@@ -12,10 +12,12 @@ returns-clause-same c =
     let stack : c.deref_mut.result.now ≡ cs = c.deref_mut.ensures.value ∙ ap (λ p. p.stack) c.self.view_is in
     let names = done.names.0 in
     let is : c.compact.new.children ≡ renamed cs names = done.names.1 ∙ ap (λ l. renamed l names) stack in
-    let back : take c.self.inside.stack.len (c.compact.new.children ++ drop (length c.compact.new.children) c.self.inside.stack.items) ≡ c.compact.new.children = written c.compact.new.children _ c.self.inside.stack.len (omega (arith, ap length is, renamed_long cs names, c.deref_mut.ensures.len, ap length stack)) in
+    let back : take c.self.inside.stack.len (c.compact.new.children ++ drop (length c.compact.new.children) c.self.inside.stack.items) ≡ c.compact.new.children =
+    written c.compact.new.children _ c.self.inside.stack.len (omega (arith, ap length is, renamed_long cs names, c.deref_mut.ensures.len, ap length stack)) in
     let trees : all_trees new (renamed cs names) ≡ all_trees old cs = ap (all_trees new) (sym is) ∙ done.trees ∙ ap (all_trees old) stack in
     let halt = c.self.inside.halt in
-    let before : verdict_in old (verdict_of halt cs) ≡ verdict_in old c.args.self.verdict = ap (λ l. verdict_in old (verdict_of halt l)) (sym (ap (λ p. p.stack) c.self.view_is)) ∙ ap (λ p. verdict_in old p.verdict) c.self.view_is in
+    let before : verdict_in old (verdict_of halt cs) ≡ verdict_in old c.args.self.verdict = ap (λ l. verdict_in old (verdict_of halt l))
+    (sym (ap (λ p. p.stack) c.self.view_is)) ∙ ap (λ p. verdict_in old p.verdict) c.self.view_is in
     record {
       trees = ap (all_trees new) back ∙ done.trees ∙ ap (all_trees old) stack;
       below = subst (AreBelow (length new)) (sym back) done.below;

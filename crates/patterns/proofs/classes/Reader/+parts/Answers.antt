@@ -12,8 +12,11 @@ alternatives-loop-after-preserved t c =
     let d = c.args.self.depth in
     let h = c.in_ok-next.ensures in
     let e = c.in_ok-choice-2.ensures in
-    let bar = c.in-Some.ensures in
-    (joined (Plain c.in-Some.field-0-0 124 ∷ []) c.loop-after.invariant.0 h.read bar.0 (lt_trans h.read.shorter bar.1) (ap (fault_from c.args.self.end (Outside d ARepetition)) bar.0) (ap is_sound e.2) (λ us vs s t. rw e.2 (choice d us vs _ _ refl refl s (one_seq d vs t))), h.stops)
+    let bar = c.in-Some.ensures in (
+      joined (Plain c.in-Some.field-0-0 124 ∷ []) c.loop-after.invariant.0 h.read bar.0 (lt_trans h.read.shorter bar.1) (ap (fault_from c.args.self.end (Outside d ARepetition)) bar.0)
+          (ap is_sound e.2) (λ us vs s t. rw e.2 (choice d us vs _ _ refl refl s (one_seq d vs t))),
+      h.stops,
+    )
 
 pub alternatives-returns-in_err-next-clause-fault : goal.alternatives-returns-in_err-next-clause-fault
 alternatives-returns-in_err-next-clause-fault t c =
@@ -29,8 +32,11 @@ sequence-loop-self-preserved t c =
     let d = c.args.self.depth in
     let h = c.in_ok-next.ensures in
     let e = c.in_ok-sequence-2.ensures in
-    let i = c.loop-self.invariant in
-    (joined [] i.0 h.read refl h.read.shorter (no_stop c.args.self.end d (writing c.loop-self.rest.now) (sym c.loop-self-test.ensures) i.1) (ap is_sound e.2) (λ us vs s t. rw e.2 (sequence d us vs _ refl s (one_rep d vs t))), h.no_blank)
+    let i = c.loop-self.invariant in (
+      joined [] i.0 h.read refl h.read.shorter (no_stop c.args.self.end d (writing c.loop-self.rest.now) (sym c.loop-self-test.ensures) i.1)
+          (ap is_sound e.2) (λ us vs s t. rw e.2 (sequence d us vs _ refl s (one_rep d vs t))),
+      h.no_blank,
+    )
 
 pub sequence-returns-in_err-next-clause-fault : goal.sequence-returns-in_err-next-clause-fault
 sequence-returns-in_err-next-clause-fault t c =

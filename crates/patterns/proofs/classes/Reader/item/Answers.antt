@@ -30,8 +30,11 @@ returns-clause-spelled c =
     let g = c.in-Some-strip.ensures in
     let k = c.in-Some-class_char.ensures in
     let P : ℕ → Type 0 = λ x. IsClassChar x h.0.0 in
-    let Q : ℕ → Type 0 = λ x. IsClassChar x k.0.0 in
-    (h.0.0 ∷ Plain c.in-Some-strip.field-0-0 45 ∷ k.0.0 ∷ [], h.0.1 ∙ ap (λ x. h.0.0 ∷ x) (g.0 ∙ ap (λ x. Plain c.in-Some-strip.field-0-0 45 ∷ x) k.0.1), (subst P (sym c.range-2.ensures.first) h.0.3, refl, subst Q (sym c.range-2.ensures.last) k.0.3))
+    let Q : ℕ → Type 0 = λ x. IsClassChar x k.0.0 in (
+      h.0.0 ∷ Plain c.in-Some-strip.field-0-0 45 ∷ k.0.0 ∷ [],
+      h.0.1 ∙ ap (λ x. h.0.0 ∷ x) (g.0 ∙ ap (λ x. Plain c.in-Some-strip.field-0-0 45 ∷ x) k.0.1),
+      (subst P (sym c.range-2.ensures.first) h.0.3, refl, subst Q (sym c.range-2.ensures.last) k.0.3),
+    )
 
 pub returns-in_default-strip-clause-goes_on : goal.returns-in_default-strip-clause-goes_on
 returns-in_default-strip-clause-goes_on c = grind (arith, common_steps)

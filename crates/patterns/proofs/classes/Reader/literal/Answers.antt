@@ -16,11 +16,13 @@ loop-rest-preserved c =
     let x = c.in-Some-literal_char.character in
     let P : List ℕ → Type 0 = λ u. IsLiteralSoFar u (writing c.args.words.now) rest in (
       subst P (sym e) (one_more_literal v x (writing c.args.words.now) (writing c.loop-rest.left.now) rest h.0.0 c.loop-rest.invariant.0 h.0.1 h.0.2),
-      (λ d. c.loop-rest.invariant.1 d ∙ ap (fault_from c.args.self.end (InLiteral d c.args.quote (is_empty v))) h.0.1 ∙ literal_step c.args.self.end d c.args.quote (is_empty v) x h.0.0 rest h.0.2 ∙ ap (λ b. fault_from c.args.self.end (InLiteral d c.args.quote b) rest) (sym (ap is_empty e ∙ not_empty_after v x))),
+      (λ d. c.loop-rest.invariant.1 d ∙ ap (fault_from c.args.self.end (InLiteral d c.args.quote (is_empty v))) h.0.1 ∙ literal_step c.args.self.end d c.args.quote
+          (is_empty v) x h.0.0 rest h.0.2 ∙ ap (λ b. fault_from c.args.self.end (InLiteral d c.args.quote b) rest) (sym (ap is_empty e ∙ not_empty_after v x))),
       omega arith,
     )
 
 pub returns-in_default-literal_char-clause-fault : goal.returns-in_default-literal_char-clause-fault
 returns-in_default-literal_char-clause-fault c =
     rw c.syntax.ensures (λ d.
-    c.loop-rest.invariant.1 d ∙ no_literal_char c.args.self.end (writing c.loop-rest.left.now) c.in_default-literal_char.ensures c.in_default.ensures d c.args.quote (is_empty c.loop-rest.characters.items))
+    c.loop-rest.invariant.1 d ∙ no_literal_char c.args.self.end (writing c.loop-rest.left.now) c.in_default-literal_char.ensures c.in_default.ensures d c.args.quote
+    (is_empty c.loop-rest.characters.items))

@@ -7,7 +7,8 @@ use Rattle.pieces.proofs.look_up.Prefix.offset_in.Goals.{In-Some}
 use Rattle.pieces.proofs.look_up.Prefix.offset_in.Goals as goal
 
 -- what was gone over so far is not past the position
-not_past : (encoding : Encoding) (p : Position) (t : List ℕ) (prefix : Prefix) (left ones : ℕ) → ones ≤ left → left ≡ room prefix p → with_ones prefix ones ≡ prefix_of encoding t → ¬ IsPast p prefix.end → ¬ IsPast p (end_before_feed encoding t)
+not_past : (encoding : Encoding) (p : Position) (t : List ℕ) (prefix : Prefix) (left ones : ℕ) → ones ≤ left → left ≡ room prefix p
+    → with_ones prefix ones ≡ prefix_of encoding t → ¬ IsPast p prefix.end → ¬ IsPast p (end_before_feed encoding t)
 not_past encoding p t prefix left ones few left_is is before = subst (λ f. ¬ IsPast p f.end) is (room-not_past p prefix ones before (omega (arith, few, left_is)))
 
 -- the loop's turn
@@ -73,7 +74,8 @@ returns-then-is_past c =
 
 pub returns : goal.returns
 returns c =
-    let whole : c.loop-c.yielded ≡ chars c.args.text.now = all-from (YieldsList-from_chars c.args.text.now c.utf8.text cc) c.loop-c.yielded _ c.loop-c.yielded_by _ _ c.in-None.is c.next.ensures.steps in
+    let whole : c.loop-c.yielded ≡ chars c.args.text.now =
+    all-from (YieldsList-from_chars c.args.text.now c.utf8.text cc) c.loop-c.yielded _ c.loop-c.yielded_by _ _ c.in-None.is c.next.ensures.steps in
     λ s r few is before after.
     let prefix = c.loop-c.invariant.prefix s few is before in
     let none_past = not_past c.args.unit c.args.position (s ++ c.loop-c.yielded) c.loop-c.prefix c.loop-c.room c.loop-c.ones c.loop-c.invariant.few c.loop-c.invariant.room prefix.0 prefix.1 in

@@ -39,7 +39,8 @@ loop-c-preserved c =
           λ s few is.
           let short : units Utf8 ((s ++ yielded) ++ c.in-Some.c ∷ []) ≤ 2 ^ 30 = few-turn s (2 ^ 30) here few in
           no_ones c.with-prefix.result
-          ∙ c.with-prefix.ensures (s ++ yielded) short (c.with_ones-in-loop-c.ensures c.args.unit (s ++ yielded) (few_prefix (s ++ yielded) c.in-Some.c (2 ^ 30) short) (c.loop-c.invariant.prefix s few is))
+          ∙ c.with-prefix.ensures (s ++ yielded) short
+          (c.with_ones-in-loop-c.ensures c.args.unit (s ++ yielded) (few_prefix (s ++ yielded) c.in-Some.c (2 ^ 30) short) (c.loop-c.invariant.prefix s few is))
           ∙ ap (prefix_of c.args.unit) (append_assoc s yielded (c.in-Some.c ∷ []));
     }
 
@@ -49,7 +50,8 @@ returns-then-left-eq0-clause-prefix c =
     let t : List ℕ = chars c.args.text.now in
     let here = turn (goal.at.returns-then-left-eq0-clause-prefix c).In-Some in
     λ s few is.
-    c.with_ones.ensures c.args.unit (s ++ take c.args.count t) (few-take s t c.args.count (2 ^ 30) few) (c.loop-c.invariant.prefix s few is ∙ ap (λ l. prefix_of c.args.unit (s ++ l)) (here.so_far ∙ ap (λ n. take n t) same))
+    c.with_ones.ensures c.args.unit (s ++ take c.args.count t) (few-take s t c.args.count (2 ^ 30) few)
+    (c.loop-c.invariant.prefix s few is ∙ ap (λ l. prefix_of c.args.unit (s ++ l)) (here.so_far ∙ ap (λ n. take n t) same))
 
 pub returns-then-left-eq0-clause-feed : goal.returns-then-left-eq0-clause-feed
 returns-then-left-eq0-clause-feed c =
@@ -64,7 +66,8 @@ returns-clause-prefix c =
     let all = whole (goal.at.returns-clause-prefix c).In-None in
     let few : length t ≤ c.args.count = omega (arith, c.loop-c.invariant.counted, ap length all) in
     λ s fits is.
-    c.with_ones-2.ensures c.args.unit (s ++ take c.args.count t) (few-take s t c.args.count (2 ^ 30) fits) (c.loop-c.invariant.prefix s fits is ∙ ap (λ l. prefix_of c.args.unit (s ++ l)) (all ∙ sym (take_all c.args.count t few)))
+    c.with_ones-2.ensures c.args.unit (s ++ take c.args.count t) (few-take s t c.args.count (2 ^ 30) fits)
+    (c.loop-c.invariant.prefix s fits is ∙ ap (λ l. prefix_of c.args.unit (s ++ l)) (all ∙ sym (take_all c.args.count t few)))
 
 pub returns-clause-feed : goal.returns-clause-feed
 returns-clause-feed c =

@@ -29,7 +29,13 @@ overflow_add-result c =
     let i = c.locate-place.result.0 in
     let p = c.in-Some.piece.now in
     let at : Some p ≡ slice_get ps i = ap option_copied (sym c.in-Some.is) ∙ c.get.ensures in
-    omega (arith, c.bytes_in-before_place.ensures (text_before ps i) (c.locate-place.ensures.before ∙ sum-before ps c.seq-pieces.ensures.fits i), c.split.ensures.bytes, c.seq-pieces.ensures.fits, prefix_le ps i p at (c.args.offset - c.characters_in.result))
+    omega (
+      arith,
+      c.bytes_in-before_place.ensures (text_before ps i) (c.locate-place.ensures.before ∙ sum-before ps c.seq-pieces.ensures.fits i),
+      c.split.ensures.bytes,
+      c.seq-pieces.ensures.fits,
+      prefix_le ps i p at (c.args.offset - c.characters_in.result),
+    )
 
 pub returns : goal.returns
 returns c =
@@ -42,11 +48,19 @@ returns c =
     let ends = offset-reached ps c.seq-pieces.ensures.fits (record { offset = o }) (i + 1) (c.locate-place.ensures.reached (within_chunks ps i p at)) in
     let sum = c.locate-place.ensures.before ∙ sum-before ps c.seq-pieces.ensures.fits i in
     let count : c.characters_in.result ≡ length (text_before ps i) = c.characters_in.ensures (text_before ps i) sum in
-    let cut = cut_in (λ q. q) ps i p at o starts ends (chars c.split.result.0.now) (chars c.split.result.1.now) (c.split.ensures.prefix ∙ ap (λ n. take (o - n) p) count) (c.split.ensures.back ∙ ap (λ n. drop (o - n) p) count) in
+    let cut = cut_in (λ q. q) ps i p at o starts ends (chars c.split.result.0.now) (chars c.split.result.1.now)
+    (c.split.ensures.prefix ∙ ap (λ n. take (o - n) p) count) (c.split.ensures.back ∙ ap (λ n. drop (o - n) p) count) in
     let is : IsCut ps o _ = record {
       at = cut;
       few = omega (arith, cut.within, c.seq-pieces.ensures.few, c.seq-pieces.ensures.fits);
-      bytes = omega (arith, c.bytes_in-before_place.ensures (text_before ps i) sum, c.split.ensures.bytes, ap (units Utf8) c.split.ensures.prefix, ap (units Utf8) cut.before, units-append Utf8 (text_before ps i) (chars c.split.result.0.now));
+      bytes = omega (
+        arith,
+        c.bytes_in-before_place.ensures (text_before ps i) sum,
+        c.split.ensures.bytes,
+        ap (units Utf8) c.split.ensures.prefix,
+        ap (units Utf8) cut.before,
+        units-append Utf8 (text_before ps i) (chars c.split.result.0.now),
+      );
     } in
     rw (← c.seq-pieces.ensures.same) is
 
@@ -62,6 +76,13 @@ returns-in_default c =
     let is : IsCut ps o _ = record {
       at = cut;
       few = omega (arith, cut.within, c.seq-pieces.ensures.few, c.seq-pieces.ensures.fits);
-      bytes = omega (arith, c.bytes_in-before_place.ensures (text_before ps i) sum, ap (units Utf8) cut.before, units-append Utf8 (text_before ps i) (chars []), ap (units Utf8) chars-nil, units-nil Utf8);
+      bytes = omega (
+        arith,
+        c.bytes_in-before_place.ensures (text_before ps i) sum,
+        ap (units Utf8) cut.before,
+        units-append Utf8 (text_before ps i) (chars []),
+        ap (units Utf8) chars-nil,
+        units-nil Utf8,
+      );
     } in
     rw (← c.seq-pieces.ensures.same) is

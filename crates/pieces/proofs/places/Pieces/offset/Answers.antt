@@ -30,7 +30,8 @@ returns-clause-is c =
     let after : List ℕ = text_in (drop (place + 1) pieces) in
     let known = c.new-prefix.ensures before (c.locate-place.ensures.before ∙ sum-before pieces c.seq-pieces.ensures.fits place) in
     let not_past = position-not_before pieces c.seq-pieces.ensures.fits (record { unit = c.args.unit; position = c.args.position }) place c.locate-place.ensures.not_before in
-    let reached = position-reached pieces c.seq-pieces.ensures.fits (record { unit = c.args.unit; position = c.args.position }) (place + 1) (c.locate-place.ensures.reached (within_chunks pieces place piece c.in-Some.ensures)) in
+    let reached = position-reached pieces c.seq-pieces.ensures.fits (record { unit = c.args.unit; position = c.args.position }) (place + 1)
+    (c.locate-place.ensures.reached (within_chunks pieces place piece c.in-Some.ensures)) in
     let more : text_before pieces (place + 1) ≡ before ++ chars c.text.result.now =
     prefix-more (λ q. q) pieces place piece c.in-Some.ensures ∙ ap (λ l. before ++ l) (sym c.text.ensures.characters) in
     let fits : units Utf8 (before ++ chars c.text.result.now) ≤ 2 ^ 30 = subst (λ l. units Utf8 l ≤ 2 ^ 30) more (few_before pieces (place + 1) (2 ^ 30) c.seq-pieces.ensures.fits) in

@@ -14,7 +14,8 @@ returns-in_default c =
     let few = few_before pieces place (2 ^ 30) c.seq-pieces.ensures.fits in
     let known = c.new-prefix.ensures before (c.locate-place.ensures.before ∙ sum-before pieces c.seq-pieces.ensures.fits place) in
     let whole : before ≡ text_in pieces = all_before (λ q. q) pieces place (sym c.in_default.ensures) in
-    let past : length (text_in pieces) ≤ c.args.offset = omega (arith, offset-not_before pieces c.seq-pieces.ensures.fits (record { offset = c.args.offset }) place c.locate-place.ensures.not_before, ap length whole) in
+    let past : length (text_in pieces) ≤ c.args.offset =
+    omega (arith, offset-not_before pieces c.seq-pieces.ensures.fits (record { offset = c.args.offset }) place c.locate-place.ensures.not_before, ap length whole) in
     c.position.ensures c.args.unit before [] few known refl
     ∙ ap (λ l. position c.args.unit l (length before)) (append-nil before)
     ∙ ap (λ l. position c.args.unit l (length l)) whole

@@ -6,7 +6,8 @@ pub returns : goal.returns
 returns c =
     let first = c.requires.first in
     let lt = subst (λ n. c.args.a < n) (sym first.rows) c.requires.rule in
-    let k = begin_iff c.args.productions.now.grammar c.args.a c.args.self.now.nullable (slice_index_or c.args.self.now.beginning c.args.a []) first.are_nullable (first.begin c.args.a lt) c.args.symbols.now in
+    let k = begin_iff c.args.productions.now.grammar c.args.a c.args.self.now.nullable (slice_index_or c.args.self.now.beginning c.args.a []) first.are_nullable
+    (first.begin c.args.a lt) c.args.symbols.now in
     let e = c.begin.ensures in
     let f = c.nullable.ensures in
     let h = c.beginning.ensures in

@@ -23,7 +23,8 @@ pub returns-in_err-insert-clause-absent : goal.returns-in_err-insert-clause-abse
 returns-in_err-insert-clause-absent c =
     let entries = c.self.inside.by_uri.entries in
     let uri = string_bytes c.args.uri in
-    on_err c.from_residual.result (ap (λ h. get h.documents uri) (sym c.self.view_is) ∙ (get_held entries uri ∙ ap (option_map (entry_view)) (sym (btree_map_text_same c.args.uri uri entries refl).0 ∙ c.in_err-insert.ensures.absent)))
+    on_err c.from_residual.result (ap (λ h. get h.documents uri) (sym c.self.view_is)
+    ∙ (get_held entries uri ∙ ap (option_map (entry_view)) (sym (btree_map_text_same c.args.uri uri entries refl).0 ∙ c.in_err-insert.ensures.absent)))
   where
     on_err : {T E P : Type 0} (r : Result T E) → P → OnErr r P
     on_err (Ok x) p = tt

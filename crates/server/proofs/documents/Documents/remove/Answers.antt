@@ -7,7 +7,8 @@ pub returns-clause-is : goal.returns-clause-is
 returns-clause-is c =
     let entries = c.self.inside.by_uri.entries in
     let uri = c.args.uri.now in
-    c.is_some.ensures ∙ (ap is_some c.remove.ensures.value ∙ (sym (is_some_map (entry_view) (entry_at entries uri)) ∙ ap is_some (sym (get_held entries uri) ∙ ap (λ h. get h.documents uri) c.self.view_is)))
+    c.is_some.ensures ∙ (ap is_some c.remove.ensures.value
+    ∙ (sym (is_some_map (entry_view) (entry_at entries uri)) ∙ ap is_some (sym (get_held entries uri) ∙ ap (λ h. get h.documents uri) c.self.view_is)))
 
 pub returns-clause-documents : goal.returns-clause-documents
 returns-clause-documents c =

@@ -15,10 +15,12 @@ returns-clause-documents c = elim c.match-get_mut.branch [
       let updates = (c.get_mut.follows.holds w.replace.new.dest).3 (subst IsSome found refl) in
       subst (λ (r : Option (Entry)). IfSome r (λ _. documents_of c.match-get_mut.self-inside.by_uri.entries ≡ map.insert c.args.self.now.documents uri (is_lost Memory))) (sym w.result-is)
       (ap (λ s. documents_of s.by_uri.entries) w.self-inside-is
-      ∙ (insert_held entries (c.get_mut.follows.lender w.replace.new.dest).entries uri w.replace.new.dest (btree_map_updates_text uri c.self.inside.by_uri (c.get_mut.follows.lender w.replace.new.dest) (Some w.replace.new.dest) updates)
+      ∙ (insert_held entries (c.get_mut.follows.lender w.replace.new.dest).entries uri w.replace.new.dest
+      (btree_map_updates_text uri c.self.inside.by_uri (c.get_mut.follows.lender w.replace.new.dest) (Some w.replace.new.dest) updates)
       ∙ (ap (λ e. map.insert (documents_of entries) uri (entry_view e)) w.replace.ensures.after
       ∙ ap (λ h. map.insert h.documents uri (is_lost Memory)) c.self.view_is)))
-  | in-None w ↦ subst (λ (r : Option (Entry)). IfSome r (λ _. documents_of c.match-get_mut.self-inside.by_uri.entries ≡ map.insert c.args.self.now.documents c.args.uri.now (is_lost Memory))) (sym w.result-is) tt
+  | in-None w ↦ subst (λ (r : Option (Entry)). IfSome r
+      (λ _. documents_of c.match-get_mut.self-inside.by_uri.entries ≡ map.insert c.args.self.now.documents c.args.uri.now (is_lost Memory))) (sym w.result-is) tt
 ]
 
 pub invariant_of-self : goal.invariant_of-self
@@ -28,8 +30,11 @@ invariant_of-self c = elim c.match-get_mut.branch [
       let found = ap option_copied_mut (sym w.in-Some.is) ∙ c.get_mut.ensures.value in
       let updates = (c.get_mut.follows.holds w.replace.new.dest).3 (subst IsSome found refl) in
       let fits : IsEntryOf c.self.inside.language w.replace.new.dest = subst (λ e. IsEntryOf c.self.inside.language e) (sym w.replace.ensures.after) tt in
-      subst (λ s. AreCurrent s.language s.by_uri.entries) (sym w.self-inside-is) (insert_current c.self.inside.language c.self.inside.by_uri.entries (c.get_mut.follows.lender w.replace.new.dest).entries uri w.replace.new.dest (btree_map_updates_text uri c.self.inside.by_uri (c.get_mut.follows.lender w.replace.new.dest) (Some w.replace.new.dest) updates) c.self.invariant fits)
-  | in-None w ↦ subst (λ s. AreCurrent s.language s.by_uri.entries) (sym w.self-inside-is) (subst (λ m. AreCurrent c.self.inside.language m.entries) (sym c.get_mut.follows.holds-at-none) c.self.invariant)
+      subst (λ s. AreCurrent s.language s.by_uri.entries) (sym w.self-inside-is) (insert_current c.self.inside.language c.self.inside.by_uri.entries
+      (c.get_mut.follows.lender w.replace.new.dest).entries uri w.replace.new.dest
+      (btree_map_updates_text uri c.self.inside.by_uri (c.get_mut.follows.lender w.replace.new.dest) (Some w.replace.new.dest) updates) c.self.invariant fits)
+  | in-None w ↦ subst (λ s. AreCurrent s.language s.by_uri.entries) (sym w.self-inside-is)
+      (subst (λ m. AreCurrent c.self.inside.language m.entries) (sym c.get_mut.follows.holds-at-none) c.self.invariant)
 ]
 
 pub returns-clause-is : goal.returns-clause-is
@@ -51,7 +56,8 @@ returns-clause-current c = elim c.match-get_mut.branch [
       let uri = c.args.uri.now in
       let found = ap option_copied_mut (sym w.in-Some.is) ∙ c.get_mut.ensures.value in
       subst (λ (r : Option (Entry)). IfSome r (IsEntryOf c.args.self.now.language)) (sym w.result-is)
-      (subst (λ e. IsEntryOf c.args.self.now.language e) (sym w.replace.ensures.value) (subst (λ h. IsEntryOf h.language w.in-Some.held.now) c.self.view_is (c.self.invariant uri w.in-Some.held.now (sym found))))
+      (subst (λ e. IsEntryOf c.args.self.now.language e) (sym w.replace.ensures.value)
+      (subst (λ h. IsEntryOf h.language w.in-Some.held.now) c.self.view_is (c.self.invariant uri w.in-Some.held.now (sym found))))
   | in-None w ↦ subst (λ (r : Option (Entry)). IfSome r (IsEntryOf c.args.self.now.language)) (sym w.result-is) tt
 ]
 

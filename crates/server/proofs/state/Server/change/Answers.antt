@@ -20,5 +20,6 @@ returns c =
     let d = open_document doc in
     let changes = map change_view c.args.changes.now in
     let by_language = subst (λ (v : ℤ). Becomes (c.language.result.now.file) v d changes (entry_view entry)) (to_z-of_z w32 c.args.version c.ranges.version) c.apply_changes-entry.ensures.becomes in
-    let becomes : Becomes file c.args.version d changes (entry_view entry) = subst (λ l. Becomes (l.file) c.args.version d changes (entry_view entry)) (c.language.ensures ∙ c.take.ensures.language) by_language in
+    let becomes : Becomes file c.args.version d changes (entry_view entry) = subst (λ l. Becomes (l.file) c.args.version d changes (entry_view entry))
+    (c.language.ensures ∙ c.take.ensures.language) by_language in
     IfOk-weaker c.hold.result _ _ (λ out holds. changes_open (state_view old) _ uri (is_lost Memory) d c.args.version changes (entry_view entry) _ _ _ held mid becomes holds) c.hold.ensures

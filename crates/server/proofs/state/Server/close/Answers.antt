@@ -9,7 +9,8 @@ returns-then-not-remove c =
     let uri = string_bytes c.args.uri in
     let none : get old.documents.documents c.as_str.result.now ≡ None = none_is _ (sym c.remove.ensures.is ∙ c.if-not-remove.true) in
     let here : get old.documents.documents uri ≡ None = ap (get old.documents.documents) (sym c.as_str.ensures.value) ∙ none in
-    let same = state_same _ _ old.phase _ _ (ap (λ (l : LanguageData). l.file) c.remove.ensures.language) (c.remove.ensures.documents ∙ removed_none old.documents.documents c.as_str.result.now none) in
+    let same = state_same _ _ old.phase _ _ (ap (λ (l : LanguageData). l.file) c.remove.ensures.language)
+    (c.remove.ensures.documents ∙ removed_none old.documents.documents c.as_str.result.now none) in
     if_ok_both c.one_log.result
     (λ out replies stop. closes_none (state_view old) uri _ _ _ here replies stop same)
     c.one_log.ensures.replies

@@ -16,4 +16,5 @@ returns c =
     let spelled = ap (λ (u : List ℕ). has_room u documents) (sym c.as_str.ensures.value) in
     let removed = c.remove.ensures.documents ∙ ap (remove documents) c.as_str-2.ensures.value in
     let mid = state_same _ _ old.phase _ _ (ap (λ (l : LanguageData). l.file) c.remove.ensures.language) removed in
-    IfOk-weaker c.hold.result _ _ (λ out holds. opens_room _ (state_view old) uri made state _ _ _ (holds_removed (state_view old) _ uri made _ _ _ mid holds) same (spelled ∙ (sym c.has_room.ensures ∙ c.if-not-has_room.false))) c.hold.ensures
+    IfOk-weaker c.hold.result _ _ (λ out holds. opens_room _ (state_view old) uri made state _ _ _ (holds_removed (state_view old) _ uri made _ _ _ mid holds) same
+    (spelled ∙ (sym c.has_room.ensures ∙ c.if-not-has_room.false))) c.hold.ensures

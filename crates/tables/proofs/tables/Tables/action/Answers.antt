@@ -4,7 +4,8 @@ use Rattle.tables.proofs.RowsOfPrefix.{right, far_move, shift_state}
 use Rattle.tables.proofs.tables.Tables.action.Goals as goal
 
 -- a move that was read in the row of a state is the one in the tables
-move_read : (t : Sets) (s : ℕ) (look : Option ℕ) {row : List (Option Move)} {move : Option Move} → row ≡ slice_index_or t.moves s row → move ≡ slice_index_or row (rank look) None → s < length t.moves → move ≡ move_at t s look
+move_read : (t : Sets) (s : ℕ) (look : Option ℕ) {row : List (Option Move)} {move : Option Move} → row ≡ slice_index_or t.moves s row
+    → move ≡ slice_index_or row (rank look) None → s < length t.moves → move ≡ move_at t s look
 move_read t s look {row} there read below = read ∙ ap (λ r. slice_index_or r (rank look) None) (there ∙ get_or_default t.moves s row [] below)
 
 pub returns-in-None-clause-is : goal.returns-in-None-clause-is
@@ -12,7 +13,8 @@ returns-in-None-clause-is c =
     let inside = c.self.inside in
     let t = seen inside.productions.grammar inside.gotos.items inside.moves.items in
     let s = c.args.state in
-    rw (← c.self.view_is, c.in-None.is) (λ prefix h. rw (move_read t s None c.index-moves.ensures c.at.ensures h.below) ((right inside.productions.nonterminals t c.self.invariant prefix s h).moves None))
+    rw (← c.self.view_is, c.in-None.is) (λ prefix h. rw (move_read t s None c.index-moves.ensures c.at.ensures h.below)
+    ((right inside.productions.nonterminals t c.self.invariant prefix s h).moves None))
 
 pub returns-then-a-rules : goal.returns-then-a-rules
 returns-then-a-rules c =
@@ -37,7 +39,8 @@ returns-else-a-rules-clause-is c =
     let a = c.in-Rule.a in
     let look : c.args.look ≡ Some (Token a) = c.in-Some.is ∙ ap (λ k. Some k) c.in-Rule.is in
     let far : t.grammar.rules ≤ a = (let e = c.rules.ensures in let l = c.if-a-rules.false in omega (arith, e, l)) in
-    rw (← c.self.view_is, look) (λ prefix h. subst (IsAction t.grammar prefix (Some (Token a))) (far_move inside.productions.nonterminals t c.self.invariant prefix s h a far) ((right inside.productions.nonterminals t c.self.invariant prefix s h).moves (Some a)))
+    rw (← c.self.view_is, look) (λ prefix h. subst (IsAction t.grammar prefix (Some (Token a))) (far_move inside.productions.nonterminals t c.self.invariant prefix s h a far)
+    ((right inside.productions.nonterminals t c.self.invariant prefix s h).moves (Some a)))
 
 pub returns-in-Invalid-clause-is : goal.returns-in-Invalid-clause-is
 returns-in-Invalid-clause-is c = search rules

@@ -19,4 +19,5 @@ returns-else-nonterminal-nonterminals c =
     let inside = c.self.inside in
     let t = seen inside.productions.grammar inside.gotos.items inside.moves.items in
     let n = c.args.nonterminal in
-    rw (← c.self.view_is) (λ prefix h. goes inside.productions.nonterminals t c.self.invariant prefix c.args.state h n None (far_goto inside.productions.nonterminals t c.self.invariant prefix c.args.state h n (let e = c.nonterminals.ensures in let l = c.if-nonterminal-nonterminals.false in omega (arith, e, l))))
+    rw (← c.self.view_is) (λ prefix h. goes inside.productions.nonterminals t c.self.invariant prefix c.args.state h n None
+    (far_goto inside.productions.nonterminals t c.self.invariant prefix c.args.state h n (let e = c.nonterminals.ensures in let l = c.if-nonterminal-nonterminals.false in omega (arith, e, l))))

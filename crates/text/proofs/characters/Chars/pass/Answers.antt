@@ -39,5 +39,7 @@ returns-clause-passed g c =
     let n = c.passed-count.result in
     let Passes : ℕ → Type 0 = λ x. goal.F-post g c.args.test x true in
     let ascii = starts Passes c.as_bytes.result.now bytes n c.as_bytes.ensures.value c.passed-count.ensures.inside c.passed-count.ensures.passed in
-    let same : take n c.as_bytes.result.now ≡ take n c.args.self.now = ap (take n) c.as_bytes.ensures.value ∙ sym (first_are bytes n ascii.0 ascii.1 (text_in c.self.inside.pieces)) ∙ ap (take n) c.self.view_is in
-    subst (λ (l : List ℕ). All (λ x. IsCharacter x × Passes x) l) same (All-weaker (λ x. (x < 128) × Passes x) (λ x. IsCharacter x × Passes x) (λ x h. (inl (omega (arith, h.0)), h.1)) (take n c.as_bytes.result.now) c.passed-count.ensures.passed)
+    let same : take n c.as_bytes.result.now ≡ take n c.args.self.now = ap (take n) c.as_bytes.ensures.value
+    ∙ sym (first_are bytes n ascii.0 ascii.1 (text_in c.self.inside.pieces)) ∙ ap (take n) c.self.view_is in
+    subst (λ (l : List ℕ). All (λ x. IsCharacter x × Passes x) l) same (All-weaker (λ x. (x < 128) × Passes x) (λ x. IsCharacter x × Passes x)
+    (λ x h. (inl (omega (arith, h.0)), h.1)) (take n c.as_bytes.result.now) c.passed-count.ensures.passed)

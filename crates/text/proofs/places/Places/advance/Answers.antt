@@ -7,7 +7,15 @@ pub returns-in_default-clause-offset : goal.returns-in_default-clause-offset
 returns-in_default-clause-offset c =
     let text : List ℕ = text_in c.loop.self-inside.pieces.now in
     let placed = c.loop.invariant.placed in
-    omega (arith, c.loop.invariant.far, c.loop-test.true, placed.within, ap length (sym placed.ahead ∙ c.in_default.ensures.steps.0), length-drop c.loop.self-inside.offset text, ap length c.loop.invariant.text)
+    omega (
+      arith,
+      c.loop.invariant.far,
+      c.loop-test.true,
+      placed.within,
+      ap length (sym placed.ahead ∙ c.in_default.ensures.steps.0),
+      length-drop c.loop.self-inside.offset text,
+      ap length c.loop.invariant.text,
+    )
 
 pub position_after-self-inside-requires-clause-line : goal.position_after-self-inside-requires-clause-line
 position_after-self-inside-requires-clause-line c =

@@ -6,7 +6,8 @@ use Rattle.trees.proofs.store.Store.production.Goals as goal
 pub returns-clause-tree : goal.returns-clause-tree
 returns-clause-tree c =
     let cell = c.index.result.now in
-    let at = subst (λ l. IsAt (trees_from [] l) c.args.id.index cell) c.self.view_is (store_at c.self.inside.nodes.items c.self.invariant c.args.id.index cell cell (rw c.self.view_is c.requires) c.index.ensures) in
+    let at = subst (λ l. IsAt (trees_from [] l) c.args.id.index cell) c.self.view_is
+    (store_at c.self.inside.nodes.items c.self.invariant c.args.id.index cell cell (rw c.self.view_is c.requires) c.index.ensures) in
     let below = forest_of (trees_from [] c.args.self.now) cell.children in
     (cell.born, below, at.is ∙ ap (λ p. StampedBranch p cell.born below) (sym c.label.ensures.production))
 

@@ -6,11 +6,13 @@ use Rattle.trees.proofs.store.Store.tokens.Goals as goal
 pub returns-clause-is : goal.returns-clause-is
 returns-clause-is c =
     let cell = c.index.result.now in
-    let at = subst (λ l. IsAt (trees_from [] l) c.args.id.index cell) c.self.view_is (store_at c.self.inside.nodes.items c.self.invariant c.args.id.index cell cell (rw c.self.view_is c.requires) c.index.ensures) in
+    let at = subst (λ l. IsAt (trees_from [] l) c.args.id.index cell) c.self.view_is
+    (store_at c.self.inside.nodes.items c.self.invariant c.args.id.index cell cell (rw c.self.view_is c.requires) c.index.ensures) in
     c.label.ensures.tokens ∙ at.cell.tokens ∙ ap (λ t. min most (length (yield (plain t)))) (sym at.is)
 
 pub returns-clause-tree : goal.returns-clause-tree
 returns-clause-tree c =
     let cell = c.index.result.now in
-    let at = subst (λ l. IsAt (trees_from [] l) c.args.id.index cell) c.self.view_is (store_at c.self.inside.nodes.items c.self.invariant c.args.id.index cell cell (rw c.self.view_is c.requires) c.index.ensures) in
+    let at = subst (λ l. IsAt (trees_from [] l) c.args.id.index cell) c.self.view_is
+    (store_at c.self.inside.nodes.items c.self.invariant c.args.id.index cell cell (rw c.self.view_is c.requires) c.index.ensures) in
     (cell.production, cell.born, forest_of (trees_from [] c.args.self.now) cell.children, at.is)
