@@ -27,7 +27,8 @@ class Decoder:
         """The contents of the frames that these bytes end."""
         self.rest += data
         while self.is_whole():
-            content = bytes(self.rest[: self.length])
+            with memoryview(self.rest) as rest:
+                content = bytes(rest[: self.length])
             del self.rest[: self.length]
             self.length = None
             yield content
