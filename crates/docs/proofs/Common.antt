@@ -5,9 +5,9 @@ pub use Rattle.std.specs.List.{AllByRecursion}
 pub use Rattle.std.specs.Result.{result_and}
 pub use Rattle.std.specs.Str.{IsUtf8, chars}
 pub use Rattle.std.proofs.Math.Nat.{le-max_left, le-max_right, max-le, min-eq_left, min-eq_right, min-le_left, min-le_right}
-pub use Rattle.std.proofs.lemmas.Bool.{cases_lt, eq-eqb, eqb-true}
+pub use Rattle.std.proofs.lemmas.Bool.{cases_lt, eq-eqb, eqb-true, true_from_ne_false}
 pub use Rattle.std.proofs.lemmas.List.{append-nil, append_assoc, drop-drop, drop-take, length-append, length-drop, length-map, length-take, map-append, take-append-drop, take-take, take_all, take_at, take_more}
-pub use Rattle.std.proofs.lemmas.List.Elements.{All-append, All-drop, All-take, All-weaker, recursion_from_All}
+pub use Rattle.std.proofs.lemmas.List.Elements.{All-append, All-cons, All-drop, All-nil, All-take, All-weaker, recursion_from_All}
 pub use Rattle.std.proofs.lemmas.List.Folds.{drop_split}
 pub use Rattle.std.proofs.lemmas.Result.{IfOk-weaker, err_from_is_err_and}
 pub use Rattle.definitions.proofs.Characters.{IsText-chars, IsText-edit}
@@ -40,7 +40,7 @@ pub use Rattle.docs.specs.declared.doc.DocFault.{DocFault}
 pub use Rattle.docs.specs.declared.doc.DocFault.TheVariants.{Memory, TooLarge}
 pub use Rattle.docs.specs.declared.doc.Outcome.TheVariants.{Fault as OutcomeFault}
 pub use Rattle.grammar.specs.Grammars.{FileGrammar, lexicon_of}
-pub use Rattle.docs.specs.Languages.{LanguageData}
+pub use Rattle.docs.specs.Languages.{HasAutomaton, IsLanguageOf, LanguageData}
 pub use Rattle.lexer.specs.Rescans.{AreRescanned, plain_all, significant_kinds}
 pub use Rattle.lexer.specs.Tokens.{AreTokensOf, is_significant, kind_in, plain, plain as plain_token}
 pub use Rattle.lexer.specs.declared.sums.Token.{Token}
@@ -70,3 +70,14 @@ pub use Rattle.trees.specs.Cells.{Cell, all_trees, forest_in, forest_of, tree, t
 pub use Rattle.trees.specs.declared.store.Child.{Child}
 pub use Rattle.trees.specs.declared.store.Child.TheVariants.{Node as NodeChild}
 pub use Rattle.trees.specs.declared.store.NodeId.{NodeId}
+pub use Rattle.std.specs.Char.{len_utf8}
+pub use Rattle.std.proofs.lemmas.Str.{encodes-IsAscii, encodes-chars, len_utf8_bounds, length-encode, length-le-encodes}
+pub use Rattle.std.proofs.lemmas.Str.Ascii.{IsAscii-from_all}
+pub use Rattle.std.proofs.lemmas.Grind.{common_steps}
+pub use Rattle.definitions.specs.Items.{HasMoreSetsThan, HasNoConflict}
+pub use Rattle.tables.specs.Faults.{IsRight}
+pub use Rattle.tables.specs.declared.tables.TableFault.{TableFault}
+pub use Rattle.tables.specs.declared.tables.TableFault.TheVariants.{Conflict}
+pub use Rattle.tables.specs.Reports.{IsReport}
+pub use Rattle.tables.specs.declared.conflict.Conflict.{Conflict as Shown}
+pub use Rattle.std.proofs.lemmas.List.Sums.{length-filter}

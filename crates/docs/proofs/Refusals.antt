@@ -1,13 +1,7 @@
 -- A text's refusal, passed on as a document's.
-use Rattle.std.proofs.Common.{◌≡◌, ◌↔◌, ◌<◌, ℕ, Bool, true, false, List, length, refl, sym, ap, subst, ◌∙◌, leb-true, leb-false}
+use Rattle.std.proofs.Common.{◌≡◌, ◌↔◌, ◌<◌, ℕ, Bool, true, false, List, length, refl, sym, ap, subst, ◌∙◌, leb-true, leb-false, Option, Err}
 use Rattle.docs.proofs.Common.{Result, Ok, IfOk, IsErrAnd, OnOk, nat_le, encode_utf8_all, result_and, chars, IsUtf8, err_from_is_err_and, IsText, changed, span, Range, Encoding, IsText-chars, IsText-edit, TextFault, DocFault, TooLarge, Memory, doc_fault, fits, fits_from, too_long, spelled_large, large_from}
-use Rattle.std.specs.Prelude.{Option, Err}
 use Rattle.text.specs.declared.document.TextFault.TheVariants as text
-
--- a test that doesn't fail holds
-pub unless : (b : Bool) → (b ≡ false → ⊥) → b ≡ true
-unless true never = refl
-unless false never = absurd (never refl)
 
 -- where a text is too large
 large_or_not : (t : List ℕ) → IsText t → (fits t ≡ false) ↔ (1_048_576 < length (encode_utf8_all t))
@@ -79,14 +73,3 @@ module _ {S : Type 0} (made : Result S TextFault) (over : Type 0) (by : (made �
     )
 
 -- ---- what `made.and(Ok(x))` is
-
-pub ok_of_and : {S T E : Type 0} (made : Result S E) (x : T) (result : Result T E) (P : T → Type 0) → result ≡ result_and made (Ok x) → OnOk made (P x) → IfOk result P
-ok_of_and (Ok y) x result P is h = subst (λ r. IfOk r P) (sym is) h
-ok_of_and (Err d) x result P is h = subst (λ r. IfOk r P) (sym is) tt
-
-pub refusal_of_and : {S T E : Type 0} (made : Result S E) (x : T) (result : Result T E) (e : E) (over : Type 0) → result ≡ result_and made (Ok x) → (made ≡ Err e) ↔ over → (result ≡ Err e) ↔ over
-refusal_of_and (Ok y) x result e over is h = (λ r. absurd (let f : ⊥ = cc in f), λ o. absurd (let wrong = h.1 o in let f : ⊥ = cc in f))
-refusal_of_and (Err d) x result e over is h = (
-  λ r. h.0 (let same : d ≡ e = cc in ap (λ y. Err y) same),
-  λ o. let refused = h.1 o in let same : d ≡ e = cc in is ∙ ap (λ y. Err y) same,
-)

@@ -9,7 +9,7 @@ ghost use Rattle.parser.specs.declared.parse.Verdict.TheVariants as Verdict;
 ghost use Rattle.trees.specs.declared.store.NodeId.{NodeId};
 ghost use Rattle.readings.specs.Contents.{AreFoldsOf, IsSelectionOf};
 ghost use Rattle.views.specs.Roots.{trees_of_roots};
-ghost use Rattle.views.specs.Views.{row_bytes};
+ghost use Rattle.views.specs.Views.{shared_bytes};
 ghost use Rattle.readings.specs.Diagnostics.{IsDiagnosis};
 ghost use Rattle.readings.specs.Answers.{AreSelections, IsReported, Reads, rows, written_tree};
 ghost use Rattle.docs.specs.Changes.{IsChanged};
@@ -24,16 +24,15 @@ ghost use Rattle.docs.specs.Faults.{doc_fault};
 
 use crate::language::Language;
 use crate::significant::Significant;
-use definitions::{Diagnostic, Edit, Position, Range, Stats, Unit};
+use definitions::{Diagnostic, Edit, Position, Range, Row, Stats, Unit};
 use lexer::Tokens;
 use parser::laws::stack_has_the_nodes_of_the_document;
 use parser::{Parse, Verdict};
 use std::alloc::{AllocError, Global};
-use std::rc::Rc;
 use text::{Text, TextFault};
 use thiserror::Error;
 use trees::Store;
-use views::{Row, diagnostic, folds, selection, token_rows, tree_text};
+use views::{diagnostic, folds, selection, shared_rows, tree_text};
 
 /// Why a document was not opened, or is lost by a change.
 #[derive(Clone, Copy, Debug, PartialEq, Eq, Error)]
@@ -203,19 +202,16 @@ impl Doc {
         self.text.to_string(alloc)
     }
 
-    /// The names and ranges of the tokens. Refuses for memory alone.
-    pub fn rows(
-        &self,
-        alloc: Global,
-        language: &Language,
-    ) -> Result<Vec<Row<Rc<String>>>, AllocError>
+    /// The names and ranges of the tokens, where the tokens of a rule share its name. Refuses for
+    /// memory alone.
+    pub fn rows(&self, alloc: Global, language: &Language) -> Result<Vec<Row>, AllocError>
         requires { IsCurrent language.now self.now }
-        ensures { let file = language.now.file in
-            IfOk result (λ reported. Reads file self.now.text (λ reading.
-            map row_bytes reported.items ≡ rows self.now.unit file self.now.text reading.tokens)) }
+        ensures { let file = language.now.file in let text = self.now.text in
+            IfOk result (λ reported. Reads file text (λ reading.
+            map shared_bytes reported.items ≡ rows self.now.unit file text reading.tokens)) }
     {
         let grammar = language.grammar();
-        token_rows(alloc, grammar, self.unit, &self.text, &self.tokens)
+        shared_rows(alloc, grammar, self.unit, &self.text, &self.tokens)
     }
 
     /// The text of the tree, where there is one. Refuses for memory alone.

@@ -33,9 +33,8 @@ pub mod laws;
 mod pending;
 mod significant;
 
-pub use definitions::{Diagnostic, Position, Range, Stats, Unit};
+pub use definitions::{Diagnostic, Position, Range, Row, Stats, Unit};
 pub use doc::{Doc, DocFault, Outcome};
 pub use language::{Language, LoadFault};
 pub use pending::Pending;
 pub use significant::Significant;
-pub use views::Row;

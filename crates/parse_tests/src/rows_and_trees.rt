@@ -21,7 +21,7 @@ fn rows(rt: &impl Abort, alloc: Global, file: &str, text: &str) -> String {
     let rows = token_rows(alloc, grammar, Unit::Utf16, &text, &tokens).expect(rt, "rows");
     let mut lines = String::new(alloc);
     for row in &rows {
-        let line = line(alloc, row.name.as_str(), row.range).expect(rt, "memory");
+        let line = line(alloc, row.name, row.range).expect(rt, "memory");
         lines.push_str(line.as_str()).expect(rt, "memory");
     }
     lines

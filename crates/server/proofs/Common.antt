@@ -13,8 +13,9 @@ pub use Rattle.std.specs.Vec.Iter.{into_iter_items}
 pub use Rattle.std.specs.declared.cmp.Ordering.{Ordering}
 pub use Rattle.std.specs.declared.cmp.Ordering.TheVariants.{Less}
 pub use Rattle.std.proofs.Math.Nat.{min-eq_left}
+pub use Rattle.std.proofs.lemmas.Bool.{true_from_ne_false}
 pub use Rattle.std.proofs.lemmas.Cmp.{nat_list_cmp_total}
-pub use Rattle.std.proofs.lemmas.Grind.{flat_map-append}
+pub use Rattle.std.proofs.lemmas.Grind.{common_steps, flat_map-append}
 pub use Rattle.std.proofs.lemmas.Int.{to_z-of_z}
 pub use Rattle.std.proofs.lemmas.List.{append-nil, length-map, length-take, map-append, take-append-drop, take_all, take_more}
 pub use Rattle.std.proofs.lemmas.Map.Text.{btree_map_text_same, btree_map_updates_text, is_eq-slice_cmp}
@@ -24,7 +25,6 @@ pub use Rattle.docs.specs.Edits.{IsNext, number_of}
 pub use Rattle.docs.specs.Pending.{HasNone, IsPending, pending_number, pending_text, pending_unit}
 pub use Rattle.docs.specs.Text.{changed}
 pub use Rattle.docs.specs.Texts.{LastEdit, fits}
-pub use Rattle.docs.specs.Views.{row_bytes}
 pub use Rattle.docs.specs.declared.doc.DocFault.{DocFault}
 pub use Rattle.docs.specs.declared.doc.DocFault.TheVariants.{Memory}
 pub use Rattle.frames.specs.Contents.{contents}
@@ -43,7 +43,7 @@ pub use Rattle.rpc.specs.Loss.{Loss}
 pub use Rattle.rpc.specs.Loss.TheVariants.{TooLarge}
 pub use Rattle.rpc.specs.Messages.{Received, TextChange, change_view, received_of}
 pub use Rattle.rpc.specs.Reading.{received_in}
-pub use Rattle.rpc.specs.Replies.{Answer, log_message, reply_data, reply_view, row_view}
+pub use Rattle.rpc.specs.Replies.{Answer, log_message, reply_data, reply_view}
 pub use Rattle.rpc.specs.Reply.{Reply}
 pub use Rattle.rpc.specs.Unit.{Unit as Encoding}
 pub use Rattle.rpc.specs.Written.{compact_text}
@@ -64,6 +64,8 @@ pub use Rattle.sessions.specs.Changes.{IsAfter}
 pub use Rattle.sessions.specs.Documents.{Becomes, DocumentState, Held, IsLastAfter, edited, has_room, is_lost, is_open}
 pub use Rattle.sessions.specs.Runs.{Run, bytes_of}
 pub use Rattle.sessions.specs.Sent.{sent}
-pub use Rattle.sessions.specs.Sessions.{AppendsPrefix, Ends, Session}
+pub use Rattle.sessions.specs.Sessions.{AppendsPrefix, Ends, IsWritten, Session}
 pub use Rattle.sessions.specs.Steps.{Changes, Closes, Holds, Opens, State, Step, StepOn, first_state, new_document}
 pub use Rattle.sessions.specs.declared.phase.Phase.{Phase}
+pub use Rattle.sessions.proofs.Totals.{some_run}
+pub use Rattle.sessions.proofs.Fits.{first_serves, run_serves}

@@ -1,10 +1,9 @@
 -- What the loop of a session keeps, and what it leaves.
-use Rattle.std.proofs.Common.{◌≡◌, ◌≢◌, ℕ, List, [], ◌++◌, refl, ap, sym, subst, inl, inr, ◌∙◌, append_assoc, Option, Some, None, Result, Ok, Err}
-use Rattle.server.proofs.Common.{Consumes, Keeps, IsAtEnd, FrameFault, Tail, Open, Faulty, Splits, IsOpen, GoesOn, fault_of, finish_of, FileGrammar, AlwaysAnswers, RunFault, Frame, Read, Write, State, first_state, Session, Ends, Served, ServedInPart, CanServe, IsCutShort, EndsAt, run_fault}
+use Rattle.std.proofs.Common.{◌≡◌, ◌≢◌, ℕ, List, [], ◌++◌, refl, ap, sym, subst, inl, inr, ◌∙◌, append-nil, append_assoc, Option, Some, None, Result, Ok, Err}
+use Rattle.server.proofs.Common.{Consumes, Keeps, IsAtEnd, FrameFault, Tail, Open, Faulty, Splits, IsOpen, GoesOn, fault_of, finish_of, FileGrammar, AlwaysAnswers, RunFault, Frame, Read, Write, State, first_state, Session, Ends, Served, ServedInPart, CanServe, IsCutShort, EndsAt, IsWritten, bytes_of, run_fault, run_serves, first_serves}
 use Rattle.frames.specs.declared.fault.FrameFault.TheVariants as frame
 use Rattle.sessions.specs.declared.fault.RunFault.TheVariants.{Memory}
 use Rattle.server.proofs.Runs.{served_then, served_nothing}
-use Rattle.sessions.proofs.Fits.{run_serves, first_serves}
 use Rattle.server.proofs.CutSessions.{part_nothing, part_then}
 
 -- the answers to the whole frames read so far are written
@@ -37,11 +36,11 @@ pub consumes_nothing : (a : Option (List ℕ)) → Consumes a a []
 consumes_nothing None = tt
 consumes_nothing (Some ls) = refl
 
-consumes_kept : (a b c : Option (List ℕ)) (xs : List ℕ) → Consumes a b xs → Keeps b c → Consumes a c xs
-consumes_kept None b c xs g k = tt
-consumes_kept (Some ls) None c xs g k = absurd g
-consumes_kept (Some ls) (Some bs) None xs g k = absurd k
-consumes_kept (Some ls) (Some bs) (Some cs) xs g k = g ∙ ap (λ l. xs ++ l) (sym k)
+-- what is kept has nothing read of it
+reads_nothing : (a b : Option (List ℕ)) → Keeps a b → Consumes a b []
+reads_nothing None b k = tt
+reads_nothing (Some bs) None k = absurd k
+reads_nothing (Some bs) (Some cs) k = sym k
 
 pub fed : (file : FileGrammar) (ri rm rn oo om on : Option (List ℕ)) (fi fo : ℕ) (tail new : Tail) (a b : State) (stop : Option ℕ) (piece : List ℕ) (more : List (List ℕ))
     → IsReady file ri rm fi oo om fo tail a → Consumes rm rn piece → GoesOn tail piece more new → Served om on a more stop b → Fed file ri rn oo on new b stop
@@ -61,8 +60,8 @@ can_serve file total ri rm oo om fi fo tail a ready = run_serves ready.contents 
 
 -- a session whose answers are all written
 whole : (file : FileGrammar) (ri rn oo on : Option (List ℕ)) (tail : Tail) (state : State) (stop : Option ℕ) (f : Fed file ri rn oo on tail state stop)
-    → (status : ℕ) → Ends (Ok status) rn tail stop → Session file ri rn oo on (Ok status)
-whole file ri rn oo on tail state stop f status ends =
+    → (outcome : Result ℕ RunFault) → IsWritten outcome oo on (bytes_of f.served.answers) → Ends outcome rn tail stop → Session file ri rn oo on outcome
+whole file ri rn oo on tail state stop f outcome written ends =
     record {
       bytes = f.bytes;
       contents = f.contents;
@@ -70,29 +69,10 @@ whole file ri rn oo on tail state stop f status ends =
       answers = f.served.answers;
       stop = stop;
       after = state;
-      was_read =
-          f.was_read;
+      was_read = f.was_read;
       split = f.split;
       run = f.served.run;
-      written = f.served.written;
-      ends = ends;
-    }
-
-faulty : (file : FileGrammar) (ri rn oo on : Option (List ℕ)) (tail : Tail) (state : State) (stop : Option ℕ) (f : Fed file ri rn oo on tail state stop)
-    → (fault : FrameFault) → Ends (Err (Frame fault)) rn tail stop → Session file ri rn oo on (Err (Frame fault))
-faulty file ri rn oo on tail state stop f fault ends =
-    record {
-      bytes = f.bytes;
-      contents = f.contents;
-      tail = tail;
-      answers = f.served.answers;
-      stop = stop;
-      after = state;
-      was_read =
-          f.was_read;
-      split = f.split;
-      run = f.served.run;
-      written = f.served.written;
+      written = written;
       ends = ends;
     }
 
@@ -105,30 +85,8 @@ cut_short file Memory failures ri rn oo on tail bytes contents cut read split p 
     record { bytes = bytes; contents = contents; tail = tail; answers = p.answers; stop = p.stop; after = p.after; was_read = read; split = split; run = p.run; written = p.written; ends = tt }
 cut_short file d failures ri rn oo on tail bytes contents cut read split p = absurd cut
 
--- the input fails
-pub read_fails : (file : FileGrammar) (ri rm rn oo om : Option (List ℕ)) (fi fo : ℕ) (tail : Tail) (a : State)
-    → IsReady file ri rm fi oo om fo tail a → Keeps rm rn → Session file ri rn oo om (Err Read)
-read_fails file ri rm rn oo om fi fo tail a ready kept =
-    record {
-      bytes = ready.bytes;
-      contents = ready.contents;
-      tail = tail;
-      answers = ready.served.answers;
-      stop = None;
-      after = a;
-      was_read =
-          consumes_kept ri rm rn ready.bytes ready.was_read kept;
-      split = ready.split;
-      run = ready.served.run;
-      written = ready.served.written;
-      ends = (refl, ready.goes_on);
-    }
-
 consumes_no_more : (a b c : Option (List ℕ)) (xs : List ℕ) → Consumes a b xs → Consumes b c [] → Consumes a c xs
-consumes_no_more None b c xs g h = tt
-consumes_no_more (Some ls) None c xs g h = absurd g
-consumes_no_more (Some ls) (Some bs) None xs g h = absurd h
-consumes_no_more (Some ls) (Some bs) (Some cs) xs g h = g ∙ ap (λ l. xs ++ l) h
+consumes_no_more a b c xs g h = subst (Consumes a c) (append-nil xs) (consumes_then a b c xs [] g h)
 
 -- nothing more is read
 fed_nothing : (file : FileGrammar) (ri rm rn oo om : Option (List ℕ)) (fi fo : ℕ) (tail : Tail) (a : State)
@@ -136,18 +94,27 @@ fed_nothing : (file : FileGrammar) (ri rm rn oo om : Option (List ℕ)) (fi fo :
 fed_nothing file ri rm rn oo om fi fo tail a ready read =
     record { bytes = ready.bytes; contents = ready.contents; was_read = consumes_no_more ri rm rn ready.bytes ready.was_read read; split = ready.split; served = ready.served }
 
+-- the input fails
+pub read_fails : (file : FileGrammar) (ri rm rn oo om : Option (List ℕ)) (fi fo : ℕ) (tail : Tail) (a : State)
+    → IsReady file ri rm fi oo om fo tail a → Keeps rm rn → Session file ri rn oo om (Err Read)
+read_fails file ri rm rn oo om fi fo tail a ready kept =
+    let f = fed_nothing file ri rm rn oo om fi fo tail a ready (reads_nothing rm rn kept) in
+    whole file ri rn oo om tail a None f (Err Read) f.served.written (refl, ready.goes_on)
+
 -- the input ends
 pub input_ends : (file : FileGrammar) (outcome : Result ℕ RunFault) (ri rm rn oo om : Option (List ℕ)) (fi fo : ℕ) (tail : Tail) (a : State)
     → IsReady file ri rm fi oo om fo tail a → Consumes rm rn [] → IsAtEnd rn → EndsAt outcome tail → Session file ri rn oo om outcome
-input_ends file (Ok status) ri rm rn oo om fi fo tail a ready read at_end ends = whole file ri rn oo om tail a None
-    (fed_nothing file ri rm rn oo om fi fo tail a ready read) status (inr (refl, at_end, ends.0, ends.1))
-input_ends file (Err (Frame fault)) ri rm rn oo om fi fo tail a ready read at_end ends = faulty file ri rn oo om tail a None
-    (fed_nothing file ri rm rn oo om fi fo tail a ready read) fault (refl, ends, λ o. at_end)
+input_ends file (Ok status) ri rm rn oo om fi fo tail a ready read at_end ends =
+    let f = fed_nothing file ri rm rn oo om fi fo tail a ready read in
+    whole file ri rn oo om tail a None f (Ok status) f.served.written (inr (refl, at_end, ends.0, ends.1))
+input_ends file (Err (Frame fault)) ri rm rn oo om fi fo tail a ready read at_end ends =
+    let f = fed_nothing file ri rm rn oo om fi fo tail a ready read in
+    whole file ri rn oo om tail a None f (Err (Frame fault)) f.served.written (refl, ends, λ o. at_end)
 input_ends file d ri rm rn oo om fi fo tail a ready read at_end ends = absurd ends
 
 -- `exit` came
 pub exits : (file : FileGrammar) (ri rn oo on : Option (List ℕ)) (tail : Tail) (b : State) (status : ℕ) → Fed file ri rn oo on tail b (Some status) → Session file ri rn oo on (Ok status)
-exits file ri rn oo on tail b status f = whole file ri rn oo on tail b (Some status) f status (inl refl)
+exits file ri rn oo on tail b status f = whole file ri rn oo on tail b (Some status) f (Ok status) f.served.written (inl refl)
 
 finish_faulty : (t : Tail) (f : FrameFault) → Some f ≡ fault_of t → (finish_of t ≡ Err f) × (IsOpen t → ⊥)
 finish_faulty (Open rest) f h = absurd (let e : ⊥ = cc in e)
@@ -156,7 +123,8 @@ finish_faulty (Faulty g) f h = let same : f ≡ g = cc in (ap (λ x. Err x) (sym
 -- the stream is faulty after the frames that were answered
 pub stream_fails : (file : FileGrammar) (ri rn oo on : Option (List ℕ)) (tail : Tail) (b : State) (fault : FrameFault) → Some fault ≡ fault_of tail
     → Fed file ri rn oo on tail b None → Session file ri rn oo on (Err (Frame fault))
-stream_fails file ri rn oo on tail b fault is f = let ends = finish_faulty tail fault is in faulty file ri rn oo on tail b None f fault (refl, ends.0, λ o. absurd (ends.1 o))
+stream_fails file ri rn oo on tail b fault is f = let ends = finish_faulty tail fault is in
+    whole file ri rn oo on tail b None f (Err (Frame fault)) f.served.written (refl, ends.0, λ o. absurd (ends.1 o))
 
 -- the output fails, or memory is refused, while a piece is answered
 pub answering_fails : (file : FileGrammar) (e : RunFault) (failures : ℕ) (ri rm rn oo om on : Option (List ℕ)) (fi fo : ℕ) (tail new : Tail) (a : State)

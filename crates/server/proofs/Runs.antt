@@ -1,9 +1,7 @@
 -- Runs one after another.
 use Rattle.std.proofs.Common.{◌≡◌, ℕ, List, [], ◌∷◌, ◌++◌, refl, ap, sym, subst, ◌∙◌, append_assoc, append-nil, Option, Some, None, MatchOption, IfSome}
-use Rattle.server.proofs.Common.{Appends, flat_map-append, map-append, compact_text, frame, contents, Received, received_in, Answer, reply_data, State, Step, StepOn, Run, bytes_of, Served, CanServe}
+use Rattle.server.proofs.Common.{Appends, flat_map-append, map-append, compact_text, frame, contents, Received, received_in, Answer, reply_data, State, Step, StepOn, Run, bytes_of, Served, CanServe, run_serves, some_run}
 use Rattle.frames.specs.declared.decoder.Frame.{Frame}
-use Rattle.sessions.proofs.Fits.{run_serves}
-use Rattle.sessions.proofs.Totals.{some_run}
 
 match_map : (halt : Option ℕ) {P P' : Type 0} {Q Q' : ℕ → Type 0} → (P → P') → ((s : ℕ) → Q s → Q' s) → MatchOption halt P Q → MatchOption halt P' Q'
 match_map None f g h = f h

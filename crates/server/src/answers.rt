@@ -1,16 +1,15 @@
 //! What is answered about a document, and published of it.
 
-ghost use Rattle.std.specs.Prelude.{◌≡◌, map, IfOk};
-ghost use Rattle.docs.specs.Answers.{Reads, rows};
+ghost use Rattle.std.specs.Prelude.{IfOk};
 ghost use Rattle.docs.specs.Docs.{open_document, IsCurrent};
 ghost use Rattle.rpc.specs.Ids.{id_view};
-ghost use Rattle.rpc.specs.Replies.{reply_view, row_view};
+ghost use Rattle.rpc.specs.Replies.{reply_view};
 ghost use Rattle.sessions.specs.Answers.{IsAnswerOf, IsPublished};
 ghost use Rattle.server.specs.Questions.{question_view};
 
 use crate::question::Question;
 use docs::{Doc, Language};
-use rpc::{Id, Reply, Row};
+use rpc::{Id, Reply};
 use std::alloc::{AllocError, Global};
 
 /// The reply to a question about an open document. Refuses for memory alone.
@@ -35,7 +34,7 @@ pub fn answer(
         }),
         Question::Tokens => Ok(Reply::Tokens {
             id,
-            rows: rows(alloc, language, doc)?,
+            rows: doc.rows(alloc, language)?,
         }),
         Question::Tree => match doc.tree(alloc, language)? {
             Some(text) => Ok(Reply::Tree { id, text }),
@@ -50,23 +49,6 @@ pub fn answer(
             selections: doc.selections(alloc, positions)?,
         }),
     }
-}
-
-/// The names and ranges of the tokens.
-fn rows(alloc: Global, language: &Language, doc: &Doc) -> Result<Vec<Row>, AllocError>
-    requires { IsCurrent language.now doc.now }
-    ensures { let file = language.now.file in
-        IfOk result (λ out. Reads file doc.now.text (λ reading.
-        map row_view out.items ≡ rows doc.now.unit file doc.now.text reading.tokens)) }
-{
-    let found = doc.rows(alloc, language)?;
-    let mut out = Vec::with_capacity(alloc, found.len())?;
-    for row in &found {
-        let name = row.name.clone()?;
-        let range = row.range;
-        out.push(Row { name, range })?;
-    }
-    Ok(out)
 }
 
 /// The diagnostics of an open document, with its version. Refuses for memory alone.

@@ -27,9 +27,15 @@ pub fn diagnostic(found: Diagnostic) -> (Range, String) {
     (range, message)
 }
 
-/// `Row`.
-pub fn row(row: Row<Rc<String>>) -> (Rc<String>, Range) {
+/// `views::Row`.
+pub fn row(row: Row<'_>) -> (&str, Range) {
     let Row { name, range } = row;
+    (name, range)
+}
+
+/// `docs::Row`.
+pub fn sent_row(row: docs::Row) -> (Rc<String>, Range) {
+    let docs::Row { name, range } = row;
     (name, range)
 }
 
@@ -95,14 +101,25 @@ pub fn tree_text(
 }
 
 /// `views::token_rows`.
-pub fn token_rows(
+pub fn token_rows<'a>(
+    alloc: Global,
+    grammar: &'a Grammar,
+    unit: Unit,
+    text: &Text,
+    tokens: &Tokens,
+) -> Result<Vec<Row<'a>>, AllocError> {
+    views::token_rows(alloc, grammar, unit, text, tokens)
+}
+
+/// `views::shared_rows`.
+pub fn shared_rows(
     alloc: Global,
     grammar: &Grammar,
     unit: Unit,
     text: &Text,
     tokens: &Tokens,
-) -> Result<Vec<Row<Rc<String>>>, AllocError> {
-    views::token_rows(alloc, grammar, unit, text, tokens)
+) -> Result<Vec<docs::Row>, AllocError> {
+    views::shared_rows(alloc, grammar, unit, text, tokens)
 }
 
 /// `Language::load`.
@@ -212,11 +229,7 @@ pub fn doc_folds(
 }
 
 /// `Doc::rows`.
-pub fn rows(
-    doc: &Doc,
-    alloc: Global,
-    language: &Language,
-) -> Result<Vec<Row<Rc<String>>>, AllocError>
+pub fn rows(doc: &Doc, alloc: Global, language: &Language) -> Result<Vec<docs::Row>, AllocError>
     requires { IsCurrent language.now doc.now }
 {
     doc.rows(alloc, language)

@@ -20,7 +20,7 @@ pub fn use_views(
 ) -> Option<()> {
     let rows = token_rows(alloc, grammar, Unit::Utf8, text, tokens).ok()?;
     let row = rows.first()?;
-    println!(rt; "{} up to {}", row.name.as_str(), row.range.end.character).ok()
+    println!(rt; "{} up to {}", row.name, row.range.end.character).ok()
     // NUM up to 2
 }
 

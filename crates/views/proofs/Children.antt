@@ -6,7 +6,7 @@ use Rattle.trees.specs.declared.store.Child.TheVariants.{Token, Node}
 use Rattle.views.proofs.BranchesAround.{spans_trees, around_span, around_none, only_first}
 
 -- the trees below a node are those of its children
-forest_trees : (ts : List Stamped) (cs : List Child) → trees (plain_all (forest_of ts cs)) ≡ plain_trees (trees_of ts cs)
+pub forest_trees : (ts : List Stamped) (cs : List Child) → trees (plain_all (forest_of ts cs)) ≡ plain_trees (trees_of ts cs)
 forest_trees ts [] = refl
 forest_trees ts (c ∷ cs) = ap (λ rest. plain (tree_of ts c) ∷ rest) (forest_trees ts cs)
 
@@ -116,14 +116,17 @@ module _ (cells : List Cell) (point : Point) (b : Found) (next : IsNext cells po
   pub children_fit : b.from + length (all_kinds (trees_of_roots cells children)) < 2 ^ 64
   children_fit = omega (arith, next.to, next.fits, ap length all)
 
-  pub children_pending : pending cells point (Some b) ≡ (b.from, b.to) ∷ spans_all point.reached point.first b.from (trees_of_roots cells children)
-  children_pending =
+  -- it is reported, and then what the search among its children comes to
+  pub children_pending : (r : Option Found) → MatchOption r (spans_all point.reached point.first b.from (trees_of_roots cells children) ≡ []) (λ n. IsBranchAround cells children b.from point n)
+      → pending cells point (Some b) ≡ (b.from, b.to) ∷ pending cells point r
+  children_pending r found =
       let us = plain_all (forest_of (trees_from [] cells) children) in
       let end : b.to ≡ b.from + length (yields us) = next.to ∙ ap (λ s. b.from + length (yield (plain s))) over.2 in
       ap (λ s. spans_of point.reached point.first b.from (plain s)) over.2
       ∙ around_span point.reached point.first b.from over.0 us (ap (is_around point.reached point.first b.from) (sym end) ∙ next.around)
       ∙ ap (λ to. (b.from, to) ∷ spans_in point.reached point.first b.from us) (sym end)
-      ∙ ap (λ ss. (b.from, b.to) ∷ ss) (spans_trees point.reached point.first b.from us ∙ ap (spans_all point.reached point.first b.from) (forest_trees (trees_from [] cells) children))
+      ∙ ap (λ ss. (b.from, b.to) ∷ ss) (spans_trees point.reached point.first b.from us ∙ ap (spans_all point.reached point.first b.from) (forest_trees (trees_from [] cells) children)
+      ∙ sym (found_pending cells children b.from point r found))
 
   pub children_below : AreBelow b.id.index children → AreBelow (length cells) children
   children_below h = all_below-more b.id.index (length cells) (omega (arith, next.below)) children h

@@ -20,7 +20,7 @@ pub use Rattle.std.proofs.lemmas.List.Kept.{AllPairs-cons, AllPairs-filter, Cont
 pub use Rattle.std.proofs.lemmas.List.Sorted.{Contains-permutation, IsPermutation-sym}
 pub use Rattle.std.proofs.lemmas.List.Sums.{count_by-le-length, sum_by-take-le}
 pub use Rattle.std.proofs.lemmas.Map.Keys.{Less-from_sorted}
-pub use Rattle.std.proofs.lemmas.Option.{get_or_from_slice_get, slice_get_within}
+pub use Rattle.std.proofs.lemmas.Option.{get_or_from_slice_get, slice_get_past, slice_get_within}
 pub use Rattle.std.proofs.lemmas.Result.{IfOk-weaker}
 pub use Rattle.std.proofs.lemmas.Slice.{between_to_end}
 pub use Rattle.std.proofs.lemmas.Str.{IsUtf8-string_bytes, chars-append, chars-nil}
@@ -29,9 +29,9 @@ pub use Rattle.definitions.proofs.OffsetOfPosition.{ended, ended-cons}
 pub use Rattle.definitions.proofs.Ordered.{Contains-cases, Contains-first, Contains-later, Contains-none}
 pub use Rattle.definitions.proofs.PastTheEnd.{position-min}
 pub use Rattle.definitions.proofs.Significant.{map-significant}
-pub use Rattle.definitions.proofs.TokensLead.{chars-cons}
+pub use Rattle.definitions.proofs.TokensLead.{chars, chars-cons}
 pub use Rattle.definitions.proofs.TokensUnique.{IsPiece-inside}
-pub use Rattle.definitions.specs.Answers.{AreCovering, AreFolds, Covers, Encloses, IsBefore, Node, SpansLines, end_of, kind_name, range_of, shortened, span}
+pub use Rattle.definitions.specs.Answers.{AreCovering, AreFolds, Covers, Encloses, IsBefore, Node, SpansLines, end_of, kind_name, listed, name_or_end, range_of, shortened, span}
 pub use Rattle.definitions.specs.DocumentNodes.{IsNodeOf, tree_texts}
 pub use Rattle.definitions.specs.Nodes.{Below, Past, StandsIn, Top, all_branches, branches, place_of}
 pub use Rattle.definitions.specs.Text.{break_ends}
@@ -40,8 +40,9 @@ pub use Rattle.definitions.specs.Tokens.{AreTokens, Placed, Token as PlainToken,
 pub use Rattle.definitions.specs.TreeEdits.{Stamped, StampedBranch, StampedForest, plain_all, plain_trees}
 pub use Rattle.definitions.specs.Trees.{AreTrees, Branch, Cons, Forest, Grammar, HasProduction, HaveRoots, IsTree, Leaf, Nil, Production, Tree, all_kinds, left_of, trees, yield, yields}
 pub use Rattle.definitions.specs.declared.Kind.{Kind}
-pub use Rattle.definitions.specs.declared.Kind.TheVariants.{Invalid}
+pub use Rattle.definitions.specs.declared.Kind.TheVariants.{Invalid, Rule}
 pub use Rattle.definitions.specs.declared.Range.{Range}
+pub use Rattle.definitions.specs.declared.Row.{Row as SharedRow}
 pub use Rattle.definitions.specs.declared.Symbol.{Symbol}
 pub use Rattle.definitions.specs.declared.Symbol.TheVariants.{Nonterminal, Rule as Terminal}
 pub use Rattle.definitions.specs.declared.Unit.{Unit as Encoding}
@@ -61,7 +62,7 @@ pub use Rattle.readings.specs.Contents.{AreFoldsOf, IsSelectionOf, placed_parts}
 pub use Rattle.views.specs.Roots.{AreRootsOf, trees_of_roots}
 pub use Rattle.views.specs.Folds.{AreAscending, AreSpanned, IsFold, SpanLines, line_at, lines_of, with_own}
 pub use Rattle.views.specs.NodesFrom.{IsNodeFrom}
-pub use Rattle.views.specs.Views.{IsBegun, Name, in_utf8, rest_text, row_bytes, row_of, rows_from, rows_of, text_of}
+pub use Rattle.views.specs.Views.{IsBegun, in_utf8, rest_text, row_bytes, rows_from, rows_of, shared_bytes, text_of}
 pub use Rattle.views.specs.declared.foldable.Siblings.{Siblings}
 pub use Rattle.views.specs.declared.rows.Row.{Row}
 pub use Rattle.views.specs.declared.selections.Branch.{Branch as Found}
@@ -77,3 +78,10 @@ pub use Rattle.trees.proofs.Cells.{all_below-more}
 pub use Rattle.trees.specs.Cells.{AreBelow, Cell, IsBelow, forest_of, most, tree, tree_of, trees_from, trees_of}
 pub use Rattle.trees.specs.declared.store.Child.{Child}
 pub use Rattle.trees.specs.declared.store.NodeId.{NodeId}
+pub use Rattle.definitions.specs.Sentences.{IsVerdict}
+pub use Rattle.parser.specs.declared.parse.Verdict.{Verdict}
+pub use Rattle.parser.specs.declared.parse.Verdict.TheVariants.{FaultAt, FaultAt as StopsAt, FaultAtEnd, FaultAtEnd as StopsAtEnd}
+pub use Rattle.parser.specs.Parses.{AreExpectedAt, IsParseOf, Stop, verdict_in}
+pub use Rattle.tables.specs.Expected.{AreExpected, in_file_order}
+pub use Rattle.tables.specs.Tables.{Sets}
+pub use Rattle.readings.specs.Diagnostics.{IsDiagnosis, IsFaultAfter, looks, shown}

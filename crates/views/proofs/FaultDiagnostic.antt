@@ -1,32 +1,9 @@
 -- What is reported of a fault.
-use Rattle.std.specs.Prelude.{◌≡◌, ℕ, ◌<◌, Bool, true, false, List, [], ◌∷◌, ◌++◌, length, map, take, flat_map, codes, slice_get, Option, Some, None, IsSomeAnd, option_map, All}
+use Rattle.views.proofs.Common.{flat_map, codes, flat_map-cons, slice_get_past, chars-append, Kind, Rule, Encoding, IsVerdict, position, Grammar, Placed, kinds, FileGrammar, Token, significant_kinds, plain, kinds_plain, length-kinds, Verdict, StopsAt, StopsAtEnd, AreExpectedAt, IsParseOf, Stop, verdict_in, AreExpected, in_file_order, Sets, Cell, placed_parts, IsDiagnosis, IsFaultAfter, looks}
 use Rattle.std.specs.Str.{chars, IsUtf8}
-use Rattle.std.proofs.Common.{arith, refl, sym, ap, subst, ◌∙◌, append_assoc, length-take}
-use Rattle.std.proofs.lemmas.List.Concat.{flat_map-cons}
-use Rattle.std.proofs.lemmas.Option.{slice_get_past}
-use Rattle.std.proofs.lemmas.Str.{chars-append}
-use Rattle.definitions.specs.declared.Kind.{Kind}
-use Rattle.definitions.specs.declared.Kind.TheVariants.{Rule}
-use Rattle.definitions.specs.declared.Unit.{Unit as Encoding}
+use Rattle.std.proofs.Common.{arith, refl, sym, ap, subst, ◌∙◌, append_assoc, length-take, ◌≡◌, ℕ, ◌<◌, Bool, true, false, List, [], ◌∷◌, ◌++◌, length, map, take, slice_get, Option, Some, None, IsSomeAnd, option_map, All}
 use Rattle.definitions.specs.Answers.{Diagnostic, end_of, fault_span, listed, message, name_or_end, range_of}
-use Rattle.definitions.specs.Sentences.{IsVerdict}
-use Rattle.definitions.specs.Text.{position}
-use Rattle.definitions.specs.Trees.{Grammar}
-use Rattle.definitions.specs.Tokens.{Placed, kinds}
-use Rattle.grammar.specs.Grammars.{FileGrammar}
-use Rattle.lexer.specs.declared.sums.Token.{Token}
-use Rattle.lexer.specs.Rescans.{significant_kinds}
-use Rattle.lexer.specs.Tokens.{plain}
-use Rattle.lexer.proofs.SignificantKinds.{kinds_plain, length-kinds}
-use Rattle.parser.specs.declared.parse.Verdict.{Verdict}
-use Rattle.parser.specs.declared.parse.Verdict.TheVariants.{FaultAt as StopsAt, FaultAtEnd as StopsAtEnd}
-use Rattle.parser.specs.Parses.{AreExpectedAt, IsParseOf, Stop, verdict_in}
-use Rattle.tables.specs.Expected.{AreExpected, in_file_order}
-use Rattle.tables.specs.Tables.{Sets}
-use Rattle.trees.specs.Cells.{Cell}
-use Rattle.readings.specs.Contents.{placed_parts}
 use Rattle.views.proofs.Significant.{IsMarked, count_of_parts}
-use Rattle.readings.specs.Diagnostics.{IsDiagnosis, IsFaultAfter, looks}
 
 -- the names of what could have stood at a fault
 abbrev pub names_of : List (List ℕ) → List (Option ℕ) → List (List ℕ)

@@ -1,7 +1,6 @@
 -- The lines of tokens: listed one after another, ascending, and those that nodes span.
 use Rattle.views.proofs.Common.{min, nat_le, not, slice_index, le-leb, leb-true, append-nil, length-map, All-nil, All-cons, All-head, All-tail, All-weaker, AllPairs-cons, AllPairs-filter, Invalid, Utf16, line_of, position, break_ends, PlainToken, Placed, placed, is_skipped, significant, kinds, Node, SpansLines, end_of, ended, ended-cons, map-significant, Token, kind_in, plain, Place, lines_of, line_at, SpanLines, AreAscending}
-use Rattle.std.specs.Prelude.{◌≡◌, ◌↔◌, ℕ, zero, suc, ◌+◌, ◌-◌, ◌<◌, ◌≤◌, Bool, true, false, List, [], ◌∷◌, ◌++◌, length, map, slice_index_or, All, AllPairs}
-use Rattle.std.proofs.Common.{arith, refl, sym, ap, ◌∙◌, cond, append_assoc}
+use Rattle.std.proofs.Common.{arith, refl, sym, ap, ◌∙◌, cond, append_assoc, ◌≡◌, ◌↔◌, ℕ, zero, suc, ◌+◌, ◌-◌, ◌<◌, ◌≤◌, Bool, true, false, List, [], ◌∷◌, ◌++◌, length, map, slice_index_or, All, AllPairs}
 use Rattle.views.proofs.RowsOfTokens.{position-place, min-more}
 
 -- the lines of the significant ones of tokens, of which the first starts at offset o
@@ -30,9 +29,6 @@ line-place t at o w e p = ap (λ q. q.line) (position-place Utf16 t at o w e p) 
 
 module _ (skips : List Bool) (t : List ℕ) (items : List Token) (lines : List (ℕ × ℕ)) (at next : Place) (x : Token) (rest : List Token) (h : IsLined skips t items lines at (x ∷ rest))
     (v : next.unit ≡ at.unit) (e : next.text ≡ at.text) (p : next.offset ≡ min (at.offset + x.length) (length at.text)) where
-  more : ℕ
-  more = h.offset + x.length
-
   next_text : next.text ≡ t
   next_text = e ∙ h.text
 

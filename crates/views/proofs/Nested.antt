@@ -14,11 +14,6 @@ AllPairs-head R x xs h k d l = h 0 (suc k) d (omega arith) (omega arith)
 pub AllPairs-tail : {X : Type 0} (R : X → X → Type 0) (x : X) (xs : List X) → AllPairs R (x ∷ xs) → AllPairs R xs
 AllPairs-tail R x xs h i j d l m = h (suc i) (suc j) d (omega arith) (omega arith)
 
-pub AllPairs-drop : {X : Type 0} (R : X → X → Type 0) (n : ℕ) (xs : List X) → AllPairs R xs → AllPairs R (drop n xs)
-AllPairs-drop R zero xs h = h
-AllPairs-drop R (suc n) [] h = h
-AllPairs-drop R (suc n) (x ∷ xs) h = AllPairs-drop R n xs (AllPairs-tail R x xs h)
-
 -- two lists joined, of which one is empty
 pub AllPairs-one : {X : Type 0} (R : X → X → Type 0) (xs ys : List X) → AllPairs R xs → AllPairs R ys → (xs ≡ []) ⊎ (ys ≡ []) → AllPairs R (xs ++ ys)
 AllPairs-one R xs ys p q (inl e) = subst (λ zs. AllPairs R (zs ++ ys)) (sym e) q

@@ -1,10 +1,10 @@
 -- The walk over the nodes of a store that gathers the lines of those that fold.
-use Rattle.views.proofs.Common.{min, get_or-append_seam, map-append, get_or_append_left, All-nil, All-push, get_or_from_slice_get, slice_get_within, Kind, Symbol, Forest, Branch, HaveRoots, HasProduction, trees, yield, yields, all_kinds, left_of, Stamped, StampedBranch, StampedForest, plain_all, plain_trees, FileGrammar, NodeId, Child, Cell, most, tree, tree_of, trees_of, trees_from, forest_of, IsBelow, AreBelow, all_below-more, SpanLines, AreAscending, IsFold, AreSpanned, with_own, IsNodeFrom, trees_of_roots, Siblings}
-use Rattle.std.specs.Prelude.{◌≡◌, ℕ, ◌+◌, ◌<◌, ◌≤◌, Bool, false, List, [], ◌∷◌, ◌++◌, length, map, slice_index_or, All}
-use Rattle.std.proofs.Common.{arith, refl, sym, ap, subst, subst₂, ◌∙◌, length-append}
+use Rattle.views.proofs.Common.{min, get_or-append_seam, map-append, get_or_append_left, All-nil, All-push, get_or_from_slice_get, slice_get_within, Kind, Symbol, Forest, Branch, HaveRoots, HasProduction, trees, yield, yields, all_kinds, left_of, StampedBranch, StampedForest, plain_all, FileGrammar, NodeId, Child, Cell, most, tree, trees_from, forest_of, IsBelow, AreBelow, all_below-more, SpanLines, AreAscending, IsFold, AreSpanned, with_own, IsNodeFrom, trees_of_roots, Siblings}
+use Rattle.std.proofs.Common.{◌≡◌, ℕ, ◌+◌, ◌<◌, ◌≤◌, Bool, false, List, [], ◌∷◌, ◌++◌, length, map, slice_index_or, All, arith, refl, sym, ap, subst, subst₂, ◌∙◌, length-append}
 use Rattle.definitions.specs.TreeEdits.{plain}
 use Rattle.trees.specs.declared.store.Child.TheVariants.{Token, Node}
 use Rattle.definitions.specs.Answers.{Node as Place}
+use Rattle.views.proofs.Children.{forest_trees}
 use Rattle.views.proofs.FoldSteps.{Ahead, IsGathered, work, gathered_none, all_gathered, gathered_end, gathered_past, gathered_into, first_within, left_side, smaller_past, smaller_into, smaller_end, free_leaf, free_line, own_kept, own_only, all_own}
 
 abbrev pub ahead : List Cell → Siblings → Ahead
@@ -16,19 +16,17 @@ AreStored cells s = AreBelow (length cells) s.children
 
 -- these pairs are gathered of the roots, and these siblings are ahead
 pub record IsWalking (f : FileGrammar) (lines : List (ℕ × ℕ)) (cells : List Cell) (roots : List Child) (stack : List Siblings) (pairs : List (ℕ × ℕ)) : Type 0 where
+  pub few : length lines ≤ most
   pub stored : All (AreStored cells) stack
   pub gathered : IsGathered f.grammar f.folds lines (trees_of_roots cells roots) (map (ahead cells) stack) pairs
 
-trees-forest : (ts : List Stamped) (cs : List Child) → trees (plain_all (forest_of ts cs)) ≡ plain_trees (trees_of ts cs)
-trees-forest ts [] = refl
-trees-forest ts (c ∷ cs) = ap (λ l. plain (tree_of ts c) ∷ l) (trees-forest ts cs)
-
 module _ (f : FileGrammar) (lines : List (ℕ × ℕ)) (cells : List Cell) (roots : List Child) where
   pub walking_none : (s : Siblings) → s.children ≡ roots → s.from ≡ 0 → AreBelow (length cells) roots → (symbols : List Symbol) × HaveRoots f.grammar (trees_of_roots cells roots) symbols
-      → length (all_kinds (trees_of_roots cells roots)) ≤ length lines → IsWalking f lines cells roots (s ∷ []) []
-  walking_none s e start below h short =
+      → length (all_kinds (trees_of_roots cells roots)) ≤ length lines → length lines ≤ most → IsWalking f lines cells roots (s ∷ []) []
+  walking_none s e start below h short few =
       let same : record { trees = trees_of_roots cells roots; from = 0 } ≡ ahead cells s = λ i. record { trees = trees_of_roots cells (sym e i); from = sym start i } in
       record {
+        few = few;
         stored = All-push (AreStored cells) [] s (All-nil (AreStored cells)) (subst (AreBelow (length cells)) (sym e) below);
         gathered = subst (λ (a : Ahead). IsGathered f.grammar f.folds lines (trees_of_roots cells roots) (a ∷ []) []) same
             (gathered_none f.grammar f.folds lines (trees_of_roots cells roots) h.0 h.1 short);
@@ -59,6 +57,7 @@ module _ (f : FileGrammar) (lines : List (ℕ × ℕ)) (cells : List Cell) (root
     -- are none
     pub walking_end : s.children ≡ [] → IsWalking f lines cells roots stack pairs
     walking_end e = record {
+      few = before.few;
       stored = others;
       gathered = gathered_end f.grammar f.folds lines (trees_of_roots cells roots)
           (map (ahead cells) stack) (ahead cells s) pairs gathered (ap (trees_of_roots cells) e);
@@ -68,16 +67,13 @@ module _ (f : FileGrammar) (lines : List (ℕ × ℕ)) (cells : List Cell) (root
     walking_end-smaller = subst (λ l. work (map (ahead cells) stack) < work l) was (smaller_end (map (ahead cells) stack) (ahead cells s))
 
     -- begin with a child, of so many tokens up to the greatest count, which the lines have
-    module _ (c : Child) (rest : Siblings) (e : s.children ≡ c ∷ rest.children) (count : ℕ) (counted : count ≡ min most (length (yield (plain (tree cells c))))) (short : length lines ≤ most) where
-      first : trees_of_roots cells s.children ≡ plain (tree cells c) ∷ trees_of_roots cells rest.children
-      first = ap (trees_of_roots cells) e
-
+    module _ (c : Child) (rest : Siblings) (e : s.children ≡ c ∷ rest.children) (count : ℕ) (counted : count ≡ min most (length (yield (plain (tree cells c))))) where
       within : (to : ℕ) → to ≡ s.from + length (yield (plain (tree cells c))) → to + length (all_kinds (trees_of_roots cells rest.children)) ≤ length lines
       within to end = first_within f.grammar f.folds lines (trees_of_roots cells roots) (map (ahead cells) stack) (ahead cells s) pairs gathered
           (plain (tree cells c)) (trees_of_roots cells rest.children) (ap (trees_of_roots cells) e) to end
 
       pub exact : s.from + count ≡ s.from + length (yield (plain (tree cells c)))
-      exact = omega (arith, counted, short, within (s.from + length (yield (plain (tree cells c)))) refl)
+      exact = omega (arith, counted, before.few, within (s.from + length (yield (plain (tree cells c)))) refl)
 
       pub count_within : s.from + count ≤ length lines
       count_within = omega (arith, within (s.from + count) exact)
@@ -98,6 +94,7 @@ module _ (f : FileGrammar) (lines : List (ℕ × ℕ)) (cells : List Cell) (root
 
         walking_past : ((n : Place) (p : ℕ × ℕ) → IsNodeFrom f.grammar s.from (plain (tree cells c) ∷ []) n → IsFold f.folds lines n p → ⊥) → IsWalking f lines cells roots new pairs
         walking_past free = record {
+          few = before.few;
           stored = subst (All (AreStored cells)) (sym pushed) rest_stored;
           gathered = subst (λ l. IsGathered f.grammar f.folds lines (trees_of_roots cells roots) l pairs) is_new
               (gathered_past f.grammar f.folds lines (trees_of_roots cells roots) (map (ahead cells) stack) (ahead cells s) pairs gathered (plain (tree cells c))
@@ -138,7 +135,7 @@ module _ (f : FileGrammar) (lines : List (ℕ × ℕ)) (cells : List Cell) (root
 
             is_newer : map (ahead cells) stack ++ ahead cells rest ∷ [] ++ record { trees = trees under; from = s.from } ∷ [] ≡ map (ahead cells) newer
             is_newer =
-                (λ i. is_new i ++ record { trees = trees-forest (trees_from [] cells) inner.children i; from = sym start i } ∷ [])
+                (λ i. is_new i ++ record { trees = forest_trees (trees_from [] cells) inner.children i; from = sym start i } ∷ [])
                 ∙ sym (map-append (ahead cells) new (inner ∷ []))
                 ∙ ap (map (ahead cells)) (sym opened)
 
@@ -164,6 +161,7 @@ module _ (f : FileGrammar) (lines : List (ℕ × ℕ)) (cells : List Cell) (root
                   let end : rest.from ≡ s.from + length (yields under) = after ∙ exact ∙ ap (λ u. s.from + length (yield u)) is_branch in
                   let flag : slice_index_or f.folds production.0 false ≡ own = ap (λ k. slice_index_or f.folds k false) (sym side) in
                   record {
+                    few = before.few;
                     stored = subst (All (AreStored cells)) (sym opened) (All-push (AreStored cells) new inner (subst (All (AreStored cells)) (sym pushed) rest_stored) inner_stored);
                     gathered = subst₂ (IsGathered f.grammar f.folds lines (trees_of_roots cells roots)) is_newer (sym is_own)
                         (gathered_into f.grammar f.folds lines (trees_of_roots cells roots) (map (ahead cells) stack) (ahead cells s) pairs gathered (plain (tree cells c))

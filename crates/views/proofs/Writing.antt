@@ -1,8 +1,7 @@
 -- The text of a tree, written from start to end.
 use Rattle.views.proofs.Common.{flat_map, codes, slice_index, IsUtf8, get_or-append_seam, append-nil, get_or_append_left, flat_map-cons, flat_map-map, All-nil, All-cons, All-append, chars-append, chars-nil, tree_texts, Stamped, StampedBranch, StampedForest, plain_all, FileGrammar, lefts, NodeId, Child, Cell, tree, tree_of, trees_from, forest_of, IsBelow, AreBelow, text_of, rest_text, IsBegun}
-use Rattle.std.specs.Prelude.{◌≡◌, ℕ, ◌<◌, List, [], ◌∷◌, ◌++◌, length, map, All, slice_index_or}
 use Rattle.std.specs.Str.{chars}
-use Rattle.std.proofs.Common.{arith, refl, sym, ap, subst, ◌∙◌, append_assoc, length-append}
+use Rattle.std.proofs.Common.{arith, refl, sym, ap, subst, ◌∙◌, append_assoc, length-append, ◌≡◌, ℕ, ◌<◌, List, [], ◌∷◌, ◌++◌, length, map, All, slice_index_or}
 use Rattle.definitions.specs.TreeEdits.{plain}
 use Rattle.trees.specs.declared.store.Child.TheVariants.{Node}
 
@@ -127,9 +126,6 @@ module _ (f : FileGrammar) (cells : List Cell) (all bytes : List ℕ) (stack : L
 
     parts : AreBelow (length cells) (c ∷ r)
     parts = subst (AreBelow (length cells)) e here
-
-    pub child_below : IsBelow (length cells) c
-    child_below = parts.0
 
     pub rest_below : All (Below cells) (stack ++ r ∷ [])
     rest_below = below-push cells stack r others parts.1

@@ -1,7 +1,8 @@
 -- What the rows of tokens and the text of a tree are, for a grammar file, a text and stored tokens, and a store of nodes.
-use Rattle.std.specs.Prelude.{◌≡◌, ℕ, ◌++◌, List, String, length, map, flat_map, codes, string_bytes, encode_utf8_all}
+use Rattle.std.specs.Prelude.{◌≡◌, ℕ, ◌++◌, List, length, map, flat_map, codes, string_bytes, encode_utf8_all}
 use Rattle.std.specs.Str.{chars}
 use Rattle.definitions.specs.declared.Range.{Range}
+use Rattle.definitions.specs.declared.Row.{Row as SharedRow}
 use Rattle.definitions.specs.declared.Unit.{Unit as Encoding}
 use Rattle.definitions.specs.Answers.{token_rows}
 use Rattle.definitions.specs.DocumentNodes.{tree_text}
@@ -15,21 +16,19 @@ use Rattle.trees.specs.declared.store.NodeId.{NodeId}
 use Rattle.trees.specs.declared.store.Child.{Child}
 use Rattle.trees.specs.declared.store.Child.TheVariants.{Node}
 use Rattle.trees.specs.Cells.{Cell, tree, AreBelow}
-use Rattle.std.specs.declared.alloc.Global.{Global}
-use Rattle.std.specs.declared.rc.Rc.{Rc}
 use Rattle.views.specs.declared.rows.Row.{Row}
 
--- a name that is shared
-abbrev pub Name : Type 0
-Name = Rc (String Global) Global
-
 -- `row_of row`: what a row says: its name as characters, and its range
-abbrev pub row_of : Row Name → List ℕ × Range
-row_of r = (chars (string_bytes r.name.value), r.range)
+abbrev pub row_of : Row → List ℕ × Range
+row_of r = (chars r.name.now, r.range)
 
 -- `row_bytes row`: what a row says: its name as bytes, and its range
-abbrev pub row_bytes : Row Name → List ℕ × Range
-row_bytes r = (string_bytes r.name.value, r.range)
+abbrev pub row_bytes : Row → List ℕ × Range
+row_bytes r = (r.name.now, r.range)
+
+-- `shared_bytes row`: what a row with a shared name says: its name as bytes, and its range
+abbrev pub shared_bytes : SharedRow → List ℕ × Range
+shared_bytes r = (string_bytes r.name.value, r.range)
 
 -- `in_utf8 row`: a row with its name in UTF-8
 abbrev pub in_utf8 : List ℕ × Range → List ℕ × Range

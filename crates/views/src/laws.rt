@@ -1,6 +1,6 @@
-//! What is proved of folds and selections, as contracts of functions that do nothing.
+//! What is proved of rows, folds and selections, as contracts of functions that do nothing.
 
-ghost use Rattle.std.specs.Prelude.{◌≤◌, ℕ, Bool, List, length};
+ghost use Rattle.std.specs.Prelude.{◌≡◌, ◌≤◌, ◌↔◌, ℕ, Bool, List, length, IsTrue};
 ghost use Rattle.definitions.specs.declared.Range.{Range};
 ghost use Rattle.definitions.specs.declared.Symbol.{Symbol};
 ghost use Rattle.definitions.specs.declared.Unit.{Unit as Encoding};
@@ -10,6 +10,14 @@ ghost use Rattle.definitions.specs.Tokens.{AreTokens, Placed, Token, kinds};
 ghost use Rattle.definitions.specs.Trees.{Grammar, HaveRoots, Tree, all_kinds};
 ghost use Rattle.grammar.specs.Grammars.{FileGrammar};
 ghost use Rattle.readings.specs.Contents.{IsSelectionOf};
+ghost use Rattle.views.specs.declared.rows.Row.{Row};
+ghost use Rattle.views.specs.Views.{row_bytes};
+
+/// Two rows are equal by `==` exactly where they have the same name and the same range.
+pub fn equal_rows_are_the_same()
+    ensures { (a b : Row) →
+        IsTrue (⟦<crate::Row<'static> as PartialEq>⟧.eq a b) ↔ (row_bytes a ≡ row_bytes b) }
+{}
 
 /// All trees have a list of folds.
 pub fn trees_have_folds()

@@ -16,7 +16,7 @@
 //! ```
 //! let rows = token_rows(alloc, grammar, Unit::Utf8, text, tokens).ok()?;
 //! let row = rows.first()?;
-//! println!(rt; "{} up to {}", row.name.as_str(), row.range.end.character).ok()
+//! println!(rt; "{} up to {}", row.name, row.range.end.character).ok()
 //! // NUM up to 2
 //! ```
 #![tactic(auto)]
@@ -32,8 +32,8 @@ mod tree;
 pub use definitions::{Diagnostic, Position, Range};
 pub use diagnoses::diagnostic;
 pub use foldable::folds;
-pub use laws::{each_offset_has_a_selection, trees_have_folds};
+pub use laws::{each_offset_has_a_selection, equal_rows_are_the_same, trees_have_folds};
 pub use parts::{Part, span_of};
-pub use rows::{Row, token_rows};
+pub use rows::{Row, shared_rows, token_rows};
 pub use selections::selection;
 pub use tree::tree_text;

@@ -1,19 +1,13 @@
-use Rattle.std.proofs.lemmas.Grind.{common_steps}
-use Rattle.std.proofs.Common.{◌≡◌, ◌↔◌, ◌∙◌, ◌+◌, ap, sym, subst, List, map, take, ℕ, Bool, true, false, refl, Option, Some, Err, Ok, Result, arith}
-use Rattle.server.proofs.Common.{chars, changed, Encoding, last_edit, open_document, IsNext, LastEdit, OpenDocument, fits, DocFault, Memory, change_view, is_lost, Becomes, IsLastAfter, after, ends_there, goes_on, last_goes_on, may_lose}
+use Rattle.std.proofs.Common.{◌≡◌, ◌↔◌, ◌∙◌, ◌+◌, ap, sym, subst, List, map, take, ℕ, true, false, Option, Some, Err, Ok, Result, arith}
+use Rattle.server.proofs.Common.{chars, changed, Encoding, last_edit, open_document, IsNext, LastEdit, OpenDocument, fits, DocFault, Memory, change_view, is_lost, Becomes, IsLastAfter, after, ends_there, goes_on, last_goes_on, may_lose, true_from_ne_false, common_steps}
 use Rattle.docs.specs.declared.doc.DocFault.TheVariants.{TooLarge}
 use Rattle.rpc.specs.Loss.TheVariants as loss
 use Rattle.server.proofs.Refusals.{either_fault}
 use Rattle.server.proofs.changes.apply_each.Goals as goal
 
--- a test that doesn't fail holds
-unless : (b : Bool) → (b ≡ false → ⊥) → b ≡ true
-unless true never = refl
-unless false never = absurd (never refl)
-
 -- what was not refused as too large fits
 fits_then : {T : Type 0} (result : Result T DocFault) (text spelled : List ℕ) → text ≡ spelled → ((result ≡ Err TooLarge) ↔ (fits text ≡ false)) → (result ≡ Err TooLarge → ⊥) → fits spelled ≡ true
-fits_then result text spelled same large never = subst (λ t. fits t ≡ true) same (unless (fits text) (λ over. never (large.1 over)))
+fits_then result text spelled same large never = subst (λ t. fits t ≡ true) same (true_from_ne_false (fits text) (λ over. never (large.1 over)))
 
 pub returns-in-Err-clause-becomes : goal.returns-in-Err-clause-becomes
 returns-in-Err-clause-becomes c =

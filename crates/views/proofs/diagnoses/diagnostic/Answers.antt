@@ -1,11 +1,5 @@
 use Rattle.std.proofs.Common.{◌≡◌, ◌∙◌, ◌<◌, Some, ap, arith, length, sym, string_bytes}
-use Rattle.std.proofs.lemmas.Str.{IsUtf8-string_bytes}
-use Rattle.definitions.specs.Text.{position}
-use Rattle.definitions.proofs.Characters.{encodes-chars}
-use Rattle.lexer.specs.Rescans.{significant_kinds}
-use Rattle.lexer.proofs.SignificantKinds.{length-kinds}
-use Rattle.parser.specs.declared.parse.Verdict.TheVariants.{FaultAt, FaultAtEnd}
-use Rattle.readings.specs.Diagnostics.{shown}
+use Rattle.views.proofs.Common.{IsUtf8-string_bytes, position, encodes-chars, significant_kinds, length-kinds, FaultAt, FaultAtEnd, shown}
 use Rattle.views.proofs.FaultDiagnostic.{diagnosis_at, diagnosis_at_end, fault_within}
 use Rattle.views.proofs.diagnoses.diagnostic.Goals as goal
 

@@ -1,10 +1,7 @@
 use lib.Utf8.{encode}
-use Rattle.std.proofs.Common.{rules, ◌≡◌, ◌∙◌, ◌++◌, ◌∷◌, [], List, ℕ, ap, refl, sym, subst}
-use Rattle.std.specs.Prelude.{option_map, string_bytes, codes}
+use Rattle.std.proofs.Common.{rules, ◌≡◌, ◌∙◌, ◌++◌, ◌∷◌, [], List, ℕ, ap, refl, sym, subst, option_map, string_bytes}
+use Rattle.views.proofs.Common.{codes, IsUtf8-string_bytes, Rule, listed, name_or_end}
 use Rattle.std.specs.Str.{chars}
-use Rattle.std.proofs.lemmas.Str.{IsUtf8-string_bytes}
-use Rattle.definitions.specs.declared.Kind.TheVariants.{Rule}
-use Rattle.definitions.specs.Answers.{listed, name_or_end}
 use Rattle.views.proofs.FaultDiagnostic.{IsListing, names_of, listing_begun, listing_more}
 use Rattle.views.proofs.diagnoses.write_looks.Goals as goal
 

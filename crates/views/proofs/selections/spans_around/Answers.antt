@@ -25,28 +25,19 @@ branch_around-next-requires-in-Some-clause-fits c =
 pub loop-next-smaller : goal.loop-next-smaller
 loop-next-smaller c =
     let next : IsNext c.args.store.now c.args.point c.in-Some.branch = subst (λ r. IfSome r (IsNext c.args.store.now c.args.point)) c.in-Some.is c.loop-next.invariant.next in
-    let later : pending c.args.store.now c.args.point c.branch_around-next-in-Some.result ≡ spans_all c.args.point.reached c.args.point.first c.in-Some.branch.from
-    (trees_of_roots c.args.store.now c.children.result) =
-    found_pending c.args.store.now c.children.result c.in-Some.branch.from c.args.point c.branch_around-next-in-Some.result c.branch_around-next-in-Some.ensures in
-    let now : pending c.args.store.now c.args.point c.loop-next.next ≡ (c.in-Some.branch.from, c.in-Some.branch.to) ∷ spans_all c.args.point.reached
-    c.args.point.first c.in-Some.branch.from (trees_of_roots c.args.store.now c.children.result) =
-    ap (pending c.args.store.now c.args.point) c.in-Some.is ∙ children_pending c.args.store.now c.args.point c.in-Some.branch next c.children.result c.children.ensures.tree in
-    omega (arith, ap length later, ap length now)
+    let now = ap (pending c.args.store.now c.args.point) c.in-Some.is ∙ children_pending c.args.store.now c.args.point c.in-Some.branch next c.children.result c.children.ensures.tree
+    c.branch_around-next-in-Some.result c.branch_around-next-in-Some.ensures in
+    omega (arith, ap length now)
 
 pub loop-next-preserved : goal.loop-next-preserved
 loop-next-preserved c =
     let next : IsNext c.args.store.now c.args.point c.in-Some.branch = subst (λ r. IfSome r (IsNext c.args.store.now c.args.point)) c.in-Some.is c.loop-next.invariant.next in
-    let later : pending c.args.store.now c.args.point c.branch_around-next-in-Some.result ≡ spans_all c.args.point.reached c.args.point.first c.in-Some.branch.from
-    (trees_of_roots c.args.store.now c.children.result) =
-    found_pending c.args.store.now c.children.result c.in-Some.branch.from c.args.point c.branch_around-next-in-Some.result c.branch_around-next-in-Some.ensures in
-    let now : pending c.args.store.now c.args.point c.loop-next.next ≡ (c.in-Some.branch.from, c.in-Some.branch.to) ∷ spans_all c.args.point.reached
-    c.args.point.first c.in-Some.branch.from (trees_of_roots c.args.store.now c.children.result) =
-    ap (pending c.args.store.now c.args.point) c.in-Some.is ∙ children_pending c.args.store.now c.args.point c.in-Some.branch next c.children.result c.children.ensures.tree in
+    let now = ap (pending c.args.store.now c.args.point) c.in-Some.is ∙ children_pending c.args.store.now c.args.point c.in-Some.branch next c.children.result c.children.ensures.tree
+    c.branch_around-next-in-Some.result c.branch_around-next-in-Some.ensures in
     let below = children_below c.args.store.now c.args.point c.in-Some.branch next c.children.result c.children.ensures.tree c.children.ensures.below in
     record {
       reported = ap (λ ss. ss ++ pending c.args.store.now c.args.point c.branch_around-next-in-Some.result) c.in_ok-push.ensures.items
           ∙ append_assoc c.loop-next.spans.items ((c.in-Some.branch.from, c.in-Some.branch.to) ∷ []) (pending c.args.store.now c.args.point c.branch_around-next-in-Some.result)
-          ∙ ap (λ ss. c.loop-next.spans.items ++ ((c.in-Some.branch.from, c.in-Some.branch.to) ∷ ss)) later
           ∙ ap (λ ss. c.loop-next.spans.items ++ ss) (sym now)
           ∙ c.loop-next.invariant.reported;
       next = found_next c.args.store.now c.children.result c.in-Some.branch.from c.args.point c.branch_around-next-in-Some.result below c.branch_around-next-in-Some.ensures;

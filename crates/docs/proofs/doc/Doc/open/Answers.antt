@@ -1,6 +1,6 @@
 use Rattle.std.proofs.Common.{◌≡◌, ◌≤◌, ◌∙◌, length, ap, refl, subst, sym, arith}
-use Rattle.docs.proofs.Common.{All-weaker, IsParseOf, chars, fits, significant_kinds}
-use Rattle.docs.proofs.Refusals.{unless, large_text, passed_on, text_made, after_text, all_made}
+use Rattle.docs.proofs.Common.{All-weaker, IsParseOf, chars, fits, significant_kinds, true_from_ne_false}
+use Rattle.docs.proofs.Refusals.{large_text, passed_on, text_made, after_text, all_made}
 use Rattle.docs.proofs.doc.Doc.open.Goals as goal
 
 pub returns-in_err-made-clause-too_large : goal.returns-in_err-made-clause-too_large
@@ -20,7 +20,7 @@ returns-in_err-parse-clause-too_large c =
     after_text c.open.result _ (large_text c.open.result c.args.text.now c.utf8.text c.open.ensures.too_large) _ c.in_ok-made.made c.in_ok-made.was c.from_residual-in_err-parse.ensures.1
 
 pub returns-clause-fits : goal.returns-clause-fits
-returns-clause-fits c = unless (fits (chars c.args.text.now))
+returns-clause-fits c = true_from_ne_false (fits (chars c.args.text.now))
     (text_made c.open.result _ (large_text c.open.result c.args.text.now c.utf8.text c.open.ensures.too_large) c.in_ok-made.made c.in_ok-made.was)
 
 pub returns-clause-too_large : goal.returns-clause-too_large

@@ -9,8 +9,7 @@ returns-clause-is c l current =
       edit = c.number.result;
       scanned = c.scanned.result;
       tokens = c.count.result;
-      branches =
-          c.counts-branches.result.0;
+      branches = c.counts-branches.result.0;
       built = c.counts-branches.result.1;
       nodes = c.len.result;
     } in

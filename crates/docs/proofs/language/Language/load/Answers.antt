@@ -1,12 +1,5 @@
 use Rattle.std.proofs.Common.{◌≡◌, ◌∙◌, sym, subst}
-use Rattle.definitions.specs.Items.{HasMoreSetsThan, HasNoConflict}
-use Rattle.grammar.specs.Grammars.{FileGrammar}
-use Rattle.tables.specs.Faults.{IsRight}
-use Rattle.tables.specs.declared.tables.TableFault.{TableFault}
-use Rattle.tables.specs.declared.tables.TableFault.TheVariants.{Conflict}
-use Rattle.tables.specs.Reports.{IsReport}
-use Rattle.tables.specs.declared.conflict.Conflict.{Conflict as Shown}
-use Rattle.docs.specs.Languages.{HasAutomaton, IsLanguageOf}
+use Rattle.docs.proofs.Common.{HasMoreSetsThan, HasNoConflict, FileGrammar, IsRight, TableFault, Conflict, IsReport, Shown, HasAutomaton, IsLanguageOf}
 use Rattle.docs.proofs.language.Language.load.Goals as goal
 
 pub returns-in-Err-TooManyStates-clause-fault : goal.returns-in-Err-TooManyStates-clause-fault

@@ -1,7 +1,5 @@
 use Rattle.std.proofs.Common.{◌≡◌, IfOk, length, ap, subst, sym, ◌∙◌, encode_utf8_all}
-use Rattle.std.proofs.lemmas.Str.{encodes-chars}
-use Rattle.grammar.specs.Grammars.{lexicon_of}
-use Rattle.lexer.specs.Tokens.{AreTokensOf}
+use Rattle.docs.proofs.Common.{encodes-chars, lexicon_of, AreTokensOf}
 use Rattle.docs.proofs.AsciiTexts.{its_bytes}
 use Rattle.docs.proofs.language.Language.scan.Goals as goal
 

@@ -1,9 +1,8 @@
-use Rattle.std.proofs.lemmas.Grind.{common_steps}
 use Rattle.std.proofs.Common.{◌≡◌, ◌≤◌, ◌-◌, ◌∙◌, ℕ, length, refl, sym, ap, subst, arith, Option, Some, None, Err, MatchOption}
-use Rattle.docs.proofs.Common.{chars, Edit, IsText, edit, length-edit, TooLarge, Memory, LeadsTo, number_or}
+use Rattle.docs.proofs.Common.{chars, Edit, IsText, edit, length-edit, TooLarge, Memory, LeadsTo, number_or, true_from_ne_false, common_steps}
 use Rattle.docs.proofs.Edits.{next_later, next_positive}
 use Rattle.docs.proofs.JoinedEdits.{leads_first, small_edit}
-use Rattle.docs.proofs.Refusals.{IsText-changed, large_edit, passed_on, text_made, unless}
+use Rattle.docs.proofs.Refusals.{IsText-changed, large_edit, passed_on, text_made}
 use Rattle.docs.proofs.pending.Pending.change.Goals as goal
 
 -- of the pending edit, how it leads, and that its number is no earlier one
@@ -34,7 +33,7 @@ returns-in_err-replace-clause-memory c refused none =
     (IsText-changed old.unit old.text c.args.range c.args.new.now (subst IsText c.in_ok-settle_apart.ensures.text c.len-before.ensures.characters) c.utf8.new)
     (sym same) c.replace.ensures.too_large in
     let large = passed_on c.replace.result _ by c.from_residual-in_err-replace.result c.in_err-replace.field-0.0 c.in_err-replace.was c.from_residual-in_err-replace.ensures.1 in
-    unless _ (λ f. let both : Err TooLarge ≡ Err Memory = sym (large.1 f) ∙ refused in let g : ⊥ = cc in g)
+    true_from_ne_false _ (λ f. let both : Err TooLarge ≡ Err Memory = sym (large.1 f) ∙ refused in let g : ⊥ = cc in g)
 
 pub returns-clause-text : goal.returns-clause-text
 returns-clause-text c =
@@ -44,7 +43,7 @@ returns-clause-text c =
     let by = large_edit c.replace.result
     (IsText-changed old.unit old.text c.args.range c.args.new.now (subst IsText c.in_ok-settle_apart.ensures.text c.len-before.ensures.characters) c.utf8.new)
     (sym same) c.replace.ensures.too_large in
-    (c.in_ok-replace.ensures.edited ∙ same, unless _ (text_made c.replace.result _ by c.in_ok-replace.field-0 c.in_ok-replace.was))
+    (c.in_ok-replace.ensures.edited ∙ same, true_from_ne_false _ (text_made c.replace.result _ by c.in_ok-replace.field-0 c.in_ok-replace.was))
 
 pub returns-clause-pending : goal.returns-clause-pending
 returns-clause-pending c =

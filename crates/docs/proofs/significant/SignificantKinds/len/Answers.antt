@@ -1,7 +1,5 @@
 use Rattle.std.proofs.Common.{sym, ◌∙◌, filter}
-use Rattle.std.proofs.lemmas.List.{length-map}
-use Rattle.std.proofs.lemmas.List.Sums.{length-filter}
-use Rattle.lexer.specs.Tokens.{is_significant, kind_in}
+use Rattle.docs.proofs.Common.{length-map, length-filter, is_significant, kind_in}
 use Rattle.docs.proofs.significant.SignificantKinds.len.Goals as goal
 
 pub returns : goal.returns
