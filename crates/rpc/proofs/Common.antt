@@ -8,8 +8,9 @@ pub use Rattle.std.specs.declared.cmp.Ordering.{Ordering}
 pub use Rattle.std.specs.declared.cmp.Ordering.TheVariants.{Equal, Greater, Less}
 pub use lib.Utf8.{low_scalar}
 pub use Rattle.std.proofs.lemmas.Bool.{and_parts, cond_both, eqb-true, ltb-true}
+pub use Rattle.std.proofs.Math.Seq.{get_or-append_seam}
 pub use Rattle.std.proofs.lemmas.List.{append-nil, append_assoc, at_drop_all, at_drop_more, map-append}
-pub use Rattle.std.proofs.lemmas.List.Elements.{All-append, All-nil}
+pub use Rattle.std.proofs.lemmas.List.Elements.{All-append, All-cons, All-nil}
 pub use Rattle.std.proofs.lemmas.Str.{IsCharBoundary-after_ascii, IsCharBoundary-before_ascii, IsUtf8-append, IsUtf8-drop, IsUtf8-encode, IsUtf8-from_is_utf8, IsUtf8-take, encode_ascii, encodes-chars, is_utf8-from_IsUtf8, scalars-chars}
 pub use Rattle.definitions.specs.declared.Position.{Position}
 pub use Rattle.definitions.specs.declared.Range.{Range}
@@ -23,13 +24,13 @@ pub use Rattle.json.specs.Word.{after_number, ends_word, head, is_operator, is_s
 unfoldable pub use Rattle.json.specs.Word.{word}
 pub use Rattle.replies.specs.Ids.{Ident, numbered}
 pub use Rattle.rpc.specs.Fields.{integer_of, text_at}
-pub use Rattle.rpc.specs.Messages.{Notification, Question, Received, TextChange, accepted, change_view, exit, ignored, initialize, initialized, invalid, its_folds, its_text, its_tokens, its_tree, notification, params, refused, request, shutdown, unknown}
+pub use Rattle.rpc.specs.Messages.{Notification, Question, Received, TextChange, accepted, change_view, exit, ignored, initialize, initialized, invalid, its_folds, its_text, its_tokens, its_tree, notification, params, refused, request, shutdown, unknown, unread}
 pub use Rattle.rpc.specs.Reading.{Gives, Receives, change_notification, change_of, change_with, changes_at, changes_of, close_notification, document_request, document_text, encodings_at, first_and, first_unit, id_at, ident_of, is_invalid, is_reply, maybe_range, message_of, notification_of, of_method, open_notification, params_at, position_of, positions_at, positions_of, read_change, read_close, read_open, received_as, received_in, request_of, selections_request, stats_request, unit_at, uri_at, value_of, version_at}
 pub use Rattle.rpc.specs.Texts.{IsSpelled, id_texts, notification_texts, texts_of}
 pub use Rattle.rpc.specs.declared.message.Message.{Message}
 pub use Rattle.rpc.specs.declared.message.RpcFault.{RpcFault}
 pub use Rattle.serde_json.proofs.Views.{view-Array}
-pub use Rattle.serde_json.specs.Data.{Data, Items, Members, array, boolean, item, member, no_items, no_members, null, number, object, string}
+pub use Rattle.serde_json.specs.Data.{Data, Items, Members, array, item, member, no_items, no_members, null, object, string}
 pub use Rattle.serde_json.specs.Find.{as_array, as_object, as_str, get, get_member}
 pub use Rattle.serde_json.specs.Read.{max_depth, number_of, of_items, of_json, of_members, read}
 pub use Rattle.serde_json.specs.View.{items_view, view}

@@ -1,6 +1,6 @@
 -- The strings of a JSON text in UTF-8 are in UTF-8 themselves: from its bytes to its strings, its tokens and its values.
-use Rattle.std.proofs.Common.{◌≡◌, ℕ, suc, ◌+◌, ◌*◌, ◌<◌, Bool, true, false, cond, ◌&&◌, ◌||◌, ◌==◌, List, [], ◌∷◌, ◌++◌, length, take, drop, get_or, Option, Some, None, IfSome, option_map, option_and_then, IsUtf8, refl, sym, ap, ◌∙◌, subst, arith, append_assoc, append-nil, nat_lt}
-use Rattle.rpc.proofs.Common.{cond_both, and_parts, eqb-true, ltb-true, IsUtf8-append, IsUtf8-encode, encode_ascii, IsUtf8-take, IsUtf8-drop, IsCharBoundary-before_ascii, IsCharBoundary-after_ascii, IsScalar, is_digit, digit_value, encode_utf8, Within, plain, after_backslash, after_u, after_high, content, prepend, code_unit, short_escape, is_high_surrogate, is_low_surrogate, surrogate_pair, low_scalar}
+use Rattle.std.proofs.Common.{◌≡◌, ℕ, ◌+◌, ◌*◌, ◌<◌, Bool, true, false, cond, ◌&&◌, ◌||◌, ◌==◌, List, [], ◌∷◌, ◌++◌, length, drop, get_or, Option, Some, None, IfSome, option_map, option_and_then, IsUtf8, refl, sym, ap, ◌∙◌, subst, arith, append_assoc, append-nil, nat_lt, length-append, take_at, drop_at}
+use Rattle.rpc.proofs.Common.{get_or-append_seam, cond_both, and_parts, eqb-true, ltb-true, IsUtf8-append, IsUtf8-encode, encode_ascii, IsUtf8-take, IsUtf8-drop, IsCharBoundary-before_ascii, IsCharBoundary-after_ascii, IsScalar, is_digit, digit_value, encode_utf8, Within, plain, after_backslash, after_u, after_high, content, prepend, code_unit, short_escape, is_high_surrogate, is_low_surrogate, surrogate_pair, low_scalar}
 use Rattle.json.specs.Ascii as ascii
 
 -- ---- an option's value
@@ -16,36 +16,23 @@ if_then P Q f (Some a) step h = step a h
 cond_if : {A : Type 0} (P : A → Type 0) (b : Bool) (o p : Option A) → (b ≡ true → IfSome o P) → (b ≡ false → IfSome p P) → IfSome (cond b o p) P
 cond_if P b o p at_true at_false = cond_both b o p (λ r. IfSome r P) at_true at_false
 
+pub cond_either : {A : Type 0} (P : A → Type 0) (b : Bool) (x y : A) → P x → P y → P (cond b x y)
+cond_either P b x y at_true at_false = cond_both b x y P (λ _. at_true) (λ _. at_false)
+
 -- ---- UTF-8 about an ASCII byte
-
-at_end_of : (f xs : List ℕ) (x : ℕ) → get_or (f ++ x ∷ xs) (length f) 0 ≡ x
-at_end_of [] xs x = refl
-at_end_of (y ∷ f) xs x = at_end_of f xs x
-
-longer : (f xs : List ℕ) (x : ℕ) → length f < length (f ++ x ∷ xs)
-longer [] xs x = omega arith
-longer (y ∷ f) xs x = let rest : length f < length (f ++ x ∷ xs) = longer f xs x in omega arith
-
-take_prefix : (f xs : List ℕ) → take (length f) (f ++ xs) ≡ f
-take_prefix [] xs = refl
-take_prefix (y ∷ f) xs = ap (λ l. y ∷ l) (take_prefix f xs)
-
-drop_prefix : (f xs : List ℕ) (x : ℕ) → drop (suc (length f)) (f ++ x ∷ xs) ≡ xs
-drop_prefix [] xs x = refl
-drop_prefix (y ∷ f) xs x = drop_prefix f xs x
 
 -- what stands before an ASCII byte, and after it
 pub before_ascii : (f xs : List ℕ) (x : ℕ) → x < 128 → IsUtf8 (f ++ x ∷ xs) → IsUtf8 f
 before_ascii f xs x small u =
-    let byte : get_or (f ++ x ∷ xs) (length f) 0 < 128 = rw (at_end_of f xs x) small in
-    subst IsUtf8 (take_prefix f (x ∷ xs)) (IsUtf8-take (f ++ x ∷ xs) (length f) u (IsCharBoundary-before_ascii (f ++ x ∷ xs) (length f) (longer f xs x) byte))
+    let byte : get_or (f ++ x ∷ xs) (length f) 0 < 128 = rw (get_or-append_seam f x xs 0) small in
+    let cut = IsUtf8-take (f ++ x ∷ xs) (length f) u (IsCharBoundary-before_ascii (f ++ x ∷ xs) (length f) (omega (arith, length-append f (x ∷ xs))) byte) in
+    subst IsUtf8 (take_at f (x ∷ xs) (length f) refl) cut
 
 pub past_ascii : (f xs : List ℕ) (x : ℕ) → x < 128 → IsUtf8 (f ++ x ∷ xs) → IsUtf8 xs
 past_ascii f xs x small u =
-    let byte : get_or (f ++ x ∷ xs) (length f) 0 < 128 = rw (at_end_of f xs x) small in
-    let next : suc (length f) ≡ length f + 1 = omega arith in
-    let cut = IsUtf8-drop (f ++ x ∷ xs) (length f + 1) u (IsCharBoundary-after_ascii (f ++ x ∷ xs) (length f) u (longer f xs x) byte) in
-    subst IsUtf8 (ap (λ n. drop n (f ++ x ∷ xs)) (sym next) ∙ drop_prefix f xs x) cut
+    let byte : get_or (f ++ x ∷ xs) (length f) 0 < 128 = rw (get_or-append_seam f x xs 0) small in
+    let cut = IsUtf8-drop (f ++ x ∷ xs) (length f + 1) u (IsCharBoundary-after_ascii (f ++ x ∷ xs) (length f) u (omega (arith, length-append f (x ∷ xs))) byte) in
+    subst IsUtf8 (ap (drop (length f + 1)) (sym (append_assoc f (x ∷ []) xs)) ∙ drop_at (f ++ x ∷ []) xs (length f + 1) (length-append f (x ∷ []))) cut
 
 pub IsUtf8-one : (x : ℕ) → x < 128 → IsUtf8 (x ∷ [])
 IsUtf8-one x small = subst IsUtf8 (encode_ascii x small) (IsUtf8-encode x (low_scalar x (omega arith)))

@@ -1,15 +1,11 @@
 -- The texts of what is received are in UTF-8.
-use Rattle.std.proofs.Common.{◌≡◌, ℕ, zero, suc, Bool, true, false, List, [], ◌∷◌, map, All, codes, Option, Some, None, IfSome, option_map, option_and_then, unwrap_or, if◌then◌else◌, ℤ, is_none, is_some, IsUtf8, refl, sym, subst, arith}
-use Rattle.rpc.proofs.Common.{All-append, All-nil, IsUtf8-from_is_utf8, scalars-chars, encodes-chars, ⊤, nat_cmp, slice_cmp, is_utf8, bytes_eq, Data, null, boolean, number, string, Items, no_items, item, array, Members, no_members, member, object, get, get_member, as_str, as_array, as_object, read, Position, Range, integer_of, text_at, Ident, numbered, Question, its_text, its_tokens, its_tree, its_folds, initialize, shutdown, initialized, exit, ignored, unknown, TextChange, Notification, Received, refused, invalid, params, accepted, request, notification, ident_of, id_at, uri_at, version_at, document_text, maybe_range, change_with, change_of, first_and, changes_of, changes_at, positions_at, unit_at, document_request, stats_request, selections_request, request_of, open_notification, read_open, change_notification, read_change, close_notification, read_close, notification_of, of_method, is_reply, is_invalid, params_at, message_of, value_of, received_as, Receives, IsSpelled, id_texts, notification_texts, texts_of}
-use Rattle.rpc.proofs.Strings.{if_map, if_then}
-use Rattle.rpc.proofs.Values.{IsSpelledData, AreSpelledItems, AreSpelledMembers, by_order, read_spelled}
+use Rattle.std.proofs.Common.{◌≡◌, ℕ, Bool, true, false, List, [], ◌∷◌, map, All, codes, Option, Some, None, IfSome, option_map, option_and_then, unwrap_or, if◌then◌else◌, ℤ, is_none, is_some, IsUtf8, refl, sym, subst}
+use Rattle.rpc.proofs.Common.{All-append, All-cons, All-nil, IsUtf8-from_is_utf8, scalars-chars, encodes-chars, ⊤, nat_cmp, slice_cmp, is_utf8, bytes_eq, Data, null, string, Items, no_items, item, array, Members, no_members, member, object, get, get_member, as_str, as_array, as_object, read, Position, Range, integer_of, text_at, Ident, numbered, Question, its_text, its_tokens, its_tree, its_folds, initialize, shutdown, initialized, exit, ignored, unknown, TextChange, Notification, Received, refused, invalid, params, accepted, request, notification, ident_of, id_at, uri_at, version_at, document_text, maybe_range, change_with, change_of, first_and, changes_of, changes_at, positions_at, unit_at, document_request, stats_request, selections_request, request_of, open_notification, read_open, change_notification, read_change, close_notification, read_close, notification_of, of_method, is_reply, is_invalid, params_at, message_of, value_of, received_as, Receives, IsSpelled, id_texts, notification_texts, texts_of}
+use Rattle.rpc.proofs.Strings.{if_map, if_then, cond_either}
+use Rattle.rpc.proofs.Values.{IsSpelledData, AreSpelledItems, AreSpelledMembers, any, by_order, read_spelled}
 
 spelled_from : (s : List ℕ) → IsUtf8 s → IsSpelled s
 spelled_from s u = record { scalars = scalars-chars s u; same = encodes-chars s u }
-
-one_spelled : (s : List ℕ) (ss : List (List ℕ)) → IsSpelled s → All IsSpelled ss → All IsSpelled (s ∷ ss)
-one_spelled s ss h hs zero d less = h
-one_spelled s ss h hs (suc k) d less = hs k d (omega arith)
 
 abbrev AreSpelled : Received → Type 0
 AreSpelled received = All IsSpelled (texts_of received)
@@ -39,20 +35,12 @@ array_spelled d h = tt
 text_spelled : (k : List ℕ) (d : Data) → IsSpelledData d → IfSome (text_at k d) IsSpelled
 text_spelled k d h = if_then IsSpelledData IsSpelled as_str (get k d) str_spelled (get_spelled k d h)
 
-any : {A : Type 0} (o : Option A) → IfSome o (λ _. ⊤)
-any None = tt
-any (Some a) = tt
-
 numbered_spelled : (d : Data) → IfSome (option_map numbered (integer_of d)) IsSpelledId
 numbered_spelled d = if_map (λ _. ⊤) IsSpelledId numbered (integer_of d) (λ z _. All-nil IsSpelled) (any (integer_of d))
 
 ident_spelled : (d : Data) → IsSpelledData d → IfSome (ident_of d) IsSpelledId
-ident_spelled null h = numbered_spelled null
-ident_spelled (boolean b) h = numbered_spelled (boolean b)
-ident_spelled (number n) h = numbered_spelled (number n)
-ident_spelled (string s) h = one_spelled s [] (spelled_from s h) (All-nil IsSpelled)
-ident_spelled (array ds) h = numbered_spelled (array ds)
-ident_spelled (object ms) h = numbered_spelled (object ms)
+ident_spelled (string s) h = All-cons IsSpelled s [] (spelled_from s h) (All-nil IsSpelled)
+ident_spelled d h = numbered_spelled d
 
 id_spelled : (d : Data) → IsSpelledData d → IfSome (id_at d) IsSpelledId
 id_spelled d h = if_then IsSpelledData IsSpelledId ident_of (get (codes "id") d) ident_spelled (get_spelled (codes "id") d h)
@@ -81,7 +69,7 @@ change_from (Some text) (Some range) h = h
 more_changes : (c : Option TextChange) (cs : Option (List TextChange)) → IfSome c IsSpelledChange → IfSome cs AreSpelledChanges → IfSome (first_and c cs) AreSpelledChanges
 more_changes None cs h hs = tt
 more_changes (Some c) None h hs = tt
-more_changes (Some c) (Some cs) h hs = one_spelled c.text (map (λ x. x.text) cs) h hs
+more_changes (Some c) (Some cs) h hs = All-cons IsSpelled c.text (map (λ x. x.text) cs) h hs
 
 items_changes : (ds : Items) → AreSpelledItems ds → IfSome (changes_of ds) AreSpelledChanges
 items_changes no_items h = All-nil IsSpelled
@@ -98,64 +86,59 @@ changes_spelled d h =
 abbrev IsSpelledNotification : Notification → Type 0
 IsSpelledNotification note = All IsSpelled (notification_texts note)
 
-either : (b : Bool) (one two : Received) → AreSpelled one → AreSpelled two → AreSpelled (if b then one else two)
-either true one two h k = h
-either false one two h k = k
-
 module _ (id : Ident) (hid : IsSpelledId id) where
   about_spelled : (q : Question) (uri : Option (List ℕ)) → IfSome uri IsSpelled → AreSpelled (document_request q id uri)
   about_spelled q None h = hid
-  about_spelled q (Some uri) h = All-append IsSpelled (id_texts id) (uri ∷ []) hid (one_spelled uri [] h (All-nil IsSpelled))
+  about_spelled q (Some uri) h = All-append IsSpelled (id_texts id) (uri ∷ []) hid (All-cons IsSpelled uri [] h (All-nil IsSpelled))
 
   stats_spelled : (uri : Option (List ℕ)) → IfSome uri IsSpelled → AreSpelled (stats_request id uri)
   stats_spelled None h = hid
-  stats_spelled (Some uri) h = All-append IsSpelled (id_texts id) (uri ∷ []) hid (one_spelled uri [] h (All-nil IsSpelled))
+  stats_spelled (Some uri) h = All-append IsSpelled (id_texts id) (uri ∷ []) hid (All-cons IsSpelled uri [] h (All-nil IsSpelled))
 
   alone : AreSpelled (accepted (request id shutdown))
   alone = All-append IsSpelled (id_texts id) [] hid (All-nil IsSpelled)
 
   selections_spelled : (uri : Option (List ℕ)) (positions : Option (List Position)) → IfSome uri IsSpelled → AreSpelled (selections_request id uri positions)
-  selections_spelled None positions h = hid
-  selections_spelled (Some uri) None h = hid
-  selections_spelled (Some uri) (Some positions) h = All-append IsSpelled (id_texts id) (uri ∷ []) hid (one_spelled uri [] h (All-nil IsSpelled))
+  selections_spelled (Some uri) (Some positions) h = All-append IsSpelled (id_texts id) (uri ∷ []) hid (All-cons IsSpelled uri [] h (All-nil IsSpelled))
+  selections_spelled uri positions h = hid
 
   request_spelled : (method : List ℕ) (d : Data) → IsSpelledData d → AreSpelled (request_of method id d)
   request_spelled method d h =
       let u = uri_spelled d h in
-      either (bytes_eq method (codes "initialize")) _ _ (either (is_some (as_object d)) (accepted (request id (initialize (unit_at d)))) (refused (params id true)) alone hid)
-      (either (bytes_eq method (codes "shutdown")) (accepted (request id shutdown)) _ alone
-      (either (bytes_eq method (codes "textDocument/foldingRange")) _ _ (about_spelled its_folds (uri_at d) u)
-      (either (bytes_eq method (codes "textDocument/selectionRange")) _ _ (selections_spelled (uri_at d) (positions_at d) u)
-      (either (bytes_eq method (codes "lr/text")) _ _ (about_spelled its_text (uri_at d) u)
-      (either (bytes_eq method (codes "lr/tokens")) _ _ (about_spelled its_tokens (uri_at d) u)
-      (either (bytes_eq method (codes "lr/tree")) _ _ (about_spelled its_tree (uri_at d) u)
-      (either (bytes_eq method (codes "lr/stats")) _ (refused (unknown id)) (stats_spelled (uri_at d) u) hid)))))))
+      cond_either AreSpelled (bytes_eq method (codes "initialize")) _ _
+      (cond_either AreSpelled (is_some (as_object d)) (accepted (request id (initialize (unit_at d)))) (refused (params id true)) alone hid)
+      (cond_either AreSpelled (bytes_eq method (codes "shutdown")) (accepted (request id shutdown)) _ alone
+      (cond_either AreSpelled (bytes_eq method (codes "textDocument/foldingRange")) _ _ (about_spelled its_folds (uri_at d) u)
+      (cond_either AreSpelled (bytes_eq method (codes "textDocument/selectionRange")) _ _ (selections_spelled (uri_at d) (positions_at d) u)
+      (cond_either AreSpelled (bytes_eq method (codes "lr/text")) _ _ (about_spelled its_text (uri_at d) u)
+      (cond_either AreSpelled (bytes_eq method (codes "lr/tokens")) _ _ (about_spelled its_tokens (uri_at d) u)
+      (cond_either AreSpelled (bytes_eq method (codes "lr/tree")) _ _ (about_spelled its_tree (uri_at d) u)
+      (cond_either AreSpelled (bytes_eq method (codes "lr/stats")) _ (refused (unknown id)) (stats_spelled (uri_at d) u) hid)))))))
 
 open_spelled : (uri : Option (List ℕ)) (version : Option ℤ) (text : Option (List ℕ)) → IfSome uri IsSpelled → IfSome text IsSpelled → IsSpelledNotification (open_notification uri version text)
-open_spelled None version text h k = All-nil IsSpelled
-open_spelled (Some uri) None text h k = All-nil IsSpelled
-open_spelled (Some uri) (Some version) None h k = All-nil IsSpelled
-open_spelled (Some uri) (Some version) (Some text) h k = one_spelled uri (text ∷ []) h (one_spelled text [] k (All-nil IsSpelled))
+open_spelled (Some uri) (Some version) (Some text) h k = All-cons IsSpelled uri (text ∷ []) h (All-cons IsSpelled text [] k (All-nil IsSpelled))
+open_spelled uri version text h k = All-nil IsSpelled
 
 change_spelled : (uri : Option (List ℕ)) (version : Option ℤ) (changes : Option (List TextChange)) → IfSome uri IsSpelled
     → IfSome changes AreSpelledChanges → IsSpelledNotification (change_notification uri version changes)
 change_spelled None version changes h k = All-nil IsSpelled
-change_spelled (Some uri) None changes h k = one_spelled uri [] h (All-nil IsSpelled)
-change_spelled (Some uri) (Some version) None h k = one_spelled uri [] h (All-nil IsSpelled)
-change_spelled (Some uri) (Some version) (Some changes) h k = one_spelled uri (map (λ c. c.text) changes) h k
+change_spelled (Some uri) (Some version) (Some changes) h k = All-cons IsSpelled uri (map (λ c. c.text) changes) h k
+change_spelled (Some uri) version changes h k = All-cons IsSpelled uri [] h (All-nil IsSpelled)
 
 close_spelled : (uri : Option (List ℕ)) → IfSome uri IsSpelled → IsSpelledNotification (close_notification uri)
 close_spelled None h = All-nil IsSpelled
-close_spelled (Some uri) h = one_spelled uri [] h (All-nil IsSpelled)
+close_spelled (Some uri) h = All-cons IsSpelled uri [] h (All-nil IsSpelled)
 
 notice_spelled : (method : List ℕ) (d : Data) → IsSpelledData d → AreSpelled (notification_of method d)
 notice_spelled method d h =
     let u = uri_spelled d h in
-    either (bytes_eq method (codes "initialized")) (accepted (notification initialized)) _ (All-nil IsSpelled)
-    (either (bytes_eq method (codes "exit")) (accepted (notification exit)) _ (All-nil IsSpelled)
-    (either (bytes_eq method (codes "textDocument/didOpen")) (accepted (notification (read_open d))) _ (open_spelled (uri_at d) (version_at d) (document_text d) u (document_spelled d h))
-    (either (bytes_eq method (codes "textDocument/didChange")) (accepted (notification (read_change d))) _ (change_spelled (uri_at d) (version_at d) (changes_at d) u (changes_spelled d h))
-    (either (bytes_eq method (codes "textDocument/didClose")) (accepted (notification (read_close d))) (accepted ignored) (close_spelled (uri_at d) u) (All-nil IsSpelled)))))
+    cond_either AreSpelled (bytes_eq method (codes "initialized")) (accepted (notification initialized)) _ (All-nil IsSpelled)
+    (cond_either AreSpelled (bytes_eq method (codes "exit")) (accepted (notification exit)) _ (All-nil IsSpelled)
+    (cond_either AreSpelled (bytes_eq method (codes "textDocument/didOpen")) (accepted (notification (read_open d))) _
+    (open_spelled (uri_at d) (version_at d) (document_text d) u (document_spelled d h))
+    (cond_either AreSpelled (bytes_eq method (codes "textDocument/didChange")) (accepted (notification (read_change d))) _
+    (change_spelled (uri_at d) (version_at d) (changes_at d) u (changes_spelled d h))
+    (cond_either AreSpelled (bytes_eq method (codes "textDocument/didClose")) (accepted (notification (read_close d))) (accepted ignored) (close_spelled (uri_at d) u) (All-nil IsSpelled)))))
 
 invalid_spelled : (id : Option Ident) → IfSome id IsSpelledId → AreSpelled (refused (invalid id))
 invalid_spelled None h = All-nil IsSpelled
@@ -173,9 +156,9 @@ params_spelled (Some d) h = h
 
 message_spelled : (d : Data) → IsSpelledData d → AreSpelled (message_of d)
 message_spelled d h =
-    either (is_none (as_object d)) (refused (invalid None)) _ (All-nil IsSpelled)
-    (either (is_reply d) (accepted ignored) _ (All-nil IsSpelled)
-    (either (is_invalid d) (refused (invalid (id_at d))) _ (invalid_spelled (id_at d) (id_spelled d h))
+    cond_either AreSpelled (is_none (as_object d)) (refused (invalid None)) _ (All-nil IsSpelled)
+    (cond_either AreSpelled (is_reply d) (accepted ignored) _ (All-nil IsSpelled)
+    (cond_either AreSpelled (is_invalid d) (refused (invalid (id_at d))) _ (invalid_spelled (id_at d) (id_spelled d h))
     (method_spelled (text_at (codes "method") d) (id_at d) (params_at d) (id_spelled d h) (params_spelled (get (codes "params") d) (get_spelled (codes "params") d h)))))
 
 value_spelled : (content : List ℕ) (b : Bool) → b ≡ is_utf8 content → IfSome (if b then read content else None) IsSpelledData

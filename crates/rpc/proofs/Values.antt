@@ -4,7 +4,7 @@ use Rattle.rpc.proofs.Common.{⊤, slice_cmp, nat_cmp, match_ordering, Ordering,
 use Rattle.json.specs.Ascii as ascii
 use Rattle.json.specs.Json as json
 use Rattle.serde_json.specs.Data as datum
-use Rattle.rpc.proofs.Strings.{if_map, if_then, byte_small, one_more, past_ascii, content-utf8}
+use Rattle.rpc.proofs.Strings.{if_map, if_then, cond_either, byte_small, one_more, past_ascii, content-utf8}
 
 -- ---- tokens
 
@@ -25,32 +25,24 @@ abbrev AreGoodLexemes : List Lexeme → Type 0
 AreGoodLexemes [] = ⊤
 AreGoodLexemes (l ∷ ls) = IsGoodLexeme l × AreGoodLexemes ls
 
-good_if : (b : Bool) (t u : Token) → IsGood t → IsGood u → IsGood (cond b t u)
-good_if true t u x y = x
-good_if false t u x y = y
-
 good_number : (t : List ℕ) (o : Option (List ℕ)) → IsGood (number_before t o)
 good_number t None = tt
-good_number t (Some rest) = good_if (ends_word rest) (Token.number _) Token.bad tt tt
+good_number t (Some rest) = cond_either IsGood (ends_word rest) (Token.number _) Token.bad tt tt
 
 good_word : (t : List ℕ) → IsGood (word t)
 unfolding word
 good_word t =
-    good_if (head t == ascii.lower_t) _ _ (good_if _ (Token.boolean true) Token.bad tt tt)
-    (good_if (head t == ascii.lower_f) _ _ (good_if _ (Token.boolean false) Token.bad tt tt)
-    (good_if (head t == ascii.lower_n) _ _ (good_if _ Token.null Token.bad tt tt) (good_number t (after_number t))))
-
-lexeme_if : (b : Bool) (l m : Lexeme) → IsGoodLexeme l → IsGoodLexeme m → IsGoodLexeme (cond b l m)
-lexeme_if true l m x y = x
-lexeme_if false l m x y = y
+    cond_either IsGood (head t == ascii.lower_t) _ _ (cond_either IsGood _ (Token.boolean true) Token.bad tt tt)
+    (cond_either IsGood (head t == ascii.lower_f) _ _ (cond_either IsGood _ (Token.boolean false) Token.bad tt tt)
+    (cond_either IsGood (head t == ascii.lower_n) _ _ (cond_either IsGood _ Token.null Token.bad tt tt) (good_number t (after_number t))))
 
 good_operator : (x : ℕ) → IsGoodLexeme (operator_lexeme x)
 good_operator x =
-    lexeme_if (x == ascii.open_brace) (token Token.begin_object) _ tt
-    (lexeme_if (x == ascii.close_brace) (token Token.end_object) _ tt
-    (lexeme_if (x == ascii.open_bracket) (token Token.begin_array) _ tt
-    (lexeme_if (x == ascii.close_bracket) (token Token.end_array) _ tt
-    (lexeme_if (x == ascii.comma) comma colon tt tt))))
+    cond_either IsGoodLexeme (x == ascii.open_brace) (token Token.begin_object) _ tt
+    (cond_either IsGoodLexeme (x == ascii.close_brace) (token Token.end_object) _ tt
+    (cond_either IsGoodLexeme (x == ascii.open_bracket) (token Token.begin_array) _ tt
+    (cond_either IsGoodLexeme (x == ascii.close_bracket) (token Token.end_array) _ tt
+    (cond_either IsGoodLexeme (x == ascii.comma) comma colon tt tt))))
 
 good_string : (o : Option (List ℕ)) → IfSome o (λ s. IsUtf8 s) → IsGood (string_token o)
 good_string None u = tt
@@ -58,10 +50,7 @@ good_string (Some s) u = u
 
 abbrev is_quote : Class → Bool
 is_quote quote = true
-is_quote backslash = false
-is_quote operator = false
-is_quote space = false
-is_quote other = false
+is_quote d = false
 
 quote_from : (a b c d : Bool) → is_quote (cond a quote (cond b backslash (cond c operator (cond d space other)))) ≡ true → a ≡ true
 quote_from true b c d e = refl
@@ -76,21 +65,13 @@ good_byte between backslash x xs k u more = (tt, more in_word)
 good_byte between operator x xs k u more = (good_operator x, more between)
 good_byte between space x xs k u more = more between
 good_byte between other x xs k u more = (good_word (x ∷ xs), more in_word)
-good_byte in_word quote x xs k u more = more in_word
-good_byte in_word backslash x xs k u more = more in_word
 good_byte in_word operator x xs k u more = (good_operator x, more between)
 good_byte in_word space x xs k u more = more between
-good_byte in_word other x xs k u more = more in_word
+good_byte in_word d x xs k u more = more in_word
 good_byte in_string quote x xs k u more = more between
 good_byte in_string backslash x xs k u more = more in_escape
-good_byte in_string operator x xs k u more = more in_string
-good_byte in_string space x xs k u more = more in_string
-good_byte in_string other x xs k u more = more in_string
-good_byte in_escape quote x xs k u more = more in_string
-good_byte in_escape backslash x xs k u more = more in_string
-good_byte in_escape operator x xs k u more = more in_string
-good_byte in_escape space x xs k u more = more in_string
-good_byte in_escape other x xs k u more = more in_string
+good_byte in_string d x xs k u more = more in_string
+good_byte in_escape c x xs k u more = more in_string
 
 -- f are the bytes before, which may end within a character
 good_lexemes : (m : Mode) (f xs : List ℕ) → IsUtf8 (f ++ xs) → AreGoodLexemes (lex m xs)
@@ -120,17 +101,10 @@ good_tokens : (p : Place) (ls : List Lexeme) → AreGoodLexemes ls → AreGood (
 unfolding punctuate
 good_tokens fresh [] g = tt
 good_tokens after_value [] g = tt
-good_tokens after_comma [] g = (tt, tt)
-good_tokens after_key [] g = (tt, tt)
 good_tokens p (token t ∷ ls) g = good_place p t (begins_colon ls) (λ next. punctuate next ls) g.0 (λ next. good_tokens next ls g.1)
-good_tokens fresh (comma ∷ ls) g = (tt, tt)
 good_tokens after_value (comma ∷ ls) g = good_tokens after_comma ls g.1
-good_tokens after_comma (comma ∷ ls) g = (tt, tt)
-good_tokens after_key (comma ∷ ls) g = (tt, tt)
-good_tokens fresh (colon ∷ ls) g = (tt, tt)
-good_tokens after_value (colon ∷ ls) g = (tt, tt)
-good_tokens after_comma (colon ∷ ls) g = (tt, tt)
 good_tokens after_key (colon ∷ ls) g = good_tokens fresh ls g.1
+good_tokens p ls g = (tt, tt)
 
 -- ---- the grammar's value
 
@@ -241,7 +215,7 @@ put_spelled : (k : List ℕ) (d : Data) (ms : datum.Members) → IsSpelledData d
 put_spelled k d datum.no_members h g = (h, tt)
 put_spelled k d (datum.member l e ms) h g = by_order AreSpelledMembers (slice_cmp nat_cmp k l) _ _ _ (h, g) (h, g.1) (g.0, put_spelled k d ms h g.1)
 
-any : {A : Type 0} (o : Option A) → IfSome o (λ _. ⊤)
+pub any : {A : Type 0} (o : Option A) → IfSome o (λ _. ⊤)
 any None = tt
 any (Some a) = tt
 

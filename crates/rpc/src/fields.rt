@@ -1,6 +1,7 @@
 //! The members of a JSON value.
 
-ghost use Rattle.std.specs.Prelude.{◌≡◌, option_map};
+ghost use Rattle.std.specs.Prelude.{◌≡◌, option_map, option_and_then};
+ghost use Rattle.serde_json.specs.Find.{as_str};
 ghost use Rattle.serde_json.specs.View.{view};
 ghost use Rattle.rpc.specs.Fields.{integer_of, natural_of, text_at, integer_at, natural_at, has_key};
 
@@ -28,6 +29,14 @@ pub fn natural_of(value: &Value) -> Option<u32>
         Some(n) if n <= 2_147_483_647 => Some(n as u32),
         _ => None,
     }
+}
+
+/// The text that a member is.
+pub fn text_of(member: Option<&Value>) -> Option<&str>
+    ensures { option_map (λ s. s.now) result
+        ≡ option_and_then as_str (option_map (λ v. view v.now) member.entry) }
+{
+    member?.as_str()
 }
 
 /// The text that stands under a key.

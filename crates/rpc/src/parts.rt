@@ -1,10 +1,10 @@
 //! The parts of a message.
 
-ghost use Rattle.std.specs.Prelude.{◌≡◌, codes, option_map, IfOk};
+ghost use Rattle.std.specs.Prelude.{◌≡◌, ◌||◌, codes, option_map, option_and_then, IfOk};
 ghost use Rattle.serde_json.specs.View.{view, items_view};
-ghost use Rattle.rpc.specs.Fields.{text_at};
+ghost use Rattle.rpc.specs.Fields.{text_at, has_key};
 ghost use Rattle.replies.specs.Ids.{id_view};
-ghost use Rattle.rpc.specs.Reading.{ident_of, id_at, uri_at, version_at, document_text, position_of, position_at, positions_of, positions_at, range_of, unit_named, unit_of, first_unit, encodings_at, unit_at, is_text, is_reply, is_invalid};
+ghost use Rattle.rpc.specs.Reading.{ident_of, uri_at, position_of, position_at, positions_of, positions_at, range_of, unit_named, unit_of, first_unit, encodings_at, unit_at, is_text};
 
 use crate::fields::{has_key, integer_at, integer_of, natural_at, text_at};
 use definitions::{Position, Range, Unit};
@@ -22,11 +22,12 @@ fn ident_of(alloc: Global, value: &Value) -> Result<Option<Id>, AllocError>
     }
 }
 
-/// The id, where it can be read.
-pub fn id_at(alloc: Global, value: &Value) -> Result<Option<Id>, AllocError>
-    ensures { IfOk result (λ id. option_map id_view id ≡ id_at (view value.now)) }
+/// The id that stands there, where it can be read.
+pub fn id_of(alloc: Global, member: Option<&Value>) -> Result<Option<Id>, AllocError>
+    ensures { IfOk result (λ id. option_map id_view id
+        ≡ option_and_then ident_of (option_map (λ v. view v.now) member.entry)) }
 {
-    match value.get("id") {
+    match member {
         Some(id) => ident_of(alloc, id),
         None => Ok(None),
     }
@@ -37,20 +38,6 @@ pub fn uri_at(params: &Value) -> Option<&str>
     ensures { option_map (λ s. s.now) result ≡ uri_at (view params.now) }
 {
     text_at(params.get("textDocument")?, "uri")
-}
-
-/// The version of the document that the parameters give.
-pub fn version_at(params: &Value) -> Option<i32>
-    ensures { result ≡ version_at (view params.now) }
-{
-    integer_at(params.get("textDocument")?, "version")
-}
-
-/// The text of the document that the parameters give.
-pub fn document_text(params: &Value) -> Option<&str>
-    ensures { option_map (λ s. s.now) result ≡ document_text (view params.now) }
-{
-    text_at(params.get("textDocument")?, "text")
 }
 
 /// A position (LSP 3.17, "Position").
@@ -162,27 +149,17 @@ pub fn unit_at(params: &Value) -> Unit
     }
 }
 
-/// Whether the value has no method, but what a reply has (JSON-RPC 2.0, "Response object").
-pub fn is_reply(value: &Value) -> bool
-    ensures { result ≡ is_reply (view value.now) }
+/// Whether the value has a result or an error (JSON-RPC 2.0, "Response object").
+pub fn has_outcome(value: &Value) -> bool
+    ensures { result ≡ (has_key (codes "result") (view value.now)
+        || has_key (codes "error") (view value.now)) }
 {
-    !has_key(value, "method") && (has_key(value, "result") || has_key(value, "error"))
+    has_key(value, "result") || has_key(value, "error")
 }
 
 /// Whether `jsonrpc` is 2.0.
-fn has_version(value: &Value) -> bool
+pub fn has_version(value: &Value) -> bool
     ensures { result ≡ is_text (codes "2.0") (text_at (codes "jsonrpc") (view value.now)) }
 {
     text_at(value, "jsonrpc").is_some_and(|version| version == "2.0")
-}
-
-/// Whether the version isn't 2.0, there is no method, or there is an id that can't be read. `id`
-/// is the one that can.
-pub fn is_invalid(value: &Value, id: &Option<Id>) -> bool
-    requires { option_map id_view id.now ≡ id_at (view value.now) }
-    ensures { result ≡ is_invalid (view value.now) }
-{
-    !has_version(value)
-        || text_at(value, "method").is_none()
-        || (has_key(value, "id") && id.is_none())
 }

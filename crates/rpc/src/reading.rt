@@ -3,16 +3,13 @@
 ghost use Rattle.std.specs.Prelude.{◌≡◌, Some, codes, map, option_map, IfOk, IfSome, false, string_bytes};
 ghost use Rattle.serde_json.specs.Find.{get};
 ghost use Rattle.serde_json.specs.View.{view, items_view};
-ghost use Rattle.rpc.specs.Fields.{text_at};
 ghost use Rattle.replies.specs.Ids.{id_view};
 ghost use Rattle.rpc.specs.Messages.{accepted, refused, params, its_text, its_tokens, its_tree, its_folds, change_view, note_view, message_view, fault_view, received_of};
 ghost use Rattle.rpc.specs.Reading.{maybe_range, change_of, changes_of, changes_at, read_open, read_change, read_close, initialize_request, document_request, stats_request, selections_request, request_of, notification_of, of_method, message_of, uri_at, positions_at, params_at, Gives, Receives};
 
-use crate::fields::text_at;
+use crate::fields::{integer_at, text_at, text_of};
 use crate::message::{Call, Change, Malformed, Message, Note, RpcFault};
-use crate::parts::{
-    document_text, id_at, is_invalid, is_reply, positions_at, range_of, unit_at, uri_at, version_at,
-};
+use crate::parts::{has_outcome, has_version, id_of, positions_at, range_of, unit_at, uri_at};
 use definitions::Range;
 use replies::Id;
 use serde_json::Value;
@@ -71,7 +68,12 @@ fn changes_at(alloc: Global, params: &Value) -> Result<Option<Vec<Change>>, Allo
 fn read_open(alloc: Global, params: &Value) -> Result<Note, AllocError>
     ensures { IfOk result (λ note. note_view note ≡ read_open (view params.now)) }
 {
-    match (uri_at(params), version_at(params), document_text(params)) {
+    let Some(document) = params.get("textDocument") else {
+        return Ok(Note::Malformed(Malformed::DidOpen));
+    };
+    let uri = text_at(document, "uri");
+    let version = integer_at(document, "version");
+    match (uri, version, text_at(document, "text")) {
         (Some(uri), Some(version), Some(text)) => Ok(Note::DidOpen {
             uri: String::from_str(alloc, uri)?,
             version,
@@ -85,11 +87,14 @@ fn read_open(alloc: Global, params: &Value) -> Result<Note, AllocError>
 fn read_change(alloc: Global, params: &Value) -> Result<Note, AllocError>
     ensures { IfOk result (λ note. note_view note ≡ read_change (view params.now)) }
 {
-    let Some(uri) = uri_at(params) else {
+    let Some(document) = params.get("textDocument") else {
+        return Ok(Note::Malformed(Malformed::DidChange { uri: None }));
+    };
+    let Some(uri) = text_at(document, "uri") else {
         return Ok(Note::Malformed(Malformed::DidChange { uri: None }));
     };
     let uri = String::from_str(alloc, uri)?;
-    match (version_at(params), changes_at(alloc, params)?) {
+    match (integer_at(document, "version"), changes_at(alloc, params)?) {
         (Some(version), Some(changes)) => Ok(Note::DidChange {
             uri,
             version,
@@ -239,32 +244,23 @@ fn notification_of(alloc: Global, method: &str, params: &Value) -> Result<Messag
     }
 }
 
-/// With an id it is a request, without one a notification.
+/// What a value of this method is: with an id a request, without one a notification. Without
+/// `params` they are `null`.
 fn of_method(
     alloc: Global,
+    value: &Value,
     method: &str,
     id: Option<Id>,
-    params: &Value,
 ) -> Result<Message, RpcFault>
-    ensures { Gives result (of_method (Some method.now) (option_map id_view id) (view params.now)) }
+    ensures { let params = params_at (view value.now) in
+        Gives result (of_method (Some method.now) (option_map id_view id) params) }
 {
+    let none = Value::Null;
+    let params = value.get("params").unwrap_or(&none);
     match id {
         Some(id) => request_of(alloc, method, id, params),
         None => Ok(notification_of(alloc, method, params)?),
     }
-}
-
-/// The message of a value with this id, which has a method. Without `params` they are `null`.
-fn method_message(alloc: Global, value: &Value, id: Option<Id>) -> Result<Message, RpcFault>
-    ensures { Gives result (of_method
-        (text_at (codes "method") (view value.now))
-        (option_map id_view id) (params_at (view value.now))) }
-{
-    let Some(method) = text_at(value, "method") else {
-        return Err(RpcFault::Invalid { id });
-    };
-    let none = Value::Null;
-    of_method(alloc, method, id, value.get("params").unwrap_or(&none))
 }
 
 /// The message that a value is, by the tests in their order.
@@ -274,14 +270,17 @@ fn message_of(alloc: Global, value: &Value) -> Result<Message, RpcFault>
     if !value.is_object() {
         return Err(RpcFault::Invalid { id: None });
     }
-    if is_reply(value) {
+    let method = value.get("method");
+    if method.is_none() && has_outcome(value) {
         return Ok(Message::Ignored);
     }
-    let id = id_at(alloc, value)?;
-    if is_invalid(value, &id) {
-        return Err(RpcFault::Invalid { id });
+    let member = value.get("id");
+    let id = id_of(alloc, member)?;
+    let unread = member.is_some() && id.is_none();
+    match text_of(method) {
+        Some(method) if has_version(value) && !unread => of_method(alloc, value, method, id),
+        _ => Err(RpcFault::Invalid { id }),
     }
-    method_message(alloc, value, id)
 }
 
 /// The message that a content is (JSON-RPC 2.0). It is refused where the content is no JSON value
