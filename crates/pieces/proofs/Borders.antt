@@ -1,21 +1,40 @@
 -- Where a text may be cut.
-use Rattle.pieces.proofs.Common.{IsUtf8, IsCharBoundary, all_scalars, chars, cases_lt, and_parts, and_from, take-append-drop, take-append_seam, drop-append_seam, units, Utf8, IsUtf8-drop, IsCharBoundary-past_char, IsCharBoundary-at_seam, len_utf8_bounds, chars-encodes, scalars-chars, encodes-chars, encodes-append, len_utf8}
-use Rattle.std.proofs.Common.{arith, refl, sym, ap, subst, inl, inr, ◌∙◌, ◌≡◌, ℕ, zero, suc, ◌+◌, ◌<◌, ◌≤◌, ◌⊎◌, true, List, [], ◌∷◌, ◌++◌, length, take, drop, encode_utf8_all}
+use Rattle.pieces.proofs.Common.{IsUtf8, IsCharBoundary, all_scalars, chars, cases_lt, and_parts, and_from, take-append-drop, take-append_seam, drop-append_seam, units, Utf8, IsUtf8-drop, IsCharBoundary-past_char, IsCharBoundary-start, IsCharBoundary-at_seam, len_utf8_bounds, chars-encodes, scalars-chars, encodes-chars, encodes-append, len_utf8}
+use Rattle.std.proofs.Common.{arith, refl, sym, ap, subst, inl, inr, ◌∙◌, ◌≡◌, ℕ, zero, suc, ◌+◌, ◌<◌, ◌≤◌, true, List, [], ◌∷◌, ◌++◌, length, take, drop, encode_utf8_all}
 use Rattle.std.proofs.lemmas.List.{length-drop}
 use Rattle.pieces.proofs.Joins.{units-bytes}
 
--- the last place up to n at which a longer text may be cut is less than the 4 bytes of a character before it
-pub near : (bs : List ℕ) (at n : ℕ) → IsUtf8 bs → IsCharBoundary bs at → at ≤ n → n < length bs → ((i : ℕ) → at < i → i ≤ n → ¬ (IsCharBoundary bs i)) → n < at + 4
-near bs at n u b l m none = go (IsUtf8-drop bs at u b).0 (IsUtf8-drop bs at u b).1.1
-  where
-    go : (cs : List ℕ) → encode_utf8_all cs ≡ drop at bs → n < at + 4
-    go [] e = absurd (omega (arith, l, m, length-drop at bs, ap length e))
-    go (c ∷ cs) e = past (cases_lt n (at + len_utf8 c))
-      where
-        past : (n < at + len_utf8 c) ⊎ (at + len_utf8 c ≤ n) → n < at + 4
-        past (inl h) = omega (arith, h, len_utf8_bounds c)
-        past (inr h) = absurd (none (at + len_utf8 c) (omega (arith, len_utf8_bounds c)) h
-            (IsCharBoundary-past_char bs (encode_utf8_all cs) at c (omega (arith, l, m)) (IsUtf8-drop bs at u b) (sym e)))
+-- the first place from n on at which a text may be cut
+module _ (bs : List ℕ) (at n : ℕ) (u : IsUtf8 bs) (inside : n ≤ length bs) (none : (i : ℕ) → n ≤ i → i < at → ¬ (IsCharBoundary bs i)) where
+  pub not_past : (i : ℕ) → IsCharBoundary bs i → n ≤ i → at ≤ i
+  not_past i b l = elim (cases_lt i at) [
+    | inl h ↦ absurd (none i l h b)
+    | inr h ↦ h
+  ]
+
+  -- the place after a character
+  next : (s : ℕ) → IsCharBoundary bs s → s < length bs → (t : ℕ) × (IsCharBoundary bs t × ((s < t) × (t ≤ s + 4)))
+  next s b l = go (IsUtf8-drop bs s u b).0 (IsUtf8-drop bs s u b).1.1
+    where
+      go : (cs : List ℕ) → encode_utf8_all cs ≡ drop s bs → (t : ℕ) × (IsCharBoundary bs t × ((s < t) × (t ≤ s + 4)))
+      go [] e = absurd (omega (arith, l, length-drop s bs, ap length e))
+      go (c ∷ cs) e = (s + len_utf8 c, (IsCharBoundary-past_char bs (encode_utf8_all cs) s c b.0 (IsUtf8-drop bs s u b) (sym e), (omega (arith, len_utf8_bounds c), omega (arith, len_utf8_bounds c))))
+
+  near_from : (k s : ℕ) → IsCharBoundary bs s → s ≤ n → n ≤ s + k → at < n + 4
+  near_from zero s b l m = omega (arith, l, not_past s b (omega (arith, m)))
+  near_from (suc k) s b l m = elim (cases_lt s n) [
+    | inl i ↦
+        let t = next s b (omega (arith, i, inside)) in
+        elim (cases_lt n t.0) [
+          | inl h ↦ omega (arith, i, t.1.1.1, not_past t.0 t.1.0 (omega (arith, h)))
+          | inr h ↦ near_from k t.0 t.1.0 h (omega (arith, m, t.1.1.0))
+        ]
+    | inr i ↦ omega (arith, l, not_past s b i)
+  ]
+
+  -- it is less than the 4 bytes of a character after n
+  pub near : at < n + 4
+  near = near_from n 0 (IsCharBoundary-start bs u) (omega arith) (omega arith)
 
 -- the parts of a text's characters are texts
 scalars_parted : (cs : List ℕ) (n : ℕ) → all_scalars cs ≡ true → (all_scalars (take n cs) ≡ true) × (all_scalars (drop n cs) ≡ true)

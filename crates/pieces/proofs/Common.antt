@@ -10,10 +10,9 @@ pub use Rattle.std.proofs.lemmas.Iterator.{YieldsList, YieldsList-from_chars}
 pub use Rattle.std.proofs.lemmas.Iterator.Consumers.{YieldsList-end, YieldsList-so_far, YieldsList-turn}
 pub use Rattle.std.proofs.lemmas.List.{append-nil, append_assoc, drop_all, drop_more, get_or_past, length_push, map-id, take-append-drop, take_all, take_at, take_more}
 pub use Rattle.std.proofs.lemmas.List.Sums.{sum_by-append, sum_by-cons, sum_by-take-le, take_while-cons}
-pub use Rattle.std.proofs.lemmas.Str.{IsCharBoundary-at_seam, IsCharBoundary-past_char, IsUtf8-append, IsUtf8-drop, IsUtf8-from_ascii, IsUtf8-take, chars-IsAscii, chars-append, chars-encodes, chars-nil, encode_same, encodes-append, encodes-chars, len_utf8_ascii, len_utf8_bounds, length-encode, length-le-encodes, scalars-chars}
-pub use Rattle.seqtree.proofs.Cutting.{done, first, last, more}
+pub use Rattle.std.proofs.lemmas.Str.{IsCharBoundary-at_seam, IsCharBoundary-past_char, IsCharBoundary-start, IsUtf8-append, IsUtf8-drop, IsUtf8-from_ascii, IsUtf8-take, chars-IsAscii, chars-append, chars-encodes, chars-nil, encode_same, encodes-append, encodes-chars, len_utf8_ascii, len_utf8_bounds, length-encode, length-le-encodes, scalars-chars}
 pub use Rattle.seqtree.proofs.Joined.{all_before, cut_at_end, cut_in, inside, joined-append, none_after, prefix-more, whole_at, within_chunks}
-pub use Rattle.seqtree.specs.Chunks.{IsCutting}
+pub use Rattle.seqtree.specs.Chunks.{IsCutOff}
 pub use Rattle.definitions.proofs.OffsetOfPosition.{ended, ended-cons, line_start-le, none_ended, units-take-lt}
 pub use Rattle.definitions.proofs.OffsetsInLine.{in_line}
 pub use Rattle.definitions.proofs.TextLaws.{IsOffset-offset, greatest-is}
@@ -22,14 +21,12 @@ unfoldable pub use Rattle.definitions.specs.Text.{break_ends, greatest, line_fro
 pub use Rattle.definitions.specs.declared.Position.{Position}
 pub use Rattle.definitions.specs.declared.Unit.{Unit as Encoding}
 pub use Rattle.definitions.specs.declared.Unit.TheVariants.{Utf16, Utf32, Utf8}
-pub use Rattle.pieces.specs.Laws.{bytes_measure, joined-assoc, sums_laws}
+pub use Rattle.pieces.specs.Laws.{joined-assoc, sums_laws}
 pub use Rattle.pieces.specs.Pieces.{text_in}
 pub use Rattle.pieces.specs.Places.{IsCut}
 pub use Rattle.pieces.specs.Prefixes.{IsPast, goes_on, prefix_of, room, with_ones}
 pub use Rattle.pieces.specs.Sums.{HaveRoom, after_joined, ascii_units, count_of, counts_joined, counts_of, end_before_feed, ends_with, is_after_character, is_after_position, is_none, joined, later_breaks, line_sums, most, no_units, shown_units, sum, sums_of, units_joined, units_of}
-pub use Rattle.pieces.specs.declared.cuts.TheConstants.{SHORTEST_OF_SEVERAL}
 pub use Rattle.pieces.specs.declared.look_up.Prefix.{Prefix}
-pub use Rattle.pieces.specs.declared.piece.TheConstants.{LONGEST_PIECE}
 pub use Rattle.pieces.specs.declared.places.Cut.{Cut}
 pub use Rattle.pieces.specs.declared.sums.AfterCharacter.{AfterCharacter}
 pub use Rattle.pieces.specs.declared.sums.AfterPosition.{AfterPosition}
@@ -39,5 +36,3 @@ pub use Rattle.pieces.specs.declared.sums.Sums.TheVariants.{Empty, Filled}
 pub use Rattle.pieces.specs.declared.sums.Units.{Units}
 pub use Rattle.seqtree.specs.Monoid.{total}
 pub use Rattle.seqtree.specs.Saturated.{saturated-exact, saturated-zero_left}
-pub use denote.Shadow.{shadow}
-pub use denote.Text.{Utf8 as IsText}

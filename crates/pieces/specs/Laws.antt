@@ -3,6 +3,7 @@ use Rattle.std.specs.Prelude.{◌≡◌, ℕ, zero, suc, ◌<◌, ◌≤◌, ◌
 use Rattle.std.proofs.Common.{ap, sym, ◌∙◌, inl, inr, arith}
 use Rattle.std.proofs.lemmas.Bool.{ltb-true, lt-ltb, or_cases, and_parts, eqb-true, false≢true, and_from, or_left, or_right, eq-eqb}
 use Rattle.std.proofs.lemmas.List.Sums.{sum_by-append}
+use Rattle.std.proofs.lemmas.Str.{len_utf8_bounds}
 use Rattle.seqtree.specs.Chunks.{IsMeasure}
 use Rattle.seqtree.specs.Monoid.{MonoidLaws}
 use Rattle.seqtree.specs.Goal.{StaysReached}
@@ -10,8 +11,7 @@ use Rattle.seqtree.specs.Saturated.{saturated-zero_right, saturated-assoc}
 use Rattle.definitions.specs.declared.Unit.{Unit as Encoding}
 use Rattle.definitions.specs.declared.Unit.TheVariants.{Utf8, Utf16, Utf32}
 use Rattle.definitions.specs.Text.{unit, units}
-use Rattle.pieces.specs.declared.cuts.TheConstants.{SHORTEST_OF_SEVERAL}
-use Rattle.pieces.specs.declared.piece.TheConstants.{LONGEST_PIECE}
+use Rattle.pieces.specs.declared.piece.TheConstants.{LONGEST_PIECE, SHORTEST_OF_SEVERAL}
 use Rattle.pieces.specs.declared.sums.Units.{Units}
 use Rattle.pieces.specs.declared.sums.Counts.{Counts}
 use Rattle.pieces.specs.declared.sums.Sums.{Sums}
@@ -117,4 +117,9 @@ after_position_stays g (Filled a) (Filled b) h = go (or_cases _ _ h)
 -- the bytes of texts add up
 pub bytes_measure : IsMeasure (units Utf8) SHORTEST_OF_SEVERAL LONGEST_PIECE
 unfolding units
-bytes_measure = record { adds = λ s t. sum_by-append (unit Utf8) s t; some = omega arith; fits = omega arith }
+bytes_measure = record {
+  adds = λ s t. sum_by-append (unit Utf8) s t;
+  each = λ c. omega (arith, len_utf8_bounds c);
+  some = omega arith;
+  halves = omega arith;
+}

@@ -1,10 +1,10 @@
 //! Pieces of texts, and their sums for lines and positions: a `Seq` of pieces is a text whose
 //! parts know what they add up to.
 //!
-//! `pieces_of` cuts a text into pieces, `of_text` returns the sum of a text, and `join` that of
-//! two texts, one after the other. `Pieces` is a text in pieces: `position` and `offset` convert
-//! offsets to positions and back, `cut_at` returns what is before and after an offset, and
-//! `replace` puts a text in the place of pieces.
+//! `of_text` returns the sum of a text, and `join` that of two texts, one after the other.
+//! `Pieces` is a text in pieces: `position` and `offset` convert offsets to positions and back,
+//! `cut_at` returns what is before and after an offset, and `replace` puts a text in the place of
+//! pieces. A text alone is cut into pieces by `cut_up` of `seqtree`.
 //!
 //! Words: the *sum* of a text is its characters, bytes and line breaks, and the units after the
 //! last break, in UTF-8, UTF-16 and UTF-32.
@@ -14,7 +14,8 @@
 //! one piece.
 //!
 //! ```
-//! let pieces = pieces_of(alloc, "1+\n2").ok()?;
+//! let text = String::from_str(alloc, "1+\n2").ok()?;
+//! let pieces: Vec<Piece> = cut_up(alloc, text).ok()?;
 //! println!(rt; "{} piece", pieces.len()).ok()?;
 //! // 1 piece
 //! if let Sums::Filled(sums) = of_text("1+\n2") {
@@ -24,16 +25,14 @@
 //! ```
 #![tactic(auto)]
 
-mod cuts;
 mod laws;
 mod look_up;
 mod piece;
 mod places;
 mod sums;
 
-pub use cuts::{SHORTEST_OF_SEVERAL, pieces_of};
 pub use definitions::{Position, Unit};
 pub use laws::{equal_sums_are_the_same, sums_join};
-pub use piece::{LONGEST_PIECE, Piece, join_three};
+pub use piece::{LONGEST_PIECE, Piece, SHORTEST_OF_SEVERAL, join_three};
 pub use places::{Cut, Pieces};
 pub use sums::{AfterCharacter, AfterPosition, Counts, Sums, Units, of_character, of_text};

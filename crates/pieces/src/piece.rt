@@ -4,7 +4,6 @@ ghost use Rattle.std.specs.Prelude.{◌≡◌, ◌≤◌, ◌++◌, length, IfOk
 ghost use Rattle.std.specs.Str.{chars};
 ghost use Rattle.pieces.specs.Sums.{sums_of};
 
-use crate::cuts::{SHORTEST_OF_SEVERAL, pieces_of};
 use crate::sums::{Sums, of_text};
 use seqtree::{Chunk, Measured};
 use std::alloc::{AllocError, Global};
@@ -12,6 +11,10 @@ use std::marker::Model;
 
 /// The most bytes that a piece may have in UTF-8.
 pub const LONGEST_PIECE: usize = 1_024;
+
+/// The fewest bytes that a piece has where a text is cut into several: a half, and up to 3 bytes
+/// less, where a character lies across the middle.
+pub const SHORTEST_OF_SEVERAL: usize = 509;
 
 /// A part of a text: its characters, of at least one byte and at most [`LONGEST_PIECE`] in UTF-8,
 /// and their sum.
@@ -34,23 +37,12 @@ impl Model for Piece {
 }
 
 impl Piece {
-    /// The piece with the characters of `text`, which must have at least one byte and at most
-    /// [`LONGEST_PIECE`]. Takes memory once, and refuses for memory alone.
-    pub fn new(alloc: Global, text: &str) -> Result<Piece, AllocError>
-        requires some { 1 ≤ length text.now }
-        requires few { length text.now ≤ LONGEST_PIECE }
-        ensures { IfOk result (λ piece. piece ≡ chars text.now) }
-    {
-        let sums = of_text(text);
-        let text = String::from_str(alloc, text)?;
-        Ok(Piece { text, sums })
-    }
-
     /// The characters in UTF-8.
     pub fn text(&self) -> &str
         ensures characters { chars result.now ≡ self.now }
         ensures some { 1 ≤ length result.now }
         ensures few { length result.now ≤ LONGEST_PIECE }
+        ensures longest { LONGEST_PIECE ≡ 1024 }
     {
         self.text.as_str()
     }
@@ -74,8 +66,7 @@ impl Chunk for Piece {
     ghost use Rattle.definitions.specs.Text.{units};
     ghost use Rattle.definitions.specs.declared.Unit.TheVariants.{Utf8};
     ghost use Rattle.pieces.specs.Laws.{bytes_measure};
-    ghost use Rattle.pieces.specs.declared.cuts.TheConstants.{SHORTEST_OF_SEVERAL};
-    ghost use Rattle.pieces.specs.declared.piece.TheConstants.{LONGEST_PIECE};
+    ghost use Rattle.pieces.specs.declared.piece.TheConstants.{LONGEST_PIECE, SHORTEST_OF_SEVERAL};
 
     type Item = char;
 
@@ -111,9 +102,12 @@ impl Chunk for Piece {
         Ok(both)
     }
 
-    fn cut_up(alloc: Global, whole: &String) -> Result<Vec<Piece>, AllocError> {
-        let pieces = pieces_of(alloc, whole.as_str())?;
-        Ok(pieces)
+    fn cut_off(whole: &mut String, most: usize) -> Result<Piece, AllocError> {
+        let text = whole.as_str();
+        let at = text.ceil_char_boundary(text.len() - most);
+        let text = whole.split_off(at)?;
+        let sums = of_text(text.as_str());
+        Ok(Piece { text, sums })
     }
 }
 

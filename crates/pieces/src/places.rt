@@ -8,8 +8,7 @@ ghost use Rattle.pieces.specs.Pieces.{text_in};
 ghost use Rattle.pieces.specs.Sums.{sums_of};
 ghost use Rattle.pieces.specs.Places.{IsCut};
 
-use crate::cuts::SHORTEST_OF_SEVERAL;
-use crate::piece::Piece;
+use crate::piece::{Piece, SHORTEST_OF_SEVERAL};
 use crate::sums::{AfterCharacter, Sums};
 use seqtree::{Chunks, Measured, Seq};
 use std::alloc::{AllocError, Global};
@@ -64,6 +63,7 @@ impl Pieces {
         ensures fits { units Utf8 (text_in result.now) ≤ 2 ^ 30 }
         ensures few { SHORTEST_OF_SEVERAL * length result.now
             ≤ units Utf8 (text_in result.now) + SHORTEST_OF_SEVERAL }
+        ensures shortest { SHORTEST_OF_SEVERAL ≡ 509 }
     {
         self.chunks.seq()
     }

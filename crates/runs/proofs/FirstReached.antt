@@ -44,9 +44,6 @@ module _ {A S : Type 0} {zero : S} {op : S → S → S} (measure : A → S) (law
 
   module _ (run : List A) (at : Some run ≡ slice_get runs place) (some : 1 ≤ length run) (i : ℕ) (s : S) (high : reached (tot (prefix runs (place + 1))) ≡ true)
       (least : IsLeast zero op measure reached (tot (prefix runs place)) run i s) where
-    ahead : List A
-    ahead = flattened (drop (place + 1) runs)
-
     -- a prefix that ends in the run
     taken : (j : ℕ) → j ≤ length run → take (length (prefix runs place) + j) (flattened runs) ≡ prefix runs place ++ take j run
     taken j l =

@@ -25,4 +25,4 @@ after_item_stays op offset s r h = lt-ltb _ _ (let p = ltb-true offset s.items h
 
 -- how many items there are adds up
 pub length_measures : {A : Type 0} → IsMeasure {A = A} length SHORTEST_OF_SEVERAL LONGEST_RUN
-length_measures = record { adds = length-append; some = omega arith; fits = omega arith }
+length_measures = record { adds = length-append; each = λ x. omega arith; some = omega arith; halves = omega arith }

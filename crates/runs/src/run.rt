@@ -1,8 +1,7 @@
 //! Runs of items, and items cut into runs.
 
-ghost use Rattle.std.specs.Prelude.{◌≡◌, ◌+◌, ◌<◌, ◌≤◌, ◌++◌, length, IfOk};
+ghost use Rattle.std.specs.Prelude.{◌≡◌, ◌≤◌, ◌++◌, length, IfOk};
 ghost use Rattle.seqtree.specs.Monoid.{total};
-ghost use Rattle.seqtree.specs.Chunks.{AreCut};
 
 use crate::counted::Counted;
 use seqtree::{Chunk, Measured, Monoid};
@@ -41,20 +40,6 @@ impl<T: Measured> Run<T> {
         ensures few { length result.now ≤ LONGEST_RUN }
     {
         &self.items
-    }
-}
-
-impl<T: Measured + Copy> Run<T> {
-    /// The run of these items, of which there must be at least one and at most [`LONGEST_RUN`].
-    /// Takes memory once, and refuses for memory alone.
-    fn new(alloc: Global, items: &[T]) -> Result<Run<T>, AllocError>
-        requires some { 1 ≤ length items.now }
-        requires few { length items.now ≤ LONGEST_RUN }
-        ensures { IfOk result (λ run. run ≡ items.now) }
-    {
-        let sum = sum_of(items);
-        let items = Vec::from_slice(alloc, items)?;
-        Ok(Run { items, sum })
     }
 }
 
@@ -110,8 +95,10 @@ impl<T: Measured + Copy> Chunk for Run<T> {
         join_three(alloc, &prefix, &self.items, &[])
     }
 
-    fn cut_up(alloc: Global, whole: &Vec<T>) -> Result<Vec<Run<T>>, AllocError> {
-        runs_of(alloc, whole)
+    fn cut_off(whole: &mut Vec<T>, most: usize) -> Result<Run<T>, AllocError> {
+        let items = whole.split_off(whole.len() - most)?;
+        let sum = sum_of(&items);
+        Ok(Run { items, sum })
     }
 }
 
@@ -139,39 +126,4 @@ pub fn sum_of<T: Measured>(items: &[T]) -> T::Sum
         sum = sum.join(&item.sum());
     }
     sum
-}
-
-/// The runs of items, which joined in order are these; none where there is no item. They are few:
-/// each has at least [`SHORTEST_OF_SEVERAL`] items where there are so many, and items that fit
-/// into one run are one. Refuses for memory alone.
-pub fn runs_of<T: Measured + Copy>(alloc: Global, items: &[T]) -> Result<Vec<Run<T>>, AllocError>
-    ensures { IfOk result (λ runs. AreCut (λ run. run) length SHORTEST_OF_SEVERAL LONGEST_RUN
-        items.now runs.items) }
-{
-    let mut runs = Vec::new(alloc);
-    let mut rest = items;
-    while rest.len() > LONGEST_RUN {
-        let (prefix, back) = rest.split_at(prefix_len(rest.len()));
-        runs.push(Run::new(alloc, prefix)?)?;
-        rest = back;
-    }
-    if rest.len() > 0 {
-        runs.push(Run::new(alloc, rest)?)?;
-    }
-    Ok(runs)
-}
-
-/// How many items the first run of `len` has, which are too many for one: as many as fit, or half
-/// of those that are left where the rest would be small.
-fn prefix_len(len: usize) -> usize
-    requires { LONGEST_RUN < len }
-    ensures few { result ≤ LONGEST_RUN }
-    ensures large { SHORTEST_OF_SEVERAL ≤ result }
-    ensures rest { result + SHORTEST_OF_SEVERAL ≤ len }
-{
-    if len >= LONGEST_RUN + SHORTEST_OF_SEVERAL {
-        LONGEST_RUN
-    } else {
-        len / 2
-    }
 }

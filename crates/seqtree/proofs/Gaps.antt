@@ -73,7 +73,7 @@ module _ {X A : Type 0} (items : X → List A) where
         ∙ sym gap.filled
 
     small_one : small items size shortest (take from chunks ++ cut ++ drop to chunks) ≤ 1
-    small_one = small_edited items size shortest chunks cut from to (size new) gap.ordered are.small is.large (λ h. is.one (omega (arith, h, measure.fits))) room
+    small_one = small_edited items size shortest chunks cut from to (size new) gap.ordered are.small is.large (λ h. is.one (omega (arith, h, measure.some, measure.halves))) room
 
     pub few_left : size list < 2 ^ 64 → length chunks - (to - from) + length cut < 2 ^ 64
     few_left fits =

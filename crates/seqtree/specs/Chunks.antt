@@ -1,16 +1,18 @@
 -- A list whose items lie in chunks: which chunks are small, where they are cut, and what gives way where items are replaced.
-use Rattle.std.specs.Prelude.{◌≡◌, ℕ, ◌+◌, ◌<◌, ◌≤◌, Bool, nat_lt, List, [], ◌∷◌, ◌++◌, length, take, drop, count_by, All}
+use Rattle.std.specs.Prelude.{◌≡◌, ℕ, ◌+◌, ◌*◌, ◌<◌, ◌≤◌, Bool, nat_lt, List, [], ◌∷◌, ◌++◌, length, take, drop, count_by, All}
 
 -- `joined items chunks`: the items of chunks, in order
 abbrev pub joined : {X A : Type 0} → (X → List A) → List X → List A
 joined items [] = []
 joined items (x ∷ xs) = items x ++ joined items xs
 
--- `IsMeasure size shortest longest`: sizes add up, what isn't small has at least 2, and what is small isn't too long
+-- `IsMeasure size shortest longest`: sizes add up, an item has at least 1, what isn't small has at least 2, and a half of what is too long
+-- isn't small
 pub record IsMeasure {A : Type 0} (size : List A → ℕ) (shortest longest : ℕ) : Type 0 where
   pub adds : (s t : List A) → size (s ++ t) ≡ size s + size t
+  pub each : (x : A) → 1 ≤ size (x ∷ [])
   pub some : 2 ≤ shortest
-  pub fits : shortest ≤ longest
+  pub halves : 2 * shortest ≤ longest + 1
 
 -- `IsLarge items size shortest chunk`: the chunk has at least the size `shortest`
 abbrev pub IsLarge : {X A : Type 0} → (X → List A) → (List A → ℕ) → ℕ → X → Type 0
@@ -39,15 +41,14 @@ pub record AreCut {X A : Type 0} (items : X → List A) (size : List A → ℕ) 
     pub one : size list ≤ longest → length chunks ≤ 1
     pub none : list ≡ [] → chunks ≡ []
 
--- the same of chunks that are followed by the items `rest`, which are still to be cut
-pub record IsCutting {X A : Type 0} (items : X → List A) (size : List A → ℕ) (shortest longest : ℕ) (list : List A) (chunks : List X)
-    (rest : List A) : Type 0 where
-  pub joined_are : joined items chunks ++ rest ≡ list
-  pub large : All (IsLarge items size shortest) chunks
-  pub short : All (IsShort items size longest) chunks
-  pub left : shortest ≤ size list → shortest ≤ size rest
-  pub shorter : size rest ≤ size list
-  pub none : size list ≤ longest → length chunks ≡ 0
+-- the chunk has the last of the items `whole`, and `left` are the others: at most the size `most`, at least `shortest` where `whole` has
+-- more than `most`, and otherwise all
+pub record IsCutOff {X A : Type 0} (items : X → List A) (size : List A → ℕ) (shortest most : ℕ) (whole left : List A) (chunk : X) : Type 0
+  where
+    pub parts : whole ≡ left ++ items chunk
+    pub short : size (items chunk) ≤ most
+    pub large : most < size whole → shortest ≤ size (items chunk)
+    pub all : size whole ≤ most → left ≡ []
 
 -- with the items `new` in place of the chunks `from..to`, the list is `list`
 pub record IsGap {X A : Type 0} (items : X → List A) (chunks : List X) (list : List A) (from to : ℕ) (new : List A) : Type 0 where

@@ -1,7 +1,7 @@
 //! What is needed of a type of chunks.
 
-ghost use Rattle.std.specs.Prelude.{◌≡◌, ◌++◌, ℕ, List, IfOk};
-ghost use Rattle.seqtree.specs.Chunks.{AreCut, IsMeasure};
+ghost use Rattle.std.specs.Prelude.{◌≡◌, ◌*◌, ◌<◌, ◌≤◌, ◌++◌, ℕ, List, IfOk};
+ghost use Rattle.seqtree.specs.Chunks.{IsCutOff, IsMeasure};
 
 use crate::Measured;
 use std::alloc::{AllocError, Global};
@@ -41,11 +41,16 @@ pub trait Chunk: Measured {
     fn after(&self, alloc: Global, prefix: Self::Items) -> Result<Self::Items, AllocError>
         ensures { IfOk result (λ both. list both ≡ list prefix ++ items self.now) };
 
-    /// Chunks with these items, none where there is no item. Each has at least `SHORTEST` where
-    /// the items have so much, and at most `LONGEST`. Refuses for memory alone.
-    fn cut_up(alloc: Global, whole: &Self::Items) -> Result<Vec<Self>, AllocError>
-        ensures { IfOk result (λ chunks.
-            AreCut items size SHORTEST LONGEST (list whole.now) chunks.items) };
+    /// Takes the last items off, and returns them in a chunk: at most the size `most`, at least
+    /// `SHORTEST` where there is more than `most`, and otherwise all. Where there is more, `most`
+    /// must be at least half of `LONGEST`. Refuses for memory alone.
+    fn cut_off(whole: &mut Self::Items, most: usize) -> Result<Self, AllocError>
+        requires some { 1 ≤ most }
+        requires fits { most ≤ LONGEST }
+        requires within { most ≤ size (list whole.old) }
+        requires half { most < size (list whole.old) → LONGEST ≤ 2 * most }
+        ensures { IfOk result (λ chunk.
+            IsCutOff items size SHORTEST most (list whole.old) (list whole.new) chunk) };
 
     ghost laws: { IsMeasure size SHORTEST LONGEST };
 }

@@ -1,7 +1,7 @@
 //! A list in chunks.
 
 ghost use Rattle.std.specs.Prelude.{◌≡◌, ◌+◌, ◌*◌, ◌^◌, ◌<◌, ◌≤◌, ◌++◌, List, [], length, take, drop, IfOk, OnOk, OnErr};
-ghost use Rattle.seqtree.specs.Chunks.{joined, AreFew, IsGap, HasRoom};
+ghost use Rattle.seqtree.specs.Chunks.{joined, AreCut, AreFew, IsGap, HasRoom};
 
 use crate::chunk::Chunk;
 use crate::seq::{Seq, Slots};
@@ -63,7 +63,7 @@ impl<C: Chunk> Chunks<C> {
     {
         let to = to.min(self.chunks.len());
         let gap = widen(alloc, &self.chunks, Gap { from, to, items })?;
-        let cut = Slots::make(alloc, C::cut_up(alloc, &gap.items)?)?;
+        let cut = Slots::make(alloc, cut_up(alloc, gap.items)?)?;
         self.chunks.replace(gap.from, gap.to, cut);
         Ok(())
     }
@@ -115,4 +115,41 @@ fn widen<C: Chunk>(alloc: Global, chunks: &Seq<C>, gap: Gap<C>) -> Result<Gap<C>
         });
     }
     Ok(Gap { from, to, items })
+}
+
+/// Chunks with these items, none where there is no item. Each has at least `SHORTEST` where the
+/// items have so much, and at most `LONGEST`; items of at most `LONGEST` are one chunk. Refuses
+/// for memory alone.
+pub fn cut_up<C: Chunk>(alloc: Global, items: C::Items) -> Result<Vec<C>, AllocError>
+    ensures { IfOk result (λ chunks.
+        AreCut C.items C.size C.SHORTEST C.LONGEST (C.list items) chunks.items) }
+{
+    let mut left = items;
+    let mut chunks = Vec::new(alloc);
+    while C::size(&left) > 0 {
+        let most = last_size::<C>(C::size(&left));
+        chunks.push(C::cut_off(&mut left, most)?)?;
+    }
+    chunks.reverse();
+    Ok(chunks)
+}
+
+/// The greatest size of the last chunk of items of this size: all of it where they fit into one
+/// chunk, and half of it where a full chunk would leave few.
+fn last_size<C: Chunk>(size: usize) -> usize
+    requires { 1 ≤ size }
+    ensures some { 1 ≤ result }
+    ensures fits { result ≤ C.LONGEST }
+    ensures within { result ≤ size }
+    ensures all { size ≤ C.LONGEST → result ≡ size }
+    ensures half { result < size → C.LONGEST ≤ 2 * result }
+    ensures left { result < size → result + C.SHORTEST ≤ size }
+{
+    if size <= C::LONGEST {
+        size
+    } else if size - C::LONGEST >= C::SHORTEST {
+        C::LONGEST
+    } else {
+        size / 2
+    }
 }

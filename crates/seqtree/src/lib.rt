@@ -6,7 +6,8 @@
 //! `replace` takes none and can't fail. `total` is the sum of all, and `locate` finds the least
 //! place where a sum from the left reaches a `Goal`. `Chunks` is a list whose items lie in chunks,
 //! so that a node of a `Seq` holds many: its `replace` puts items in the place of some chunks, and
-//! cuts them into chunks with their neighbour's where they alone would be too few.
+//! cuts them into chunks with their neighbour's where they alone would be too few. `cut_up` is the
+//! chunks of items.
 //!
 //! Words: the items are `Measured`, by a sum that is a `Monoid`: here the pieces of a text, by
 //! their characters and breaks. A *chunk* is some items that lie together, by the trait `Chunk`;
@@ -19,7 +20,8 @@
 //!
 //! ```
 //! let mut pieces: Seq<Piece> = Seq::new();
-//! let slots = Slots::make(alloc, pieces_of(alloc, "1+2").ok()?).ok()?;
+//! let text = String::from_str(alloc, "1+2").ok()?;
+//! let slots = Slots::make(alloc, cut_up(alloc, text).ok()?).ok()?;
 //! let _gone = pieces.replace(0, 0, slots);
 //! println!(rt; "{} piece", pieces.len()).ok()?;
 //! // 1 piece
@@ -38,7 +40,7 @@ mod stack;
 mod tree;
 
 pub use chunk::Chunk;
-pub use chunks::Chunks;
+pub use chunks::{Chunks, cut_up};
 pub use iter::Iter;
 pub use seq::{Seq, Slots};
 

@@ -2,16 +2,17 @@
 
 use lexer::{Kind, ShortKind, Token};
 use patterns::Pattern;
-use pieces::{Piece, Sums, of_text, pieces_of};
+use pieces::{Piece, Sums, of_text};
 use runs::Runs;
-use seqtree::{Seq, Slots};
+use seqtree::{Seq, Slots, cut_up};
 use std::alloc::Global;
 use trees::{Child, Store};
 
 /// The example of `seqtree`.
 pub fn use_seqtree(rt: &HostRuntime, alloc: Global) -> Option<()> {
     let mut pieces: Seq<Piece> = Seq::new();
-    let slots = Slots::make(alloc, pieces_of(alloc, "1+2").ok()?).ok()?;
+    let text = String::from_str(alloc, "1+2").ok()?;
+    let slots = Slots::make(alloc, cut_up(alloc, text).ok()?).ok()?;
     let _gone = pieces.replace(0, 0, slots);
     println!(rt; "{} piece", pieces.len()).ok()?;
     // 1 piece
@@ -45,7 +46,8 @@ pub fn use_patterns(rt: &HostRuntime, alloc: Global) -> Option<()> {
 
 /// The example of `pieces`.
 pub fn use_pieces(rt: &HostRuntime, alloc: Global) -> Option<()> {
-    let pieces = pieces_of(alloc, "1+\n2").ok()?;
+    let text = String::from_str(alloc, "1+\n2").ok()?;
+    let pieces: Vec<Piece> = cut_up(alloc, text).ok()?;
     println!(rt; "{} piece", pieces.len()).ok()?;
     // 1 piece
     if let Sums::Filled(sums) = of_text("1+\n2") {

@@ -24,7 +24,7 @@ replace-requires-clause-fits g c =
     c.in_ok-gap.gap.to c.self.invariant (gap g c) (c.in_ok-gap.ensures.room c.self.invariant) (rw c.in_ok-cut.ensures c.in_ok-cut_up.ensures)
     (omega (arith, c.requires.fits, ap size_of c.self.view_is))
 
-made : (g : _) (c : goal.After-drop-gap-2 g) → let joined_in = joined g.C.Chunk.items in let chunks = c.self.inside.chunks in
+made : (g : _) (c : goal.Joined-replace g) → let joined_in = joined g.C.Chunk.items in let chunks = c.self.inside.chunks in
     (joined_in c.replace.new.self ≡ joined_in (take c.args.from chunks) ++ g.C.Chunk.list c.args.items ++ joined_in (drop c.args.to chunks))
     × AreFew g.C.Chunk.items g.C.Chunk.size g.C.Chunk.SHORTEST g.C.Chunk.LONGEST c.replace.new.self
 made g c =
