@@ -1,9 +1,10 @@
 """The answers that the core doesn't have: colours, outline, completion, hover and brackets."""
 
 import asyncio
+import contextlib
 import json
 from array import array
-from typing import Any, Awaitable, Callable
+from typing import Any, Awaitable, Callable, Iterator
 
 from . import highlight, hover
 from .colours import Colours
@@ -50,6 +51,10 @@ class Answers:
         self.window = Probe("window", core, documents.unit, self.has_room)
         # The tokens that were asked for when a document was opened, until somebody takes them.
         self.early: dict[str, asyncio.Future[Answer]] = {}
+        # Set while nobody waits for the colours of some lines, which come before the tokens of a whole text.
+        self.calm = asyncio.Event()
+        self.calm.set()
+        self.hurried = 0
         self.has_hierarchy = bool(member(client, "textDocument", "documentSymbol", "hierarchicalDocumentSymbolSupport"))
         self.methods: dict[str, Callable[[Any], Awaitable[Any]]] = {
             "textDocument/semanticTokens/full": self.colours,
@@ -138,12 +143,31 @@ class Answers:
         document.unread = asyncio.ensure_future(self.sent_tokens(document.uri))
         try:
             serial, unread = await asyncio.shield(document.unread)
+            await self.calm.wait()
             tokens = Tokens(document.text)
-            await tokens.read(unread.data, lambda: self.is_unchanged(document, serial))
+            await tokens.read(unread.data, lambda: self.goes_on(document, serial))
         finally:
             document.unread = None
         self.unchanged(document, serial)
         document.tokens, document.edits = tokens, []
+
+    async def goes_on(self, document: Document, serial: int) -> bool:
+        """Whether a document is still the same, when what comes before its tokens is done."""
+        await asyncio.sleep(0)
+        await self.calm.wait()
+        return self.is_unchanged(document, serial)
+
+    @contextlib.contextmanager
+    def hurry(self) -> Iterator[None]:
+        """No tokens of a whole text are read meanwhile, so it must not wait for them."""
+        self.hurried += 1
+        self.calm.clear()
+        try:
+            yield
+        finally:
+            self.hurried -= 1
+            if not self.hurried:
+                self.calm.set()
 
     async def sent_tokens(self, uri: str) -> tuple[int, Unread]:
         """All tokens of a document as the core sends them, with the document's serial then."""
@@ -190,8 +214,9 @@ class Answers:
         if places is None:
             raise INVALID_PARAMS
         first, last = (place[0] for place in sorted(places))
-        document, _ = await self.asked("lr/stats", uri)
-        data = await self.unread_colours(document, first, last)
+        with self.hurry():
+            document, _ = await self.asked("lr/stats", uri)
+            data = await self.unread_colours(document, first, last)
         if data is None:
             document, tokens = await self.tokens(uri)
             first, last = (min(line, len(tokens.lines) - 1) for line in (first, last))

@@ -7,7 +7,7 @@ from typing import Iterable
 
 from .settings import TYPES, Settings
 from .text import Place, Text
-from .tokens import Row, Token, Tokens, token_of
+from .tokens import Row, Token, Tokens
 
 # A token of the protocol is five numbers.
 WIDTH = 5
@@ -72,8 +72,18 @@ class Painter:
 
     def painted_rows(self, rows: list[Row], text: Text) -> "array[int]":
         """The colours of these tokens."""
-        lines = itertools.groupby(rows, lambda row: row[1])
-        return joined((line, self.paint([token_of(row) for row in of_line], line, text)) for line, of_line in lines)
+        numbers: list[int] = []
+        line = character = 0
+        for name, first, start, last, end in rows:
+            kind = self.types.get(name)
+            if kind is None:
+                continue
+            parts = [(0, start, end - start)] if first == last else self.parts(first, start, last - first, end, text)
+            for part, begin, width in parts:
+                number = first + part
+                numbers += (number - line, begin - character if number == line else begin, width, kind, 0)
+                line, character = number, begin
+        return array("I", numbers)
 
 
 def joined(paints: Iterable[tuple[int, Paint]]) -> "array[int]":

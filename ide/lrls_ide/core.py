@@ -93,7 +93,9 @@ class Core:
     async def start(self, *words: str, limit: Callable[[], None] | None = None) -> None:
         """Runs the program with these words. `limit` is called in the new process before that."""
         pipe = asyncio.subprocess.PIPE
-        self.process = await asyncio.create_subprocess_exec(*words, stdin=pipe, stdout=pipe, stderr=pipe, preexec_fn=limit)
+        self.process = await asyncio.create_subprocess_exec(
+            *words, stdin=pipe, stdout=pipe, stderr=pipe, limit=PIPE, preexec_fn=limit
+        )
         self.widen()
         self.reading = asyncio.create_task(self.read())
 

@@ -10,7 +10,7 @@ import json
 import math
 import re
 from bisect import bisect_left, bisect_right
-from typing import Callable, Iterator
+from typing import Awaitable, Callable, Iterator
 
 from .text import BREAK, Change, Place, Text, Unit
 
@@ -35,12 +35,6 @@ def end_of(row: Row) -> Place:
     return row[3], row[4]
 
 
-def token_of(row: Row) -> Token:
-    """A row as a token of its line."""
-    name, line, start, last, end = row
-    return name, start, last - line, end
-
-
 def pieces(data: bytes) -> Iterator[bytes]:
     """The list of rows that the core has sent, in lists that are shorter."""
     begin, last = 1, len(data) - 1
@@ -49,6 +43,12 @@ def pieces(data: bytes) -> Iterator[bytes]:
         end = last if end < 0 else end + 1
         yield b"[" + data[begin:end] + b"]"
         begin = end + 1
+
+
+async def after_others() -> bool:
+    """Goes on once other work had its turn."""
+    await asyncio.sleep(0)
+    return True
 
 
 class Unread:
@@ -99,13 +99,12 @@ class Tokens:
         self.gap: tuple[Place, Place] | None = None
         self.total = self.known = 0
 
-    async def read(self, data: bytes, is_wanted: Callable[[], bool] = lambda: True) -> None:
-        """Reads all rows of a text, or as many as are read while this is so. Other work goes on meanwhile."""
+    async def read(self, data: bytes, goes_on: Callable[[], Awaitable[bool]] = after_others) -> None:
+        """Reads all rows of a text, or as many as are read while this is so, which is asked before each piece."""
         for piece in pieces(data):
-            self.add(json.loads(piece))
-            await asyncio.sleep(0)
-            if not is_wanted():
+            if not await goes_on():
                 return
+            self.add(json.loads(piece))
         self.total = self.known
 
     def add(self, rows: list[Row], at: Place = (0, 0)) -> None:
