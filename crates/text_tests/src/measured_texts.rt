@@ -3,7 +3,7 @@
 ghost use Rattle.std.specs.Prelude.{◌<◌};
 
 use crate::checks::{Step, at, check, expect, expect_at, has_characters, open};
-use crate::documents::text_of;
+use crate::documents::{filled, text_of};
 use std::alloc::Global;
 use std::process::Abort;
 use text::{Text, Unit};
@@ -61,12 +61,25 @@ fn expect_break(rt: &impl Abort, text: Text, n: u32) {
 }
 
 #[test]
-fn a_break_over_the_border_of_pieces(rt: HostRuntime) {
+fn a_break_after_any_number_of_letters(rt: HostRuntime) {
     let alloc = rt.alloc();
     let mut line = String::new(alloc);
     for n in 0u32..2_101 {
         expect_break(&rt, text_after(&rt, alloc, &line, "\r\ny"), n);
         expect_break(&rt, joined(&rt, alloc, &line, n), n);
+        line.push('x').expect(&rt, "memory");
+    }
+}
+
+#[test]
+fn a_break_over_the_border_of_pieces(rt: HostRuntime) {
+    let alloc = rt.alloc();
+    // The last piece has 1,024 bytes, so it begins with the line feed.
+    let after = filled(&rt, alloc, 'y', 1_023);
+    let following = format!(in alloc; "\r\n{after}").expect(&rt, "memory");
+    let mut line = filled(&rt, alloc, 'x', 508);
+    for n in 508u32..600 {
+        expect_break(&rt, text_after(&rt, alloc, &line, &following), n);
         line.push('x').expect(&rt, "memory");
     }
 }

@@ -2,8 +2,8 @@
 
 use crate::checks::{Step, check_steps, expect, open};
 use crate::documents::filled;
-use pieces::{Counts, Piece, Sums, Units, of_text, pieces_of};
-use seqtree::{Measured, Monoid};
+use pieces::{Counts, Piece, Sums, Units, of_text};
+use seqtree::{Measured, Monoid, cut_up};
 use std::alloc::Global;
 use std::process::Abort;
 use text::{Text, Unit};
@@ -24,13 +24,13 @@ fn ended(characters: u32, bytes: u32, breaks: u32) -> Sums {
     })
 }
 
-/// Two pieces, the first of 601 bytes.
+/// Two pieces, the first of 605 bytes.
 fn check_two_pieces(rt: &impl Abort, pieces: &[Piece]) {
     assert!(rt; pieces.len() == 2);
-    expect(rt, pieces[0].text().len() == 601, "the first piece");
+    expect(rt, pieces[0].text().len() == 605, "the first piece");
     expect(
         rt,
-        pieces[1].sum() == ended(152, 602, 1),
+        pieces[1].sum() == ended(151, 598, 1),
         "the second piece",
     );
 }
@@ -39,7 +39,7 @@ fn check_two_pieces(rt: &impl Abort, pieces: &[Piece]) {
 fn texts_are_cut_at_borders_of_characters(rt: HostRuntime) {
     let faces = filled(&rt, rt.alloc(), '\u{1F600}', 300);
     let text = format!(in rt.alloc(); "x{faces}\r\n").expect(&rt, "memory");
-    let pieces = pieces_of(rt.alloc(), text.as_str()).expect(&rt, "memory");
+    let pieces: Vec<Piece> = cut_up(rt.alloc(), text).expect(&rt, "memory");
     check_two_pieces(&rt, pieces.as_slice());
 }
 
